@@ -1,0 +1,156 @@
+//! What members are asked, what they answer, and why actions are closed or cancelled.
+
+ghost use Rattle.std.specs.Prelude.{◌≡◌, IfSome, Some};
+
+/// What a member is asked for.
+#[derive(Clone, Copy, Debug, PartialEq, Eq)]
+pub enum AskKind {
+    Complete,
+    Compensate,
+    Status,
+    Forget,
+    After,
+}
+
+/// Which way an ask, a reply or a report goes.
+#[derive(Clone, Copy, Debug, PartialEq, Eq)]
+pub enum Direction {
+    Completion,
+    Compensation,
+    Neither,
+}
+
+/// What came of an ask.
+#[derive(Clone, Copy, Debug, PartialEq, Eq)]
+pub enum Outcome {
+    Done,
+    Accepted,
+    Failed,
+    Silent,
+}
+
+/// Who closed or cancelled an action.
+#[derive(Clone, Copy, Debug, PartialEq, Eq)]
+pub enum Cause {
+    Client,
+    Parent,
+    Limit,
+}
+
+impl AskKind {
+    ghost use Rattle.lra_model.specs.Names.{ask_kind_name};
+
+    /// Its word in a journal.
+    pub const fn name(self) -> &'static str
+        ensures { result.now ≡ ask_kind_name self }
+    {
+        match self {
+            AskKind::Complete => "complete",
+            AskKind::Compensate => "compensate",
+            AskKind::Status => "status",
+            AskKind::Forget => "forget",
+            AskKind::After => "after",
+        }
+    }
+
+    /// The kind of this name, if there is one.
+    pub fn from_name(text: &[u8]) -> Option<Self>
+        ensures found { IfSome result (λ kind. text.now ≡ ask_kind_name kind) }
+        ensures only { (kind : AskKind) → text.now ≡ ask_kind_name kind → result ≡ Some kind }
+    {
+        match text {
+            b"complete" => Some(AskKind::Complete),
+            b"compensate" => Some(AskKind::Compensate),
+            b"status" => Some(AskKind::Status),
+            b"forget" => Some(AskKind::Forget),
+            b"after" => Some(AskKind::After),
+            _ => None,
+        }
+    }
+}
+
+impl Direction {
+    ghost use Rattle.lra_model.specs.Names.{direction_name};
+
+    /// Its word.
+    pub const fn name(self) -> &'static str
+        ensures { result.now ≡ direction_name self }
+    {
+        match self {
+            Direction::Completion => "completion",
+            Direction::Compensation => "compensation",
+            Direction::Neither => "neither",
+        }
+    }
+
+    /// The direction of this name, if there is one.
+    pub fn from_name(text: &[u8]) -> Option<Self>
+        ensures found { IfSome result (λ direction. text.now ≡ direction_name direction) }
+        ensures only { (direction : Direction) → text.now ≡ direction_name direction → result ≡ Some direction }
+    {
+        match text {
+            b"completion" => Some(Direction::Completion),
+            b"compensation" => Some(Direction::Compensation),
+            b"neither" => Some(Direction::Neither),
+            _ => None,
+        }
+    }
+}
+
+impl Outcome {
+    ghost use Rattle.lra_model.specs.Names.{outcome_name};
+
+    /// Its word in a journal.
+    pub const fn name(self) -> &'static str
+        ensures { result.now ≡ outcome_name self }
+    {
+        match self {
+            Outcome::Done => "done",
+            Outcome::Accepted => "accepted",
+            Outcome::Failed => "failed",
+            Outcome::Silent => "silent",
+        }
+    }
+
+    /// The outcome of this name, if there is one.
+    pub fn from_name(text: &[u8]) -> Option<Self>
+        ensures found { IfSome result (λ outcome. text.now ≡ outcome_name outcome) }
+        ensures only { (outcome : Outcome) → text.now ≡ outcome_name outcome → result ≡ Some outcome }
+    {
+        match text {
+            b"done" => Some(Outcome::Done),
+            b"accepted" => Some(Outcome::Accepted),
+            b"failed" => Some(Outcome::Failed),
+            b"silent" => Some(Outcome::Silent),
+            _ => None,
+        }
+    }
+}
+
+impl Cause {
+    ghost use Rattle.lra_model.specs.Names.{cause_name};
+
+    /// Its word in a journal.
+    pub const fn name(self) -> &'static str
+        ensures { result.now ≡ cause_name self }
+    {
+        match self {
+            Cause::Client => "client",
+            Cause::Parent => "parent",
+            Cause::Limit => "limit",
+        }
+    }
+
+    /// The cause of this name, if there is one.
+    pub fn from_name(text: &[u8]) -> Option<Self>
+        ensures found { IfSome result (λ cause. text.now ≡ cause_name cause) }
+        ensures only { (cause : Cause) → text.now ≡ cause_name cause → result ≡ Some cause }
+    {
+        match text {
+            b"client" => Some(Cause::Client),
+            b"parent" => Some(Cause::Parent),
+            b"limit" => Some(Cause::Limit),
+            _ => None,
+        }
+    }
+}

@@ -1,0 +1,102 @@
+//! The rules that a journal keeps.
+
+ghost use Rattle.std.specs.Prelude.{◌≡◌, IfSome, Some};
+
+/// A rule that a line of a journal may break, in the order in which they are looked at.
+#[derive(Clone, Copy, Debug, PartialEq, Eq)]
+pub enum Rule {
+    /// The first line is a header.
+    Header,
+    /// The line is the spelling of an entry.
+    Grammar,
+    /// The clerk is enrolled; one that enrols has the next number.
+    Clerk,
+    /// Moments don't fall.
+    Moment,
+    /// What begins has the next number of its kind.
+    Number,
+    /// The action is there.
+    Action,
+    /// The member is there.
+    Member,
+    /// The member hasn't left.
+    Left,
+    /// The action is Active.
+    Active,
+    /// The addresses are such as a member may have.
+    Addresses,
+    /// The limit's end is a moment.
+    Limit,
+    /// The action may be closed or cancelled by that cause.
+    Cause,
+    /// The member may be completed without being asked.
+    Skip,
+    /// The member may be asked that.
+    Ask,
+    /// The ask is outstanding, and may be answered so.
+    Reply,
+    /// The member is completing or compensating, and tells how it ended.
+    Report,
+    /// An action that ends is closing or cancelling, and nothing in it is unsettled.
+    Unsettled,
+    /// It ends as its members and nested actions did.
+    Ending,
+}
+
+impl Rule {
+    ghost use Rattle.lra_model.specs.Names.{rule_name};
+
+    /// Its code in a verdict.
+    pub const fn name(self) -> &'static str
+        ensures { result.now ≡ rule_name self }
+    {
+        match self {
+            Rule::Header => "header",
+            Rule::Grammar => "grammar",
+            Rule::Clerk => "clerk",
+            Rule::Moment => "moment",
+            Rule::Number => "number",
+            Rule::Action => "action",
+            Rule::Member => "member",
+            Rule::Left => "left",
+            Rule::Active => "active",
+            Rule::Addresses => "addresses",
+            Rule::Limit => "limit",
+            Rule::Cause => "cause",
+            Rule::Skip => "skip",
+            Rule::Ask => "ask",
+            Rule::Reply => "reply",
+            Rule::Report => "report",
+            Rule::Unsettled => "unsettled",
+            Rule::Ending => "ending",
+        }
+    }
+
+    /// The rule of this name, if there is one.
+    pub fn from_name(text: &[u8]) -> Option<Self>
+        ensures found { IfSome result (λ rule. text.now ≡ rule_name rule) }
+        ensures only { (rule : Rule) → text.now ≡ rule_name rule → result ≡ Some rule }
+    {
+        match text {
+            b"header" => Some(Rule::Header),
+            b"grammar" => Some(Rule::Grammar),
+            b"clerk" => Some(Rule::Clerk),
+            b"moment" => Some(Rule::Moment),
+            b"number" => Some(Rule::Number),
+            b"action" => Some(Rule::Action),
+            b"member" => Some(Rule::Member),
+            b"left" => Some(Rule::Left),
+            b"active" => Some(Rule::Active),
+            b"addresses" => Some(Rule::Addresses),
+            b"limit" => Some(Rule::Limit),
+            b"cause" => Some(Rule::Cause),
+            b"skip" => Some(Rule::Skip),
+            b"ask" => Some(Rule::Ask),
+            b"reply" => Some(Rule::Reply),
+            b"report" => Some(Rule::Report),
+            b"unsettled" => Some(Rule::Unsettled),
+            b"ending" => Some(Rule::Ending),
+            _ => None,
+        }
+    }
+}
