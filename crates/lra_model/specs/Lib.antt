@@ -1,2 +1,14 @@
 pub mod Addresses
 pub mod Names
+pub mod Words
+pub mod History
+pub mod Actions
+pub mod Members
+pub mod Ends
+pub mod Facts
+pub mod Tests
+pub mod Rules
+pub mod Settling
+pub mod Wants
+pub mod GoodEnds
+pub mod Tallies

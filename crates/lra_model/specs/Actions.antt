@@ -1,0 +1,87 @@
+-- Of an action: its parent, its state, its limit, its nested actions and its members.
+use Rattle.std.specs.Prelude.{ℕ, zero, suc, ◌==◌, Bool, true, false, ◌||◌, List, Option, Some, None, unwrap_or}
+use Rattle.std.specs.Option.{option_map_or}
+use Rattle.std.specs.List.{filter_map, list_any}
+use Rattle.lra_model.specs.declared.status.ActionStatus.{ActionStatus}
+use Rattle.lra_model.specs.declared.status.ActionStatus.TheVariants as action
+use Rattle.lra_model.specs.declared.entry.Deed.{Deed}
+use Rattle.lra_model.specs.declared.entry.Deed.TheVariants.{Start, Join, Close, Cancel, End, Renew}
+use Rattle.lra_model.specs.declared.entry.Entry.{Entry}
+use Rattle.lra_model.specs.Words.{when}
+use Rattle.lra_model.specs.History.{History, first, last, read_deeds}
+
+abbrev pub parent_given : ℕ → Deed → Option (Option ℕ)
+parent_given a (Start b parent limit) = when (b == a) parent
+parent_given a _ = None
+
+-- the action that an action is nested in: its Start says so (MicroProfile LRA 2.0, nested LRAs)
+unfoldable pub parent : History → ℕ → Option ℕ
+parent J a = unwrap_or (first (read_deeds (parent_given a) J)) None
+
+abbrev pub top_within : ℕ → History → ℕ → ℕ
+top_within zero J a = a
+top_within (suc n) J a = option_map_or (top_within n J) (parent J a) a
+
+-- the outermost action: up by parents, whose numbers are less, to one that has none
+unfoldable pub top : History → ℕ → ℕ
+top J a = top_within a J a
+
+abbrev pub is_within : ℕ → History → ℕ → ℕ → Bool
+is_within zero J t a = a == t
+is_within (suc n) J t a = (a == t) || option_map_or (is_within n J t) (parent J a) false
+
+-- whether an action is t or stands below it
+unfoldable pub is_under : History → ℕ → ℕ → Bool
+is_under J t a = is_within a J t a
+
+abbrev pub status_given : ℕ → Deed → Option ActionStatus
+status_given a (Start b parent limit) = when (b == a) action.Active
+status_given a (Close b cause) = when (b == a) action.Closing
+status_given a (Cancel b cause) = when (b == a) action.Cancelling
+status_given a (End b status) = when (b == a) status
+status_given a _ = None
+
+-- the state of an action: what the last entry that starts, closes, cancels or ends it made of it (MicroProfile LRA 2.0, LRA states)
+unfoldable pub action_status : History → ℕ → Option ActionStatus
+action_status J a = last (read_deeds (status_given a) J)
+
+-- a limit in milliseconds, where 0 is none, and the moment that it counts from
+pub record Limit : Type 0 where
+  pub length_of : ℕ
+  pub since : ℕ
+
+abbrev pub limit_given : ℕ → Entry → Option Limit
+limit_given a e = of_deed e.deed
+  where
+  of_deed : Deed → Option Limit
+  of_deed (Start b parent limit) = when (b == a) (record { length_of = limit; since = e.moment })
+  of_deed (Renew b limit) = when (b == a) (record { length_of = limit; since = e.moment })
+  of_deed _ = None
+
+-- the limit in force: that of the last Start or Renew (MicroProfile LRA 2.0, timeLimit and renewTimeLimit)
+unfoldable pub limit_in_force : History → ℕ → Limit
+limit_in_force J a = unwrap_or (last (filter_map (limit_given a) J)) (record { length_of = 0; since = 0 })
+
+abbrev pub child_given : ℕ → Deed → Option ℕ
+child_given a (Start b (Some c) limit) = when (c == a) b
+child_given a _ = None
+
+-- the actions nested directly in an action
+unfoldable pub children : History → ℕ → List ℕ
+children J a = read_deeds (child_given a) J
+
+abbrev pub member_given : ℕ → Deed → Option ℕ
+member_given a (Join p b uris) = when (b == a) p
+member_given a _ = None
+
+-- the members of an action, those that left among them
+unfoldable pub members_of : History → ℕ → List ℕ
+members_of J a = read_deeds (member_given a) J
+
+abbrev pub is_cancel_of : ℕ → Deed → Bool
+is_cancel_of a (Cancel b cause) = b == a
+is_cancel_of a _ = false
+
+-- whether an action was cancelled, however it ended
+unfoldable pub was_cancelled : History → ℕ → Bool
+was_cancelled J a = list_any (λ (e : Entry). is_cancel_of a e.deed) J

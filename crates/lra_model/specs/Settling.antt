@@ -1,0 +1,45 @@
+-- What follows by itself: the entries that settle a history, and the one that comes next.
+use Rattle.std.specs.Prelude.{◌≡◌, ℕ, Bool, true, false, List, Option, Some, None, option_map, cond}
+use Rattle.std.specs.Option.{option_or}
+use Rattle.std.specs.List.{filter_map, find}
+use Rattle.lra_model.specs.declared.asks.Cause.TheVariants as cause
+use Rattle.lra_model.specs.declared.version.Version.{Version}
+use Rattle.lra_model.specs.declared.version.Version.TheVariants as version
+use Rattle.lra_model.specs.declared.entry.Deed.{Deed}
+use Rattle.lra_model.specs.declared.entry.Deed.TheVariants.{Close, Cancel, Skip, End}
+use Rattle.lra_model.specs.declared.entry.Entry.{Entry}
+use Rattle.lra_model.specs.History.{History, first, last, actions, members, last_moment}
+use Rattle.lra_model.specs.Actions.{action_status}
+use Rattle.lra_model.specs.Ends.{is_settled, right_end}
+use Rattle.lra_model.specs.Facts.{facts_of}
+use Rattle.lra_model.specs.Tests.{at_action, at_member, may_close, may_cancel, may_skip}
+use Rattle.lra_model.specs.Rules.{allows}
+
+-- a deed that a coordinator does of itself: a skip, what a parent does to an action nested in it, an end
+abbrev pub is_settling : Deed → Bool
+is_settling (Close a cause.Parent) = true
+is_settling (Cancel a cause.Parent) = true
+is_settling (Skip p) = true
+is_settling (End a status) = true
+is_settling _ = false
+
+-- nothing is left to settle: no clerk may do such a deed at the last moment
+abbrev pub IsQuiet : Version → (List ℕ → Bool) → History → Type 0
+IsQuiet v t J = (by : ℕ) (d : Deed) → is_settling d ≡ true → allows v t J (record { by = by; moment = last_moment J; deed = d }) ≡ false
+
+abbrev pub may_be_skipped : History → ℕ → Bool
+may_be_skipped J p = at_member (may_skip (facts_of J)) (facts_of J) p
+
+-- what its parent does to an action
+abbrev pub by_parent : History → ℕ → Option Deed
+by_parent J a =
+    cond (at_action (may_close cause.Parent (facts_of J)) (facts_of J) a) (Some (Close a cause.Parent))
+    (cond (at_action (may_cancel version.One 0 cause.Parent (facts_of J)) (facts_of J) a) (Some (Cancel a cause.Parent)) None)
+
+-- The deed that a coordinator does next, if any: the skip of the least member that may be skipped; else what its parent does to the least
+-- action to which it may; else the end of the greatest action that may end (this project's choice).
+unfoldable pub next_settling : History → Option Deed
+next_settling J =
+    option_or (option_map Skip (find (may_be_skipped J) (members J)))
+    (option_or (first (filter_map (by_parent J) (actions J)))
+    (option_map (λ a. End a (right_end J a)) (last (filter_map (λ a. cond (is_settled J a) (Some a) None) (actions J)))))

@@ -1,0 +1,22 @@
+-- What a summary counts.
+use Rattle.std.specs.Prelude.{ℕ, Bool, not, ◌&&◌, List, count_by, Option, Some, None}
+use Rattle.std.specs.List.{filter_map, find}
+use Rattle.lra_model.specs.declared.status.ActionStatus.{ActionStatus}
+use Rattle.lra_model.specs.declared.status.ActionStatus.TheVariants as action
+use Rattle.lra_model.specs.Words.{when, has_ended, has_failed, member_has_failed, same_status}
+use Rattle.lra_model.specs.History.{History, actions, members}
+use Rattle.lra_model.specs.Actions.{action_status, is_under}
+use Rattle.lra_model.specs.Members.{action_of, stays, member_status}
+use Rattle.lra_model.specs.Ends.{action_is}
+
+-- how many actions are in a state that passes the test
+unfoldable pub count_actions : (ActionStatus → Bool) → History → ℕ
+count_actions test J = count_by (action_is test J) (actions J)
+
+-- the least member that stays in an action or below it and has failed
+unfoldable pub least_failed : History → ℕ → Option ℕ
+least_failed J t = find (λ p. stays J p && is_under J t (action_of J p) && member_has_failed (member_status J p)) (members J)
+
+-- the actions that ended in failure, in the order of their numbers
+unfoldable pub failed_actions : History → List ℕ
+failed_actions J = filter_map (λ a. when (action_is has_failed J a) a) (actions J)

@@ -1,0 +1,108 @@
+-- When a deed is allowed, by the facts of the history before it.
+use Rattle.std.specs.Prelude.{ℕ, ◌+◌, ◌-◌, ◌^◌, ◌==◌, nat_le, Bool, true, false, ◌&&◌, ◌||◌, not, List, Option, Some, None, is_some, is_none}
+use Rattle.std.specs.Option.{option_map_or}
+use Rattle.lra_model.specs.declared.status.ActionStatus.{ActionStatus}
+use Rattle.lra_model.specs.declared.asks.AskKind.{AskKind}
+use Rattle.lra_model.specs.declared.asks.AskKind.TheVariants as ask
+use Rattle.lra_model.specs.declared.asks.Outcome.{Outcome}
+use Rattle.lra_model.specs.declared.asks.Cause.{Cause}
+use Rattle.lra_model.specs.declared.asks.Cause.TheVariants as cause
+use Rattle.lra_model.specs.declared.version.Version.{Version}
+use Rattle.lra_model.specs.declared.version.Version.TheVariants as version
+use Rattle.lra_model.specs.Addresses.{Addresses}
+use Rattle.lra_model.specs.Words.{is_active, is_closing, is_cancelling, is_closed, is_cancellable, same_status, is_untouched, is_completing, is_completed, is_compensating, member_has_failed, has_gone, is_decisive, is_accepted, outcome_suits}
+use Rattle.lra_model.specs.Facts.{ActionFacts, MemberFacts, Facts}
+
+-- whether an action is there and passes the test
+abbrev pub at_action : (ActionFacts → Bool) → Facts → ℕ → Bool
+at_action test f a = option_map_or test (f.action a) false
+
+-- whether a member is there and passes the test
+abbrev pub at_member : (MemberFacts → Bool) → Facts → ℕ → Bool
+at_member test f p = option_map_or test (f.member p) false
+
+-- whether an action is there, in a state that passes the test
+abbrev pub state_is : (ActionStatus → Bool) → Facts → ℕ → Bool
+state_is test = at_action (λ (a : ActionFacts). test a.status)
+
+-- whether an action has a parent, in a state that passes the test
+abbrev pub parent_is : (ActionStatus → Bool) → Facts → ActionFacts → Bool
+parent_is test f a = option_map_or (state_is test f) a.parent false
+
+-- no parent, or one that passes
+abbrev pub each_parent : (ℕ → Bool) → Option ℕ → Bool
+each_parent test parent = option_map_or test parent true
+
+-- a limit's end is a moment: a number below 2^64
+abbrev pub is_moment : ℕ → Bool
+is_moment n = nat_le n (2 ^ 64 - 1)
+
+-- A close is allowed by the client at an Active action, and by the parent at an Active action whose parent is Closing
+-- (MicroProfile LRA 2.0, closing an LRA closes what is nested in it).
+abbrev pub may_close : Cause → Facts → ActionFacts → Bool
+may_close cause.Client f a = is_active a.status
+may_close cause.Parent f a = is_active a.status && parent_is is_closing f a
+may_close cause.Limit f a = false
+
+-- Version 2 lets a client take back a nested action that has closed, as long as its parent is Active (this project's choice).
+abbrev pub may_take_back : Version → Facts → ActionFacts → Bool
+may_take_back version.One f a = false
+may_take_back version.Two f a = is_closed a.status && parent_is is_active f a
+
+-- the limit in force isn't 0, and has passed
+abbrev pub limit_has_passed : ℕ → ActionFacts → Bool
+limit_has_passed moment a = not (a.limit.length_of == 0) && nat_le (a.limit.since + a.limit.length_of) moment
+
+-- A cancel is allowed by the client at an Active action, by the limit at an Active action whose limit has passed, and by the parent
+-- at an action that is Active or has closed, whose parent is Cancelling (MicroProfile LRA 2.0, timeLimit and nested LRAs).
+abbrev pub may_cancel : Version → ℕ → Cause → Facts → ActionFacts → Bool
+may_cancel v moment cause.Client f a = is_active a.status || may_take_back v f a
+may_cancel v moment cause.Parent f a = is_cancellable a.status && parent_is is_cancelling f a
+may_cancel v moment cause.Limit f a = is_active a.status && limit_has_passed moment a
+
+-- A member may have up to five addresses: compensate or after at least; complete, status and forget go with compensate. Each is the text
+-- of an address (MicroProfile LRA 2.0, joining an LRA).
+abbrev pub addresses_fit : (List ℕ → Bool) → Addresses → Bool
+addresses_fit is_address u =
+    (is_some u.compensate || (is_some u.after && is_none u.complete && is_none u.status && is_none u.forget)) && is_text u.compensate && is_text u.complete && is_text u.status && is_text u.forget && is_text u.after
+  where
+  is_text : Option (List ℕ) → Bool
+  is_text text = option_map_or is_address text true
+
+-- A member is completed without being asked where it is Active in a Closing action, and can be compensated and not completed.
+abbrev pub may_skip : Facts → MemberFacts → Bool
+may_skip f p = state_is is_closing f p.action && is_untouched p.status && is_none p.addresses.complete && is_some p.addresses.compensate
+
+-- whether the address that an ask of a kind goes to is there
+abbrev pub has_address : AskKind → Addresses → Bool
+has_address ask.Complete u = is_some u.complete
+has_address ask.Compensate u = is_some u.compensate
+has_address ask.Status u = is_some u.status
+has_address ask.Forget u = is_some u.forget
+has_address ask.After u = is_some u.after
+
+-- the answer of a member that goes on by itself
+abbrev pub was_accepted : Option Outcome → Bool
+was_accepted reply = option_map_or is_accepted reply false
+
+-- When a member may be asked what, but for its address and for an ask of it that is outstanding (MicroProfile LRA 2.0, Participant states;
+-- forget goes to members that failed, and to those of nested actions that completed; notices wait for the outermost action's end).
+abbrev pub is_time_for : AskKind → Facts → MemberFacts → Bool
+is_time_for ask.Complete f p = state_is is_closing f p.action && (is_untouched p.status || is_completing p.status)
+is_time_for ask.Compensate f p = state_is is_cancelling f p.action && (is_untouched p.status || is_completed p.status || is_compensating p.status)
+is_time_for ask.Status f p = (is_completing p.status && was_accepted p.completion) || (is_compensating p.status && was_accepted p.compensation)
+is_time_for ask.Forget f p =
+    at_action (λ (a : ActionFacts). a.top_has_ended && (member_has_failed p.status || (is_completed p.status && is_some a.parent))) f p.action && not p.has_forgotten
+is_time_for ask.After f p = at_action (λ (a : ActionFacts). a.top_has_ended) f p.action && not p.was_told
+
+-- whether a member may be asked that now: one ask of it at a time
+abbrev pub may_ask : AskKind → Facts → MemberFacts → Bool
+may_ask kind f p = not p.is_asked && has_address kind p.addresses && is_time_for kind f p
+
+-- a reply answers an ask that is outstanding, in a way that suits its kind
+abbrev pub may_reply : Facts → ℕ → Outcome → Bool
+may_reply f n o = option_map_or (λ (kind : AskKind). outcome_suits kind o) (f.outstanding n) false
+
+-- a member tells how it ended while it is completing or compensating
+abbrev pub may_report : Outcome → MemberFacts → Bool
+may_report o p = (is_completing p.status || is_compensating p.status) && is_decisive o

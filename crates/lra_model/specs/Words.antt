@@ -1,0 +1,173 @@
+-- Tests of states, kinds, outcomes and directions.
+use Rattle.std.specs.Prelude.{Bool, true, false, ◌||◌, Option, Some, None}
+use Rattle.lra_model.specs.declared.status.ActionStatus.{ActionStatus}
+use Rattle.lra_model.specs.declared.status.ActionStatus.TheVariants as action
+use Rattle.lra_model.specs.declared.status.MemberStatus.{MemberStatus}
+use Rattle.lra_model.specs.declared.status.MemberStatus.TheVariants as member
+use Rattle.lra_model.specs.declared.asks.AskKind.{AskKind}
+use Rattle.lra_model.specs.declared.asks.AskKind.TheVariants as ask
+use Rattle.lra_model.specs.declared.asks.Direction.{Direction}
+use Rattle.lra_model.specs.declared.asks.Direction.TheVariants as direction
+use Rattle.lra_model.specs.declared.asks.Outcome.{Outcome}
+use Rattle.lra_model.specs.declared.asks.Outcome.TheVariants as outcome
+
+-- the value where the test holds (this project's notation)
+abbrev pub when : {X : Type 0} → Bool → X → Option X
+when true x = Some x
+when false x = None
+
+-- an action that may still be closed or cancelled (MicroProfile LRA 2.0, LRAStatus)
+abbrev pub is_active : ActionStatus → Bool
+is_active action.Active = true
+is_active _ = false
+
+-- an action whose members are being completed (MicroProfile LRA 2.0, LRAStatus)
+abbrev pub is_closing : ActionStatus → Bool
+is_closing action.Closing = true
+is_closing _ = false
+
+-- an action whose members are being compensated (MicroProfile LRA 2.0, LRAStatus)
+abbrev pub is_cancelling : ActionStatus → Bool
+is_cancelling action.Cancelling = true
+is_cancelling _ = false
+
+-- an action that has closed (MicroProfile LRA 2.0, LRAStatus)
+abbrev pub is_closed : ActionStatus → Bool
+is_closed action.Closed = true
+is_closed _ = false
+
+-- an action in an end state (MicroProfile LRA 2.0, LRAStatus)
+abbrev pub has_ended : ActionStatus → Bool
+has_ended action.Closed = true
+has_ended action.FailedToClose = true
+has_ended action.Cancelled = true
+has_ended action.FailedToCancel = true
+has_ended _ = false
+
+-- an action in a failed end state (MicroProfile LRA 2.0, LRAStatus)
+abbrev pub has_failed : ActionStatus → Bool
+has_failed action.FailedToClose = true
+has_failed action.FailedToCancel = true
+has_failed _ = false
+
+-- an action that has ended, cancelled
+abbrev pub is_cancelled : ActionStatus → Bool
+is_cancelled action.Cancelled = true
+is_cancelled action.FailedToCancel = true
+is_cancelled _ = false
+
+-- an action that its Cancelling parent cancels: one that is Active or that has closed (this project's choice on FailedToClose)
+abbrev pub is_cancellable : ActionStatus → Bool
+is_cancellable action.Active = true
+is_cancellable action.Closed = true
+is_cancellable action.FailedToClose = true
+is_cancellable _ = false
+
+-- whether two states are one
+abbrev pub same_status : ActionStatus → ActionStatus → Bool
+same_status action.Active action.Active = true
+same_status action.Closing action.Closing = true
+same_status action.Closed action.Closed = true
+same_status action.FailedToClose action.FailedToClose = true
+same_status action.Cancelling action.Cancelling = true
+same_status action.Cancelled action.Cancelled = true
+same_status action.FailedToCancel action.FailedToCancel = true
+same_status _ _ = false
+
+-- a member that was asked nothing yet (MicroProfile LRA 2.0, ParticipantStatus)
+abbrev pub is_untouched : MemberStatus → Bool
+is_untouched member.Active = true
+is_untouched _ = false
+
+-- a member that is completing
+abbrev pub is_completing : MemberStatus → Bool
+is_completing member.Completing = true
+is_completing _ = false
+
+-- a member that has completed
+abbrev pub is_completed : MemberStatus → Bool
+is_completed member.Completed = true
+is_completed _ = false
+
+-- a member that is compensating
+abbrev pub is_compensating : MemberStatus → Bool
+is_compensating member.Compensating = true
+is_compensating _ = false
+
+-- a member that has compensated
+abbrev pub is_compensated : MemberStatus → Bool
+is_compensated member.Compensated = true
+is_compensated _ = false
+
+-- a member that failed, either way (MicroProfile LRA 2.0, ParticipantStatus)
+abbrev pub member_has_failed : MemberStatus → Bool
+member_has_failed member.FailedToComplete = true
+member_has_failed member.FailedToCompensate = true
+member_has_failed _ = false
+
+-- a member that has left its action (this project's choice: the standard has no such state)
+abbrev pub has_gone : MemberStatus → Bool
+has_gone member.Left = true
+has_gone _ = false
+
+-- a member that a Closing action needn't wait for
+abbrev pub is_done_completing : MemberStatus → Bool
+is_done_completing member.Completed = true
+is_done_completing member.FailedToComplete = true
+is_done_completing _ = false
+
+-- a member that a Cancelling action needn't wait for
+abbrev pub is_done_compensating : MemberStatus → Bool
+is_done_compensating member.Compensated = true
+is_done_compensating member.FailedToCompensate = true
+is_done_compensating member.FailedToComplete = true
+is_done_compensating _ = false
+
+-- an outcome that settles a direction
+abbrev pub is_decisive : Outcome → Bool
+is_decisive outcome.Done = true
+is_decisive outcome.Failed = true
+is_decisive _ = false
+
+-- the answer that a forget or an after notice is repeated for
+abbrev pub is_done : Outcome → Bool
+is_done outcome.Done = true
+is_done _ = false
+
+-- the answer of a member that goes on by itself (MicroProfile LRA 2.0: 202 Accepted)
+abbrev pub is_accepted : Outcome → Bool
+is_accepted outcome.Accepted = true
+is_accepted _ = false
+
+-- an answer after which the member is asked again
+abbrev pub is_undecided : Outcome → Bool
+is_undecided outcome.Accepted = true
+is_undecided outcome.Silent = true
+is_undecided _ = false
+
+-- whether two kinds are one
+abbrev pub same_kind : AskKind → AskKind → Bool
+same_kind ask.Complete ask.Complete = true
+same_kind ask.Compensate ask.Compensate = true
+same_kind ask.Status ask.Status = true
+same_kind ask.Forget ask.Forget = true
+same_kind ask.After ask.After = true
+same_kind _ _ = false
+
+-- whether two directions are one
+abbrev pub same_direction : Direction → Direction → Bool
+same_direction direction.Completion direction.Completion = true
+same_direction direction.Compensation direction.Compensation = true
+same_direction direction.Neither direction.Neither = true
+same_direction _ _ = false
+
+-- the answer of a member that gave none
+abbrev pub is_silent : Outcome → Bool
+is_silent outcome.Silent = true
+is_silent _ = false
+
+-- which outcomes an ask of a kind may have: forget and after notices are answered well or not at all (this project's choice)
+abbrev pub outcome_suits : AskKind → Outcome → Bool
+outcome_suits ask.Forget o = is_done o || is_silent o
+outcome_suits ask.After o = is_done o || is_silent o
+outcome_suits _ o = true
