@@ -53,10 +53,10 @@ pub record Limit : Type 0 where
 abbrev pub limit_given : ℕ → Entry → Option Limit
 limit_given a e = of_deed e.deed
   where
-  of_deed : Deed → Option Limit
-  of_deed (Start b parent limit) = when (b == a) (record { length_of = limit; since = e.moment })
-  of_deed (Renew b limit) = when (b == a) (record { length_of = limit; since = e.moment })
-  of_deed _ = None
+    of_deed : Deed → Option Limit
+    of_deed (Start b parent limit) = when (b == a) (record { length_of = limit; since = e.moment })
+    of_deed (Renew b limit) = when (b == a) (record { length_of = limit; since = e.moment })
+    of_deed _ = None
 
 -- the limit in force: that of the last Start or Renew (MicroProfile LRA 2.0, timeLimit and renewTimeLimit)
 unfoldable pub limit_in_force : History → ℕ → Limit

@@ -12,3 +12,4 @@ pub mod Settling
 pub mod Wants
 pub mod GoodEnds
 pub mod Tallies
+pub mod Upgrade

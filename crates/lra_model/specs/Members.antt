@@ -78,9 +78,9 @@ pub record Asked : Type 0 where
 abbrev pub asked_at : Step → Option Asked
 asked_at s = of_deed s.entry.deed
   where
-  of_deed : Deed → Option Asked
-  of_deed (Ask n p kind) = Some (record { number = n; member = p; kind = kind; direction = ask_direction s.past p kind })
-  of_deed _ = None
+    of_deed : Deed → Option Asked
+    of_deed (Ask n p kind) = Some (record { number = n; member = p; kind = kind; direction = ask_direction s.past p kind })
+    of_deed _ = None
 
 -- the ask of a number
 unfoldable pub ask_of : History → ℕ → Option Asked
@@ -95,9 +95,9 @@ pub record Replied : Type 0 where
 abbrev pub replied_at : Step → Option Replied
 replied_at s = of_deed s.entry.deed
   where
-  of_deed : Deed → Option Replied
-  of_deed (Reply n o) = option_map (λ (a : Asked). record { to = a; outcome = o; moment = s.entry.moment }) (ask_of s.past n)
-  of_deed _ = None
+    of_deed : Deed → Option Replied
+    of_deed (Reply n o) = option_map (λ (a : Asked). record { to = a; outcome = o; moment = s.entry.moment }) (ask_of s.past n)
+    of_deed _ = None
 
 -- the replies, in order
 unfoldable pub replies : History → List Replied
@@ -113,11 +113,11 @@ pub record Heard : Type 0 where
 abbrev pub heard_at : Step → Option Heard
 heard_at s = of_deed s.entry.deed
   where
-  of_deed : Deed → Option Heard
-  of_deed (Reply n o) = option_map (λ (a : Asked). record { member = a.member; direction = a.direction; outcome = o }) (ask_of s.past n)
-  of_deed (Report p o) = Some (record { member = p; direction = status_direction s.past p; outcome = o })
-  of_deed (Skip p) = Some (record { member = p; direction = direction.Completion; outcome = outcome.Done })
-  of_deed _ = None
+    of_deed : Deed → Option Heard
+    of_deed (Reply n o) = option_map (λ (a : Asked). record { member = a.member; direction = a.direction; outcome = o }) (ask_of s.past n)
+    of_deed (Report p o) = Some (record { member = p; direction = status_direction s.past p; outcome = o })
+    of_deed (Skip p) = Some (record { member = p; direction = direction.Completion; outcome = outcome.Done })
+    of_deed _ = None
 
 abbrev pub decides : ℕ → Direction → Heard → Bool
 decides p d h = (h.member == p) && same_direction h.direction d && is_decisive h.outcome

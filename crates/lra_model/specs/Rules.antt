@@ -74,7 +74,7 @@ rules_on v t f e = (rule.Grammar, has_deed v e.deed) ∷ (rule.Clerk, clerk_fits
 -- the first rule that isn't kept
 abbrev pub first_broken : List Verdict → Option Rule
 first_broken [] = None
-first_broken ((r , kept) ∷ rest) = if kept then first_broken rest else Some r
+first_broken ((r, kept) ∷ rest) = if kept then first_broken rest else Some r
 
 -- the first rule that an entry breaks after a history
 unfoldable pub broken : Version → (List ℕ → Bool) → History → Entry → Option Rule

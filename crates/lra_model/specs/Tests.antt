@@ -66,8 +66,8 @@ abbrev pub addresses_fit : (List ℕ → Bool) → Addresses → Bool
 addresses_fit is_address u =
     (is_some u.compensate || (is_some u.after && is_none u.complete && is_none u.status && is_none u.forget)) && is_text u.compensate && is_text u.complete && is_text u.status && is_text u.forget && is_text u.after
   where
-  is_text : Option (List ℕ) → Bool
-  is_text text = option_map_or is_address text true
+    is_text : Option (List ℕ) → Bool
+    is_text text = option_map_or is_address text true
 
 -- A member is completed without being asked where it is Active in a Closing action, and can be compensated and not completed.
 abbrev pub may_skip : Facts → MemberFacts → Bool

@@ -1,6 +1,7 @@
 //! What members are asked, what they answer, and why actions are closed or cancelled.
 
 ghost use Rattle.std.specs.Prelude.{◌≡◌, IfSome, Some};
+ghost use Rattle.lra_model.specs.Words.{outcome_suits};
 
 /// What a member is asked for.
 #[derive(Clone, Copy, Debug, PartialEq, Eq)]
@@ -152,5 +153,16 @@ impl Cause {
             b"limit" => Some(Cause::Limit),
             _ => None,
         }
+    }
+}
+
+/// Whether an ask of this kind may have this outcome: all may for complete, compensate and status, and for forget and
+/// after Done and Silent alone.
+pub fn suits(kind: AskKind, outcome: Outcome) -> bool
+    ensures { result ≡ outcome_suits kind outcome }
+{
+    match kind {
+        AskKind::Complete | AskKind::Compensate | AskKind::Status => true,
+        AskKind::Forget | AskKind::After => matches!(outcome, Outcome::Done | Outcome::Silent),
     }
 }
