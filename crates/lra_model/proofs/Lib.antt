@@ -1,3 +1,4 @@
+pub mod Push
 pub mod Tested
 pub mod Upgraded
 pub mod Worked
