@@ -1,5 +1,5 @@
 -- The addresses of a member, as texts.
-use Rattle.std.specs.Prelude.{ℕ, List, Option, String, option_map}
+use Rattle.std.specs.Prelude.{ℕ, Bool, List, Option, String, option_map, is_some}
 use Rattle.std.specs.Global.{Global}
 use Rattle.std.specs.String.{string_bytes}
 
@@ -14,3 +14,15 @@ pub record Addresses : Type 0 where
   pub status : Option (List ℕ)
   pub forget : Option (List ℕ)
   pub after : Option (List ℕ)
+
+-- which addresses are there
+pub record Presence : Type 0 where
+  pub compensate : Bool
+  pub complete : Bool
+  pub status : Bool
+  pub forget : Bool
+  pub after : Bool
+
+-- which of these addresses are there
+abbrev pub presence_of : Addresses → Presence
+presence_of u = record { compensate = is_some u.compensate; complete = is_some u.complete; status = is_some u.status; forget = is_some u.forget; after = is_some u.after }

@@ -7,7 +7,7 @@ use Rattle.lra_model.specs.declared.asks.AskKind.{AskKind}
 use Rattle.lra_model.specs.declared.asks.AskKind.TheVariants as ask
 use Rattle.lra_model.specs.declared.asks.Direction.TheVariants as direction
 use Rattle.lra_model.specs.declared.asks.Outcome.{Outcome}
-use Rattle.lra_model.specs.Addresses.{Addresses}
+use Rattle.lra_model.specs.Addresses.{Presence, presence_of}
 use Rattle.lra_model.specs.Words.{when}
 use Rattle.lra_model.specs.History.{History, clerks, actions, members, asks, is_among, last_moment}
 use Rattle.lra_model.specs.Actions.{Limit, parent, action_status, limit_in_force}
@@ -26,7 +26,7 @@ pub record ActionFacts : Type 0 where
 -- of a member that is there
 pub record MemberFacts : Type 0 where
   pub action : ℕ
-  pub addresses : Addresses
+  pub addresses : Presence
   pub status : MemberStatus
   pub completion : Option Outcome
   pub compensation : Option Outcome
@@ -57,11 +57,11 @@ action_facts J a = record {
   top_has_ended = top_has_ended J a;
 }
 
--- what the rules ask of a member: the last replies both ways, whether an ask of it is outstanding, and which notices it has answered well
+-- what the rules ask of a member: which addresses it has, the last replies both ways, whether an ask of it is outstanding, and which notices it has answered well
 abbrev pub member_facts : History → ℕ → MemberFacts
 member_facts J p = record {
   action = action_of J p;
-  addresses = addresses_of J p;
+  addresses = presence_of (addresses_of J p);
   status = member_status J p;
   completion = last_reply J p direction.Completion;
   compensation = last_reply J p direction.Compensation;

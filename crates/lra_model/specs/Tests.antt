@@ -9,7 +9,7 @@ use Rattle.lra_model.specs.declared.asks.Cause.{Cause}
 use Rattle.lra_model.specs.declared.asks.Cause.TheVariants as cause
 use Rattle.lra_model.specs.declared.version.Version.{Version}
 use Rattle.lra_model.specs.declared.version.Version.TheVariants as version
-use Rattle.lra_model.specs.Addresses.{Addresses}
+use Rattle.lra_model.specs.Addresses.{Addresses, Presence}
 use Rattle.lra_model.specs.Words.{is_active, is_closing, is_cancelling, is_closed, is_cancellable, same_status, is_untouched, is_completing, is_completed, is_compensating, member_has_failed, has_gone, is_decisive, is_accepted, outcome_suits}
 use Rattle.lra_model.specs.Facts.{ActionFacts, MemberFacts, Facts}
 
@@ -71,15 +71,15 @@ addresses_fit is_address u =
 
 -- A member is completed without being asked where it is Active in a Closing action, and can be compensated and not completed.
 abbrev pub may_skip : Facts → MemberFacts → Bool
-may_skip f p = state_is is_closing f p.action && is_untouched p.status && is_none p.addresses.complete && is_some p.addresses.compensate
+may_skip f p = state_is is_closing f p.action && is_untouched p.status && not p.addresses.complete && p.addresses.compensate
 
 -- whether the address that an ask of a kind goes to is there
-abbrev pub has_address : AskKind → Addresses → Bool
-has_address ask.Complete u = is_some u.complete
-has_address ask.Compensate u = is_some u.compensate
-has_address ask.Status u = is_some u.status
-has_address ask.Forget u = is_some u.forget
-has_address ask.After u = is_some u.after
+abbrev pub has_address : AskKind → Presence → Bool
+has_address ask.Complete u = u.complete
+has_address ask.Compensate u = u.compensate
+has_address ask.Status u = u.status
+has_address ask.Forget u = u.forget
+has_address ask.After u = u.after
 
 -- the answer of a member that goes on by itself
 abbrev pub was_accepted : Option Outcome → Bool
