@@ -1,0 +1,4 @@
+pub mod Linked
+pub mod Allowed
+pub mod Kept
+pub mod Counted
