@@ -10,6 +10,7 @@ use Rattle.lra_model.specs.declared.entry.Entry.{Entry}
 use Rattle.lra_model.specs.Words.{when}
 use Rattle.lra_model.specs.History.{History, first, last, read_deeds}
 
+-- the parent that a deed gives an action, if it starts it
 abbrev pub parent_given : ℕ → Deed → Option (Option ℕ)
 parent_given a (Start b parent limit) = when (b == a) parent
 parent_given a _ = None
@@ -18,6 +19,7 @@ parent_given a _ = None
 unfoldable pub parent : History → ℕ → Option ℕ
 parent J a = unwrap_or (first (read_deeds (parent_given a) J)) None
 
+-- up by parents, at most so many steps
 abbrev pub top_within : ℕ → History → ℕ → ℕ
 top_within zero J a = a
 top_within (suc n) J a = option_map_or (top_within n J) (parent J a) a
@@ -26,6 +28,7 @@ top_within (suc n) J a = option_map_or (top_within n J) (parent J a) a
 unfoldable pub top : History → ℕ → ℕ
 top J a = top_within a J a
 
+-- whether t is met going up by parents, at most so many steps
 abbrev pub is_within : ℕ → History → ℕ → ℕ → Bool
 is_within zero J t a = a == t
 is_within (suc n) J t a = (a == t) || option_map_or (is_within n J t) (parent J a) false
@@ -34,6 +37,7 @@ is_within (suc n) J t a = (a == t) || option_map_or (is_within n J t) (parent J 
 unfoldable pub is_under : History → ℕ → ℕ → Bool
 is_under J t a = is_within a J t a
 
+-- the state that a deed gives an action
 abbrev pub status_given : ℕ → Deed → Option ActionStatus
 status_given a (Start b parent limit) = when (b == a) action.Active
 status_given a (Close b cause) = when (b == a) action.Closing
@@ -50,6 +54,7 @@ pub record Limit : Type 0 where
   pub length_of : ℕ
   pub since : ℕ
 
+-- the limit that an entry gives an action
 abbrev pub limit_given : ℕ → Entry → Option Limit
 limit_given a e = of_deed e.deed
   where
@@ -62,6 +67,7 @@ limit_given a e = of_deed e.deed
 unfoldable pub limit_in_force : History → ℕ → Limit
 limit_in_force J a = unwrap_or (last (filter_map (limit_given a) J)) (record { length_of = 0; since = 0 })
 
+-- the action that a deed starts in another
 abbrev pub child_given : ℕ → Deed → Option ℕ
 child_given a (Start b (Some c) limit) = when (c == a) b
 child_given a _ = None
@@ -70,6 +76,7 @@ child_given a _ = None
 unfoldable pub children : History → ℕ → List ℕ
 children J a = read_deeds (child_given a) J
 
+-- the member that a deed lets join an action
 abbrev pub member_given : ℕ → Deed → Option ℕ
 member_given a (Join p b uris) = when (b == a) p
 member_given a _ = None
@@ -78,6 +85,7 @@ member_given a _ = None
 unfoldable pub members_of : History → ℕ → List ℕ
 members_of J a = read_deeds (member_given a) J
 
+-- whether a deed cancels an action
 abbrev pub is_cancel_of : ℕ → Deed → Bool
 is_cancel_of a (Cancel b cause) = b == a
 is_cancel_of a _ = false

@@ -10,6 +10,7 @@ use Rattle.lra_model.specs.Actions.{parent, action_status, is_under, was_cancell
 use Rattle.lra_model.specs.Members.{action_of, stays, was_asked, member_status}
 use Rattle.lra_model.specs.Ends.{action_is}
 
+-- whether a cancelled action is met going up by parents before t, at most so many steps
 abbrev pub cancelled_within : ℕ → History → ℕ → ℕ → Bool
 cancelled_within zero J t a = false
 cancelled_within (suc n) J t a = cond (a == t) false (was_cancelled J a || option_map_or (cancelled_within n J t) (parent J a) false)

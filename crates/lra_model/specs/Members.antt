@@ -16,6 +16,7 @@ use Rattle.lra_model.specs.Addresses.{Addresses}
 use Rattle.lra_model.specs.Words.{when, is_decisive, is_done, is_undecided, same_kind, same_direction}
 use Rattle.lra_model.specs.History.{History, Step, steps, first, last, read_deeds}
 
+-- the action that a deed lets a member join
 abbrev pub action_given : ℕ → Deed → Option ℕ
 action_given p (Join q a uris) = when (q == p) a
 action_given p _ = None
@@ -28,6 +29,7 @@ action_of J p = unwrap_or (first (read_deeds (action_given p) J)) 0
 abbrev pub no_addresses : Addresses
 no_addresses = record { compensate = None; complete = None; status = None; forget = None; after = None }
 
+-- the addresses that a deed lets a member join with
 abbrev pub addresses_given : ℕ → Deed → Option Addresses
 addresses_given p (Join q a uris) = when (q == p) uris
 addresses_given p _ = None
@@ -36,6 +38,7 @@ addresses_given p _ = None
 unfoldable pub addresses_of : History → ℕ → Addresses
 addresses_of J p = unwrap_or (first (read_deeds (addresses_given p) J)) no_addresses
 
+-- whether a deed is that a member leaves
 abbrev pub is_leave_of : ℕ → Deed → Bool
 is_leave_of p (Leave q) = q == p
 is_leave_of p _ = false
@@ -48,6 +51,7 @@ has_left J p = list_any (λ (e : Entry). is_leave_of p e.deed) J
 unfoldable pub stays : History → ℕ → Bool
 stays J p = is_some (addresses_of J p).compensate && not (has_left J p)
 
+-- whether a deed asks a member for that
 abbrev pub is_ask_for : ℕ → AskKind → Deed → Bool
 is_ask_for p kind (Ask n q asked) = (q == p) && same_kind asked kind
 is_ask_for p kind _ = false
@@ -75,6 +79,7 @@ pub record Asked : Type 0 where
   pub kind : AskKind
   pub direction : Direction
 
+-- the ask that a step makes
 abbrev pub asked_at : Step → Option Asked
 asked_at s = of_deed s.entry.deed
   where
@@ -92,6 +97,7 @@ pub record Replied : Type 0 where
   pub outcome : Outcome
   pub moment : ℕ
 
+-- the reply that a step gives, with its ask
 abbrev pub replied_at : Step → Option Replied
 replied_at s = of_deed s.entry.deed
   where
@@ -119,6 +125,7 @@ heard_at s = of_deed s.entry.deed
     of_deed (Skip p) = Some (record { member = p; direction = direction.Completion; outcome = outcome.Done })
     of_deed _ = None
 
+-- whether a word is decisive for a direction of a member
 abbrev pub decides : ℕ → Direction → Heard → Bool
 decides p d h = (h.member == p) && same_direction h.direction d && is_decisive h.outcome
 
@@ -150,6 +157,7 @@ last_reply J p d = last (filter_map (λ (r : Replied). when ((r.to.member == p) 
 unfoldable pub was_answered : History → ℕ → AskKind → Bool
 was_answered J p kind = list_any (λ (r : Replied). (r.to.member == p) && same_kind r.to.kind kind && is_done r.outcome) (replies J)
 
+-- whether an ask is outstanding by what a deed does to it
 abbrev pub standing_given : ℕ → Deed → Option Bool
 standing_given n (Ask m p kind) = when (m == n) true
 standing_given n (Reply m o) = when (m == n) false
@@ -160,6 +168,7 @@ standing_given n _ = None
 unfoldable pub is_outstanding : History → ℕ → Bool
 is_outstanding J n = unwrap_or (last (read_deeds (standing_given n) J)) false
 
+-- the ask that a deed makes of a member
 abbrev pub ask_given : ℕ → Deed → Option ℕ
 ask_given p (Ask n q kind) = when (q == p) n
 ask_given p _ = None

@@ -117,6 +117,7 @@ pub record Fault : Type 0 where
   pub line : ℕ
   pub rule : Rule
 
+-- the fault that a step is, if it breaks a rule; the first entry is on line 2
 abbrev pub fault_at : Version → (List ℕ → Bool) → Step → Option Fault
 fault_at v t s = option_map (λ (r : Rule). record { line = length s.past + 2; rule = r }) (broken v t s.past s.entry)
 

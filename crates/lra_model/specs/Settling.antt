@@ -27,6 +27,7 @@ is_settling _ = false
 abbrev pub IsQuiet : Version → (List ℕ → Bool) → History → Type 0
 IsQuiet v t J = (by : ℕ) (d : Deed) → is_settling d ≡ true → allows v t J (record { by = by; moment = last_moment J; deed = d }) ≡ false
 
+-- whether a member may be completed without being asked
 abbrev pub may_be_skipped : History → ℕ → Bool
 may_be_skipped J p = at_member (may_skip (facts_of J)) (facts_of J) p
 
