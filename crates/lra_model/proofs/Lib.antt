@@ -1,3 +1,13 @@
+pub mod GoodKept
+pub mod GoodLaw
+pub mod GoodLeast
+pub mod GoodLists
+pub mod GoodSpared
+pub mod GoodStatus
+pub mod GoodTeeth
+pub mod GoodWalks
+pub mod Legal
+pub mod LegalAsks
 pub mod Push
 pub mod Tested
 pub mod Upgraded

@@ -29,17 +29,17 @@ use Rattle.lra_model.specs.Wants.{wants, repeats}
 use Rattle.lra_model.specs.Tallies.{count_actions, least_failed, failed_actions}
 
 -- for these histories, an address is what begins as one
-abbrev is_http : List ℕ → Bool
+abbrev pub is_http : List ℕ → Bool
 is_http text = starts_with nat_eq text (codes "http://")
 
 -- what the clerk 1 did at a moment
-abbrev at : ℕ → Deed → Entry
+abbrev pub at : ℕ → Deed → Entry
 at moment deed = record { by = 1; moment = moment; deed = deed }
 
-abbrev u : Option (List ℕ)
+abbrev pub u : Option (List ℕ)
 u = Some (codes "http://n.test/u")
 
-abbrev c : Option (List ℕ)
+abbrev pub c : Option (List ℕ)
 c = Some (codes "http://n.test/c")
 
 abbrev s : Option (List ℕ)
@@ -51,7 +51,7 @@ f = Some (codes "http://n.test/f")
 abbrev a : Option (List ℕ)
 a = Some (codes "http://n.test/a")
 
-abbrev uris : Option (List ℕ) → Option (List ℕ) → Option (List ℕ) → Option (List ℕ) → Option (List ℕ) → Addresses
+abbrev pub uris : Option (List ℕ) → Option (List ℕ) → Option (List ℕ) → Option (List ℕ) → Option (List ℕ) → Addresses
 uris compensate complete status forget after = record { compensate = compensate; complete = complete; status = status; forget = forget; after = after }
 
 -- an action is started and closed
@@ -77,11 +77,11 @@ abbrev left_alone : History
 left_alone = at 0 Enrol ∷ at 0 (Start 1 None 0) ∷ at 1 (Join 1 1 (uris u c None None None)) ∷ at 2 (Leave 1) ∷ at 4 (Close 1 cause.Client) ∷ at 4 (End 1 action.Closed) ∷ []
 
 -- an action in another, with a member
-abbrev nest : History
+abbrev pub nest : History
 nest = at 0 Enrol ∷ at 0 (Start 1 None 0) ∷ at 1 (Start 2 (Some 1) 0) ∷ at 2 (Join 1 2 (uris u c None f a)) ∷ []
 
 -- the nested action closes, then the outer one is cancelled, and the member hears of its end
-abbrev undone : History
+abbrev pub undone : History
 undone =
     nest ++ at 3 (Close 2 cause.Client) ∷ at 4 (Ask 1 1 ask.Complete) ∷ at 5 (Reply 1 outcome.Done) ∷ at 5 (End 2 action.Closed) ∷ at 6 (Cancel 1 cause.Client) ∷ at 6 (Cancel 2 cause.Parent)
     ∷ at 7 (Ask 2 1 ask.Compensate) ∷ at 8 (Reply 2 outcome.Done) ∷ at 8 (End 2 action.Cancelled) ∷ at 8 (End 1 action.Cancelled) ∷ at 9 (Ask 3 1 ask.After)
@@ -93,13 +93,13 @@ cancelled_meanwhile =
     nest ++ at 3 (Close 2 cause.Client) ∷ at 4 (Ask 1 1 ask.Complete) ∷ at 5 (Cancel 1 cause.Client) ∷ at 6 (Reply 1 outcome.Done) ∷ at 6 (End 2 action.Closed) ∷ at 6 (Cancel 2 cause.Parent) ∷ []
 
 -- the member of the nested action fails to complete
-abbrev failing : History
+abbrev pub failing : History
 failing =
     nest ++ at 3 (Close 2 cause.Client) ∷ at 4 (Ask 1 1 ask.Complete) ∷ at 5 (Reply 1 outcome.Failed) ∷ at 5 (End 2 action.FailedToClose) ∷ at 6 (Close 1 cause.Client)
     ∷ at 6 (End 1 action.FailedToClose) ∷ at 7 (Ask 2 1 ask.Forget) ∷ at 8 (Reply 2 outcome.Done) ∷ at 9 (Ask 3 1 ask.After) ∷ []
 
 -- the nested action is cancelled, and the outer one closes
-abbrev cancelled_below : History
+abbrev pub cancelled_below : History
 cancelled_below =
     nest ++ at 3 (Cancel 2 cause.Client) ∷ at 4 (Ask 1 1 ask.Compensate) ∷ at 5 (Reply 1 outcome.Done) ∷ at 5 (End 2 action.Cancelled) ∷ at 6 (Close 1 cause.Client) ∷ at 6 (End 1 action.Closed) ∷ []
 
@@ -126,7 +126,7 @@ abbrev renewed_too_soon : History
 renewed_too_soon = at 0 Enrol ∷ at 0 (Start 1 None 100) ∷ at 90 (Renew 1 100) ∷ at 100 (Cancel 1 cause.Limit) ∷ []
 
 -- a nested action that has closed is taken back by its client, and the outer one closes
-abbrev taken_back : History
+abbrev pub taken_back : History
 taken_back =
     nest ++ at 3 (Close 2 cause.Client) ∷ at 4 (Ask 1 1 ask.Complete) ∷ at 5 (Reply 1 outcome.Done) ∷ at 5 (End 2 action.Closed) ∷ at 6 (Cancel 2 cause.Client)
     ∷ at 7 (Ask 2 1 ask.Compensate) ∷ at 8 (Reply 2 outcome.Done) ∷ at 8 (End 2 action.Cancelled) ∷ at 9 (Close 1 cause.Client) ∷ at 9 (End 1 action.Closed) ∷ []

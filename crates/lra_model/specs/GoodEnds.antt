@@ -1,14 +1,16 @@
 -- What it means that an action ended well, or failed.
-use Rattle.std.specs.Prelude.{◌≡◌, ℕ, zero, suc, ◌==◌, Bool, true, false, ◌&&◌, ◌||◌, cond, Option, Some, None}
+use Rattle.std.specs.Prelude.{◌≡◌, ℕ, zero, suc, ◌==◌, Bool, true, false, ◌||◌, cond, List, Some}
 use Rattle.std.specs.Option.{option_map_or}
 use Rattle.lra_model.specs.declared.status.ActionStatus.TheVariants as action
 use Rattle.lra_model.specs.declared.status.MemberStatus.TheVariants as member
 use Rattle.lra_model.specs.declared.asks.AskKind.TheVariants as ask
-use Rattle.lra_model.specs.Words.{has_failed, member_has_failed}
+use Rattle.lra_model.specs.declared.version.Version.{Version}
+use Rattle.lra_model.specs.Words.{has_ended, has_failed, member_has_failed}
 use Rattle.lra_model.specs.History.{History, members, is_among}
 use Rattle.lra_model.specs.Actions.{parent, action_status, is_under, was_cancelled}
 use Rattle.lra_model.specs.Members.{action_of, stays, was_asked, member_status}
 use Rattle.lra_model.specs.Ends.{action_is}
+use Rattle.lra_model.specs.Rules.{is_legal}
 
 -- whether a cancelled action is met going up by parents before t, at most so many steps
 abbrev pub cancelled_within : ℕ → History → ℕ → ℕ → Bool
@@ -29,14 +31,20 @@ pub record IsKept (J : History) (p : ℕ) : Type 0 where
   pub never_asked : was_asked J p ask.Compensate ≡ false
 
 -- What the end of an action t means for the members that stay in it or below it. Where it Closed, each is completed and was never asked to
--- compensate, unless a cancellation nested in t compensated it. Where it was Cancelled, each is compensated. Where it failed, one failed
+-- compensate, unless a cancellation nested in t compensated it. Where it was Cancelled, each is compensated. Where it failed, one of them
+-- failed; where it ended and did not fail, none of them did: a failed end stands just where a member failed
 -- (MicroProfile LRA 2.0, LRA states: all or nothing).
 pub record HasGoodEnd (J : History) (t : ℕ) : Type 0 where
   pub closed : action_status J t ≡ Some action.Closed → (p : ℕ) → StaysUnder J t p → was_cancelled_below J t (action_of J p) ≡ false → IsKept J p
   pub undone : action_status J t ≡ Some action.Closed → (p : ℕ) → StaysUnder J t p → was_cancelled_below J t (action_of J p) ≡ true → member_status J p ≡ member.Compensated
   pub cancelled : action_status J t ≡ Some action.Cancelled → (p : ℕ) → StaysUnder J t p → member_status J p ≡ member.Compensated
   pub failed : action_is has_failed J t ≡ true → (p : ℕ) × StaysUnder J t p × (member_has_failed (member_status J p) ≡ true)
+  pub unfailed : action_is has_ended J t ≡ true → action_is has_failed J t ≡ false → (p : ℕ) → StaysUnder J t p → member_has_failed (member_status J p) ≡ false
 
 -- each action ended as it should, those that haven't ended apart
 abbrev pub GoodEnds : History → Type 0
 GoodEnds J = (t : ℕ) → HasGoodEnd J t
+
+-- every legal history of either version has good ends, whatever the test of an address's text
+abbrev pub LegalHistoriesHaveGoodEnds : Type 0
+LegalHistoriesHaveGoodEnds = (v : Version) (is_address : List ℕ → Bool) (J : History) → is_legal v is_address J ≡ true → GoodEnds J
