@@ -5,5 +5,6 @@ mod auditing;
 mod book;
 mod verdict;
 
-pub use auditing::check;
+pub use auditing::{audit, check};
+pub use lra_model::{Memory, Rule, Version};
 pub use verdict::{FailedEnd, Summary, Verdict};

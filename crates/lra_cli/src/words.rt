@@ -1,0 +1,25 @@
+//! The words of a command line.
+
+/// What the program is asked to do.
+#[derive(Clone, Copy, Debug)]
+pub enum Command<'a> {
+    /// Audit standard input.
+    AuditInput,
+    /// Audit a file.
+    Audit { file: &'a str },
+}
+
+/// The words aren't a command.
+#[derive(Clone, Copy, Debug, PartialEq, Eq)]
+pub struct Usage;
+
+/// The command that these words are, without the program's own name.
+pub fn read_words(words: &[String]) -> Result<Command<'_>, Usage> {
+    match words {
+        [] => Ok(Command::AuditInput),
+        [verb, file] if verb.as_str() == "audit" => Ok(Command::Audit {
+            file: file.as_str(),
+        }),
+        _ => Err(Usage),
+    }
+}
