@@ -1,5 +1,9 @@
 //! The words of a command line.
 
+ghost use Rattle.std.specs.Prelude.{IfOk, IfErr};
+ghost use Rattle.lra_cli.specs.declared.words.Command.{Command};
+ghost use Rattle.lra_cli.specs.Words.{texts, IsCommand};
+
 /// What the program is asked to do.
 #[derive(Clone, Copy, Debug)]
 pub enum Command<'a> {
@@ -14,7 +18,10 @@ pub enum Command<'a> {
 pub struct Usage;
 
 /// The command that these words are, without the program's own name.
-pub fn read_words(words: &[String]) -> Result<Command<'_>, Usage> {
+pub fn read_words(words: &[String]) -> Result<Command<'_>, Usage>
+    ensures command { IfOk result (IsCommand (texts words.now)) }
+    ensures usage { IfErr result (λ _. (command : Command) → IsCommand (texts words.now) command → ⊥) }
+{
     match words {
         [] => Ok(Command::AuditInput),
         [verb, file] if verb.as_str() == "audit" => Ok(Command::Audit {

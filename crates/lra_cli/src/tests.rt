@@ -1,0 +1,184 @@
+use crate::fault::RunFault;
+use crate::run::audit_run;
+use crate::words::{Command, Usage, read_words};
+use std::io;
+use std::io::{ErrorKind, Read, Write};
+use std::test::Fail;
+
+const EMPTY: &str = "lra-journal 1 7\n";
+
+const CLOSED: &str =
+    "lra-journal 1 7\n1 0 enrol\n1 0 start 1 * 0\n1 5 close 1 client\n1 5 end 1 Closed\n";
+
+/// A journal, what is printed of it, and the status.
+const JOURNALS: [(&str, &str, u8); 13] = [
+    (
+        EMPTY,
+        "sound entries 0 actions 0 unended 0 closed 0 cancelled 0 failed 0\n",
+        0,
+    ),
+    ("", "unsound line 1 header\n", 1),
+    (
+        CLOSED,
+        "sound entries 4 actions 1 unended 0 closed 1 cancelled 0 failed 0\n",
+        0,
+    ),
+    (
+        "lra-journal 2 7\n1 0 enrol\n1 0 start 1 * 0\n",
+        "sound entries 2 actions 1 unended 1 closed 0 cancelled 0 failed 0\n",
+        0,
+    ),
+    (
+        "lra-journal 1 7\n1 0 enrol\n1 0 start 1 * 0\n1 5 close 1 client\n1 5 end 1 Closed",
+        "unsound line 5 grammar\n",
+        1,
+    ),
+    (
+        "lra-journal 1 7\n1 0 start 1 * 0\n",
+        "unsound line 2 clerk\n",
+        1,
+    ),
+    (
+        "lra-journal 1 7\n1 0 enrol\n1 0 start 01 * 0\n",
+        "unsound line 3 grammar\n",
+        1,
+    ),
+    (
+        "lra-journal 1 7\n1 5 enrol\n1 4 start 1 * 0\n",
+        "unsound line 3 moment\n",
+        1,
+    ),
+    (
+        "lra-journal 1 7\n1 0 enrol\n1 0 start 2 * 0\n",
+        "unsound line 3 number\n",
+        1,
+    ),
+    (
+        "lra-journal 1 7\n1 0 enrol\n1 0 start 1 * 0\n1 5 close 1 client\n1 5 end 1 FailedToClose\n",
+        "unsound line 5 ending\n",
+        1,
+    ),
+    (
+        "lra-journal 1 7\n1 1 enrol\n1 1 start 1 * 18446744073709551615\n",
+        "unsound line 3 limit\n",
+        1,
+    ),
+    (
+        "lra-journal 1 7\n1 0 enrol\n1 0 start 1 * 18446744073709551615\n",
+        "sound entries 2 actions 1 unended 1 closed 0 cancelled 0 failed 0\n",
+        0,
+    ),
+    ("lra-journal 3 7\n", "unsound line 1 header\n", 1),
+];
+
+#[test]
+fn journals_are_audited(rt: HostRuntime) -> Result<(), Fail> {
+    for (journal, printed, status) in JOURNALS {
+        let mut out = Vec::new(rt.alloc());
+        let answer = audit_run(rt.alloc(), journal.as_bytes(), &mut out);
+        assert_eq!(rt; answer, Ok(status), "of {journal:?}");
+        assert_eq!(rt; out.as_slice(), printed.as_bytes(), "of {journal:?}");
+    }
+    Ok(())
+}
+
+/// Gives its bytes one a call, with an interruption before each, and then fails or ends.
+struct Halting<'a> {
+    left: &'a [u8],
+    is_interrupted: bool,
+    fails: bool,
+}
+
+impl Drop for Halting<'_> {
+    fn drop(self) {
+        let Halting {
+            left: _,
+            is_interrupted: _,
+            fails: _,
+        } = self;
+    }
+}
+
+impl Read for Halting<'_> {
+    fn read(&mut self, buf: &mut [u8]) -> io::Result<usize> {
+        self.is_interrupted = !self.is_interrupted;
+        if self.is_interrupted {
+            return Err(io::Error::from(ErrorKind::Interrupted));
+        }
+        match self.left {
+            [first, others @ ..] if !buf.is_empty() => {
+                buf[0] = *first;
+                self.left = others;
+                Ok(1)
+            }
+            _ if self.fails => Err(io::Error::from(ErrorKind::Other)),
+            _ => Ok(0),
+        }
+    }
+}
+
+#[test]
+fn a_reader_may_halt(rt: HostRuntime) -> Result<(), Fail> {
+    for fails in [false, true] {
+        let reader = Halting {
+            left: CLOSED.as_bytes(),
+            is_interrupted: false,
+            fails,
+        };
+        let mut out = Vec::new(rt.alloc());
+        let answer = audit_run(rt.alloc(), reader, &mut out);
+        if fails {
+            assert_eq!(rt; answer, Err(RunFault::Read));
+            assert!(rt; out.is_empty());
+        } else {
+            assert_eq!(rt; answer, Ok(0));
+        }
+    }
+    Ok(())
+}
+
+/// Takes so many bytes, and then fails.
+#[derive(Drop)]
+struct Full {
+    room: usize,
+}
+
+impl Write for Full {
+    fn write(&mut self, buf: &[u8]) -> io::Result<usize> {
+        if self.room == 0 {
+            return Err(io::Error::from(ErrorKind::Other));
+        }
+        let taken = self.room.min(buf.len());
+        self.room -= taken;
+        Ok(taken)
+    }
+
+    fn flush(&mut self) -> io::Result<()> {
+        Ok(())
+    }
+}
+
+#[test]
+fn a_writer_may_fail(rt: HostRuntime) {
+    for (room, wanted) in [
+        (0, Err(RunFault::Write)),
+        (20, Err(RunFault::Write)),
+        (66, Ok(0)),
+    ] {
+        let answer = audit_run(rt.alloc(), CLOSED.as_bytes(), &mut Full { room });
+        assert_eq!(rt; answer, wanted, "with room for {room}");
+    }
+}
+
+#[test]
+fn words_are_commands(rt: HostRuntime) -> Result<(), Fail> {
+    let alloc = rt.alloc();
+    let audit = String::from_str(alloc, "audit")?;
+    let file = String::from_str(alloc, "a file")?;
+    let words = vec![in alloc; audit, file]?;
+    assert!(rt; matches!(read_words(&[]), Ok(Command::AuditInput)));
+    assert!(rt; matches!(read_words(&words), Ok(Command::Audit { file: "a file" })));
+    assert!(rt; matches!(read_words(&words[..1]), Err(Usage)));
+    assert!(rt; matches!(read_words(&words[1..]), Err(Usage)));
+    Ok(())
+}
