@@ -1,0 +1,4 @@
+pub mod Remainders
+pub mod AddressFacts
+pub mod IdentifierFacts
+pub mod ParsedValid
