@@ -1,0 +1,5 @@
+pub mod Moments
+pub mod Order
+pub mod Planned
+pub mod Schedule
+pub mod Tree

@@ -1,0 +1,30 @@
+ghost use Rattle.std.specs.Prelude.{MatchBool};
+ghost use Rattle.lra_timers.specs.Order.{IsNotAfter, IsWinner};
+
+/// A number with its moment.
+#[derive(Clone, Copy, Debug, PartialEq, Eq)]
+pub(crate) struct Deadline {
+    pub moment: u64,
+    pub number: u64,
+}
+
+impl Deadline {
+    /// No deadline stands behind it.
+    pub const LAST: Deadline = Deadline {
+        moment: u64::MAX,
+        number: u64::MAX,
+    };
+
+    /// By moment, then by number.
+    fn is_before(self, other: Deadline) -> bool
+        ensures { MatchBool result (IsNotAfter self other) (IsNotAfter other self) }
+    {
+        self.moment < other.moment || (self.moment == other.moment && self.number < other.number)
+    }
+
+    pub fn earlier(self, other: Deadline) -> Deadline
+        ensures { IsWinner result self other }
+    {
+        if other.is_before(self) { other } else { self }
+    }
+}
