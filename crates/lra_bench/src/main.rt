@@ -2,13 +2,17 @@
 //! machine to machine.
 #![tactic(auto)]
 
+mod ids;
 mod timers;
+mod wire;
 
 use std::env;
 
 const USAGE: &str = "usage: lra_bench NAME
 
-timers  the calls of an agenda, as its pairs grow from 1,000 to 400,000";
+ids     address texts tested a second, short and long
+timers  the calls of an agenda, as its pairs grow from 1,000 to 400,000
+wire    requests read a second, whole and in small pieces";
 
 fn main(rt: HostRuntime) -> anyhow::Result<()> {
     let mut args = env::args(&rt)?;
@@ -18,7 +22,9 @@ fn main(rt: HostRuntime) -> anyhow::Result<()> {
         return Ok(());
     };
     match name.as_str() {
+        "ids" => ids::run(&rt)?,
         "timers" => timers::run(&rt)?,
+        "wire" => wire::run(&rt)?,
         _ => println!(rt; "{USAGE}")?,
     }
     Ok(())

@@ -1,0 +1,88 @@
+//! Requests parsed a second, whole and in small pieces.
+//!
+//! Times don't hold from machine to machine, so what counts are ratios taken in one run: the time of
+//! a stream in pieces of each size to that in large pieces, and that of long heads that come byte by
+//! byte to that of as many bytes in short ones.
+use anyhow::Result;
+use lra_wire::{Inbox, read_request};
+use std::alloc::Global;
+use std::io;
+use std::io::Read;
+use std::time::Instant;
+
+/// How many requests a stream has.
+const REQUESTS: usize = 10_000;
+
+/// The shortest of so many runs counts: what else the machine does only makes a run longer.
+const RUNS: u32 = 5;
+
+/// The value of a field that makes a request 16 times as long as one of 350 bytes does.
+const LONG: usize = 7460;
+
+/// Gives its bytes in pieces of at most this size.
+#[derive(Drop)]
+struct Pieces<'a> {
+    rest: &'a [u8],
+    size: usize,
+}
+
+impl Read for Pieces<'_> {
+    fn read(&mut self, buf: &mut [u8]) -> io::Result<usize> {
+        let count = self.size.min(self.rest.len()).min(buf.len());
+        let (front, rest) = self.rest.split_at(count);
+        buf[..count].copy_from_slice(front);
+        self.rest = rest;
+        Ok(count)
+    }
+}
+
+/// So many requests, each with a field of so long a value, one after another.
+fn stream(alloc: Global, count: usize, len: usize) -> Result<Vec<u8>> {
+    let mut bytes = Vec::new(alloc);
+    for _ in 0..count {
+        bytes.extend_from_slice(
+            b"PUT /lra-coordinator/00000000-0000-8007-8000-000000000001/close HTTP/1.1\r\nHost: 127.0.0.1:8080\r\nX: ",
+        )?;
+        for _ in 0..len {
+            bytes.push(b'x')?;
+        }
+        bytes.extend_from_slice(b"\r\nContent-Length: 2\r\n\r\n{}")?;
+    }
+    Ok(bytes)
+}
+
+/// Seconds to read all requests of the bytes, the least of some runs.
+fn time(rt: &HostRuntime, bytes: &[u8], size: usize) -> Result<f64> {
+    let alloc = rt.alloc();
+    let mut least = f64::MAX;
+    for _ in 0..RUNS {
+        let mut inbox = Inbox::new(alloc, Pieces { rest: bytes, size })?;
+        let start = Instant::now(rt)?;
+        for _ in 0..u64::MAX {
+            let request = read_request(alloc, &mut inbox)?;
+            if request.is_none() {
+                break;
+            }
+        }
+        least = least.min(start.elapsed(rt)?.as_secs_f64());
+    }
+    Ok(least)
+}
+
+/// Prints the ratios.
+pub fn run(rt: &HostRuntime) -> Result<()> {
+    let bytes = stream(rt.alloc(), REQUESTS, 300)?;
+    let whole = time(rt, bytes.as_slice(), 4096)?;
+    let rate = 10_000.0 / whole;
+    println!(rt; "{rate:9.0} requests a second, in pieces of 4096 bytes")?;
+    for size in [1024, 256, 64, 16, 4, 1] {
+        let ratio = time(rt, bytes.as_slice(), size)? / whole;
+        println!(rt; "in pieces of {size:>4} bytes: ratio {ratio:.2}")?;
+    }
+    // As many bytes in all: heads of some 470 bytes, and heads of some 7,500.
+    let short = stream(rt.alloc(), 1600, 350)?;
+    let long = stream(rt.alloc(), 100, LONG)?;
+    let ratio = time(rt, long.as_slice(), 1)? / time(rt, short.as_slice(), 1)?;
+    println!(rt; "heads 16 times as long, byte by byte: ratio {ratio:.2}")?;
+    Ok(())
+}

@@ -1,0 +1,11 @@
+pub mod FieldLemmas
+pub mod InboxLemmas
+pub mod RequestLemmas
+pub mod ReadingLemmas
+pub mod WritingLemmas
+pub mod StreamLemmas
+pub mod ChunkLemmas
+pub mod PieceLemmas
+pub mod ChunksLemmas
+pub mod ResponseLemmas
+pub mod RequestsLemmas

@@ -1,0 +1,138 @@
+-- From the spans of a head to the request that the stream begins with.
+use Rattle.std.proofs.Common.{◌≡◌, ℕ, ◌+◌, ◌-◌, ◌<◌, ◌≤◌, ◌||◌, ◌==◌, List, [], ◌++◌, length, map, take, drop, sym, ap, subst, ◌∙◌, arith, append_assoc, Option, Some, None, Ok, Err, inl, inr}
+use Rattle.std.specs.Prelude.{slice_range, IfSome}
+use Rattle.std.specs.Io.KnownBytes.{Keeps, prepend_known, IsAtEnd}
+use Rattle.std.proofs.lemmas.List.{take-append-drop, drop-append-le, length-append, length-take, length-drop, drop-drop, append-nil}
+use Rattle.httparse.specs.declared.spans.HeaderSpan.{HeaderSpan}
+use Rattle.httparse.specs.declared.spans.RequestSpans.{RequestSpans}
+use Rattle.httparse.specs.Grammar.{ReadsRequest}
+use Rattle.httparse.specs.Spans.{header_bytes}
+use Rattle.httparse.proofs.GrammarLemmas.{ReadsRequest-append}
+use Rattle.lra_wire.specs.declared.fault.WireFault.{WireFault}
+use Rattle.lra_wire.specs.declared.fault.WireFault.TheVariants.{BadHead, Chunked, BadLength, TooLarge, Cut, Io, Memory}
+use Rattle.lra_wire.specs.declared.inbox.Inbox.{Inbox}
+use Rattle.lra_wire.specs.declared.request.RequestRead.{RequestRead}
+use Rattle.lra_wire.specs.Fields.{body_length_of, lists_close}
+use Rattle.lra_wire.specs.Heads.{IsHeadAt}
+use Rattle.lra_wire.specs.Inbox.{kept_bytes, stream_of, Grows, IsOutside, FillsTo}
+use Rattle.lra_wire.specs.Reading.{request_at}
+use Rattle.lra_wire.specs.Request.{IsRequest, Request, request_of, RefusesRequest, EndsInBody, GivesRequest}
+use Rattle.lra_wire.specs.Streams.{IfBothKnown}
+use Rattle.lra_wire.proofs.InboxLemmas.{Grows_trans}
+
+-- a part of the list, and what is behind it
+part_of : (bytes : List ℕ) (a n : ℕ) → drop a bytes ≡ slice_range bytes a (a + n) ++ drop (a + n) bytes
+part_of bytes a n =
+    let same : a + n - a ≡ n = omega arith in
+    sym (take-append-drop n (drop a bytes)) ∙ ap (λ k. take k (drop a bytes) ++ drop n (drop a bytes)) (sym same)
+    ∙ ap (λ rest. slice_range bytes a (a + n) ++ rest) (drop-drop n a bytes)
+
+length_part : (bytes : List ℕ) (a n : ℕ) → a + n ≤ length bytes → length (slice_range bytes a (a + n)) ≡ n
+length_part bytes a n h = omega (arith, length-take (a + n - a) (drop a bytes), length-drop a bytes)
+
+-- The head in the bytes that came first, and the body in those and more.
+pub request_there : (bytes more rest : List ℕ) (headers : List HeaderSpan) (spans : RequestSpans) (size : ℕ) (request : Request) → IsHeadAt bytes headers spans
+    → body_length_of (map (header_bytes bytes) (take spans.headers headers)) ≡ Ok size
+    → spans.len + size ≤ length (bytes ++ more)
+    → record request { body = [] } ≡ request_at bytes headers spans
+    → request.body ≡ slice_range (bytes ++ more) spans.len (spans.len + size)
+    → IsRequest ((bytes ++ more) ++ rest) request (drop (spans.len + size) (bytes ++ more) ++ rest)
+request_there bytes more rest headers spans size request at stated whole parts body =
+    let kept : List ℕ = bytes ++ more in
+    let end : ℕ = spans.len + size in
+    let reads : ReadsRequest kept at.head (drop spans.len bytes ++ more) = ReadsRequest-append bytes at.head (drop spans.len bytes) more at.places.reads in
+    let behind : drop spans.len bytes ++ more ≡ request.body ++ drop end kept =
+    sym (drop-append-le spans.len bytes more at.within.section.len_fits) ∙ part_of kept spans.len size ∙ ap (λ b. b ++ drop end kept) (sym body) in
+    let reading : ReadsRequest (kept ++ rest) at.head ((drop spans.len bytes ++ more) ++ rest) = ReadsRequest-append kept at.head (drop spans.len bytes ++ more) rest reads in
+    record {
+      head = at.head;
+      found = record {
+        reads = subst (λ (bs : List ℕ). ReadsRequest (kept ++ rest) at.head bs) (ap (λ bs. bs ++ rest) behind ∙ append_assoc request.body (drop end kept) rest) reading;
+        lawful = at.lawful;
+      };
+      length = ap body_length_of (sym at.places.fields) ∙ stated ∙ ap Ok (sym (length_part kept spans.len size whole) ∙ ap length (sym body));
+      method = ap (λ (r : Request). r.method) parts ∙ at.places.method;
+      target = ap (λ (r : Request). r.target) parts ∙ at.places.path;
+      minor = ap (λ (r : Request). r.minor) parts ∙ at.places.version;
+      close = ap (λ (r : Request). r.close) parts ∙ ap (λ minor. (minor == 0) || lists_close (map (header_bytes bytes) (take spans.headers headers))) at.places.version
+          ∙ ap (λ fields. (at.head.minor == 0) || lists_close fields) at.places.fields;
+    }
+
+-- a relation of the stream that was, and the one that is left behind the first bytes
+pub both_known : (old : Option (List ℕ)) (kept : List ℕ) (left : Option (List ℕ)) (n : ℕ) (P : List ℕ → List ℕ → Type 0)
+    → Keeps old (prepend_known kept left) → ((rest : List ℕ) → P (kept ++ rest) (drop n kept ++ rest))
+    → IfBothKnown old (prepend_known (drop n kept) left) P
+both_known None kept left n P keeps h = tt
+both_known (Some xs) kept None n P keeps h = absurd keeps
+both_known (Some xs) kept (Some ys) n P keeps h = let Q : List ℕ → Type 0 = λ zs. P zs (drop n kept ++ ys) in subst Q keeps (h ys)
+
+-- what a failing reader or want of memory says of the bytes: nothing
+pub outside_refuses : (fault : WireFault) (bytes : List ℕ) → IsOutside fault → RefusesRequest bytes fault
+outside_refuses Io bytes h = tt
+outside_refuses Memory bytes h = tt
+outside_refuses BadHead bytes h = absurd h
+outside_refuses Chunked bytes h = absurd h
+outside_refuses BadLength bytes h = absurd h
+outside_refuses TooLarge bytes h = absurd h
+outside_refuses Cut bytes h = absurd h
+
+-- a stream that is at its end is what was kept
+pub at_end : (old : Option (List ℕ)) (kept : List ℕ) (left : Option (List ℕ)) (P : List ℕ → Type 0)
+    → Keeps old (prepend_known kept left) → IsAtEnd left → P kept → IfSome old P
+at_end None kept left P keeps end h = tt
+at_end (Some xs) kept None P keeps end h = absurd keeps
+at_end (Some xs) kept (Some ys) P keeps end h =
+    let whole : kept ≡ xs = sym (append-nil kept) ∙ ap (λ zs. kept ++ zs) (sym end) ∙ keeps in
+    subst P whole h
+
+-- the stream ends in the body
+pub cut_body : {R : Type 0} (remaining : R → Option (List ℕ)) (old mid new : Inbox R) (headers : List HeaderSpan) (spans : RequestSpans) (size : ℕ) (fault : WireFault)
+    → Grows remaining old mid → IsHeadAt (kept_bytes mid) headers spans
+    → body_length_of (map (header_bytes (kept_bytes mid)) (take spans.headers headers)) ≡ Ok size
+    → FillsTo remaining (spans.len + size) mid new (Err fault)
+    → IfSome (stream_of remaining old) (λ bytes. RefusesRequest bytes fault)
+cut_body {R} remaining old mid new headers spans size fault grows at stated (inl outside) = some (stream_of remaining old)
+  where
+    some : (o : Option (List ℕ)) → IfSome o (λ bytes. RefusesRequest bytes fault)
+    some None = tt
+    some (Some bytes) = outside_refuses fault bytes outside
+cut_body {R} remaining old mid new headers spans size fault grows at stated (inr cut) =
+    let more : List ℕ = cut.1.more in
+    let bytes : List ℕ = kept_bytes mid in
+    let front : drop spans.len (bytes ++ more) ≡ drop spans.len bytes ++ more = drop-append-le spans.len bytes more at.within.section.len_fits in
+    let short : length (drop spans.len bytes ++ more) < size = omega (arith, ap length front, length-drop spans.len (bytes ++ more), cut.3, ap length cut.1.kept, at.within.section.len_fits, length-append bytes more) in
+    let ends : EndsInBody (bytes ++ more) = record {
+      head = at.head;
+      rest = drop spans.len bytes ++ more;
+      found = record { reads = ReadsRequest-append bytes at.head (drop spans.len bytes) more at.places.reads; lawful = at.lawful };
+      size = size;
+      stated = ap body_length_of (sym at.places.fields) ∙ stated;
+      short = short;
+    } in
+    let P : List ℕ → Type 0 = λ bs. RefusesRequest bs fault in
+    let refused : RefusesRequest (bytes ++ more) fault = subst (λ (f : WireFault). RefusesRequest (bytes ++ more) f) (sym cut.0) (inr ends) in
+    at_end (stream_of remaining old) (kept_bytes new) (remaining new.reader) P
+    (Grows_trans grows cut.1).stream cut.2 (subst P (sym cut.1.kept) refused)
+
+-- the request, and the inbox behind it
+pub found_request : {R : Type 0} (remaining : R → Option (List ℕ)) (old mid full new : Inbox R) (headers : List HeaderSpan) (spans : RequestSpans) (size : ℕ) (read : RequestRead)
+    → Grows remaining old mid → IsHeadAt (kept_bytes mid) headers spans
+    → body_length_of (map (header_bytes (kept_bytes mid)) (take spans.headers headers)) ≡ Ok size
+    → FillsTo remaining (spans.len + size) mid full (Ok tt)
+    → record (request_of read) { body = [] } ≡ request_at (kept_bytes mid) headers spans
+    → read.body.items ≡ slice_range (kept_bytes full) spans.len (spans.len + size)
+    → kept_bytes new ≡ drop (spans.len + size) (kept_bytes full) → new.reader ≡ full.reader
+    → IfBothKnown (stream_of remaining old) (stream_of remaining new) (GivesRequest (Some read))
+found_request {R} remaining old mid full new headers spans size read grows at stated filled parts body kept reader =
+    let P : List ℕ → List ℕ → Type 0 = GivesRequest (Some read) in
+    let end : ℕ = spans.len + size in
+    let more : List ℕ = filled.0.more in
+    let there : (rest : List ℕ) → P (kept_bytes full ++ rest) (drop end (kept_bytes full) ++ rest) = λ rest.
+    subst (λ (bs : List ℕ). P (bs ++ rest) (drop end bs ++ rest)) (sym filled.0.kept)
+    (request_there (kept_bytes mid) more rest headers spans size (request_of read) at stated
+    (subst (λ (bs : List ℕ). end ≤ length bs) filled.0.kept filled.1) parts
+    (body ∙ ap (λ bs. slice_range bs spans.len end) filled.0.kept)) in
+    let known : IfBothKnown (stream_of remaining old) (prepend_known (drop end (kept_bytes full)) (remaining full.reader)) P =
+    both_known (stream_of remaining old) (kept_bytes full) (remaining full.reader) end P (Grows_trans grows filled.0).stream there in
+    subst (λ (s : Option (List ℕ)). IfBothKnown (stream_of remaining old) s P)
+    (ap (λ bs. prepend_known bs (remaining full.reader)) (sym kept) ∙ ap (λ r. prepend_known (kept_bytes new) (remaining r)) (sym reader)) known

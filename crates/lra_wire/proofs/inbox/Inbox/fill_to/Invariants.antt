@@ -1,0 +1,11 @@
+use Rattle.std.proofs.Common.{length, ◌-◌}
+use Rattle.lra_wire.specs.Inbox.{kept_bytes, Grows}
+use Rattle.lra_wire.proofs.inbox.Inbox.fill_to.Given as goal
+
+-- what came is of the stream
+abbrev pub invariant-loop-self : goal.invariant-loop-self
+invariant-loop-self g l = Grows g.R.Read.remaining l.initial.self l.self
+
+-- how many bytes are wanted still
+abbrev pub decreases-loop-self : goal.decreases-loop-self
+decreases-loop-self g l = l.len - length (kept_bytes l.self)

@@ -1,0 +1,11 @@
+use Rattle.std.proofs.Common.{◌-◌, ◌+◌, length}
+use Rattle.lra_wire.specs.Inbox.{kept_bytes, Grows}
+use Rattle.lra_wire.proofs.response.fill_to_the_end.Given as goal
+
+-- what came is of the stream
+abbrev pub invariant-loop-start : goal.invariant-loop-start
+invariant-loop-start g l = Grows g.R.Read.remaining l.initial.inbox l.inbox
+
+-- how many bytes a body may have still, and one more
+abbrev pub decreases-loop-start : goal.decreases-loop-start
+decreases-loop-start g l = l.start + 65537 - length (kept_bytes l.inbox)

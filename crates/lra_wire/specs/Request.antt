@@ -1,0 +1,90 @@
+-- What the bytes of a stream say of its next request (RFC 9112, sections 2 to 6).
+use Rattle.std.specs.Prelude.{◌≡◌, ◌≢◌, ◌⊎◌, ℕ, ◌<◌, ◌≤◌, Bool, ◌||◌, ◌==◌, List, [], ◌++◌, length, map, codes, Option, Some, None, Ok, Err, string_bytes, ⊤}
+use Rattle.httparse.specs.Grammar.{RequestHead, print_request, ReadsRequest, HasNoRequest, MayBecomeRequest}
+use Rattle.httparse.specs.Spans.{name_and_value}
+use Rattle.lra_wire.specs.declared.fault.WireFault.{WireFault}
+use Rattle.lra_wire.specs.declared.fault.WireFault.TheVariants.{BadHead, Chunked, BadLength, TooLarge, Cut, Io, Memory}
+use Rattle.lra_wire.specs.declared.request.RequestRead.{RequestRead}
+use Rattle.lra_wire.specs.Fields.{values_of, body_length_of, lists_close}
+
+-- a request without where it lies in memory
+pub record Request : Type 0 where
+  pub method : List ℕ
+  pub target : List ℕ
+  pub minor : ℕ
+  pub close : Bool
+  pub body : List ℕ
+
+-- what a request that was read says
+abbrev pub request_of : RequestRead → Request
+request_of read = record { method = string_bytes read.method; target = string_bytes read.target; minor = read.minor; close = read.close; body = read.body.items }
+
+-- the names and the values of a head's fields
+abbrev pub fields_of : RequestHead → List (List ℕ × List ℕ)
+fields_of head = map name_and_value head.fields
+
+-- A head within the limits, with exactly one Host where it is one of HTTP/1.1 (RFC 9112, section 3.2; the limits are this project's choice).
+pub record IsLawful (head : RequestHead) : Type 0 where
+  pub size : length (print_request head) ≤ 8192
+  pub count : length head.fields ≤ 64
+  pub host : head.minor ≡ 1 → length (values_of (codes "host") (fields_of head)) ≡ 1
+
+-- The stream is closed after it: its Connection lists `close`, or it is one of HTTP/1.0 (RFC 9112, section 9.3).
+abbrev pub closes : RequestHead → Bool
+closes head = head.minor == 0 || lists_close (fields_of head)
+
+-- the bytes begin with a lawful head, and these follow it
+pub record HasHead (bytes : List ℕ) (head : RequestHead) (rest : List ℕ) : Type 0 where
+  pub reads : ReadsRequest bytes head rest
+  pub lawful : IsLawful head
+
+-- the bytes are that request, and then the rest
+pub record IsRequest (bytes : List ℕ) (request : Request) (rest : List ℕ) : Type 0 where
+  pub head : RequestHead
+  pub found : HasHead bytes head (request.body ++ rest)
+  pub length : body_length_of (fields_of head) ≡ Ok (length request.body)
+  pub method : request.method ≡ head.method
+  pub target : request.target ≡ head.target
+  pub minor : request.minor ≡ head.minor
+  pub close : request.close ≡ closes head
+
+-- no lawful head begins the bytes, whatever follows them
+abbrev pub NeverLawful : List ℕ → Type 0
+NeverLawful bytes = (more : List ℕ) (head : RequestHead) (rest : List ℕ) → ¬ (HasHead (bytes ++ more) head rest)
+
+-- the stream ends inside a head: it has begun, isn't whole, and goes by the grammar so far
+pub record EndsInHead (bytes : List ℕ) : Type 0 where
+  pub begun : bytes ≢ []
+  pub open_head : HasNoRequest bytes
+  pub lawful : MayBecomeRequest bytes
+
+-- a lawful head stands there, and the length of the body is refused with that fault
+pub record RefusesBody (bytes : List ℕ) (fault : WireFault) : Type 0 where
+  pub head : RequestHead
+  pub rest : List ℕ
+  pub found : HasHead bytes head rest
+  pub refused : body_length_of (fields_of head) ≡ Err fault
+
+-- a lawful head stands there, and the stream ends before the body does
+pub record EndsInBody (bytes : List ℕ) : Type 0 where
+  pub head : RequestHead
+  pub rest : List ℕ
+  pub found : HasHead bytes head rest
+  pub size : ℕ
+  pub stated : body_length_of (fields_of head) ≡ Ok size
+  pub short : length rest < size
+
+-- Why the bytes are no request. Where they end in a head that no continuation makes lawful, two faults may hold. A failing reader and want of memory say nothing of the bytes.
+abbrev pub RefusesRequest : List ℕ → WireFault → Type 0
+RefusesRequest bytes BadHead = NeverLawful bytes
+RefusesRequest bytes Chunked = RefusesBody bytes Chunked
+RefusesRequest bytes BadLength = RefusesBody bytes BadLength
+RefusesRequest bytes TooLarge = RefusesBody bytes TooLarge
+RefusesRequest bytes Cut = EndsInHead bytes ⊎ EndsInBody bytes
+RefusesRequest bytes Io = ⊤
+RefusesRequest bytes Memory = ⊤
+
+-- the bytes are that request and the rest, or there is none since they are at their end
+abbrev pub GivesRequest : Option RequestRead → List ℕ → List ℕ → Type 0
+GivesRequest None bytes rest = (bytes ≡ []) × (rest ≡ [])
+GivesRequest (Some read) bytes rest = IsRequest bytes (request_of read) rest

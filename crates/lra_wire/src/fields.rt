@@ -1,0 +1,173 @@
+//! What the fields of a head say of the message.
+ghost use Rattle.std.specs.Prelude.{◌≡◌, ◌≤◌, ℕ, List, [], ◌∷◌, ◌++◌, length, map, reverse, All, true};
+ghost use Rattle.std.specs.Char.{is_ascii_digit};
+ghost use Rattle.std.specs.List.{list_all};
+ghost use Rattle.std.specs.Str.Parse.{digits_value};
+ghost use Rattle.httparse.specs.Grammar.{is_ows, skip_ows, trim_ows};
+ghost use Rattle.httparse.specs.Spans.{IsHeaderWithin, header_bytes};
+ghost use Rattle.lra_wire.specs.Fields.{is_alike, values_of, Shows, has_field, spelled_length, stated_of, has_element, lists_close};
+
+use httparse::spans::HeaderSpan;
+
+/// The field of one name, of which a head may have none or several.
+#[derive(Clone, Copy)]
+pub(crate) enum Named<'b> {
+    Absent,
+    Once(&'b [u8]),
+    Several,
+}
+
+impl<'b> Named<'b> {
+    /// What was found with one more value behind it.
+    fn and(self, value: &'b [u8]) -> Named<'b>
+        ensures { (values : List (List ℕ)) → Shows self.entry values
+            → Shows result (values ++ value.now ∷ []) }
+    {
+        match self {
+            Named::Absent => Named::Once(value),
+            Named::Once(_) => Named::Several,
+            Named::Several => Named::Several,
+        }
+    }
+}
+
+/// What `Content-Length` says.
+#[derive(Clone, Copy)]
+pub(crate) enum Stated {
+    Nothing,
+    Length(u64),
+    Malformed,
+}
+
+/// The most digits of a `Content-Length`, so that its number fits 64 bits.
+const MAX_DIGITS: usize = 19;
+
+/// The field of a name, in any case.
+pub(crate) fn lookup<'b>(bytes: &'b [u8], fields: &[HeaderSpan], name: &[u8]) -> Named<'b>
+    requires { All (IsHeaderWithin (length bytes.now)) fields.now }
+    ensures { Shows result (values_of name.now (map (header_bytes bytes.now) fields.now)) }
+{
+    let mut found = Named::Absent;
+    for field in fields {
+        if is_alike(field.name.of(bytes), name) {
+            found = found.and(field.value.of(bytes));
+        }
+    }
+    found
+}
+
+/// Whether a field has the name, in any case.
+pub(crate) fn has(bytes: &[u8], fields: &[HeaderSpan], name: &[u8]) -> bool
+    requires { All (IsHeaderWithin (length bytes.now)) fields.now }
+    ensures { result ≡ has_field name.now (map (header_bytes bytes.now) fields.now) }
+{
+    match lookup(bytes, fields, name) {
+        Named::Absent => false,
+        Named::Once(_) => true,
+        Named::Several => true,
+    }
+}
+
+/// Whether two texts differ in the case of their letters at most.
+pub(crate) fn is_alike(a: &[u8], b: &[u8]) -> bool
+    ensures { result ≡ is_alike a.now b.now }
+{
+    a.eq_ignore_ascii_case(b)
+}
+
+/// What `Content-Length` says (RFC 9110, section 8.6).
+pub(crate) fn stated_length(bytes: &[u8], fields: &[HeaderSpan]) -> Stated
+    requires { All (IsHeaderWithin (length bytes.now)) fields.now }
+    ensures { result ≡ stated_of (map (header_bytes bytes.now) fields.now) }
+{
+    match lookup(bytes, fields, b"content-length") {
+        Named::Absent => Stated::Nothing,
+        Named::Once(value) => spelled_length(value),
+        Named::Several => Stated::Malformed,
+    }
+}
+
+/// The number that 1 to 19 decimal digits spell.
+fn spelled_length(value: &[u8]) -> Stated
+    ensures { result ≡ spelled_length value.now }
+{
+    if value.is_empty() || value.len() > MAX_DIGITS || !is_digits(value) {
+        return Stated::Malformed;
+    }
+    Stated::Length(number(value))
+}
+
+fn is_digits(bytes: &[u8]) -> bool
+    ensures { result ≡ list_all is_ascii_digit bytes.now }
+{
+    bytes.iter().all(|b| b.is_ascii_digit())
+}
+
+fn number(digits: &[u8]) -> u64
+    requires count { length digits.now ≤ 19 }
+    requires digits { list_all is_ascii_digit digits.now ≡ true }
+    ensures { result ≡ digits_value 10 digits.now }
+{
+    let mut number: u64 = 0;
+    for digit in digits {
+        number = number * 10 + (*digit - b'0') as u64;
+    }
+    number
+}
+
+/// Whether a `Connection` field lists `close` (RFC 9112, section 9.6).
+pub(crate) fn lists_close(bytes: &[u8], fields: &[HeaderSpan]) -> bool
+    requires { All (IsHeaderWithin (length bytes.now)) fields.now }
+    ensures { result ≡ lists_close (map (header_bytes bytes.now) fields.now) }
+{
+    for field in fields {
+        if is_alike(field.name.of(bytes), b"connection")
+            && has_element(b"close", field.value.of(bytes))
+        {
+            return true;
+        }
+    }
+    false
+}
+
+/// Whether a list has the element, in any case (RFC 9110, section 5.6.1).
+fn has_element(element: &[u8], list: &[u8]) -> bool
+    ensures { result ≡ has_element element.now list.now }
+{
+    list.split(|b| *b == b',')
+        .any(|part| is_alike(trim(part), element))
+}
+
+/// The bytes without spaces and tabs at both ends.
+fn trim(bytes: &[u8]) -> &[u8]
+    ensures { result.now ≡ trim_ows bytes.now }
+{
+    trim_end(trim_start(bytes))
+}
+
+fn trim_start(bytes: &[u8]) -> &[u8]
+    ensures { result.now ≡ skip_ows bytes.now }
+{
+    for i in 0..bytes.len() {
+        if !is_blank(bytes[i]) {
+            return &bytes[i..];
+        }
+    }
+    &bytes[bytes.len()..]
+}
+
+fn trim_end(bytes: &[u8]) -> &[u8]
+    ensures { result.now ≡ reverse (skip_ows (reverse bytes.now)) }
+{
+    let mut end = bytes.len();
+    while end > 0 && is_blank(bytes[end - 1]) {
+        end -= 1;
+    }
+    &bytes[..end]
+}
+
+fn is_blank(b: u8) -> bool
+    ensures { result ≡ is_ows b }
+{
+    b == b' ' || b == b'\t'
+}

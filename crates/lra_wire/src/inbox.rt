@@ -1,0 +1,116 @@
+//! A reader, and the bytes that came before they were asked for.
+ghost use Rattle.std.specs.Prelude.{◌≡◌, ◌<◌, ◌≤◌, take, vec_len, IfOk, IfErr, Ok};
+ghost use Rattle.std.specs.Io.KnownBytes.{Consumes, IsAtEnd};
+
+use crate::fault::WireFault;
+use std::alloc::{AllocError, Global};
+use std::io::Read;
+
+/// How many bytes a read asks for.
+const PIECE: usize = 4096;
+
+/// One read into the piece.
+fn read_piece<R: Read>(reader: &mut R, piece: &mut Vec<u8>) -> Result<usize, WireFault>
+    requires { 0 < vec_len piece.old }
+    ensures len { vec_len piece.new ≡ vec_len piece.old }
+    ensures bound { IfOk result (λ n. n ≤ vec_len piece.new) }
+    ensures ok { IfOk result (λ n. Consumes (R.remaining reader.old) (R.remaining reader.new) (take n piece.new.items)) }
+    ensures end { result ≡ Ok 0 → IsAtEnd (R.remaining reader.new) }
+    ensures err { IfErr result (λ fault. fault ≡ WireFault.Io) }
+{
+    match reader.read(piece.as_mut_slice()) {
+        Ok(count) => Ok(count),
+        Err(_) => Err(WireFault::Io),
+    }
+}
+
+/// A reader together with the bytes that it gave early: those of later messages.
+///
+/// After a fault nothing more is read, and each further call answers [`WireFault::Cut`].
+#[derive(Drop)]
+pub struct Inbox<R> {
+    reader: R,
+    /// Where a read puts its bytes, which is as long as a read may be.
+    piece: Vec<u8>,
+    kept: Vec<u8>,
+    taken: usize,
+    pub(crate) spent: bool,
+    ghost in_range: { taken ≤ vec_len kept },
+    ghost room: { 0 < vec_len piece },
+}
+
+impl<R: Read + Drop> Inbox<R> {
+    ghost use Rattle.std.specs.Prelude.{length, drop, OnOk, IsFalse};
+    ghost use Rattle.lra_wire.specs.Inbox.{kept_bytes, stream_of, is_spent, Fills, FillsTo};
+
+    /// An inbox that has read nothing yet. Where memory is refused the reader is dropped.
+    pub fn new(alloc: Global, reader: R) -> Result<Inbox<R>, AllocError>
+        ensures stream { IfOk result (λ inbox. stream_of R.remaining inbox ≡ R.remaining reader) }
+        ensures spent { IfOk result (λ inbox. IsFalse (is_spent inbox)) }
+    {
+        let piece = vec![in alloc; 0; PIECE]?;
+        Ok(Inbox {
+            reader,
+            piece,
+            kept: Vec::new(alloc),
+            taken: 0,
+            spent: false,
+        })
+    }
+
+    /// The bytes that came and belong to no message yet.
+    pub(crate) fn bytes(&self) -> &[u8]
+        ensures { result.now ≡ kept_bytes self.now }
+    {
+        &self.kept.as_slice()[self.taken..]
+    }
+
+    /// Reads once, and answers whether bytes came: none come at the end of the stream alone.
+    pub(crate) fn fill(&mut self) -> Result<bool, WireFault>
+        ensures { Fills R.remaining self.old self.new result }
+    {
+        let count = read_piece(&mut self.reader, &mut self.piece)?;
+        self.drop_taken()?;
+        self.kept
+            .extend_from_slice(&self.piece.as_slice()[..count])?;
+        Ok(count > 0)
+    }
+
+    /// Reads until there are so many bytes.
+    pub(crate) fn fill_to(&mut self, len: usize) -> Result<(), WireFault>
+        ensures { FillsTo R.remaining len self.old self.new result }
+    {
+        while self.bytes().len() < len {
+            if !self.fill()? {
+                return Err(WireFault::Cut);
+            }
+        }
+        Ok(())
+    }
+
+    /// The first bytes were a message's.
+    pub(crate) fn take(&mut self, len: usize)
+        requires { len ≤ length (kept_bytes self.old) }
+        ensures kept { kept_bytes self.new ≡ drop len (kept_bytes self.old) }
+        ensures reader { self.new.reader ≡ self.old.reader }
+    {
+        self.taken += len;
+    }
+
+    fn drop_taken(&mut self) -> Result<(), AllocError>
+        ensures kept { kept_bytes self.new ≡ kept_bytes self.old }
+        ensures taken { OnOk result (self.new.taken ≡ 0) }
+        ensures reader { self.new.reader ≡ self.old.reader }
+        ensures piece { self.new.piece ≡ self.old.piece }
+    {
+        if self.taken == self.kept.len() {
+            self.kept.clear();
+        } else if self.taken > 0 {
+            let alloc = *self.kept.allocator();
+            let kept = Vec::from_slice(alloc, self.bytes())?;
+            self.kept = kept;
+        }
+        self.taken = 0;
+        Ok(())
+    }
+}

@@ -1,0 +1,25 @@
+//! HTTP/1.x messages (RFC 9112) on a byte stream: requests and responses read within limits, and
+//! written.
+//!
+//! A message is what its bytes say, in whatever pieces a reader gives them. What came early stays
+//! in the [`Inbox`] for the next call.
+#![tactic(auto)]
+
+mod chunks;
+mod fault;
+mod fields;
+mod framing;
+mod head;
+mod inbox;
+mod request;
+mod response;
+mod write;
+
+pub use fault::WireFault;
+pub use inbox::Inbox;
+pub use request::{RequestRead, one_reading, read_request};
+pub use response::{ResponseRead, read_response};
+pub use write::{ReplyWrite, RequestWrite, write_request, write_response};
+
+#[cfg(test)]
+mod tests;

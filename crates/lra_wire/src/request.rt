@@ -1,0 +1,204 @@
+//! Requests, read.
+ghost use Rattle.std.specs.Prelude.{◌≡◌, ◌<◌, ◌≤◌, ◌+◌, ℕ, List, Option, length, map, take, All, IfOk, IfErr, IfSome, OnOk, OnErr, IsTrue, IsFalse, Ok, Err, string_bytes, IsUtf8};
+ghost use Rattle.httparse.specs.Spans.{IsHeaderWithin, header_bytes};
+ghost use Rattle.lra_wire.specs.declared.fault.WireFault.{WireFault};
+ghost use Rattle.lra_wire.specs.Fields.{body_length_of};
+ghost use Rattle.lra_wire.specs.Heads.{has_host, IsHeadAt, FindsHead, ReadsHead};
+ghost use Rattle.lra_wire.specs.Inbox.{stream_of, is_spent};
+ghost use Rattle.lra_wire.specs.Request.{Request, GivesRequest, RefusesRequest, request_of};
+ghost use Rattle.lra_wire.specs.Reading.{NextRequest, request_at};
+ghost use Rattle.lra_wire.specs.Requests.{Requests, EndsAlike};
+ghost use Rattle.lra_wire.specs.Streams.{IfBothKnown};
+
+use crate::fault::WireFault;
+use crate::fields::{Named, Stated, has, lists_close, lookup, stated_length};
+use crate::head::{MAX_FIELDS, MAX_HEAD, has_empty_line, skip_empty_lines};
+use crate::inbox::Inbox;
+use httparse::Status;
+use httparse::spans::{EMPTY_HEADER_SPAN, HeaderSpan, RequestSpans, parse_request};
+use std::alloc::{AllocError, Global};
+use std::io::Read;
+
+/// The most bytes of a body.
+pub(crate) const MAX_BODY: usize = 65_536;
+
+/// A request as its bytes say it.
+#[derive(Debug, Drop)]
+pub struct RequestRead {
+    /// The method, in the case in which it came.
+    pub method: String,
+    /// The target, as it came.
+    pub target: String,
+    /// The minor version: 0 for HTTP/1.0, 1 for HTTP/1.1.
+    pub minor: u8,
+    /// Whether the stream is to be closed after the reply: a `Connection` field lists `close`, or
+    /// the request is one of HTTP/1.0.
+    pub close: bool,
+    pub body: Vec<u8>,
+}
+
+/// Reads the next request, or none where the stream ends with no further byte.
+pub fn read_request<R: Read + Drop>(
+    alloc: Global,
+    inbox: &mut Inbox<R>,
+) -> Result<Option<RequestRead>, WireFault>
+    ensures found { IsFalse (is_spent inbox.old) → IfOk result (λ read.
+        IfBothKnown (stream_of R.remaining inbox.old) (stream_of R.remaining inbox.new) (GivesRequest read)) }
+    ensures fault { IsFalse (is_spent inbox.old) → IfErr result (λ fault.
+        IfSome (stream_of R.remaining inbox.old) (λ bytes. RefusesRequest bytes fault)) }
+
+    // After a fault nothing more is read.
+    ensures spent { IsTrue (is_spent inbox.old) → result ≡ Err WireFault.Cut }
+    ensures ok { OnOk result (IsFalse (is_spent inbox.new)) }
+    ensures err { OnErr result (IsTrue (is_spent inbox.new)) }
+{
+    if inbox.spent {
+        return Err(WireFault::Cut);
+    }
+    let request = next_request(alloc, inbox);
+    inbox.spent = request.is_err();
+    request
+}
+
+/// A stream of bytes is one list of requests, and ends in one way: at its end, or in one fault. Where
+/// it ends in a head that no continuation makes lawful, that is [`WireFault::BadHead`] or
+/// [`WireFault::Cut`].
+pub fn one_reading()
+    ensures { (bytes : List ℕ) (requests others : List Request) (end other : Option WireFault)
+        → Requests bytes requests end → Requests bytes others other
+        → (requests ≡ others) × EndsAlike end other }
+{}
+
+fn next_request<R: Read + Drop>(
+    alloc: Global,
+    inbox: &mut Inbox<R>,
+) -> Result<Option<RequestRead>, WireFault>
+    ensures { NextRequest R.remaining inbox.old inbox.new result }
+{
+    let mut headers = [EMPTY_HEADER_SPAN; MAX_FIELDS];
+    let Some(head) = next_head(inbox, &mut headers)? else {
+        return Ok(None);
+    };
+    let size = body_length(inbox.bytes(), &headers[..head.headers])?;
+    let mut request = request_at(alloc, inbox.bytes(), &headers, &head)?;
+    let end = head.len + size;
+    inbox.fill_to(end)?;
+    request.body = Vec::from_slice(alloc, &inbox.bytes()[head.len..end])?;
+    inbox.take(end);
+    Ok(Some(request))
+}
+
+/// Reads until there is a whole head, and writes where its fields are.
+fn next_head<R: Read + Drop>(
+    inbox: &mut Inbox<R>,
+    headers: &mut [HeaderSpan; MAX_FIELDS],
+) -> Result<Option<RequestSpans>, WireFault>
+    ensures { ReadsHead R.remaining inbox.old inbox.new headers.new result }
+{
+    let mut blank = 0;
+    let mut searched = 0;
+    loop {
+        let bytes = inbox.bytes();
+        blank = skip_empty_lines(bytes, blank);
+        let is_whole = has_empty_line(&bytes[blank..], searched.max(blank) - blank);
+        if is_whole || bytes.len() >= MAX_HEAD {
+            if let Some(head) = head_at(bytes, headers)? {
+                return Ok(Some(head));
+            }
+        }
+        searched = bytes.len();
+        if !inbox.fill()? {
+            break;
+        }
+    }
+    if inbox.bytes().is_empty() {
+        return Ok(None);
+    }
+    match head_at(inbox.bytes(), headers)? {
+        Some(head) => Ok(Some(head)),
+        None => Err(WireFault::Cut),
+    }
+}
+
+/// The head at the front of the bytes, or none where more bytes may complete it.
+fn head_at(
+    bytes: &[u8],
+    headers: &mut [HeaderSpan; MAX_FIELDS],
+) -> Result<Option<RequestSpans>, WireFault>
+    ensures { FindsHead bytes.now headers.new result }
+{
+    match parse_request(bytes, headers) {
+        Ok(Status::Complete(head)) => {
+            if head.len > MAX_HEAD || !has_host(bytes, head.version, &headers[..head.headers]) {
+                return Err(WireFault::BadHead);
+            }
+            Ok(Some(head))
+        }
+        Ok(Status::Partial) if bytes.len() < MAX_HEAD => Ok(None),
+        _ => Err(WireFault::BadHead),
+    }
+}
+
+/// Whether a head of HTTP/1.1 has exactly one `Host` (RFC 9112, section 3.2).
+fn has_host(bytes: &[u8], minor: u8, fields: &[HeaderSpan]) -> bool
+    requires { All (IsHeaderWithin (length bytes.now)) fields.now }
+    ensures { result ≡ has_host minor (map (header_bytes bytes.now) fields.now) }
+{
+    if minor == 0 {
+        return true;
+    }
+    match lookup(bytes, fields, b"host") {
+        Named::Once(_) => true,
+        Named::Absent => false,
+        Named::Several => false,
+    }
+}
+
+/// How long the body is (RFC 9112, section 6.3).
+fn body_length(bytes: &[u8], fields: &[HeaderSpan]) -> Result<usize, WireFault>
+    requires { All (IsHeaderWithin (length bytes.now)) fields.now }
+    ensures { result ≡ body_length_of (map (header_bytes bytes.now) fields.now) }
+{
+    if has(bytes, fields, b"transfer-encoding")
+        || has(bytes, fields, b"content-encoding")
+        || has(bytes, fields, b"expect")
+    {
+        return Err(WireFault::Chunked);
+    }
+    match stated_length(bytes, fields) {
+        Stated::Nothing => Ok(0),
+        Stated::Length(length) if length <= MAX_BODY as u64 => Ok(length as usize),
+        Stated::Length(_) => Err(WireFault::TooLarge),
+        Stated::Malformed => Err(WireFault::BadLength),
+    }
+}
+
+/// The request whose head is at the front of the bytes, without its body.
+fn request_at(
+    alloc: Global,
+    bytes: &[u8],
+    headers: &[HeaderSpan],
+    head: &RequestSpans,
+) -> Result<RequestRead, AllocError>
+    requires { IsHeadAt bytes.now headers.now head.now }
+    ensures { IfOk result (λ read. request_of read ≡ request_at bytes.now headers.now head.now) }
+{
+    let close = head.version == 0 || lists_close(bytes, &headers[..head.headers]);
+    Ok(RequestRead {
+        method: text(alloc, head.method.of(bytes))?,
+        target: text(alloc, head.path.of(bytes))?,
+        minor: head.version,
+        close,
+        body: Vec::new(alloc),
+    })
+}
+
+fn text(alloc: Global, bytes: &[u8]) -> Result<String, AllocError>
+    requires { IsUtf8 bytes.now }
+    ensures { IfOk result (λ text. string_bytes text ≡ bytes.now) }
+{
+    match str::from_utf8(bytes) {
+        Ok(text) => String::from_str(alloc, text),
+        Err(_) => unreachable!(),
+    }
+}

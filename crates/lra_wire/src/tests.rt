@@ -1,0 +1,6 @@
+mod fakes;
+mod faults;
+mod memory;
+mod requests;
+mod responses;
+mod writing;
