@@ -3,6 +3,7 @@
 #![tactic(auto)]
 
 mod ids;
+mod lock;
 mod timers;
 mod wire;
 
@@ -11,6 +12,7 @@ use std::env;
 const USAGE: &str = "usage: lra_bench NAME
 
 ids     address texts tested a second, short and long
+lock    handovers of the ticket lock, beside a Mutex
 timers  the calls of an agenda, as its pairs grow from 1,000 to 400,000
 wire    requests read a second, whole and in small pieces";
 
@@ -23,6 +25,7 @@ fn main(rt: HostRuntime) -> anyhow::Result<()> {
     };
     match name.as_str() {
         "ids" => ids::run(&rt)?,
+        "lock" => lock::run(&rt, rt.alloc())?,
         "timers" => timers::run(&rt)?,
         "wire" => wire::run(&rt)?,
         _ => println!(rt; "{USAGE}")?,

@@ -1,0 +1,109 @@
+//! Handovers a second through the ticket lock, beside a Mutex round the same value.
+ghost use Rattle.std.specs.Prelude.{◌≡◌, All, IfOk};
+ghost use Rattle.lra_ticket.specs.Locks.{lock_id, pass_id};
+
+use lra_model::{Entry, Memory};
+use lra_ticket::{Pass, TicketLock};
+use std::alloc::Global;
+use std::io::Print;
+use std::sync::{Mutex, Wait};
+use std::thread::Threads;
+use std::time::{Clock, Duration, Instant};
+use std::{io, thread};
+
+/// The handovers of one measurement, by all threads together.
+const HANDOVERS: u64 = 1_000_000;
+
+type Lock = TicketLock<Vec<Entry>>;
+
+type Ticket = Pass<Vec<Entry>>;
+
+// Takes the lock and gives it back, this many times. It ends early where no ticket is left.
+fn hand_over<R: Wait>(rt: &R, lock: &Lock, mut pass: Ticket, times: u64) -> Ticket
+    requires { pass_id pass ≡ lock_id lock.now }
+{
+    for _ in 0..times {
+        match lock.take(rt, pass) {
+            Ok((held, entries)) => pass = lock.give(held, entries),
+            Err((back, _)) => return back,
+        }
+    }
+    pass
+}
+
+fn lock_and_unlock<R: Wait>(rt: &R, lock: &Mutex<Vec<Entry>>, times: u64) {
+    for _ in 0..times {
+        let entries = lock.lock(rt);
+        drop(entries);
+    }
+}
+
+// As many passes as there are threads.
+fn passes(alloc: Global, lock: &Lock, mut pass: Ticket, threads: u64) -> Result<Vec<Ticket>, Memory>
+    requires { pass_id pass ≡ lock_id lock.now }
+    ensures { IfOk result (λ all. All (λ p. pass_id p ≡ lock_id lock.now) all.items) }
+{
+    let mut all = Vec::new(alloc);
+    for _ in 0..threads {
+        let (kept, other) = lock.split(pass);
+        pass = kept;
+        all.push(other)?;
+    }
+    Ok(all)
+}
+
+fn through_tickets<R: Threads + Wait + Clock + Sync>(
+    rt: &R,
+    alloc: Global,
+    threads: u64,
+) -> io::Result<Duration> {
+    let (lock, pass) = Lock::new(alloc, Vec::new(alloc))?;
+    let jobs = passes(alloc, &lock, pass, threads)?;
+    let shared = &lock;
+    let times = HANDOVERS / threads.max(1);
+    let start = Instant::now(rt)?;
+    thread::map_vec(
+        rt,
+        jobs,
+        &|pass: Ticket| -> ()
+            requires { pass_id pass ≡ lock_id shared.now }
+        {
+            hand_over(rt, shared, pass, times);
+        },
+    )?;
+    start.elapsed(rt)
+}
+
+fn through_a_mutex<R: Threads + Wait + Clock + Sync>(
+    rt: &R,
+    alloc: Global,
+    threads: u64,
+) -> io::Result<Duration> {
+    let lock = Mutex::new(Vec::new(alloc));
+    let shared = &lock;
+    let times = HANDOVERS / threads.max(1);
+    let start = Instant::now(rt)?;
+    thread::map_indices(
+        rt,
+        alloc,
+        threads as usize,
+        &|_| lock_and_unlock(rt, shared, times),
+    )?;
+    start.elapsed(rt)
+}
+
+fn a_second(time: Duration) -> u64 {
+    let micros = time.as_micros().max(1).min(u64::MAX as u128) as u64;
+    HANDOVERS * 1_000_000 / micros
+}
+
+/// Prints a line for 1, 2, 4 and 8 threads: handovers a second through the ticket lock and through the Mutex, and the first as hundredths of the second.
+pub fn run<R: Threads + Wait + Clock + Print + Sync>(rt: &R, alloc: Global) -> io::Result<()> {
+    for threads in [1u64, 2, 4, 8] {
+        let ours = a_second(through_tickets(rt, alloc, threads)?);
+        let theirs = a_second(through_a_mutex(rt, alloc, threads)?);
+        let percent = ours.saturating_mul(100) / theirs.max(1);
+        println!(rt; "lock threads {threads} tickets {ours} mutex {theirs} percent {percent}")?;
+    }
+    Ok(())
+}

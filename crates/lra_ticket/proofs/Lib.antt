@@ -1,0 +1,3 @@
+mod Counts
+pub mod Histories
+pub mod Keeps

@@ -1,0 +1,5 @@
+pub mod History
+pub mod Views
+pub mod Rule
+pub mod Steps
+pub mod Locks
