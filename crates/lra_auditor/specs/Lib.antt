@@ -1,3 +1,9 @@
-pub mod Book
-pub mod Summary
+pub mod Rows
+pub mod Holders
+pub mod Changes
+pub mod Start
+pub mod Presence
 pub mod Verdicts
+pub mod Course
+pub mod Totals
+pub mod Feeding

@@ -1,10 +1,22 @@
 //! The auditor of a journal: whether its bytes are the text of a legal history, and what the history comes to.
 #![tactic(auto)]
 
-mod auditing;
-mod book;
+mod advance;
+mod auditor;
+mod broken;
+mod changes;
+mod course;
+mod entries;
+mod lawful;
+mod reading;
+mod rows;
+mod state;
+mod summary;
 mod verdict;
 
-pub use auditing::{audit, check};
+pub use auditor::{Auditor, AuditorFault, audit};
+pub use entries::check;
 pub use lra_model::{Memory, Rule, Version};
-pub use verdict::{FailedEnd, Summary, Verdict};
+pub use rows::{ActionRow, Limit, MemberRow, Presence, Standing};
+pub use state::Rows;
+pub use verdict::{FailedEnd, FailedEnds, Summary, Verdict};

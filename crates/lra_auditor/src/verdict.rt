@@ -1,35 +1,76 @@
-//! What the auditor says of a journal.
+//! What an audit comes to.
+
+ghost use Rattle.std.specs.Prelude.{◌≡◌};
 
 use lra_model::{ActionStatus, Rule};
+use std::marker::Model;
 
-/// An action that ended in failure.
+/// An action that ended in failure: the state that it ended in, and the least numbered of the members that failed and
+/// stay in it or in an action below it.
 #[derive(Clone, Copy, Debug, PartialEq, Eq)]
 pub struct FailedEnd {
     pub action: u64,
-    /// FailedToClose or FailedToCancel.
     pub status: ActionStatus,
-    /// The least member that stays in the action or below it and has failed.
     pub member: u64,
 }
 
-/// What a history comes to.
+/// The actions that ended in failure, in the order of their numbers.
+#[derive(Debug, Drop)]
+pub struct FailedEnds {
+    ends: Vec<FailedEnd>,
+}
+
+impl Model for FailedEnds {
+    ghost use Rattle.std.specs.Prelude.{List};
+    ghost use Rattle.lra_auditor.specs.declared.verdict.FailedEnd.{FailedEnd};
+
+    ghost Value = { List FailedEnd };
+
+    ghost view = { λ f. f.ends.items };
+}
+
+impl FailedEnds {
+    /// The ends of a list.
+    pub fn from_vec(ends: Vec<FailedEnd>) -> FailedEnds
+        ensures { result ≡ ends.items }
+    {
+        FailedEnds { ends }
+    }
+
+    /// The ends, one after another.
+    pub fn as_slice(&self) -> &[FailedEnd]
+        ensures { result.now ≡ self.now }
+    {
+        self.ends.as_slice()
+    }
+
+    /// The ends as a list.
+    pub fn into_vec(self) -> Vec<FailedEnd>
+        ensures { result.items ≡ self }
+    {
+        self.ends
+    }
+}
+
+/// What a legal history comes to.
 #[derive(Debug, Drop)]
 pub struct Summary {
     pub entries: u64,
     pub actions: u64,
-    /// Actions that are Active, Closing or Cancelling.
+    /// Actions that haven't ended.
     pub unended: u64,
+    /// Actions that ended Closed.
     pub closed: u64,
+    /// Actions that ended Cancelled.
     pub cancelled: u64,
-    /// In the order of the actions' numbers.
-    pub failed: Vec<FailedEnd>,
+    pub failed: FailedEnds,
 }
 
-/// What the auditor says of a journal.
+/// What an audit comes to.
 #[derive(Debug, Drop)]
 pub enum Verdict {
-    /// It is the text of a legal history.
+    /// The history is legal.
     Sound(Summary),
-    /// A line, counted from 1, breaks a rule.
+    /// The first line at fault, counted from 1, and the first rule that it breaks.
     Unsound { line: u64, rule: Rule },
 }

@@ -29,7 +29,7 @@ fn count_of_ends(alloc: Global, summary: &Summary) -> Result<String, Memory>
 {
     let closed = summary.closed;
     let cancelled = summary.cancelled;
-    let failed = summary.failed.len();
+    let failed = summary.failed.as_slice().len();
     format!(in alloc; " closed {closed} cancelled {cancelled} failed {failed}\n")
 }
 
@@ -48,7 +48,7 @@ pub fn report(alloc: Global, verdict: &Verdict) -> Result<String, Memory>
         Verdict::Sound(summary) => {
             let mut text = count_of_entries(alloc, summary)?;
             text.push_str(&count_of_ends(alloc, summary)?)?;
-            for end in &summary.failed {
+            for end in summary.failed.as_slice() {
                 text.push_str(&line_of_failed(alloc, end)?)?;
             }
             Ok(text)

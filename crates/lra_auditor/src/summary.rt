@@ -1,0 +1,145 @@
+//! The summary of a history, from its rows.
+
+ghost use Rattle.std.specs.Prelude.{◌≡◌, ℕ, IfOk, Some, None, cond, count_by, option_map, unwrap_or};
+ghost use Rattle.std.specs.Option.{option_map_or, option_or};
+ghost use Rattle.lra_model.specs.Words as words;
+ghost use Rattle.lra_auditor.specs.Rows.{State, is_unended, row_at, change_row};
+ghost use Rattle.lra_auditor.specs.Totals.{has_failed_here, is_within_by, least_failed_by, failed_ends_from, summary_by};
+ghost use Rattle.lra_auditor.specs.Verdicts.{ended_cancelled};
+
+use crate::changes::stays;
+use crate::lawful::{has_ended, has_failed, member_has_failed};
+use crate::rows::{ActionRow, MemberRow};
+use crate::state::{Rows, action_at};
+use crate::verdict::{FailedEnd, FailedEnds, Summary};
+use lra_model::{ActionStatus, Memory};
+use std::alloc::Global;
+
+fn count_unended(actions: &[ActionRow]) -> u64
+    ensures { result ≡ count_by (λ r. is_unended r.status) actions.now }
+{
+    actions.iter().filter(|row| !has_ended(row.status)).count() as u64
+}
+
+fn count_closed(actions: &[ActionRow]) -> u64
+    ensures { result ≡ count_by (λ r. words.is_closed r.status) actions.now }
+{
+    actions
+        .iter()
+        .filter(|row| matches!(row.status, ActionStatus::Closed))
+        .count() as u64
+}
+
+fn count_cancelled(actions: &[ActionRow]) -> u64
+    ensures { result ≡ count_by (λ r. ended_cancelled r.status) actions.now }
+{
+    actions
+        .iter()
+        .filter(|row| matches!(row.status, ActionStatus::Cancelled))
+        .count() as u64
+}
+
+/// The parent of an action, if it is there and has one.
+fn parent_of(actions: &[ActionRow], number: u64) -> Option<u64>
+    ensures { result ≡ option_map_or (λ r. r.parent) (row_at actions.now number) None }
+{
+    match action_at(actions, number) {
+        Some(row) => row.parent,
+        None => None,
+    }
+}
+
+/// Whether a member stays and has failed.
+fn has_failed_here(row: &MemberRow) -> bool
+    ensures { result ≡ has_failed_here row.now }
+{
+    stays(row) && member_has_failed(row.status)
+}
+
+/// The entry of a number, counted from 1.
+fn at(least: &[Option<u64>], number: u64) -> Option<u64>
+    ensures { result ≡ unwrap_or (row_at least.now number) None }
+{
+    let place = number.checked_sub(1)?;
+    least.get(place as usize).copied().flatten()
+}
+
+/// Puts a member at a number, if none is there yet.
+fn mark(least: &mut Vec<Option<u64>>, number: u64, member: u64)
+    ensures { least.new.items ≡ change_row (λ o. option_or o (Some member)) number least.old.items }
+{
+    if let Some(place) = number.checked_sub(1)
+        && (place as usize) < least.len()
+    {
+        let place = place as usize;
+        least[place] = least[place].or(Some(member));
+    }
+}
+
+/// Puts a member at its action and at each above it, where none is there yet.
+fn mark_up(actions: &[ActionRow], least: &mut Vec<Option<u64>>, action: u64, member: u64)
+    ensures { (t : ℕ) → row_at least.new.items t ≡ option_map (λ o. cond (is_within_by action actions.now t action) (option_or o (Some member)) o) (row_at least.old.items t) }
+{
+    let mut above = action;
+    for _step in 0..action {
+        mark(least, above, member);
+        match parent_of(actions, above) {
+            Some(parent) => above = parent,
+            None => return,
+        }
+    }
+    mark(least, above, member);
+}
+
+/// For each action the least member that stays in it or below it and has failed.
+fn least_failed(alloc: Global, rows: &Rows) -> Result<Vec<Option<u64>>, Memory>
+    ensures { IfOk result (λ least. (t : ℕ) → row_at least.items t ≡ option_map (λ r. least_failed_by rows.now t) (row_at rows.now.actions t)) }
+{
+    let actions = rows.actions.as_slice();
+    let members = rows.members.as_slice();
+    let mut least = vec![in alloc; None; actions.len()]?;
+    for (place, row) in members.iter().enumerate() {
+        if has_failed_here(row) {
+            mark_up(actions, &mut least, row.action, place as u64 + 1);
+        }
+    }
+    Ok(least)
+}
+
+fn failed_ends(
+    alloc: Global,
+    actions: &[ActionRow],
+    least: &[Option<u64>],
+) -> Result<FailedEnds, Memory>
+    ensures { IfOk result (λ ends. ends ≡ failed_ends_from (λ t. unwrap_or (row_at least.now t) None) 1 actions.now) }
+{
+    let mut ends = Vec::new(alloc);
+    for (place, row) in actions.iter().enumerate() {
+        let number = place as u64 + 1;
+        if has_failed(row.status)
+            && let Some(member) = at(least, number)
+        {
+            ends.push(FailedEnd {
+                action: number,
+                status: row.status,
+                member,
+            })?;
+        }
+    }
+    Ok(FailedEnds::from_vec(ends))
+}
+
+/// What a history of so many entries comes to, by its rows.
+pub(crate) fn summary(alloc: Global, rows: &Rows, entries: u64) -> Result<Summary, Memory>
+    ensures { IfOk result (λ s. s ≡ summary_by entries rows.now) }
+{
+    let least = least_failed(alloc, rows)?;
+    Ok(Summary {
+        entries,
+        actions: rows.actions.len() as u64,
+        unended: count_unended(&rows.actions),
+        closed: count_closed(&rows.actions),
+        cancelled: count_cancelled(&rows.actions),
+        failed: failed_ends(alloc, &rows.actions, &least)?,
+    })
+}
