@@ -20,3 +20,6 @@ pub use lra_model::{Memory, Rule, Version};
 pub use rows::{ActionRow, Limit, MemberRow, Presence, Standing};
 pub use state::Rows;
 pub use verdict::{FailedEnd, FailedEnds, Summary, Verdict};
+
+#[cfg(test)]
+mod tests;
