@@ -1,6 +1,6 @@
 //! The summary of a history, from its rows.
 
-ghost use Rattle.std.specs.Prelude.{◌≡◌, ℕ, IfOk, Some, None, cond, count_by, option_map, unwrap_or};
+ghost use Rattle.std.specs.Prelude.{◌≡◌, ◌<◌, ◌≤◌, ℕ, IfOk, Some, None, true, false, cond, count_by, nat_lt, option_map, unwrap_or};
 ghost use Rattle.std.specs.Option.{option_map_or, option_or};
 ghost use Rattle.lra_model.specs.Words as words;
 ghost use Rattle.lra_auditor.specs.Rows.{State, is_unended, row_at, change_row};
@@ -76,12 +76,48 @@ fn mark(least: &mut Vec<Option<u64>>, number: u64, member: u64)
     }
 }
 
-/// Puts a member at its action and at each above it, where none is there yet.
-fn mark_up(actions: &[ActionRow], least: &mut Vec<Option<u64>>, action: u64, member: u64)
-    ensures { (t : ℕ) → row_at least.new.items t ≡ option_map (λ o. cond (is_within_by action actions.now t action) (option_or o (Some member)) o) (row_at least.old.items t) }
+/// Whether the parent of an action of that number has a lesser number, or there is none.
+fn parent_is_less(row: &ActionRow, number: u64) -> bool
+    ensures { result ≡ option_map_or (λ b. nat_lt b number) row.now.parent true }
+{
+    match row.parent {
+        Some(parent) => parent < number,
+        None => true,
+    }
+}
+
+/// Whether each parent's number is less than that of its action, as it is in the rows of a legal history.
+fn parents_are_less(actions: &[ActionRow]) -> bool
+    ensures all { result ≡ true → (a b : ℕ) → option_map_or (λ r. r.parent) (row_at actions.now a) None ≡ Some b → b < a }
+    ensures not_all { result ≡ false → (a : ℕ) × (b : ℕ) × (option_map_or (λ r. r.parent) (row_at actions.now a) None ≡ Some b) × (a ≤ b) }
+{
+    for (place, row) in actions.iter().enumerate() {
+        if !parent_is_less(row, place as u64 + 1) {
+            return false;
+        }
+    }
+    true
+}
+
+/// Puts a member at its action and at each above it, where none is there yet. Where each parent's number is less, all above
+/// an action with a member have one too, so the walk stops there: all walks together visit each action once.
+fn mark_up(
+    actions: &[ActionRow],
+    are_less: bool,
+    least: &mut Vec<Option<u64>>,
+    action: u64,
+    member: u64,
+)
+    requires less { are_less ≡ true → (a b : ℕ) → option_map_or (λ r. r.parent) (row_at actions.now a) None ≡ Some b → b < a }
+    requires closed { are_less ≡ true → (a b : ℕ) → option_map_or (λ r. r.parent) (row_at actions.now a) None ≡ Some b → row_at least.old.items b ≡ Some None → row_at least.old.items a ≡ Some None }
+    ensures marks { (t : ℕ) → row_at least.new.items t ≡ option_map (λ o. cond (is_within_by action actions.now t action) (option_or o (Some member)) o) (row_at least.old.items t) }
+    ensures closed { are_less ≡ true → (a b : ℕ) → option_map_or (λ r. r.parent) (row_at actions.now a) None ≡ Some b → row_at least.new.items b ≡ Some None → row_at least.new.items a ≡ Some None }
 {
     let mut above = action;
     for _step in 0..action {
+        if are_less && at(least, above).is_some() {
+            return;
+        }
         mark(least, above, member);
         match parent_of(actions, above) {
             Some(parent) => above = parent,
@@ -97,10 +133,11 @@ fn least_failed(alloc: Global, rows: &Rows) -> Result<Vec<Option<u64>>, Memory>
 {
     let actions = rows.actions.as_slice();
     let members = rows.members.as_slice();
+    let are_less = parents_are_less(actions);
     let mut least = vec![in alloc; None; actions.len()]?;
     for (place, row) in members.iter().enumerate() {
         if has_failed_here(row) {
-            mark_up(actions, &mut least, row.action, place as u64 + 1);
+            mark_up(actions, are_less, &mut least, row.action, place as u64 + 1);
         }
     }
     Ok(least)
@@ -129,17 +166,24 @@ fn failed_ends(
     Ok(FailedEnds::from_vec(ends))
 }
 
+/// The failed ends, by the rows.
+fn failed_by(alloc: Global, rows: &Rows) -> Result<FailedEnds, Memory>
+    ensures { IfOk result (λ ends. ends ≡ failed_ends_from (least_failed_by rows.now) 1 rows.now.actions) }
+{
+    let least = least_failed(alloc, rows)?;
+    failed_ends(alloc, &rows.actions, &least)
+}
+
 /// What a history of so many entries comes to, by its rows.
 pub(crate) fn summary(alloc: Global, rows: &Rows, entries: u64) -> Result<Summary, Memory>
     ensures { IfOk result (λ s. s ≡ summary_by entries rows.now) }
 {
-    let least = least_failed(alloc, rows)?;
     Ok(Summary {
         entries,
         actions: rows.actions.len() as u64,
         unended: count_unended(&rows.actions),
         closed: count_closed(&rows.actions),
         cancelled: count_cancelled(&rows.actions),
-        failed: failed_ends(alloc, &rows.actions, &least)?,
+        failed: failed_by(alloc, rows)?,
     })
 }
