@@ -43,6 +43,7 @@ pub record State : Type 0 where
 abbrev pub presence : texts.Addresses → Presence
 presence u = record { compensate = is_some u.compensate; complete = is_some u.complete; status = is_some u.status; forget = is_some u.forget; after = is_some u.after }
 
+-- a limit, as a row keeps it
 abbrev pub row_limit : words.Limit → Limit
 row_limit l = record { length = l.length_of; since = l.since }
 
@@ -59,6 +60,7 @@ standing_at p s = of_deed s.entry.deed
 unfoldable pub standing : History → ℕ → Option Standing
 standing J p = unwrap_or (last (filter_map (standing_at p) (steps J))) None
 
+-- how many asks a step makes void, if it is a restart
 abbrev pub void_at : Step → Option ℕ
 void_at s = of_deed s.entry.deed
   where
@@ -78,24 +80,31 @@ count_staying test J a = count_by (λ p. test (member_status J p)) (staying J a)
 unfoldable pub count_children : (ActionStatus → Bool) → History → ℕ → ℕ
 count_children test J a = count_by (action_is test J) (children J a)
 
+-- a member that a Closing action waits for
 abbrev pub is_left_to_complete : MemberStatus → Bool
 is_left_to_complete s = not (is_done_completing s)
 
+-- a member that a Cancelling action waits for
 abbrev pub is_left_to_compensate : MemberStatus → Bool
 is_left_to_compensate s = not (is_done_compensating s)
 
+-- a member that has not completed
 abbrev pub is_uncompleted : MemberStatus → Bool
 is_uncompleted s = not (is_completed s)
 
+-- a member that has not compensated
 abbrev pub is_uncompensated : MemberStatus → Bool
 is_uncompensated s = not (is_compensated s)
 
+-- an action that has not ended
 abbrev pub is_unended : ActionStatus → Bool
 is_unended s = not (has_ended s)
 
+-- an action that has not ended cancelled
 abbrev pub is_uncancelled : ActionStatus → Bool
 is_uncancelled s = not (is_cancelled s)
 
+-- the row of an action, by the words of the history
 abbrev pub action_row : History → ℕ → ActionRow
 action_row J a = record {
   parent = parent J a;
@@ -111,6 +120,7 @@ action_row J a = record {
   failed = count_children has_failed J a;
 }
 
+-- the row of a member, by the words of the history
 abbrev pub member_row : History → ℕ → MemberRow
 member_row J p = record {
   action = action_of J p;
@@ -141,6 +151,7 @@ abbrev pub row_at : {R : Type 0} → List R → ℕ → Option R
 row_at rows zero = None
 row_at rows (suc n) = slice_get rows n
 
+-- whether an action may end, by its counts
 abbrev pub settled_by : ActionRow → Bool
 settled_by r = by_status r.status
   where
@@ -149,6 +160,7 @@ settled_by r = by_status r.status
     by_status action.Cancelling = (r.compensating == 0) && (r.uncancelled == 0)
     by_status _ = false
 
+-- the state that an action ends in, by its counts
 abbrev pub right_end_by : ActionRow → ActionStatus
 right_end_by r = by_status r.status
   where
@@ -156,6 +168,7 @@ right_end_by r = by_status r.status
     by_status action.Closing = cond ((r.uncompleted == 0) && (r.failed == 0)) action.Closed action.FailedToClose
     by_status _ = cond ((r.uncompensated == 0) && (r.failed == 0)) action.Cancelled action.FailedToCancel
 
+-- what the rules ask of an action, by its row
 abbrev pub action_by : State → ActionRow → ActionFacts
 action_by s r = record {
   parent = r.parent;
@@ -170,6 +183,7 @@ action_by s r = record {
 abbrev pub is_standing : ℕ → MemberRow → Bool
 is_standing void r = option_map_or (λ (x : Standing). nat_lt void x.number) r.asked false
 
+-- what the rules ask of a member, by its row
 abbrev pub member_by : State → MemberRow → MemberFacts
 member_by s r = record {
   action = r.action;
@@ -190,6 +204,7 @@ stands_as n r = option_map_or (λ (x : Standing). x.number == n) r.asked false
 abbrev pub member_asked : State → ℕ → Option MemberRow
 member_asked s n = cond (nat_lt s.void n) (find (stands_as n) s.members) None
 
+-- all that the rules ask, by the rows
 abbrev pub facts_by : State → Facts
 facts_by s = record {
   moment = s.moment;
@@ -276,6 +291,7 @@ decided_as _ _ s = s
 abbrev pub way_of : MemberStatus → Direction
 way_of s = cond (is_compensating s) direction.Compensation direction.Completion
 
+-- which way an ask goes, by the state of its member
 abbrev pub way_asked : AskKind → MemberStatus → Direction
 way_asked ask.Complete s = direction.Completion
 way_asked ask.Compensate s = direction.Compensation
@@ -283,6 +299,7 @@ way_asked ask.Status s = way_of s
 way_asked ask.Forget s = direction.Neither
 way_asked ask.After s = direction.Neither
 
+-- what an ask makes of the state of its member
 abbrev pub asked_as : AskKind → MemberStatus → MemberStatus
 asked_as ask.Complete s = member.Completing
 asked_as ask.Compensate s = member.Compensating
@@ -292,6 +309,7 @@ asked_as _ s = s
 abbrev pub with_ask : ℕ → AskKind → MemberRow → MemberRow
 with_ask n kind r = record r { status = asked_as kind r.status; asked = Some (record { number = n; kind = kind; direction = way_asked kind r.status }) }
 
+-- a member that answers the ask that stands
 abbrev pub with_reply_to : Standing → Outcome → MemberRow → MemberRow
 with_reply_to x o r = record r {
   status = decided_as x.direction o r.status;
@@ -315,9 +333,11 @@ with_reply o r = option_map_or (λ (x : Standing). with_reply_to x o r) r.asked 
 abbrev pub with_report : Outcome → MemberRow → MemberRow
 with_report o r = record r { status = decided_as (way_of r.status) o r.status }
 
+-- the row of a member that joins
 abbrev pub new_member : ℕ → texts.Addresses → MemberRow
 new_member a u = record { action = a; addresses = presence u; status = member.Active; completion = None; compensation = None; asked = None; has_forgotten = false; was_told = false }
 
+-- the row of an action that starts
 abbrev pub new_action : ℕ → Option ℕ → ℕ → ℕ → ℕ → ActionRow
 new_action a parent top limit moment = record {
   parent = parent;

@@ -8,6 +8,7 @@ use Rattle.std.specs.Coded.{Coded, coded_ℕ}
 abbrev pub Moments : Type 0
 Moments = map.FinMap nat_cmp ℕ
 
+-- how moments by number are stored in a model
 abbrev pub moments_code : Coded Moments
 moments_code = map.code coded_ℕ coded_ℕ
 

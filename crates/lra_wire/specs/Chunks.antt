@@ -12,6 +12,7 @@ pub record Chunk : Type 0 where
   pub line : ChunkLine
   pub content : List ℕ
 
+-- the bytes of a chunk (RFC 9112, section 7.1)
 abbrev pub print_chunk : Chunk → List ℕ
 print_chunk chunk = print_chunk_line chunk.line ++ (chunk.content ++ crlf_bytes)
 
