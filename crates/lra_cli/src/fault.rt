@@ -3,6 +3,7 @@
 ghost use Rattle.std.specs.Prelude.{◌≡◌};
 ghost use Rattle.lra_cli.specs.declared.fault.RunFault.TheVariants.{Memory};
 
+use lra_auditor::AuditorFault;
 use std::alloc::AllocError;
 use thiserror::Error;
 
@@ -24,6 +25,14 @@ impl From<AllocError> for RunFault {
     ghost from_gives = { λ _ fault. fault ≡ Memory };
 
     fn from(_error: AllocError) -> RunFault {
+        RunFault::Memory
+    }
+}
+
+impl From<AuditorFault> for RunFault {
+    ghost from_gives = { λ _ fault. fault ≡ Memory };
+
+    fn from(_fault: AuditorFault) -> RunFault {
         RunFault::Memory
     }
 }

@@ -1,19 +1,19 @@
 //! The program's work, over any reader and writer.
 
-ghost use Rattle.std.specs.Prelude.{IfOk, IfSome, OnOk};
+ghost use Rattle.std.specs.Prelude.{◌≡◌, IfOk, IfErr, IfSome, OnOk};
 ghost use Rattle.std.specs.Io.KnownBytes.{Appends};
 ghost use Rattle.lra_cli.specs.Report.{ReportsAudit};
 
 use crate::fault::RunFault;
-use crate::input::read_input;
+use crate::input::audit_input;
 use crate::report::{report, status};
-use lra_auditor::audit;
 use std::alloc::Global;
 use std::io::{Read, Write};
 
 /// Writes the whole of a text.
 fn put<W: Write>(writer: &mut W, text: &str) -> Result<(), RunFault>
-    ensures { OnOk result (Appends (W.contents writer.old) (W.contents writer.new) text.now) }
+    ensures written { OnOk result (Appends (W.contents writer.old) (W.contents writer.new) text.now) }
+    ensures err { IfErr result (λ fault. fault ≡ RunFault.Write) }
 {
     writer
         .write_all(text.as_bytes())
@@ -30,8 +30,7 @@ pub fn audit_run<R: Read + Drop, W: Write>(
     ensures { IfOk result (λ status. IfSome (R.remaining reader) (λ input.
         ReportsAudit input status (W.contents writer.old) (W.contents writer.new))) }
 {
-    let input = read_input(alloc, &mut reader)?;
-    let verdict = audit(alloc, &input)?;
+    let verdict = audit_input(alloc, &mut reader)?;
     let text = report(alloc, &verdict)?;
     put(writer, text.as_str())?;
     Ok(status(&verdict))
