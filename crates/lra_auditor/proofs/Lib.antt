@@ -20,3 +20,6 @@ pub mod Counting
 pub mod Courses
 pub mod Feeds
 pub mod Marks
+pub mod LegalTexts
+pub mod OneVerdict
+pub mod OneVerdictWorked

@@ -1,5 +1,5 @@
 -- Who holds which ask, beside the members' rows.
-use Rattle.std.specs.Prelude.{◌≡◌, ℕ, ◌≤◌, Bool, true, false, List, Option, Some}
+use Rattle.std.specs.Prelude.{◌≡◌, ℕ, ◌≤◌, true, false, List, Option, Some}
 use Rattle.std.specs.Option.{option_map_or}
 use Rattle.lra_auditor.specs.declared.rows.MemberRow.{MemberRow}
 use Rattle.lra_auditor.specs.Rows.{row_at, stands_as}

@@ -7,3 +7,4 @@ pub mod Verdicts
 pub mod Course
 pub mod Totals
 pub mod Feeding
+pub mod OneVerdict

@@ -1,6 +1,6 @@
 -- The forward state of a history: what the auditor keeps of it, what the rules read there, and how one more entry changes it.
-use Rattle.std.specs.Prelude.{ℕ, zero, suc, ◌+◌, ◌-◌, ◌==◌, nat_le, nat_lt, Bool, true, false, ◌&&◌, ◌||◌, not, cond, List, [], ◌∷◌, ◌++◌, length, map, Option, Some, None, unwrap_or, option_map, is_some, count_by, slice_get, slice_set}
-use Rattle.std.specs.Option.{option_map_or, option_and_then, option_or}
+use Rattle.std.specs.Prelude.{ℕ, zero, suc, ◌+◌, ◌-◌, ◌==◌, nat_le, nat_lt, Bool, false, ◌&&◌, ◌||◌, not, cond, List, [], ◌∷◌, ◌++◌, length, map, Option, Some, None, unwrap_or, option_map, is_some, count_by, slice_get, slice_set}
+use Rattle.std.specs.Option.{option_map_or, option_and_then}
 use Rattle.std.specs.List.{filter_map, find}
 use Rattle.lra_model.specs.declared.status.ActionStatus.{ActionStatus}
 use Rattle.lra_model.specs.declared.status.ActionStatus.TheVariants as action
@@ -16,7 +16,7 @@ use Rattle.lra_model.specs.declared.entry.Deed.{Deed}
 use Rattle.lra_model.specs.declared.entry.Deed.TheVariants.{Enrol, Start, Join, Leave, Close, Cancel, Skip, Ask, Reply, Report, End, Restart, Renew}
 use Rattle.lra_model.specs.declared.entry.Entry.{Entry}
 use Rattle.lra_model.specs.Addresses as texts
-use Rattle.lra_model.specs.Words.{has_ended, has_failed, is_cancelled, is_completing, is_compensating, is_completed, is_compensated, is_done_completing, is_done_compensating, has_gone, is_decisive, is_done, same_kind}
+use Rattle.lra_model.specs.Words.{has_ended, has_failed, is_cancelled, is_completing, is_compensating, is_completed, is_compensated, is_done_completing, is_done_compensating, has_gone, is_done, same_kind}
 use Rattle.lra_model.specs.History.{History, Step, steps, last, clerks, actions, members, asks, last_moment}
 use Rattle.lra_model.specs.Actions as words
 use Rattle.lra_model.specs.Actions.{parent, top, action_status, limit_in_force, children}

@@ -1,8 +1,7 @@
 -- The summary, by the rows.
-use Rattle.std.specs.Prelude.{ℕ, zero, suc, ◌==◌, ◌+◌, Bool, false, ◌&&◌, ◌||◌, not, cond, List, [], ◌∷◌, length, Option, Some, None, option_map, unwrap_or, count_by}
-use Rattle.std.specs.Option.{option_map_or, option_or}
-use Rattle.lra_model.specs.declared.status.ActionStatus.{ActionStatus}
-use Rattle.lra_model.specs.Words.{is_closed, has_failed, has_gone, member_has_failed, when}
+use Rattle.std.specs.Prelude.{ℕ, zero, suc, ◌==◌, ◌+◌, Bool, false, ◌&&◌, ◌||◌, not, cond, List, [], ◌∷◌, length, Option, Some, None, option_map, count_by}
+use Rattle.std.specs.Option.{option_map_or}
+use Rattle.lra_model.specs.Words.{is_closed, has_failed, has_gone, member_has_failed}
 use Rattle.lra_auditor.specs.declared.rows.ActionRow.{ActionRow}
 use Rattle.lra_auditor.specs.declared.rows.MemberRow.{MemberRow}
 use Rattle.lra_auditor.specs.declared.verdict.FailedEnd.{FailedEnd}

@@ -8,6 +8,7 @@ mod changes;
 mod course;
 mod entries;
 mod lawful;
+mod laws;
 mod reading;
 mod rows;
 mod state;
@@ -16,6 +17,7 @@ mod verdict;
 
 pub use auditor::{Auditor, AuditorFault, audit};
 pub use entries::check;
+pub use laws::{bytes_have_one_verdict, legal_texts_are_sound};
 pub use lra_model::{Memory, Rule, Version};
 pub use rows::{ActionRow, Limit, MemberRow, Presence, Standing};
 pub use state::Rows;

@@ -3,6 +3,7 @@ use Rattle.std.proofs.Common.{◌≡◌, ℕ, Bool, true, false, List, [], ◌�
 use Rattle.std.specs.Prelude.{◌==◌, ◌&&◌, ◌||◌, not, is_some, unwrap_or, option_map, option_to_list}
 use Rattle.std.specs.Option.{option_or, option_map_or}
 use Rattle.std.specs.List.{filter_map, cons_option, last_or, find, list_any}
+use Rattle.std.proofs.Math.Bool.{or-false}
 use Rattle.std.proofs.lemmas.List.{append-nil, map-append}
 use Rattle.std.proofs.lemmas.List.Elements.{filter_map-append}
 use Rattle.std.proofs.lemmas.List.Folds.{find-append, list_any-append}
@@ -19,6 +20,11 @@ use Rattle.lra_model.specs.Actions.{parent_given, parent, status_given, action_s
 use Rattle.lra_model.specs.Members.{action_given, action_of, no_addresses, addresses_given, addresses_of, is_leave_of, has_left, is_ask_for, was_asked, Asked, asked_at, ask_of, Replied, replied_at, replies, Heard, heard_at, decides, decided, last_reply, was_answered, standing_given, is_outstanding, ask_given, outstanding_ask}
 
 -- ---- lists with one more at the end
+
+-- nothing to fall back on
+pub or_none : {X : Type 0} (o : Option X) → option_or o None ≡ o
+or_none None = refl
+or_none (Some x) = refl
 
 pub last_or_push : {X : Type 0} (o : Option X) (xs : List X) (y : X) → last_or o (xs ++ y ∷ []) ≡ Some y
 last_or_push o [] y = refl
@@ -50,11 +56,7 @@ first_read_push {Y = Y} h xs x = ap first (read_push h xs x) ∙ at_end (filter_
     at_end (z ∷ ys) o = refl
 
 pub any_push : {X : Type 0} (p : X → Bool) (xs : List X) (x : X) → list_any p (xs ++ x ∷ []) ≡ (list_any p xs || p x)
-any_push p xs x = list_any-append p xs (x ∷ []) ∙ ap (λ (b : Bool). list_any p xs || b) (or_false (p x))
-  where
-    or_false : (b : Bool) → (b || false) ≡ b
-    or_false true = refl
-    or_false false = refl
+any_push p xs x = list_any-append p xs (x ∷ []) ∙ ap (λ (b : Bool). list_any p xs || b) (or-false (p x))
 
 pub find_push : {X : Type 0} (p : X → Bool) (xs : List X) (x : X) → find p (xs ++ x ∷ []) ≡ option_or (find p xs) (when (p x) x)
 find_push {X = X} p xs x = find-append p xs (x ∷ []) ∙ ap (λ (o : Option X). option_or (find p xs) o) (one (p x))
@@ -155,10 +157,6 @@ ask_of_push J e n =
   where
     at_end : (xs : List Asked) (o : Option Asked) → find (λ (a : Asked). a.number == n) (xs ++ option_to_list o) ≡ option_or (find (λ (a : Asked). a.number == n) xs) (option_map_or (λ (a : Asked). when (a.number == n) a) o None)
     at_end xs None = ap (find (λ (a : Asked). a.number == n)) (append-nil xs) ∙ sym (or_none (find (λ (a : Asked). a.number == n) xs))
-      where
-        or_none : (o : Option Asked) → option_or o None ≡ o
-        or_none None = refl
-        or_none (Some x) = refl
     at_end xs (Some x) = find_push (λ (a : Asked). a.number == n) xs x
 
 pub replies_push : (J : History) (e : Entry) → replies (J ++ e ∷ []) ≡ replies J ++ option_to_list (replied_at (step J e))
@@ -178,12 +176,8 @@ decided_push J e p d =
     mapped None true x = refl
     mapped None false x = refl
 
-    or_none : (o : Option Outcome) → o ≡ option_or o None
-    or_none None = refl
-    or_none (Some x) = refl
-
     at_end : (hs : List Heard) (o : Option Heard) → option_map (λ (h : Heard). h.outcome) (find (decides p d) (hs ++ option_to_list o)) ≡ option_or (option_map (λ (h : Heard). h.outcome) (find (decides p d) hs)) (option_map_or (λ (h : Heard). when (decides p d h) h.outcome) o None)
-    at_end hs None = ap (λ (ys : List Heard). option_map (λ (h : Heard). h.outcome) (find (decides p d) ys)) (append-nil hs) ∙ or_none (option_map (λ (h : Heard). h.outcome) (find (decides p d) hs))
+    at_end hs None = ap (λ (ys : List Heard). option_map (λ (h : Heard). h.outcome) (find (decides p d) ys)) (append-nil hs) ∙ sym (or_none (option_map (λ (h : Heard). h.outcome) (find (decides p d) hs)))
     at_end hs (Some x) = ap (option_map (λ (h : Heard). h.outcome)) (find_push (decides p d) hs x) ∙ mapped (find (decides p d) hs) (decides p d x) x
 
 -- the last reply of a direction is the new one, if it is of it
@@ -207,12 +201,8 @@ was_answered_push J e p kind = ap (list_any test) (replies_push J e) ∙ at_end 
     test : Replied → Bool
     test r = (r.to.member == p) && same_kind r.to.kind kind && is_done r.outcome
 
-    or_false : (b : Bool) → b ≡ (b || false)
-    or_false true = refl
-    or_false false = refl
-
     at_end : (rs : List Replied) (o : Option Replied) → list_any test (rs ++ option_to_list o) ≡ (list_any test rs || option_map_or test o false)
-    at_end rs None = ap (list_any test) (append-nil rs) ∙ or_false (list_any test rs)
+    at_end rs None = ap (list_any test) (append-nil rs) ∙ sym (or-false (list_any test rs))
     at_end rs (Some r) = any_push test rs r
 
 pub is_outstanding_push : (J : History) (e : Entry) (n : ℕ) → is_outstanding (J ++ e ∷ []) n ≡ unwrap_or (standing_given n e.deed) (is_outstanding J n)

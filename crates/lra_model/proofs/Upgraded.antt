@@ -1,5 +1,6 @@
 -- What version 1 allows, version 2 allows too.
 use Rattle.std.proofs.Common.{◌≡◌, ℕ, Bool, true, false, List, [], ◌∷◌, Option, Some, None, refl, sym, ap, ◌∙◌}
+use Rattle.std.proofs.Math.Bool.{or-false}
 use Rattle.std.specs.Prelude.{◌&&◌, ◌||◌, is_none, nat_le}
 use Rattle.std.specs.Option.{option_map_or}
 use Rattle.lra_model.specs.declared.asks.Cause.{Cause}
@@ -18,11 +19,7 @@ use Rattle.lra_model.specs.Upgrade.{VersionTwoKeepsLegal}
 use Rattle.lra_model.proofs.Tested.{both, and_intro, or_left, none_from_test, list_all-weaker, kept, passed}
 
 cancel_kept : (m : ℕ) (c : Cause) (f : Facts) (a : ActionFacts) → may_cancel One m c f a ≡ true → may_cancel Two m c f a ≡ true
-cancel_kept m cause.Client f a h = or_left (is_active a.status) (may_take_back Two f a) (no_or (is_active a.status) h)
-  where
-    no_or : (b : Bool) → (b || false) ≡ true → b ≡ true
-    no_or true h = refl
-    no_or false h = h
+cancel_kept m cause.Client f a h = or_left (is_active a.status) (may_take_back Two f a) (sym (or-false (is_active a.status)) ∙ h)
 cancel_kept m cause.Parent f a h = h
 cancel_kept m cause.Limit f a h = h
 
