@@ -1,12 +1,12 @@
 //! Worked journals, whole and in pieces.
 
-ghost use Rattle.std.specs.Prelude.{◌≤◌, length};
+mod memory;
+mod pieces;
 
-use crate::{Auditor, AuditorFault, FailedEnd, Rule, Verdict, audit, check};
+use crate::{FailedEnd, Rule, Verdict, audit, check};
 use lra_journal::read_journal;
 use lra_model::ActionStatus;
-use std::alloc::Global;
-use std::process::Abort;
+use pieces::{SIZES, audit_in_pieces};
 use std::test::Fail;
 
 const CLOSED: &[u8] =
@@ -15,6 +15,13 @@ const CLOSED: &[u8] =
 /// A nested action closes in failure, and so does the one around it.
 const FAILED: &[u8] =
     b"lra-journal 1 7\n1 0 enrol\n1 0 start 1 * 0\n1 1 start 2 1 0\n1 2 join 1 2 http://n.test/u http://n.test/c * http://n.test/f http://n.test/a\n1 3 close 2 client\n1 4 ask 1 1 complete\n1 5 reply 1 failed\n1 5 end 2 FailedToClose\n1 6 close 1 client\n1 6 end 1 FailedToClose\n1 7 ask 2 1 forget\n1 8 reply 2 done\n1 9 ask 3 1 after\n";
+
+/// A nested action closes, and is taken back when the one around it is cancelled.
+const NESTED: &[u8] =
+    b"lra-journal 1 7\n1 0 enrol\n1 0 start 1 * 0\n1 1 start 2 1 0\n1 2 join 1 2 http://n.test/u http://n.test/c * http://n.test/f http://n.test/a\n1 3 close 2 client\n1 4 ask 1 1 complete\n1 5 reply 1 done\n1 5 end 2 Closed\n1 6 cancel 1 client\n1 6 cancel 2 parent\n1 7 ask 2 1 compensate\n1 8 reply 2 done\n1 8 end 2 Cancelled\n1 8 end 1 Cancelled\n1 9 ask 3 1 after\n1 10 reply 3 silent\n1 110 ask 4 1 after\n1 111 reply 4 done\n";
+
+/// What the nested journal comes to.
+const NESTED_COUNTS: [u64; 6] = [18, 2, 0, 0, 2, 0];
 
 /// Entries, actions, unended, closed, cancelled and failed ones.
 fn is_sound(verdict: &Verdict, wanted: [u64; 6]) -> bool {
@@ -39,33 +46,25 @@ fn is_unsound(verdict: &Verdict, number: u64, code: Rule) -> bool {
     }
 }
 
-/// The verdict on bytes that are fed one by one.
-fn audit_each(alloc: Global, bytes: &[u8]) -> Result<Verdict, AuditorFault> {
-    let mut auditor = Auditor::new(alloc);
-    for at in 0..bytes.len() {
-        auditor.feed(&bytes[at..at + 1])?;
-    }
-    auditor.finish()
-}
-
-fn audit_halves(alloc: Global, bytes: &[u8], at: usize) -> Result<Verdict, AuditorFault>
-    requires { at ≤ length bytes.now }
-{
-    let (front, back) = bytes.split_at(at);
-    let mut auditor = Auditor::new(alloc);
-    auditor.feed(front)?;
-    auditor.feed(back)?;
-    auditor.finish()
-}
-
 #[test]
 fn sound_journals(rt: HostRuntime) -> Result<(), Fail> {
-    let alloc = rt.alloc();
-    assert!(rt; is_sound(&audit(alloc, b"lra-journal 1 7\n")?, [0, 0, 0, 0, 0, 0]));
-    assert!(rt; is_sound(&audit(alloc, CLOSED)?, [4, 1, 0, 1, 0, 0]));
-    assert!(rt; is_sound(&audit(alloc, FAILED)?, [13, 2, 0, 0, 0, 2]));
-    let zero = b"lra-journal 1 7\n1 0 enrol\n1 0 start 1 * 18446744073709551615\n";
-    assert!(rt; is_sound(&audit(alloc, zero)?, [2, 1, 1, 0, 0, 0]));
+    let cases: [(&[u8], [u64; 6]); 5] = [
+        (b"lra-journal 1 7\n", [0, 0, 0, 0, 0, 0]),
+        (CLOSED, [4, 1, 0, 1, 0, 0]),
+        (FAILED, [13, 2, 0, 0, 0, 2]),
+        (NESTED, NESTED_COUNTS),
+        (
+            b"lra-journal 1 7\n1 0 enrol\n1 0 start 1 * 18446744073709551615\n",
+            [2, 1, 1, 0, 0, 0],
+        ),
+    ];
+    for (bytes, counts) in cases {
+        assert!(rt; is_sound(&audit(rt.alloc(), bytes)?, counts), "{counts:?}");
+        for size in SIZES {
+            let verdict = audit_in_pieces(&rt, bytes, size)?;
+            assert!(rt; is_sound(&verdict, counts), "{counts:?} by {size}");
+        }
+    }
     Ok(())
 }
 
@@ -93,7 +92,7 @@ fn failed_ends(rt: HostRuntime) -> Result<(), Fail> {
 
 #[test]
 fn first_faults(rt: HostRuntime) -> Result<(), Fail> {
-    let cases: [(&[u8], u64, Rule); 12] = [
+    let cases: [(&[u8], u64, Rule); 18] = [
         (b"", 1, Rule::Header),
         (&CLOSED[..CLOSED.len() - 1], 5, Rule::Grammar),
         (b"lra-journal 1 7\n1 0 start 1 * 0\n", 2, Rule::Clerk),
@@ -142,29 +141,29 @@ fn first_faults(rt: HostRuntime) -> Result<(), Fail> {
             5,
             Rule::Cause,
         ),
+        (b"lra-journal 1 7", 1, Rule::Header),
+        (b"\xFF", 1, Rule::Header),
+        (b"lra-journal 1 \xC3\xA9\n1 0 enrol\n", 1, Rule::Header),
+        (b"lra-journal 1 7\n1 0 enrol\n\xFF\n", 3, Rule::Grammar),
+        (b"lra-journal 1 7\n1 0 enrol\n\xC3", 3, Rule::Grammar),
+        (
+            b"lra-journal 1 7\n1 0 enrol\n1 0 start 1 * 0\n1 2 join 1 1 http://n.test/\xC3\xA9 http://n.test/c * http://n.test/f http://n.test/a\n",
+            4,
+            Rule::Grammar,
+        ),
     ];
     for (bytes, line, rule) in cases {
         assert!(rt;
             is_unsound(&audit(rt.alloc(), bytes)?, line, rule),
             "line {line} {rule:?}"
         );
-        assert!(rt;
-            is_unsound(&audit_each(rt.alloc(), bytes)?, line, rule),
-            "line {line} {rule:?}"
-        );
-    }
-    Ok(())
-}
-
-#[test]
-fn pieces(rt: HostRuntime) -> Result<(), Fail> {
-    let alloc = rt.alloc();
-    assert!(rt; is_sound(&audit_each(alloc, FAILED)?, [13, 2, 0, 0, 0, 2]));
-    for at in 0..CLOSED.len() {
-        assert!(rt;
-            is_sound(&audit_halves(alloc, CLOSED, at)?, [4, 1, 0, 1, 0, 0]),
-            "at {at}"
-        );
+        for size in SIZES {
+            let verdict = audit_in_pieces(&rt, bytes, size)?;
+            assert!(rt;
+                is_unsound(&verdict, line, rule),
+                "line {line} {rule:?} by {size}"
+            );
+        }
     }
     Ok(())
 }
@@ -177,13 +176,4 @@ fn entries_in_memory(rt: HostRuntime) -> Result<(), Fail> {
     assert!(rt; is_sound(&check(alloc, version, &entries)?, [4, 1, 0, 1, 0, 0]));
     assert!(rt; is_unsound(&check(alloc, version, &entries[1..])?, 2, Rule::Clerk));
     Ok(())
-}
-
-#[test]
-fn spent_after_memory(rt: HostRuntime) {
-    let mut auditor = Auditor::new(rt.alloc());
-    if auditor.feed(CLOSED).is_err() {
-        assert!(rt; auditor.feed(b"x") == Err(AuditorFault::Spent));
-        assert!(rt; auditor.finish().is_err());
-    }
 }

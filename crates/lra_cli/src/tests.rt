@@ -1,3 +1,5 @@
+mod memory;
+
 use crate::fault::RunFault;
 use crate::run::audit_run;
 use crate::words::{Command, Usage, read_words};
@@ -10,8 +12,21 @@ const EMPTY: &str = "lra-journal 1 7\n";
 const CLOSED: &str =
     "lra-journal 1 7\n1 0 enrol\n1 0 start 1 * 0\n1 5 close 1 client\n1 5 end 1 Closed\n";
 
+/// A nested action closes, and is taken back when the one around it is cancelled.
+const NESTED: &str =
+    "lra-journal 1 7\n1 0 enrol\n1 0 start 1 * 0\n1 1 start 2 1 0\n1 2 join 1 2 http://n.test/u http://n.test/c * http://n.test/f http://n.test/a\n1 3 close 2 client\n1 4 ask 1 1 complete\n1 5 reply 1 done\n1 5 end 2 Closed\n1 6 cancel 1 client\n1 6 cancel 2 parent\n1 7 ask 2 1 compensate\n1 8 reply 2 done\n1 8 end 2 Cancelled\n1 8 end 1 Cancelled\n1 9 ask 3 1 after\n1 10 reply 3 silent\n1 110 ask 4 1 after\n1 111 reply 4 done\n";
+
+const NESTED_PRINTED: &str = "sound entries 18 actions 2 unended 0 closed 0 cancelled 2 failed 0\n";
+
+/// A nested action closes in failure, and so does the one around it.
+const FAILED: &str =
+    "lra-journal 1 7\n1 0 enrol\n1 0 start 1 * 0\n1 1 start 2 1 0\n1 2 join 1 2 http://n.test/u http://n.test/c * http://n.test/f http://n.test/a\n1 3 close 2 client\n1 4 ask 1 1 complete\n1 5 reply 1 failed\n1 5 end 2 FailedToClose\n1 6 close 1 client\n1 6 end 1 FailedToClose\n1 7 ask 2 1 forget\n1 8 reply 2 done\n1 9 ask 3 1 after\n";
+
+const FAILED_PRINTED: &str =
+    "sound entries 13 actions 2 unended 0 closed 0 cancelled 0 failed 2\nfailed 1 FailedToClose 1\nfailed 2 FailedToClose 1\n";
+
 /// A journal, what is printed of it, and the status.
-const JOURNALS: [(&str, &str, u8); 13] = [
+const JOURNALS: [(&str, &str, u8); 17] = [
     (
         EMPTY,
         "sound entries 0 actions 0 unended 0 closed 0 cancelled 0 failed 0\n",
@@ -69,6 +84,18 @@ const JOURNALS: [(&str, &str, u8); 13] = [
         0,
     ),
     ("lra-journal 3 7\n", "unsound line 1 header\n", 1),
+    (NESTED, NESTED_PRINTED, 0),
+    (
+        "lra-journal 1 7\n1 0 enrol\n1 0 start 1 * 0\n1 0 start 2 1 0\n1 1 close 2 client\n1 2 close 1 client\n1 2 end 1 Closed\n",
+        "unsound line 7 unsettled\n",
+        1,
+    ),
+    (
+        "lra-journal 1 7\n1 0 enrol\n1 0 start 1 * 0\n1 0 close 1 parent\n",
+        "unsound line 4 cause\n",
+        1,
+    ),
+    (FAILED, FAILED_PRINTED, 0),
 ];
 
 #[test]
