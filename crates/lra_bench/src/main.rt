@@ -2,33 +2,44 @@
 //! machine to machine.
 #![tactic(auto)]
 
+mod audit;
 mod ids;
+mod journals;
 mod lock;
 mod timers;
 mod wire;
 
 use std::env;
+use std::process::ExitCode;
 
 const USAGE: &str = "usage: lra_bench NAME
 
+audit   megabytes audited a second, and memory, as a journal grows from 10,000 entries to 10,000,000
 ids     address texts tested a second, short and long
 lock    handovers of the ticket lock, beside a Mutex
 timers  the calls of an agenda, as its pairs grow from 1,000 to 400,000
 wire    requests read a second, whole and in small pieces";
 
-fn main(rt: HostRuntime) -> anyhow::Result<()> {
+/// The status where there is no benchmark of that name.
+const UNKNOWN: u8 = 2;
+
+fn main(rt: HostRuntime) -> anyhow::Result<ExitCode> {
     let mut args = env::args(&rt)?;
     let _program = args.next();
     let Some(name) = args.next() else {
         println!(rt; "{USAGE}")?;
-        return Ok(());
+        return Ok(ExitCode::SUCCESS);
     };
     match name.as_str() {
+        "audit" => audit::run(&rt)?,
         "ids" => ids::run(&rt)?,
         "lock" => lock::run(&rt, rt.alloc())?,
         "timers" => timers::run(&rt)?,
         "wire" => wire::run(&rt)?,
-        _ => println!(rt; "{USAGE}")?,
+        _ => {
+            eprintln!(rt; "{USAGE}")?;
+            return Ok(ExitCode::from(UNKNOWN));
+        }
     }
-    Ok(())
+    Ok(ExitCode::SUCCESS)
 }

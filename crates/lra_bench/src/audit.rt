@@ -1,0 +1,141 @@
+//! The auditor's time and the program's memory, for journals of 10,000 to 10,000,000 entries.
+//!
+//! A flat journal has a fixed number of actions and members, and the auditor keeps no more than a row for each; a growing
+//! one has ever more of them. Journals are made piece by piece, and the time that this takes isn't counted. Ten times as
+//! many entries take a little more than ten times as long, since their numbers have more digits. From the smallest flat
+//! journal to the next it is less, since the same 400 members join in both, and their addresses take longest.
+
+ghost use Rattle.std.specs.Prelude.{◌≡◌};
+
+use crate::journals::{Journal, Kind};
+use anyhow::{Context, Result, bail, ensure};
+use lra_auditor::{Auditor, Verdict};
+use std::alloc::AllocError;
+use std::fs;
+use std::num::nearest_u64_to_f64;
+use std::time::{Duration, Instant};
+
+/// How many entries, in how many runs: the shortest counts, since what else the machine does only makes a run longer.
+const SIZES: [(u64, u32); 4] = [(10_000, 50), (100_000, 20), (1_000_000, 5), (10_000_000, 3)];
+
+/// The most pieces that a journal may have.
+const MOST_PIECES: u64 = 1 << 40;
+
+/// What the audit of a journal took.
+#[derive(Clone, Copy)]
+struct Cost {
+    bytes: u64,
+    time: Duration,
+}
+
+/// Feeds a journal to its end.
+fn feed_all(rt: &HostRuntime, journal: &mut Journal, auditor: &mut Auditor) -> Result<Cost>
+    requires { auditor.old.fed ≡ 0 }
+{
+    let mut bytes = 0u64;
+    let mut time = Duration::ZERO;
+    for _place in 0..MOST_PIECES {
+        let piece = journal.next_piece()?;
+        if piece.is_empty() {
+            break;
+        }
+        let start = Instant::now(rt)?;
+        auditor.feed(&piece).map_err(|_| AllocError)?;
+        time = time.saturating_add(start.elapsed(rt)?);
+        bytes = bytes.saturating_add(piece.len() as u64);
+    }
+    Ok(Cost { bytes, time })
+}
+
+/// Audits a journal of so many entries, which has to be sound.
+fn audit(rt: &HostRuntime, kind: Kind, entries: u64) -> Result<Cost> {
+    let mut journal = Journal::new(rt.alloc(), kind, entries)?;
+    let mut auditor = Auditor::new(rt.alloc());
+    let fed = feed_all(rt, &mut journal, &mut auditor)?;
+    let start = Instant::now(rt)?;
+    let verdict = auditor.finish().map_err(|_| AllocError)?;
+    let time = fed.time.saturating_add(start.elapsed(rt)?);
+    match verdict {
+        Verdict::Sound(summary) => {
+            let counted = summary.entries;
+            ensure!(
+                counted == entries,
+                "{counted} entries were read of {entries}"
+            );
+        }
+        Verdict::Unsound { line, rule } => {
+            let rule = rule.name();
+            bail!("the journal is unsound at line {line}: {rule}");
+        }
+    }
+    Ok(Cost { time, ..fed })
+}
+
+/// The shortest audit of some.
+fn measure(rt: &HostRuntime, kind: Kind, entries: u64, runs: u32) -> Result<Cost> {
+    let mut least = audit(rt, kind, entries)?;
+    for _ in 1..runs {
+        let cost = audit(rt, kind, entries)?;
+        least.time = least.time.min(cost.time);
+    }
+    Ok(least)
+}
+
+/// The most memory that the program has had so far, in kilobytes, as Linux tells it.
+fn peak_memory(rt: &HostRuntime) -> Result<u64> {
+    let status = fs::read_to_string(rt, "/proc/self/status")?;
+    let peak = status
+        .lines()
+        .find_map(|line| line.strip_prefix("VmHWM:"))
+        .and_then(|rest| rest.split_whitespace().next())
+        .context("the memory isn't told")?;
+    let kilobytes = peak.parse::<u64>()?;
+    Ok(kilobytes)
+}
+
+/// What was measured of one size.
+#[derive(Clone, Copy)]
+struct Measured {
+    seconds: f64,
+    kilobytes: f64,
+}
+
+/// Measures one size, and prints a line: the figures, and how many times those of the size before they are.
+fn measure_size(
+    rt: &HostRuntime,
+    kind: Kind,
+    (entries, runs): (u64, u32),
+    before: Option<Measured>,
+) -> Result<Measured> {
+    let cost = measure(rt, kind, entries, runs)?;
+    let peak = peak_memory(rt)?;
+    let seconds = cost.time.as_secs_f64();
+    let kilobytes = nearest_u64_to_f64(peak);
+    let name = kind.name();
+    let megabytes = nearest_u64_to_f64(cost.bytes) / 1e6;
+    let rate = megabytes / seconds;
+    let nanoseconds = seconds * 1e9 / nearest_u64_to_f64(entries);
+    print!(rt;
+        "{name:<8}{entries:>9} entries {megabytes:6.1} MB {rate:6.1} MB a second {nanoseconds:6.1} ns an entry, peak {peak:>7} kB"
+    )?;
+    match before {
+        Some(before) => {
+            let time = seconds / before.seconds;
+            let memory = kilobytes / before.kilobytes;
+            println!(rt; ", time ratio {time:5.2}, memory ratio {memory:5.2}")?;
+        }
+        None => println!(rt)?,
+    }
+    Ok(Measured { seconds, kilobytes })
+}
+
+/// Prints a line for each size of each kind. Flat journals come first: the peak is that of all that was done so far.
+pub fn run(rt: &HostRuntime) -> Result<()> {
+    for kind in [Kind::Flat, Kind::Growing] {
+        let mut before = None;
+        for size in SIZES {
+            before = Some(measure_size(rt, kind, size, before)?);
+        }
+    }
+    Ok(())
+}
