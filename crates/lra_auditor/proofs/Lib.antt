@@ -15,6 +15,7 @@ pub mod RowsWorked
 pub mod Index
 pub mod Table
 pub mod TotalsLaw
+pub mod ListingLaw
 pub mod Faults
 pub mod Counting
 pub mod Courses

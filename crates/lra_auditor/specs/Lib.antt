@@ -6,5 +6,7 @@ pub mod Presence
 pub mod Verdicts
 pub mod Course
 pub mod Totals
+pub mod Listed
+pub mod Listings
 pub mod Feeding
 pub mod OneVerdict

@@ -27,13 +27,13 @@ fn first_broken(verdicts: &[(Rule, bool)]) -> Option<Rule>
 }
 
 impl Rows {
-    fn count_actions(&self) -> u64
+    pub(crate) fn count_actions(&self) -> u64
         ensures { result ≡ length self.now.actions }
     {
         self.actions.len() as u64
     }
 
-    fn count_members(&self) -> u64
+    pub(crate) fn count_members(&self) -> u64
         ensures { result ≡ length self.now.members }
     {
         self.members.len() as u64

@@ -1,2 +1,4 @@
 pub mod Report
+pub mod Show
+pub mod Upgrade
 pub mod Words

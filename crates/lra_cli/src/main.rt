@@ -1,26 +1,52 @@
-//! `lra`: audits a journal of long running actions.
+//! `lra`: audits a journal of long running actions, lists what it comes to, and upgrades it.
 #![tactic(auto)]
 
 mod fault;
 mod input;
 mod report;
 mod run;
+mod show;
+mod upgrade;
 mod words;
 
 use fault::RunFault;
 use run::audit_run;
+use show::show_run;
 use std::process::ExitCode;
 use std::rt::{Env, Files};
 use std::{env, fs, io};
+use upgrade::upgrade_run;
 use words::{Command, read_words};
 
 /// The status of a run that has no answer.
 const FAULT: u8 = 2;
 
-/// Audits a file, or standard input where it is `-`.
-fn audit_file<R: AllocGlobal + Files + Print>(rt: &R, file: &str) -> Result<u8, RunFault> {
-    let opened = fs::open(rt, file).map_err(|_| RunFault::Read)?;
-    audit_run(rt.alloc(), opened, &mut io::writer(rt))
+/// Opens a file to read it.
+fn open<R: Files>(rt: &R, file: &str) -> Result<R::File, RunFault> {
+    fs::open(rt, file).map_err(|_| RunFault::Read)
+}
+
+/// The input that a command names, `-` for standard input.
+fn input_of<'a>(command: Command<'a>) -> &'a str {
+    match command {
+        Command::AuditInput => "-",
+        Command::Audit { file } | Command::Show { file } | Command::Upgrade { file } => file,
+    }
+}
+
+/// Runs a command, and answers the program's status.
+fn run_command<R: AllocGlobal + Files + Input + Print>(
+    rt: &R,
+    command: Command<'_>,
+) -> Result<u8, RunFault> {
+    let alloc = rt.alloc();
+    let writer = &mut io::writer(rt);
+    match command {
+        Command::AuditInput => audit_run(alloc, rt.reader(), writer),
+        Command::Audit { file } => audit_run(alloc, open(rt, file)?, writer),
+        Command::Show { file } => show_run(alloc, open(rt, file)?, writer),
+        Command::Upgrade { file } => upgrade_run(alloc, open(rt, file)?, writer),
+    }
 }
 
 /// Prints a fault on standard error, where standard input and output are written `-`.
@@ -35,18 +61,14 @@ fn tell(rt: &impl Eprint, fault: RunFault, input: &str) -> io::Result<()> {
 
 /// Runs the command of these words, and answers the program's status.
 fn answer<R: AllocGlobal + Files + Input + Print + Eprint>(rt: &R, words: &[String]) -> u8 {
-    let (outcome, input) = match read_words(words) {
-        Ok(Command::AuditInput) => (audit_run(rt.alloc(), rt.reader(), &mut io::writer(rt)), "-"),
-        Ok(Command::Audit { file }) => (audit_file(rt, file), file),
-        Err(_) => {
-            let _ = eprintln!(rt; "lra: usage");
-            return FAULT;
-        }
+    let Ok(command) = read_words(words) else {
+        let _ = eprintln!(rt; "lra: usage");
+        return FAULT;
     };
-    match outcome {
+    match run_command(rt, command) {
         Ok(status) => status,
         Err(fault) => {
-            let _ = tell(rt, fault, input);
+            let _ = tell(rt, fault, input_of(command));
             FAULT
         }
     }

@@ -33,7 +33,8 @@ fn count_of_ends(alloc: Global, summary: &Summary) -> Result<String, Memory>
     format!(in alloc; " closed {closed} cancelled {cancelled} failed {failed}\n")
 }
 
-fn line_of_fault(alloc: Global, line: u64, rule: Rule) -> Result<String, Memory>
+/// The line that is printed of a fault.
+pub(crate) fn line_of_fault(alloc: Global, line: u64, rule: Rule) -> Result<String, Memory>
     ensures { IfOk result (λ text. string_bytes text ≡ fault_line line rule) }
 {
     let rule = rule.name();

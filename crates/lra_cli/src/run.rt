@@ -2,22 +2,33 @@
 
 ghost use Rattle.std.specs.Prelude.{◌≡◌, IfOk, IfErr, IfSome, OnOk};
 ghost use Rattle.std.specs.Io.KnownBytes.{Appends};
-ghost use Rattle.lra_cli.specs.Report.{ReportsAudit};
+ghost use Rattle.lra_cli.specs.Report.{report_of, ReportsAudit};
 
 use crate::fault::RunFault;
 use crate::input::audit_input;
 use crate::report::{report, status};
+use lra_auditor::Verdict;
 use std::alloc::Global;
 use std::io::{Read, Write};
 
-/// Writes the whole of a text.
-fn put<W: Write>(writer: &mut W, text: &str) -> Result<(), RunFault>
-    ensures written { OnOk result (Appends (W.contents writer.old) (W.contents writer.new) text.now) }
+/// Writes all bytes.
+pub fn put<W: Write>(writer: &mut W, bytes: &[u8]) -> Result<(), RunFault>
+    ensures written { OnOk result (Appends (W.contents writer.old) (W.contents writer.new) bytes.now) }
     ensures err { IfErr result (λ fault. fault ≡ RunFault.Write) }
 {
-    writer
-        .write_all(text.as_bytes())
-        .map_err(|_| RunFault::Write)
+    writer.write_all(bytes).map_err(|_| RunFault::Write)
+}
+
+/// Writes what is printed of a verdict.
+pub fn put_report<W: Write>(
+    alloc: Global,
+    verdict: &Verdict,
+    writer: &mut W,
+) -> Result<(), RunFault>
+    ensures { OnOk result (Appends (W.contents writer.old) (W.contents writer.new) (report_of verdict.now)) }
+{
+    let text = report(alloc, verdict)?;
+    put(writer, text.as_bytes())
 }
 
 /// Audits what the reader gives, and writes the verdict. The answer is the program's status: 0 for a sound journal,
@@ -31,7 +42,6 @@ pub fn audit_run<R: Read + Drop, W: Write>(
         ReportsAudit input status (W.contents writer.old) (W.contents writer.new))) }
 {
     let verdict = audit_input(alloc, &mut reader)?;
-    let text = report(alloc, &verdict)?;
-    put(writer, text.as_str())?;
+    put_report(alloc, &verdict, writer)?;
     Ok(status(&verdict))
 }

@@ -1,7 +1,9 @@
 mod memory;
+mod upgrade;
 
 use crate::fault::RunFault;
 use crate::run::audit_run;
+use crate::show::show_run;
 use crate::words::{Command, Usage, read_words};
 use std::io;
 use std::io::{ErrorKind, Read, Write};
@@ -25,8 +27,11 @@ const FAILED: &str =
 const FAILED_PRINTED: &str =
     "sound entries 13 actions 2 unended 0 closed 0 cancelled 0 failed 2\nfailed 1 FailedToClose 1\nfailed 2 FailedToClose 1\n";
 
+const FAILED_LISTED: &str =
+    "action 1 * FailedToClose\naction 2 1 FailedToClose\nmember 1 2 FailedToComplete\n";
+
 /// A journal, what is printed of it, and the status.
-const JOURNALS: [(&str, &str, u8); 17] = [
+const JOURNALS: [(&str, &str, u8); 20] = [
     (
         EMPTY,
         "sound entries 0 actions 0 unended 0 closed 0 cancelled 0 failed 0\n",
@@ -96,6 +101,21 @@ const JOURNALS: [(&str, &str, u8); 17] = [
         1,
     ),
     (FAILED, FAILED_PRINTED, 0),
+    (
+        "lra-journal 2 7\n1 0 enrol\n1 0 start 1 * 100\n1 90 renew 1 100\n1 190 cancel 1 limit\n1 190 end 1 Cancelled\n",
+        "sound entries 5 actions 1 unended 0 closed 0 cancelled 1 failed 0\n",
+        0,
+    ),
+    (
+        "lra-journal 1 7\n1 0 enrol\n1 0 start 1 * 100\n1 90 renew 1 100\n1 190 cancel 1 limit\n1 190 end 1 Cancelled\n",
+        "unsound line 4 grammar\n",
+        1,
+    ),
+    (
+        "lra-journal 2 7\n1 0 enrol\n1 0 start 1 * 100\n1 90 renew 1 100\n1 100 cancel 1 limit\n1 190 end 1 Cancelled\n",
+        "unsound line 5 cause\n",
+        1,
+    ),
 ];
 
 #[test]
@@ -103,6 +123,27 @@ fn journals_are_audited(rt: HostRuntime) -> Result<(), Fail> {
     for (journal, printed, status) in JOURNALS {
         let mut out = Vec::new(rt.alloc());
         let answer = audit_run(rt.alloc(), journal.as_bytes(), &mut out);
+        assert_eq!(rt; answer, Ok(status), "of {journal:?}");
+        assert_eq!(rt; out.as_slice(), printed.as_bytes(), "of {journal:?}");
+    }
+    Ok(())
+}
+
+#[test]
+fn journals_are_listed(rt: HostRuntime) -> Result<(), Fail> {
+    for (journal, printed, status) in [
+        (FAILED, FAILED_LISTED, 0),
+        (CLOSED, "action 1 * Closed\n", 0),
+        (EMPTY, "", 0),
+        ("", "unsound line 1 header\n", 1),
+        (
+            "lra-journal 1 7\n1 0 start 1 * 0\n",
+            "unsound line 2 clerk\n",
+            1,
+        ),
+    ] {
+        let mut out = Vec::new(rt.alloc());
+        let answer = show_run(rt.alloc(), journal.as_bytes(), &mut out);
         assert_eq!(rt; answer, Ok(status), "of {journal:?}");
         assert_eq!(rt; out.as_slice(), printed.as_bytes(), "of {journal:?}");
     }
@@ -164,6 +205,27 @@ fn a_reader_may_halt(rt: HostRuntime) -> Result<(), Fail> {
     Ok(())
 }
 
+#[test]
+fn a_listed_reader_may_halt(rt: HostRuntime) -> Result<(), Fail> {
+    for fails in [false, true] {
+        let reader = Halting {
+            left: FAILED.as_bytes(),
+            is_interrupted: false,
+            fails,
+        };
+        let mut out = Vec::new(rt.alloc());
+        let answer = show_run(rt.alloc(), reader, &mut out);
+        if fails {
+            assert_eq!(rt; answer, Err(RunFault::Read));
+            assert!(rt; out.is_empty());
+        } else {
+            assert_eq!(rt; answer, Ok(0));
+            assert_eq!(rt; out.as_slice(), FAILED_LISTED.as_bytes());
+        }
+    }
+    Ok(())
+}
+
 /// Takes so many bytes, and then fails.
 #[derive(Drop)]
 struct Full {
@@ -198,14 +260,55 @@ fn a_writer_may_fail(rt: HostRuntime) {
 }
 
 #[test]
+fn a_listing_may_fail(rt: HostRuntime) {
+    for (room, wanted) in [
+        (0, Err(RunFault::Write)),
+        (25, Err(RunFault::Write)),
+        (30, Err(RunFault::Write)),
+        (77, Err(RunFault::Write)),
+        (78, Ok(0)),
+    ] {
+        let answer = show_run(rt.alloc(), FAILED.as_bytes(), &mut Full { room });
+        assert_eq!(rt; answer, wanted, "with room for {room}");
+    }
+}
+
+#[test]
 fn words_are_commands(rt: HostRuntime) -> Result<(), Fail> {
     let alloc = rt.alloc();
     let audit = String::from_str(alloc, "audit")?;
+    let upgrade = String::from_str(alloc, "upgrade")?;
+    let show = String::from_str(alloc, "show")?;
     let file = String::from_str(alloc, "a file")?;
-    let words = vec![in alloc; audit, file]?;
+    let words = vec![in alloc;
+        audit,
+        file,
+        upgrade,
+        String::from_str(alloc, "a file")?,
+        show,
+        String::from_str(alloc, "a file")?,
+    ]?;
     assert!(rt; matches!(read_words(&[]), Ok(Command::AuditInput)));
-    assert!(rt; matches!(read_words(&words), Ok(Command::Audit { file: "a file" })));
+    assert!(rt;
+        matches!(
+            read_words(&words[..2]),
+            Ok(Command::Audit { file: "a file" })
+        )
+    );
+    assert!(rt;
+        matches!(
+            read_words(&words[2..4]),
+            Ok(Command::Upgrade { file: "a file" })
+        )
+    );
+    assert!(rt;
+        matches!(
+            read_words(&words[4..]),
+            Ok(Command::Show { file: "a file" })
+        )
+    );
     assert!(rt; matches!(read_words(&words[..1]), Err(Usage)));
-    assert!(rt; matches!(read_words(&words[1..]), Err(Usage)));
+    assert!(rt; matches!(read_words(&words[1..3]), Err(Usage)));
+    assert!(rt; matches!(read_words(&words), Err(Usage)));
     Ok(())
 }
