@@ -9,6 +9,12 @@ pub mod GoodWalks
 pub mod Legal
 pub mod LegalAsks
 pub mod Push
+pub mod Quiet
+pub mod Ranges
+pub mod Rests
+pub mod Settled
 pub mod Tested
 pub mod Upgraded
+pub mod Wanted
 pub mod Worked
+pub mod Writes

@@ -13,3 +13,4 @@ pub mod Wants
 pub mod GoodEnds
 pub mod Tallies
 pub mod Upgrade
+pub mod Depths

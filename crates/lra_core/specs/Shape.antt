@@ -1,0 +1,48 @@
+-- What a coordinator is, as contracts see it.
+use Rattle.std.specs.Prelude.{◌≡◌, ℕ, List, [], Option, Some, None, Bool, true, false}
+use Rattle.lra_model.specs.declared.status.ActionStatus.{ActionStatus}
+use Rattle.lra_model.specs.declared.status.ActionStatus.TheVariants as action
+use Rattle.lra_model.specs.declared.version.Version.{Version}
+use Rattle.lra_model.specs.History.{History, members}
+use Rattle.lra_model.specs.Actions.{parent, children, action_status}
+use Rattle.lra_core.specs.declared.limits.Limits.{Limits}
+use Rattle.lra_core.specs.Terms.{Terms}
+
+-- a coordinator: what it was made with, its history, and how many entries it has room for
+pub record Shape : Type 0 where
+  pub version : Version
+  pub instance : ℕ
+  pub base : List ℕ
+  pub limits : Limits
+  pub history : History
+  pub room : ℕ
+
+-- what its answers depend on, beside its history
+abbrev pub terms_of : Shape → Terms
+terms_of c = record { version = c.version; limits = c.limits }
+
+-- a coordinator with the same history and made with the same, whatever it has room for
+pub record IsSame (before after : Shape) : Type 0 where
+  pub version : after.version ≡ before.version
+  pub instance : after.instance ≡ before.instance
+  pub base : after.base ≡ before.base
+  pub limits : after.limits ≡ before.limits
+  pub history : after.history ≡ before.history
+
+-- a coordinator made with the same, with another history
+abbrev pub IsGrown : Shape → Shape → History → Type 0
+IsGrown before after K = IsSame (record before { history = K }) after
+
+-- a state that an action without members and nested actions is in between two commands, or has no action
+abbrev pub is_plain_state : Option ActionStatus → Bool
+is_plain_state None = true
+is_plain_state (Some action.Active) = true
+is_plain_state (Some action.Closed) = true
+is_plain_state _ = false
+
+-- a history of what is taken so far: actions without members and nested actions, each Active or Closed
+pub record IsPlain (J : History) : Type 0 where
+  pub members : members J ≡ []
+  pub parents : (a : ℕ) → parent J a ≡ None
+  pub children : (a : ℕ) → children J a ≡ []
+  pub states : (a : ℕ) → is_plain_state (action_status J a) ≡ true
