@@ -1,3 +1,6 @@
 pub mod Lines
 pub mod Feeding
 pub mod Versions
+pub mod Growths
+pub mod Playing
+pub mod ScriptLines

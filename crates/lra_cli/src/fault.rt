@@ -19,6 +19,9 @@ pub enum RunFault {
     TooLong,
     #[error("out of memory")]
     Memory,
+    /// A line that a script can't have, counted from 1.
+    #[error("line {0} of the script is bad")]
+    Line(u64),
 }
 
 impl From<AllocError> for RunFault {

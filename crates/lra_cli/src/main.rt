@@ -1,15 +1,19 @@
-//! `lra`: audits a journal of long running actions, lists what it comes to, and upgrades it.
+//! `lra`: audits a journal of long running actions, lists what it comes to, and upgrades it; and plays scripts of commands.
 #![tactic(auto)]
 
+mod answers;
 mod fault;
 mod input;
+mod play;
 mod report;
 mod run;
+mod script;
 mod show;
 mod upgrade;
 mod words;
 
 use fault::RunFault;
+use play::play_run;
 use run::audit_run;
 use show::show_run;
 use std::process::ExitCode;
@@ -31,6 +35,7 @@ fn input_of<'a>(command: Command<'a>) -> &'a str {
     match command {
         Command::AuditInput => "-",
         Command::Audit { file } | Command::Show { file } | Command::Upgrade { file } => file,
+        Command::Play { script } => script,
     }
 }
 
@@ -46,6 +51,7 @@ fn run_command<R: AllocGlobal + Files + Input + Print>(
         Command::Audit { file } => audit_run(alloc, open(rt, file)?, writer),
         Command::Show { file } => show_run(alloc, open(rt, file)?, writer),
         Command::Upgrade { file } => upgrade_run(alloc, open(rt, file)?, writer),
+        Command::Play { script } => play_run(alloc, open(rt, script)?, writer),
     }
 }
 
@@ -56,6 +62,7 @@ fn tell(rt: &impl Eprint, fault: RunFault, input: &str) -> io::Result<()> {
         RunFault::Write => eprintln!(rt; "lra: cannot write -"),
         RunFault::TooLong => eprintln!(rt; "lra: input too long"),
         RunFault::Memory => eprintln!(rt; "lra: out of memory"),
+        RunFault::Line(number) => eprintln!(rt; "lra: bad script line {number}"),
     }
 }
 

@@ -1,4 +1,5 @@
 mod memory;
+mod play;
 mod upgrade;
 
 use crate::fault::RunFault;
@@ -287,6 +288,8 @@ fn words_are_commands(rt: HostRuntime) -> Result<(), Fail> {
         String::from_str(alloc, "a file")?,
         show,
         String::from_str(alloc, "a file")?,
+        String::from_str(alloc, "play")?,
+        String::from_str(alloc, "a file")?,
     ]?;
     assert!(rt; matches!(read_words(&[]), Ok(Command::AuditInput)));
     assert!(rt;
@@ -303,8 +306,14 @@ fn words_are_commands(rt: HostRuntime) -> Result<(), Fail> {
     );
     assert!(rt;
         matches!(
-            read_words(&words[4..]),
+            read_words(&words[4..6]),
             Ok(Command::Show { file: "a file" })
+        )
+    );
+    assert!(rt;
+        matches!(
+            read_words(&words[6..]),
+            Ok(Command::Play { script: "a file" })
         )
     );
     assert!(rt; matches!(read_words(&words[..1]), Err(Usage)));

@@ -15,6 +15,8 @@ pub enum Command<'a> {
     Show { file: &'a str },
     /// Upgrade a file's journal to version 2.
     Upgrade { file: &'a str },
+    /// Play a script.
+    Play { script: &'a str },
 }
 
 /// The words aren't a command.
@@ -30,6 +32,7 @@ fn command_on<'a>(verb: &str, file: &'a str) -> Result<Command<'a>, Usage>
         "audit" => Ok(Command::Audit { file }),
         "show" => Ok(Command::Show { file }),
         "upgrade" => Ok(Command::Upgrade { file }),
+        "play" => Ok(Command::Play { script: file }),
         _ => Err(Usage),
     }
 }
