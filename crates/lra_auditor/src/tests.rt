@@ -1,16 +1,13 @@
 //! Worked journals, whole and in pieces.
 
+mod listings;
 mod memory;
 mod pieces;
 
-use crate::{
-    Account, Auditor, AuditorFault, FailedEnd, ListedAction, ListedMember, Rule, Verdict, audit,
-    check,
-};
+use crate::{FailedEnd, Rule, Verdict, audit, check};
 use lra_journal::read_journal;
-use lra_model::{ActionStatus, MemberStatus};
+use lra_model::ActionStatus;
 use pieces::{SIZES, audit_in_pieces};
-use std::alloc::Global;
 use std::test::Fail;
 
 const CLOSED: &[u8] =
@@ -180,75 +177,4 @@ fn entries_in_memory(rt: HostRuntime) -> Result<(), Fail> {
     assert!(rt; is_sound(&check(alloc, version, &entries)?, [4, 1, 0, 1, 0, 0]));
     assert!(rt; is_unsound(&check(alloc, version, &entries[1..])?, 2, Rule::Clerk));
     Ok(())
-}
-
-/// The account of bytes that are fed at once.
-fn list_whole(alloc: Global, bytes: &[u8]) -> Result<Account, AuditorFault> {
-    let mut auditor = Auditor::new(alloc);
-    auditor.feed(bytes)?;
-    auditor.list()
-}
-
-#[test]
-fn listings(rt: HostRuntime) -> Result<(), Fail> {
-    let Account::Sound(listing) = list_whole(rt.alloc(), FAILED)? else {
-        return Err("unsound")?;
-    };
-    let outer = ListedAction {
-        action: 1,
-        parent: None,
-        status: ActionStatus::FailedToClose,
-    };
-    let inner = ListedAction {
-        action: 2,
-        parent: Some(1),
-        status: ActionStatus::FailedToClose,
-    };
-    let member = ListedMember {
-        member: 1,
-        action: 2,
-        status: MemberStatus::FailedToComplete,
-    };
-    assert_eq!(rt; listing.action_count(), 2);
-    assert_eq!(rt; listing.action(0), None);
-    assert_eq!(rt; listing.action(1), Some(outer));
-    assert_eq!(rt; listing.action(2), Some(inner));
-    assert_eq!(rt; listing.action(3), None);
-    assert_eq!(rt; listing.member_count(), 1);
-    assert_eq!(rt; listing.member(1), Some(member));
-    assert_eq!(rt; listing.member(2), None);
-    Ok(())
-}
-
-#[test]
-fn faults_are_accounts(rt: HostRuntime) -> Result<(), Fail> {
-    let half = list_whole(rt.alloc(), &CLOSED[..20])?;
-    assert!(rt;
-        matches!(
-            half,
-            Account::Unsound {
-                line: 2,
-                rule: Rule::Grammar
-            }
-        )
-    );
-    let none = list_whole(rt.alloc(), b"")?;
-    assert!(rt;
-        matches!(
-            none,
-            Account::Unsound {
-                line: 1,
-                rule: Rule::Header
-            }
-        )
-    );
-    Ok(())
-}
-
-#[test]
-fn no_listing_after_memory(rt: HostRuntime) {
-    let mut auditor = Auditor::new(rt.alloc());
-    if auditor.feed(CLOSED).is_err() {
-        assert!(rt; auditor.list().is_err());
-    }
 }

@@ -1,7 +1,7 @@
 //! What each call answers where a growth is refused: run with one allocation failing in turn. A call after it has memory.
 use super::pieces::audit_in_pieces;
 use super::{NESTED, NESTED_COUNTS, is_sound};
-use crate::{AuditorFault, audit, check};
+use crate::{Account, Auditor, AuditorFault, audit, check};
 use lra_journal::read_journal;
 use std::test::Fail;
 
@@ -39,4 +39,20 @@ fn a_refused_growth_spends_an_auditor(rt: HostRuntime) -> Result<(), Fail> {
     };
     assert!(rt; is_sound(&verdict, NESTED_COUNTS));
     Ok(())
+}
+
+#[test]
+fn a_refused_growth_spends_a_listing(rt: HostRuntime) {
+    let mut auditor = Auditor::new(rt.alloc());
+    let fed = auditor.feed(NESTED);
+    match auditor.list() {
+        Ok(account) => {
+            assert_eq!(rt; fed, Ok(()));
+            assert!(rt; matches!(account, Account::Sound(_)));
+        }
+        Err(fault) => {
+            assert_eq!(rt; fed, Err(AuditorFault::Memory));
+            assert_eq!(rt; fault, AuditorFault::Spent);
+        }
+    }
 }
