@@ -5,7 +5,6 @@ use Rattle.std.specs.Prelude.{◌==◌, ◌&&◌, ◌||◌, not, nat_le, option_
 use Rattle.std.specs.Option.{option_map_or}
 use Rattle.lra_model.specs.declared.version.Version.{Version}
 use Rattle.lra_model.specs.declared.version.Version.TheVariants as version
-use Rattle.lra_model.specs.declared.status.ActionStatus.TheVariants as action
 use Rattle.lra_model.specs.declared.status.Ending.{Ending}
 use Rattle.lra_model.specs.declared.status.Ending.TheVariants as ending
 use Rattle.lra_model.specs.declared.asks.AskKind.{AskKind}

@@ -4,7 +4,7 @@ use Rattle.std.specs.List.{filter_map}
 use Rattle.lra_model.specs.declared.asks.AskKind.{AskKind}
 use Rattle.lra_model.specs.Words.{when, is_active}
 use Rattle.lra_model.specs.History.{History, actions, members}
-use Rattle.lra_model.specs.Actions.{Limit, limit_in_force}
+use Rattle.lra_model.specs.Actions.{limit_in_force}
 use Rattle.lra_model.specs.Members.{ask_direction}
 use Rattle.lra_model.specs.Ends.{action_is}
 use Rattle.lra_model.specs.Wants.{wants, stage_of, repeat_count, last_repeat}

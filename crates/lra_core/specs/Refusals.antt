@@ -1,5 +1,5 @@
 -- When a command is refused, and why.
-use Rattle.std.specs.Prelude.{ℕ, ◌+◌, ◌==◌, nat_lt, Bool, true, false, ◌&&◌, not, List, [], ◌∷◌, ◌++◌, length, Option, Some, None, is_some, if◌then◌else◌, unwrap_or, cond}
+use Rattle.std.specs.Prelude.{ℕ, ◌+◌, ◌==◌, nat_lt, Bool, true, false, ◌&&◌, not, List, [], ◌∷◌, ◌++◌, length, Option, Some, None, if◌then◌else◌, unwrap_or, cond}
 use Rattle.std.specs.Option.{option_map_or}
 use Rattle.std.specs.Result.{is_ok}
 use Rattle.lra_model.specs.declared.status.ActionStatus.{ActionStatus}
@@ -8,7 +8,7 @@ use Rattle.lra_model.specs.declared.status.Ending.{Ending}
 use Rattle.lra_model.specs.declared.asks.Direction.TheVariants as direction
 use Rattle.lra_model.specs.declared.version.Version.{Version}
 use Rattle.lra_model.specs.declared.version.Version.TheVariants as version
-use Rattle.lra_model.specs.Words.{is_active, is_closing, is_closed, is_cancelling, is_cancelled, has_ended, is_completing, is_compensating, same_kind, same_direction}
+use Rattle.lra_model.specs.Words.{is_completing, is_compensating, same_kind, same_direction}
 use Rattle.lra_model.specs.History.{History, clerks, actions, members, is_among}
 use Rattle.lra_model.specs.Actions.{action_status}
 use Rattle.lra_model.specs.Depths.{depth}

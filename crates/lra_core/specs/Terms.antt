@@ -1,5 +1,5 @@
 -- What a coordinator is made with.
-use Rattle.std.specs.Prelude.{ℕ, ◌<◌, ◌^◌}
+use Rattle.std.specs.Prelude.{◌<◌, ◌^◌}
 use Rattle.lra_model.specs.declared.version.Version.{Version}
 use Rattle.lra_core.specs.declared.limits.Limits.{Limits}
 

@@ -1,15 +1,13 @@
 -- Small histories, worked out by hand, and what the definitions make of them.
-use Rattle.std.proofs.Common.{◌≡◌, ℕ, Bool, true, false, List, [], ◌∷◌, ◌++◌, Option, Some, None, refl, map, ◌-◌, ◌^◌}
+use Rattle.std.proofs.Common.{◌≡◌, ℕ, Bool, true, List, [], ◌∷◌, ◌++◌, Option, Some, None, refl, map}
 use Rattle.std.specs.Prelude.{codes, nat_eq, not, ◌&&◌}
 use Rattle.std.specs.List.{starts_with}
 use Rattle.lra_model.specs.declared.status.ActionStatus.{ActionStatus}
 use Rattle.lra_model.specs.declared.status.ActionStatus.TheVariants as action
-use Rattle.lra_model.specs.declared.status.MemberStatus.{MemberStatus}
 use Rattle.lra_model.specs.declared.status.MemberStatus.TheVariants as member
 use Rattle.lra_model.specs.declared.asks.AskKind.TheVariants as ask
 use Rattle.lra_model.specs.declared.asks.Outcome.TheVariants as outcome
 use Rattle.lra_model.specs.declared.asks.Cause.TheVariants as cause
-use Rattle.lra_model.specs.declared.version.Version.{Version}
 use Rattle.lra_model.specs.declared.version.Version.TheVariants.{One, Two}
 use Rattle.lra_model.specs.declared.rule.Rule.{Rule}
 use Rattle.lra_model.specs.declared.rule.Rule.TheVariants as rule
@@ -19,7 +17,7 @@ use Rattle.lra_model.specs.declared.entry.Entry.{Entry}
 use Rattle.lra_model.specs.Addresses.{Addresses}
 use Rattle.lra_model.specs.Words.{has_ended, has_failed, is_closed, is_cancelled}
 use Rattle.lra_model.specs.History.{History, steps, clerks, actions, members, asks, last_moment}
-use Rattle.lra_model.specs.Actions.{parent, top, is_under, action_status, limit_in_force, children, members_of, was_cancelled}
+use Rattle.lra_model.specs.Actions.{parent, top, is_under, action_status, limit_in_force, children, members_of}
 use Rattle.lra_model.specs.Members.{action_of, addresses_of, has_left, stays, was_asked, ask_of, replies, decided, member_status, last_reply, was_answered, is_outstanding, outstanding_ask}
 use Rattle.lra_model.specs.Ends.{staying, is_settled, right_end, top_has_ended}
 use Rattle.lra_model.specs.Facts.{facts_of}

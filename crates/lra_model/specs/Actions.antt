@@ -1,5 +1,5 @@
 -- Of an action: its parent, its state, its limit, its nested actions and its members.
-use Rattle.std.specs.Prelude.{ℕ, zero, suc, ◌==◌, Bool, true, false, ◌||◌, List, Option, Some, None, unwrap_or}
+use Rattle.std.specs.Prelude.{ℕ, zero, suc, ◌==◌, Bool, false, ◌||◌, List, Option, Some, None, unwrap_or}
 use Rattle.std.specs.Option.{option_map_or}
 use Rattle.std.specs.List.{filter_map, list_any}
 use Rattle.lra_model.specs.declared.status.ActionStatus.{ActionStatus}

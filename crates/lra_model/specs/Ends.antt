@@ -1,5 +1,5 @@
 -- When an action may end, and in which state.
-use Rattle.std.specs.Prelude.{ℕ, Bool, true, false, ◌&&◌, not, List, filter, Option, Some, None, cond}
+use Rattle.std.specs.Prelude.{ℕ, Bool, false, ◌&&◌, not, List, filter, Option, Some, cond}
 use Rattle.std.specs.Option.{option_map_or}
 use Rattle.std.specs.List.{list_all, list_any}
 use Rattle.lra_model.specs.declared.status.ActionStatus.{ActionStatus}

@@ -1,5 +1,5 @@
 -- What the rules ask of a history, each word of it read from the whole.
-use Rattle.std.specs.Prelude.{ℕ, Bool, List, Option, Some, None, is_some, length, option_map, cond, unwrap_or}
+use Rattle.std.specs.Prelude.{ℕ, Bool, Option, Some, None, is_some, length, option_map, cond, unwrap_or}
 use Rattle.lra_model.specs.declared.status.ActionStatus.{ActionStatus}
 use Rattle.lra_model.specs.declared.status.ActionStatus.TheVariants as action
 use Rattle.lra_model.specs.declared.status.MemberStatus.{MemberStatus}
@@ -8,7 +8,6 @@ use Rattle.lra_model.specs.declared.asks.AskKind.TheVariants as ask
 use Rattle.lra_model.specs.declared.asks.Direction.TheVariants as direction
 use Rattle.lra_model.specs.declared.asks.Outcome.{Outcome}
 use Rattle.lra_model.specs.Addresses.{Presence, presence_of}
-use Rattle.lra_model.specs.Words.{when}
 use Rattle.lra_model.specs.History.{History, clerks, actions, members, asks, is_among, last_moment}
 use Rattle.lra_model.specs.Actions.{Limit, parent, action_status, limit_in_force}
 use Rattle.lra_model.specs.Members.{Asked, action_of, addresses_of, member_status, last_reply, was_answered, is_outstanding, outstanding_ask, ask_of}

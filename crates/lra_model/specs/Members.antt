@@ -1,5 +1,5 @@
 -- Of a member: its action, its addresses, what it was asked, what it answered, and its state.
-use Rattle.std.specs.Prelude.{ℕ, ◌==◌, Bool, true, false, ◌&&◌, ◌||◌, not, List, Option, Some, None, unwrap_or, option_map, is_some, cond}
+use Rattle.std.specs.Prelude.{ℕ, ◌==◌, Bool, true, false, ◌&&◌, not, List, Option, Some, None, unwrap_or, option_map, is_some, cond}
 use Rattle.std.specs.List.{filter_map, find, list_any}
 use Rattle.lra_model.specs.declared.status.MemberStatus.{MemberStatus}
 use Rattle.lra_model.specs.declared.status.MemberStatus.TheVariants as member
@@ -13,7 +13,7 @@ use Rattle.lra_model.specs.declared.entry.Deed.{Deed}
 use Rattle.lra_model.specs.declared.entry.Deed.TheVariants.{Join, Leave, Skip, Ask, Reply, Report, Restart}
 use Rattle.lra_model.specs.declared.entry.Entry.{Entry}
 use Rattle.lra_model.specs.Addresses.{Addresses}
-use Rattle.lra_model.specs.Words.{when, is_decisive, is_done, is_undecided, same_kind, same_direction}
+use Rattle.lra_model.specs.Words.{when, is_decisive, is_done, same_kind, same_direction}
 use Rattle.lra_model.specs.History.{History, Step, steps, first, last, read_deeds}
 
 -- the action that a deed lets a member join

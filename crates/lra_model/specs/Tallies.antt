@@ -1,11 +1,10 @@
 -- What a summary counts.
-use Rattle.std.specs.Prelude.{ℕ, Bool, not, ◌&&◌, List, count_by, Option, Some, None}
+use Rattle.std.specs.Prelude.{ℕ, Bool, ◌&&◌, List, count_by, Option}
 use Rattle.std.specs.List.{filter_map, find}
 use Rattle.lra_model.specs.declared.status.ActionStatus.{ActionStatus}
-use Rattle.lra_model.specs.declared.status.ActionStatus.TheVariants as action
-use Rattle.lra_model.specs.Words.{when, has_ended, has_failed, member_has_failed, same_status}
+use Rattle.lra_model.specs.Words.{when, has_failed, member_has_failed}
 use Rattle.lra_model.specs.History.{History, actions, members}
-use Rattle.lra_model.specs.Actions.{action_status, is_under}
+use Rattle.lra_model.specs.Actions.{is_under}
 use Rattle.lra_model.specs.Members.{action_of, stays, member_status}
 use Rattle.lra_model.specs.Ends.{action_is}
 

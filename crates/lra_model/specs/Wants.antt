@@ -1,5 +1,5 @@
 -- What a member wants to be asked, and what is known of how often it was.
-use Rattle.std.specs.Prelude.{ℕ, ◌==◌, Bool, true, false, ◌&&◌, ◌||◌, not, List, length, Option, Some, None, is_some, cond}
+use Rattle.std.specs.Prelude.{ℕ, ◌==◌, ◌&&◌, ◌||◌, List, length, Option, None, cond}
 use Rattle.std.specs.Option.{option_or, option_map_or}
 use Rattle.std.specs.List.{filter_map}
 use Rattle.lra_model.specs.declared.asks.AskKind.{AskKind}
@@ -8,7 +8,7 @@ use Rattle.lra_model.specs.declared.asks.Direction.{Direction}
 use Rattle.lra_model.specs.declared.asks.Direction.TheVariants as direction
 use Rattle.lra_model.specs.Words.{when, is_compensating, has_gone, is_undecided, same_kind}
 use Rattle.lra_model.specs.History.{History, last}
-use Rattle.lra_model.specs.Members.{Asked, Replied, replies}
+use Rattle.lra_model.specs.Members.{Replied, replies}
 use Rattle.lra_model.specs.Facts.{MemberFacts, Facts, facts_of}
 use Rattle.lra_model.specs.Tests.{has_address, is_time_for, was_accepted}
 
