@@ -16,8 +16,8 @@ use Rattle.lra_model.specs.Actions.{parent_given, parent, top, status_given, act
 use Rattle.lra_model.specs.Members.{action_of}
 use Rattle.lra_model.specs.Ends.{action_is}
 use Rattle.lra_model.specs.Rules.{is_legal}
-use Rattle.lra_model.proofs.Push.{action_status_push, limit_push, members_push}
-use Rattle.lra_model.proofs.Legal.{Allowed, legal_more, numbered_fresh, actions_numbered, members_numbered, status_is_there, parent_stays, parent_there, action_of_there}
+use Rattle.lra_laws.proofs.Push.{action_status_push, limit_push, members_push}
+use Rattle.lra_laws.proofs.Legal.{Allowed, legal_more, numbered_fresh, actions_numbered, members_numbered, status_is_there, parent_stays, parent_there, action_of_there}
 use Rattle.lra_auditor.specs.declared.rows.Limit.{Limit}
 use Rattle.lra_auditor.specs.declared.rows.MemberRow.{MemberRow}
 use Rattle.lra_auditor.specs.declared.rows.ActionRow.{ActionRow}

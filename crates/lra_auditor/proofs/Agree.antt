@@ -11,14 +11,14 @@ use Rattle.lra_model.specs.declared.status.ActionStatus.TheVariants as action
 use Rattle.lra_model.specs.declared.status.MemberStatus.{MemberStatus}
 use Rattle.lra_model.specs.declared.asks.AskKind.{AskKind}
 use Rattle.lra_model.specs.declared.version.Version.{Version}
-use Rattle.lra_model.specs.Words.{has_ended, has_failed, is_cancelled, is_completed, is_compensated, is_done_completing, is_done_compensating}
+use Rattle.lra_model.specs.Words.{has_ended, has_failed, has_finished_cancelling, is_completed, is_compensated, is_done_completing, is_done_compensating}
 use Rattle.lra_model.specs.History.{History, clerks, actions, members, is_among}
 use Rattle.lra_model.specs.Actions.{parent, top, action_status, children}
 use Rattle.lra_model.specs.Members.{Asked, ask_of, member_status, is_outstanding, outstanding_ask}
 use Rattle.lra_model.specs.Ends.{staying, action_is, settles, is_settled, children_are_well, ends_as, right_end, top_has_ended}
 use Rattle.lra_model.specs.Facts.{action_facts, member_facts, facts_of}
 use Rattle.lra_model.specs.Rules.{is_legal}
-use Rattle.lra_model.proofs.Legal.{IsNumbered, numbered_among, numbered_there, actions_numbered, members_numbered, clerks_numbered, status_is_there, parent_there, children_lem}
+use Rattle.lra_laws.proofs.Legal.{IsNumbered, numbered_among, numbered_there, actions_numbered, members_numbered, clerks_numbered, status_is_there, parent_there, children_lem}
 use Rattle.lra_auditor.specs.declared.rows.Standing.{Standing}
 use Rattle.lra_auditor.specs.declared.rows.MemberRow.{MemberRow}
 use Rattle.lra_auditor.specs.declared.rows.ActionRow.{ActionRow}
@@ -61,7 +61,7 @@ settled_agrees v t J l a = of_status (action_status J a)
   where
     of_status : (o : Option ActionStatus) → settled_by (record (action_row J a) { status = unwrap_or o action.Active }) ≡ settles o J a
     of_status (Some action.Closing) = sym (λ i. all_staying J a is_done_completing i && all_nested v t J l a has_ended i)
-    of_status (Some action.Cancelling) = sym (λ i. all_staying J a is_done_compensating i && all_nested v t J l a is_cancelled i)
+    of_status (Some action.Cancelling) = sym (λ i. all_staying J a is_done_compensating i && all_nested v t J l a has_finished_cancelling i)
     of_status (Some s) = refl
     of_status None = refl
 

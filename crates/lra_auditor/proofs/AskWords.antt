@@ -18,8 +18,8 @@ use Rattle.lra_model.specs.Words.{when}
 use Rattle.lra_model.specs.History.{History, steps, asks, asked_by, members, is_among, read_deeds}
 use Rattle.lra_model.specs.Members.{is_ask_for, was_asked, ask_direction, Asked, asked_at, ask_of, standing_given, is_outstanding, ask_given, outstanding_ask}
 use Rattle.lra_model.specs.Rules.{is_legal}
-use Rattle.lra_model.proofs.Push.{or_none, step, ask_of_push, asks_push, asks_to_push, is_outstanding_push, was_asked_push}
-use Rattle.lra_model.proofs.Legal.{legal_induction, among_push, member_there_push}
+use Rattle.lra_laws.proofs.Push.{or_none, step, ask_of_push, asks_push, asks_to_push, is_outstanding_push, was_asked_push}
+use Rattle.lra_laws.proofs.Legal.{legal_induction, among_push, member_there_push}
 use Rattle.lra_auditor.specs.declared.rows.Standing.{Standing}
 use Rattle.lra_auditor.specs.Rows.{standing_at, standing, void_at, void_asks}
 use Rattle.lra_auditor.proofs.RowLists.{eqb_self, among_here, among_there}

@@ -13,7 +13,6 @@ pub mod Agree
 pub mod RowsLaw
 pub mod RowsWorked
 pub mod Index
-pub mod Table
 pub mod TotalsLaw
 pub mod ListingLaw
 pub mod Faults

@@ -5,7 +5,7 @@ use Rattle.std.specs.List.{range_with_len}
 use Rattle.lra_model.specs.declared.version.Version.{Version}
 use Rattle.lra_model.specs.History.{History, actions, members}
 use Rattle.lra_model.specs.Rules.{is_legal}
-use Rattle.lra_model.proofs.Legal.{IsNumbered, actions_numbered, members_numbered}
+use Rattle.lra_laws.proofs.Legal.{IsNumbered, actions_numbered, members_numbered}
 use Rattle.lra_auditor.specs.declared.rows.ActionRow.{ActionRow}
 use Rattle.lra_auditor.specs.declared.rows.MemberRow.{MemberRow}
 use Rattle.lra_auditor.specs.Rows.{State, action_row, member_row, state_of, row_at}

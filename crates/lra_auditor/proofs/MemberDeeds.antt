@@ -17,8 +17,8 @@ use Rattle.lra_model.specs.declared.entry.Deed.TheVariants.{Leave, Skip, Ask, Re
 use Rattle.lra_model.specs.Words.{when, same_kind, same_direction, is_untouched, is_completing, is_compensating, is_done, is_decisive}
 use Rattle.lra_model.specs.History.{History, steps}
 use Rattle.lra_model.specs.Members.{action_given, addresses_given, is_leave_of, has_left, is_ask_for, was_asked, status_direction, ask_direction, Asked, ask_of, replied_at, Heard, heard_at, decides, decided, member_status, last_reply}
-use Rattle.lra_model.proofs.Push.{step, has_left_push, was_asked_push, decided_push}
-use Rattle.lra_model.proofs.Tested.{both}
+use Rattle.lra_laws.proofs.Push.{step, has_left_push, was_asked_push, decided_push}
+use Rattle.lra_laws.proofs.Tested.{both}
 use Rattle.lra_auditor.specs.declared.rows.Standing.{Standing}
 use Rattle.lra_auditor.specs.declared.rows.MemberRow.{MemberRow}
 use Rattle.lra_auditor.specs.Rows.{standing_at, standing, presence, member_row, decided_as, way_of, way_asked, asked_as, with_ask, with_reply, with_reply_to, with_report}

@@ -18,8 +18,8 @@ use Rattle.lra_model.specs.Words.{when}
 use Rattle.lra_model.specs.History.{History, steps, members, joined_by, is_among}
 use Rattle.lra_model.specs.Members.{no_addresses, action_of, addresses_of, has_left, was_asked, Asked, ask_of, replies, decided, member_status, last_reply, was_answered}
 use Rattle.lra_model.specs.Rules.{is_legal}
-use Rattle.lra_model.proofs.Push.{members_push}
-use Rattle.lra_model.proofs.Legal.{legal_induction, Allowed, IsNumbered, numbered_among, members_numbered, numbered_fresh, member_there_push, joined_there, action_of_new, addresses_of_new}
+use Rattle.lra_laws.proofs.Push.{members_push}
+use Rattle.lra_laws.proofs.Legal.{legal_induction, Allowed, IsNumbered, numbered_among, members_numbered, numbered_fresh, member_there_push, joined_there, action_of_new, addresses_of_new}
 use Rattle.lra_auditor.specs.declared.rows.Standing.{Standing}
 use Rattle.lra_auditor.specs.declared.rows.MemberRow.{MemberRow}
 use Rattle.lra_auditor.specs.Rows.{standing, void_asks, presence, member_row, change_row, new_member, place_of, stands_as}

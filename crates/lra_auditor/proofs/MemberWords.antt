@@ -19,7 +19,7 @@ use Rattle.lra_model.specs.Addresses as texts
 use Rattle.lra_model.specs.Words.{when, same_kind, same_direction, is_done, is_decisive}
 use Rattle.lra_model.specs.History.{History, Step, steps, first, last, read_deeds}
 use Rattle.lra_model.specs.Members.{action_given, action_of, no_addresses, addresses_given, addresses_of, is_leave_of, has_left, is_ask_for, was_asked, ask_direction, status_direction, Asked, ask_of, Replied, replied_at, Heard, heard_at, decides, decided, by_decision, member_status, last_reply, was_answered}
-use Rattle.lra_model.proofs.Push.{or_none, step, steps_push, last_read_push, action_of_push, addresses_of_push, has_left_push, was_asked_push, decided_push, last_reply_push, was_answered_push}
+use Rattle.lra_laws.proofs.Push.{or_none, step, steps_push, last_read_push, action_of_push, addresses_of_push, has_left_push, was_asked_push, decided_push, last_reply_push, was_answered_push}
 use Rattle.lra_auditor.specs.declared.rows.Standing.{Standing}
 use Rattle.lra_auditor.specs.Rows.{standing_at, standing, void_at, void_asks, presence, member_row}
 use Rattle.lra_auditor.proofs.Told.{entry, more}

@@ -14,7 +14,7 @@ use Rattle.lra_model.specs.Ends.{staying, is_settled, right_end, top_has_ended}
 use Rattle.lra_model.specs.Facts.{facts_of}
 use Rattle.lra_model.specs.Rules.{broken, is_legal}
 use Rattle.lra_model.specs.Tallies.{count_actions, least_failed, failed_actions}
-use Rattle.lra_model.proofs.Worked.{at}
+use Rattle.lra_laws.proofs.Worked.{at}
 use Rattle.lra_journal.specs.Line.{line, text}
 use Rattle.lra_journal.proofs.Apart.{body_of, title_of, not_nil}
 use Rattle.lra_ids.specs.Addresses.{is_address}

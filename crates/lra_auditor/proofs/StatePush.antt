@@ -13,8 +13,8 @@ use Rattle.lra_model.specs.History.{History, enrolled_by, clerks, asks, asked_by
 use Rattle.lra_model.specs.Actions.{parent, status_given, action_status, limit_given}
 use Rattle.lra_model.specs.Members.{Asked, action_of}
 use Rattle.lra_model.specs.Rules.{is_legal}
-use Rattle.lra_model.proofs.Push.{step, last_moment_push, clerks_push, asks_push}
-use Rattle.lra_model.proofs.Legal.{Allowed, actions_numbered, members_numbered}
+use Rattle.lra_laws.proofs.Push.{step, last_moment_push, clerks_push, asks_push}
+use Rattle.lra_laws.proofs.Legal.{Allowed, actions_numbered, members_numbered}
 use Rattle.lra_auditor.specs.declared.rows.Standing.{Standing}
 use Rattle.lra_auditor.specs.declared.rows.MemberRow.{MemberRow}
 use Rattle.lra_auditor.specs.declared.rows.ActionRow.{ActionRow}
@@ -33,9 +33,9 @@ abbrev at_moment : ℕ → State → State
 at_moment m s = record s { moment = m }
 
 -- a state, by its parts
-state_is : (J : History) (by m : ℕ) (d : Deed) (s : State) → m ≡ s.moment → length (clerks (more J by m d)) ≡ s.clerks → length (asks (more J by m d)) ≡ s.asks → void_asks (more J by m d) ≡ s.void
+status_is : (J : History) (by m : ℕ) (d : Deed) (s : State) → m ≡ s.moment → length (clerks (more J by m d)) ≡ s.clerks → length (asks (more J by m d)) ≡ s.asks → void_asks (more J by m d) ≡ s.void
     → map (action_row (more J by m d)) (actions (more J by m d)) ≡ s.actions → map (member_row (more J by m d)) (members (more J by m d)) ≡ s.members → state_of (more J by m d) ≡ s
-state_is J by m d s t c a o x y = λ i. record { moment = moment i; clerks = c i; asks = a i; void = o i; actions = x i; members = y i }
+status_is J by m d s t c a o x y = λ i. record { moment = moment i; clerks = c i; asks = a i; void = o i; actions = x i; members = y i }
   where
     moment : last_moment (more J by m d) ≡ s.moment
     moment = last_moment_push J (entry by m d) ∙ t
@@ -56,7 +56,7 @@ one_member : (v : Version) (t : List ℕ → Bool) (J : History) (by m : ℕ) (d
     → length (asks (more J by m d)) ≡ n → member_row (more J by m d) p ≡ f (member_row J p) → (f (member_row J p)).action ≡ (member_row J p).action
     → state_of (more J by m d) ≡ change_member f p (record (at_moment m (state_of J)) { asks = n })
 one_member v t J by m d p f n l k no_join no_start there quiet no_turn no_limit no_clerk no_void asked here same =
-    state_is J by m d (record (at_moment m (state_of J)) { asks = n; members = change_row f p (map (member_row J) (members J)); actions = change_row (with_member (member_row J p) (f (member_row J p))) (action_of J p) (map (action_row J) (actions J)) })
+    status_is J by m d (record (at_moment m (state_of J)) { asks = n; members = change_row f p (map (member_row J) (members J)); actions = change_row (with_member (member_row J p) (f (member_row J p))) (action_of J p) (map (action_row J) (actions J)) })
     refl (clerks_kept J by m d no_clerk) asked (void_kept J by m d no_void)
     (actions_of_one v t J by m d p f l k no_join no_start there quiet no_turn no_limit here same)
     (rows_of_one J by m d p f (members_numbered v t J l) no_join there quiet here)
@@ -67,7 +67,7 @@ one_member v t J by m d p f n l k no_join no_start there quiet no_turn no_limit 
 turned : (v : Version) (t : List ℕ → Bool) (J : History) (by m : ℕ) (d : Deed) (c : ℕ) (now : ActionStatus) → is_legal v t J ≡ true → Allowed v t J (entry by m d) → Turns J by m d c now
     → enrolled_by (entry by m d) ≡ None → asked_by d ≡ None → void_at (step J (entry by m d)) ≡ None → state_of (more J by m d) ≡ change_status now c (at_moment m (state_of J))
 turned v t J by m d c now l k x no_clerk no_ask no_void =
-    state_is J by m d (record (at_moment m (state_of J)) { actions = option_map_or (λ b. change_row (with_child (unwrap_or (action_status J c) action.Active) now) b turned_rows) (parent J c) turned_rows })
+    status_is J by m d (record (at_moment m (state_of J)) { actions = option_map_or (λ b. change_row (with_child (unwrap_or (action_status J c) action.Active) now) b turned_rows) (parent J c) turned_rows })
     refl (clerks_kept J by m d no_clerk) (asks_kept J by m d no_ask) (void_kept J by m d no_void)
     (actions_turned v t J by m d c now l k x)
     (rows_still J by m d x.no_join x.quiet)
@@ -105,15 +105,15 @@ replied v t J by m n o x l k told list stand =
 
 pub push_by_deed : (v : Version) (t : List ℕ → Bool) (J : History) (by m : ℕ) (d : Deed) → is_legal v t J ≡ true → Allowed v t J (entry by m d) → Told J by d → state_of (more J by m d) ≡ after_deed m d (at_moment m (state_of J))
 push_by_deed v t J by m Enrol l k x =
-    state_is J by m Enrol (record (at_moment m (state_of J)) { clerks = length (clerks J) + 1 })
+    status_is J by m Enrol (record (at_moment m (state_of J)) { clerks = length (clerks J) + 1 })
     refl (ap length (clerks_push J (entry by m Enrol)) ∙ length-append (clerks J) (by ∷ [])) (asks_kept J by m Enrol refl) (void_kept J by m Enrol refl)
     (actions_still v t J by m Enrol l k refl refl (λ p. refl) (λ a. refl) (λ a. refl)) (rows_still J by m Enrol refl (λ p. refl))
 push_by_deed v t J by m (Start c above limit) l k x =
-    state_is J by m (Start c above limit) (after_deed m (Start c above limit) (at_moment m (state_of J)))
+    status_is J by m (Start c above limit) (after_deed m (Start c above limit) (at_moment m (state_of J)))
     refl (clerks_kept J by m (Start c above limit) refl) (asks_kept J by m (Start c above limit) refl) (void_kept J by m (Start c above limit) refl)
     (actions_started v t J by m c above limit l k x) (rows_still J by m (Start c above limit) refl (λ p. refl))
 push_by_deed v t J by m (Join p a u) l k x =
-    state_is J by m (Join p a u) (after_deed m (Join p a u) (at_moment m (state_of J)))
+    status_is J by m (Join p a u) (after_deed m (Join p a u) (at_moment m (state_of J)))
     refl (clerks_kept J by m (Join p a u) refl) (asks_kept J by m (Join p a u) refl) (void_kept J by m (Join p a u) refl)
     (actions_joined v t J by m p a u l k x.number x.there) (rows_joined v t J by m p a u l x.number)
 push_by_deed v t J by m (Leave p) l k x =
@@ -133,10 +133,10 @@ push_by_deed v t J by m (Report p o) l k x =
 push_by_deed v t J by m (End c s) l k x =
     turned v t J by m (End c s) c s l k (record { no_join = refl; no_start = refl; quiet = λ p. refl; turn = λ a. refl; no_limit = λ a. refl; there = x }) refl refl refl
 push_by_deed v t J by m Restart l k x =
-    state_is J by m Restart (after_deed m Restart (at_moment m (state_of J)))
+    status_is J by m Restart (after_deed m Restart (at_moment m (state_of J)))
     refl (clerks_kept J by m Restart refl) (asks_kept J by m Restart refl) (void_push J (entry by m Restart))
     (actions_still v t J by m Restart l k refl refl (λ p. refl) (λ a. refl) (λ a. refl)) (rows_still J by m Restart refl (λ p. refl))
 push_by_deed v t J by m (Renew a limit) l k x =
-    state_is J by m (Renew a limit) (after_deed m (Renew a limit) (at_moment m (state_of J)))
+    status_is J by m (Renew a limit) (after_deed m (Renew a limit) (at_moment m (state_of J)))
     refl (clerks_kept J by m (Renew a limit) refl) (asks_kept J by m (Renew a limit) refl) (void_kept J by m (Renew a limit) refl)
     (actions_renewed v t J by m a limit l k x) (rows_still J by m (Renew a limit) refl (λ p. refl))

@@ -14,11 +14,11 @@ use Rattle.lra_model.specs.Words.{is_untouched, is_completing, is_completed, is_
 use Rattle.lra_model.specs.History.{History, clerks, actions, members, asks, is_among}
 use Rattle.lra_model.specs.Members.{Asked, ask_of, member_status, is_outstanding, outstanding_ask}
 use Rattle.lra_model.specs.Facts.{ActionFacts, MemberFacts, Facts, member_facts, facts_of}
-use Rattle.lra_model.specs.Tests.{is_time_for, has_address, state_is, was_accepted, may_skip, may_ask, may_report, may_reply, may_close, may_cancel}
+use Rattle.lra_model.specs.Tests.{is_time_for, has_address, status_is, was_accepted, may_skip, may_ask, may_report, may_reply, may_close, may_cancel}
 use Rattle.lra_model.specs.Words.{is_closing, is_cancelling}
 use Rattle.lra_model.specs.Rules.{is_action}
-use Rattle.lra_model.proofs.Legal.{Allowed, entry_kept, start_kept, join_kept, leave_kept, close_kept, cancel_kept, skip_kept, ask_kept, reply_kept, report_kept, end_kept, renew_kept, action_fact, member_fact}
-use Rattle.lra_model.proofs.Tested.{both}
+use Rattle.lra_laws.proofs.Legal.{Allowed, entry_kept, start_kept, join_kept, leave_kept, close_kept, cancel_kept, skip_kept, ask_kept, reply_kept, report_kept, end_kept, renew_kept, action_fact, member_fact}
+use Rattle.lra_laws.proofs.Tested.{both}
 
 -- an entry
 abbrev pub entry : ℕ → ℕ → Deed → Entry
@@ -84,7 +84,7 @@ or_weaker false b true d h = refl
 or_weaker false b false d h = absurd cc
 
 untouched : (f : Facts) (p : MemberFacts) → may_skip f p ≡ true → is_untouched p.status ≡ true
-untouched f p h = third (state_is is_closing f p.action) (is_untouched p.status) (not p.addresses.complete) p.addresses.compensate h
+untouched f p h = third (status_is is_closing f p.action) (is_untouched p.status) (not p.addresses.complete) p.addresses.compensate h
   where
     third : (a b c d : Bool) → (a && b && c && d) ≡ true → b ≡ true
     third a true c d h = refl
@@ -101,8 +101,8 @@ unasked kind f p h = three p.is_asked (has_address kind p.addresses) (is_time_fo
     three true b c h = absurd cc
 
 timely : (kind : AskKind) (f : Facts) (p : MemberFacts) → is_time_for kind f p ≡ true → ask_fits kind p.status ≡ true
-timely ask.Complete f p h = (both (state_is is_closing f p.action) (is_untouched p.status || is_completing p.status) h).1
-timely ask.Compensate f p h = regroup (is_untouched p.status) (is_completed p.status) (is_compensating p.status) ((both (state_is is_cancelling f p.action) (is_untouched p.status || is_completed p.status || is_compensating p.status) h).1)
+timely ask.Complete f p h = (both (status_is is_closing f p.action) (is_untouched p.status || is_completing p.status) h).1
+timely ask.Compensate f p h = regroup (is_untouched p.status) (is_completed p.status) (is_compensating p.status) ((both (status_is is_cancelling f p.action) (is_untouched p.status || is_completed p.status || is_compensating p.status) h).1)
   where
     regroup : (a b c : Bool) → (a || b || c) ≡ true → (a || (b || c)) ≡ true
     regroup true b c h = refl

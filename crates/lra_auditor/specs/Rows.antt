@@ -16,7 +16,7 @@ use Rattle.lra_model.specs.declared.entry.Deed.{Deed}
 use Rattle.lra_model.specs.declared.entry.Deed.TheVariants.{Enrol, Start, Join, Leave, Close, Cancel, Skip, Ask, Reply, Report, End, Restart, Renew}
 use Rattle.lra_model.specs.declared.entry.Entry.{Entry}
 use Rattle.lra_model.specs.Addresses as texts
-use Rattle.lra_model.specs.Words.{has_ended, has_failed, is_cancelled, is_completing, is_compensating, is_completed, is_compensated, is_done_completing, is_done_compensating, has_gone, is_done, same_kind}
+use Rattle.lra_model.specs.Words.{has_ended, has_failed, has_finished_cancelling, is_completing, is_compensating, is_completed, is_compensated, is_done_completing, is_done_compensating, has_gone, is_done, same_kind}
 use Rattle.lra_model.specs.History.{History, Step, steps, last, clerks, actions, members, asks, last_moment}
 use Rattle.lra_model.specs.Actions as words
 use Rattle.lra_model.specs.Actions.{parent, top, action_status, limit_in_force, children}
@@ -102,7 +102,7 @@ is_unended s = not (has_ended s)
 
 -- an action that has not ended cancelled
 abbrev pub is_uncancelled : ActionStatus → Bool
-is_uncancelled s = not (is_cancelled s)
+is_uncancelled s = not (has_finished_cancelling s)
 
 -- the row of an action, by the words of the history
 abbrev pub action_row : History → ℕ → ActionRow

@@ -271,7 +271,7 @@ impl Rows {
     }
 
     pub(crate) fn is_active_action(&self, number: u64) -> bool
-        ensures { result ≡ tests.state_is words.is_active (facts_by self.now) number }
+        ensures { result ≡ tests.status_is words.is_active (facts_by self.now) number }
     {
         match self.action(number) {
             Some(row) => is_active(row.status),
@@ -280,7 +280,7 @@ impl Rows {
     }
 
     fn is_closing_action(&self, number: u64) -> bool
-        ensures { result ≡ tests.state_is words.is_closing (facts_by self.now) number }
+        ensures { result ≡ tests.status_is words.is_closing (facts_by self.now) number }
     {
         match self.action(number) {
             Some(row) => is_closing(row.status),
@@ -289,7 +289,7 @@ impl Rows {
     }
 
     fn is_cancelling_action(&self, number: u64) -> bool
-        ensures { result ≡ tests.state_is words.is_cancelling (facts_by self.now) number }
+        ensures { result ≡ tests.status_is words.is_cancelling (facts_by self.now) number }
     {
         match self.action(number) {
             Some(row) => is_cancelling(row.status),
@@ -314,7 +314,7 @@ impl Rows {
 
     /// Whether the member's action is Active.
     pub(crate) fn is_in_active_action(&self, number: u64) -> bool
-        ensures { result ≡ tests.at_member (λ x. tests.state_is words.is_active (facts_by self.now) x.action) (facts_by self.now) number }
+        ensures { result ≡ tests.at_member (λ x. tests.status_is words.is_active (facts_by self.now) x.action) (facts_by self.now) number }
     {
         match self.member(number) {
             Some(row) => self.is_active_action(row.action),

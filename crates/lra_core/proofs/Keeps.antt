@@ -16,10 +16,10 @@ use Rattle.lra_model.specs.History.{History, enrolled_by, started_by, joined_by,
 use Rattle.lra_model.specs.Rules.{is_number, is_legal}
 use Rattle.lra_model.specs.Settling.{next_settling}
 use Rattle.lra_model.specs.Wants.{wants}
-use Rattle.lra_model.proofs.Legal.{Allowed, legal_empty}
-use Rattle.lra_model.proofs.Ranges.{last_moment_in_range}
-use Rattle.lra_model.proofs.Writes.{MayWrite, may_enrol, may_go_on}
-use Rattle.lra_model.proofs.Settled.{settling_allowed}
+use Rattle.lra_laws.proofs.Legal.{Allowed, legal_empty}
+use Rattle.lra_laws.proofs.Ranges.{last_moment_in_range}
+use Rattle.lra_laws.proofs.Writes.{MayWrite, may_enrol, may_go_on}
+use Rattle.lra_laws.proofs.Settled.{settling_allowed}
 use Rattle.lra_ids.specs.Addresses.{is_address}
 use Rattle.lra_core.specs.declared.limits.Limits.{Limits}
 use Rattle.lra_core.specs.declared.command.Command.{Command}

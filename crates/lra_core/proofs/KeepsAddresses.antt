@@ -9,7 +9,7 @@ use Rattle.std.proofs.lemmas.Str.{IsUtf8-from_is_utf8}
 use Rattle.std.proofs.lemmas.List.Elements.{All-nil, All-cons, All-append}
 use Rattle.lra_model.specs.Addresses.{Addresses}
 use Rattle.lra_model.specs.Tests.{addresses_fit}
-use Rattle.lra_model.proofs.Tested.{both, and_intro}
+use Rattle.lra_laws.proofs.Tested.{both, and_intro}
 use Rattle.lra_ids.specs.declared.fault.UriFault.{UriFault}
 use Rattle.lra_ids.specs.Addresses.{address_of, is_address}
 use Rattle.lra_ids.proofs.AddressFacts.{address_is_own}

@@ -6,7 +6,7 @@ use Rattle.lra_model.specs.Words.{when, is_active}
 use Rattle.lra_model.specs.History.{History, actions}
 use Rattle.lra_model.specs.Actions.{limit_in_force}
 use Rattle.lra_model.specs.Ends.{action_is}
-use Rattle.lra_model.proofs.Tested.{both}
+use Rattle.lra_laws.proofs.Tested.{both}
 use Rattle.lra_core.specs.Due.{Timed, earlier, earliest, first_due, deadline_of, late}
 
 -- what holds of each of these

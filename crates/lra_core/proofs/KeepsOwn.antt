@@ -18,15 +18,15 @@ use Rattle.lra_model.specs.Words.{is_active, same_kind, is_completing, is_compen
 use Rattle.lra_model.specs.History.{History, actions, members, asks, is_among}
 use Rattle.lra_model.specs.Members.{Asked, action_of, has_left, member_status, is_outstanding, ask_of}
 use Rattle.lra_model.specs.Facts.{ActionFacts, MemberFacts, action_facts, facts_of}
-use Rattle.lra_model.specs.Tests.{state_is, each_parent, is_moment, may_cancel, addresses_fit, may_report, limit_has_passed}
+use Rattle.lra_model.specs.Tests.{status_is, each_parent, is_moment, may_cancel, addresses_fit, may_report, limit_has_passed}
 use Rattle.lra_model.specs.Rules.{is_action, is_member, is_here, is_number, has_deed}
 use Rattle.lra_model.specs.Wants.{wants}
-use Rattle.lra_model.proofs.Tested.{both, and_intro}
-use Rattle.lra_model.proofs.Legal.{Allowed, action_fact, at_action_from, at_member_from, state_is_lem}
-use Rattle.lra_model.proofs.LegalAsks.{outstanding_there}
-use Rattle.lra_model.proofs.Ranges.{action_in_range, member_in_range, ask_in_range}
-use Rattle.lra_model.proofs.Writes.{MayWrite, known_deed, may_write}
-use Rattle.lra_model.proofs.Wanted.{not_gone, wants_may}
+use Rattle.lra_laws.proofs.Tested.{both, and_intro}
+use Rattle.lra_laws.proofs.Legal.{Allowed, action_fact, at_action_from, at_member_from, state_is_lem}
+use Rattle.lra_laws.proofs.LegalAsks.{outstanding_there}
+use Rattle.lra_laws.proofs.Ranges.{action_in_range, member_in_range, ask_in_range}
+use Rattle.lra_laws.proofs.Writes.{MayWrite, known_deed, may_write}
+use Rattle.lra_laws.proofs.Wanted.{not_gone, wants_may}
 use Rattle.std.specs.Result.{is_ok}
 use Rattle.lra_ids.specs.Addresses.{address_of, is_address}
 use Rattle.lra_core.specs.declared.command.Command.{Command}
@@ -64,7 +64,7 @@ member_there J p h = at_member_from (λ (x : MemberFacts). true) J p h refl
 member_here : (J : History) (p : ℕ) → is_among (members J) p ≡ true → has_left J p ≡ false → is_here (facts_of J) p ≡ true
 member_here J p h g = at_member_from (λ (x : MemberFacts). not (has_gone x.status)) J p h (ap not (not_gone J p g))
 
-open_active : (s : Terms) (J : History) (by m a : ℕ) → Writes s J by m → is_open J a ≡ true → state_is is_active (facts_of J) a ≡ true
+open_active : (s : Terms) (J : History) (by m a : ℕ) → Writes s J by m → is_open J a ≡ true → status_is is_active (facts_of J) a ≡ true
 open_active s J by m a w h = state_is_lem s.version is_address J w.legal is_active a ∙ h
 
 number_fits : (n : ℕ) → n < 2 ^ 64 → is_number n ≡ true
@@ -105,7 +105,7 @@ start_allowed s J by m parent limit w u room =
     is_there None h = refl
     is_there (Some b) h = action_there J b h
 
-    active : (o : Option ℕ) → each_parent (is_open J) o ≡ true → each_parent (state_is is_active (facts_of J)) o ≡ true
+    active : (o : Option ℕ) → each_parent (is_open J) o ≡ true → each_parent (status_is is_active (facts_of J)) o ≡ true
     active None h = refl
     active (Some b) h = open_active s J by m b w h
 
@@ -173,7 +173,7 @@ leave_allowed s J by m a p w u =
       member_there J p there,
       (
         member_here J p there u.1.1.1.0,
-        (at_member_from (λ (x : MemberFacts). state_is is_active (facts_of J) x.action) J p there (open_active s J by m (action_of J p) w (ap (is_open J) same ∙ opened)), tt),
+        (at_member_from (λ (x : MemberFacts). status_is is_active (facts_of J) x.action) J p there (open_active s J by m (action_of J p) w (ap (is_open J) same ∙ opened)), tt),
       ),
     )
 

@@ -8,11 +8,11 @@ use Rattle.lra_model.specs.declared.entry.Entry.{Entry}
 use Rattle.lra_model.specs.History.{History}
 use Rattle.lra_model.specs.Rules.{is_legal}
 use Rattle.lra_model.specs.Settling.{next_settling}
-use Rattle.lra_model.proofs.Legal.{snoc_induction, legal_push}
-use Rattle.lra_model.proofs.Writes.{MayWrite, may_go_on}
-use Rattle.lra_model.proofs.Settled.{settling_allowed}
-use Rattle.lra_model.proofs.Quiet.{no_next_is_quiet}
-use Rattle.lra_model.proofs.Rests.{left_to_settle, left_is_bounded, next_lessens}
+use Rattle.lra_laws.proofs.Legal.{snoc_induction, legal_push}
+use Rattle.lra_laws.proofs.Writes.{MayWrite, may_go_on}
+use Rattle.lra_laws.proofs.Settled.{settling_allowed}
+use Rattle.lra_laws.proofs.Quiet.{no_next_is_quiet}
+use Rattle.lra_laws.proofs.Rests.{left_to_settle, left_is_bounded, next_lessens}
 use Rattle.lra_ids.specs.Addresses.{is_address}
 use Rattle.lra_core.specs.declared.refusal.Refusal.{Refusal}
 use Rattle.lra_core.specs.Terms.{Terms}

@@ -24,7 +24,7 @@ use Rattle.lra_model.specs.Ends.{staying, is_settled, right_end, top_has_ended}
 use Rattle.lra_model.specs.Facts.{facts_of}
 use Rattle.lra_model.specs.Settling.{next_settling}
 use Rattle.lra_model.specs.Wants.{wants, repeats}
-use Rattle.lra_model.proofs.Worked.{at, u, c, uris, nest, undone, failing, cancelled_below, taken_back}
+use Rattle.lra_laws.proofs.Worked.{at, u, c, uris, nest, undone, failing, cancelled_below, taken_back}
 use Rattle.lra_core.specs.declared.command.Command.{Command}
 use Rattle.lra_core.specs.declared.command.Command.TheVariants as command
 use Rattle.lra_core.specs.declared.command.Told.{Told}

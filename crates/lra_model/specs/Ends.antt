@@ -4,7 +4,7 @@ use Rattle.std.specs.Option.{option_map_or}
 use Rattle.std.specs.List.{list_all, list_any}
 use Rattle.lra_model.specs.declared.status.ActionStatus.{ActionStatus}
 use Rattle.lra_model.specs.declared.status.ActionStatus.TheVariants as action
-use Rattle.lra_model.specs.Words.{has_ended, has_failed, is_cancelled, is_done_completing, is_done_compensating, is_completed, is_compensated}
+use Rattle.lra_model.specs.Words.{has_ended, has_failed, has_finished_cancelling, is_done_completing, is_done_compensating, is_completed, is_compensated}
 use Rattle.lra_model.specs.History.{History}
 use Rattle.lra_model.specs.Actions.{action_status, children, members_of, top}
 use Rattle.lra_model.specs.Members.{stays, member_status}
@@ -21,7 +21,7 @@ action_is test J a = option_map_or test (action_status J a) false
 -- actions to end, a Cancelling one for its staying members to compensate or fail and for its nested actions to be cancelled
 abbrev pub settles : Option ActionStatus → History → ℕ → Bool
 settles (Some action.Closing) J a = list_all (λ p. is_done_completing (member_status J p)) (staying J a) && list_all (action_is has_ended J) (children J a)
-settles (Some action.Cancelling) J a = list_all (λ p. is_done_compensating (member_status J p)) (staying J a) && list_all (action_is is_cancelled J) (children J a)
+settles (Some action.Cancelling) J a = list_all (λ p. is_done_compensating (member_status J p)) (staying J a) && list_all (action_is has_finished_cancelling J) (children J a)
 settles _ J a = false
 
 -- whether an action may end (MicroProfile LRA 2.0, LRA states; on nested actions this project's choice)

@@ -26,7 +26,7 @@ abbrev pub StaysUnder : History → ℕ → ℕ → Type 0
 StaysUnder J t p = (is_among (members J) p ≡ true) × (stays J p ≡ true) × (is_under J t (action_of J p) ≡ true)
 
 -- completed, and never asked to compensate
-pub record IsKept (J : History) (p : ℕ) : Type 0 where
+pub record IsCompletedForGood (J : History) (p : ℕ) : Type 0 where
   pub completed : member_status J p ≡ member.Completed
   pub never_asked : was_asked J p ask.Compensate ≡ false
 
@@ -35,7 +35,7 @@ pub record IsKept (J : History) (p : ℕ) : Type 0 where
 -- failed; where it ended and did not fail, none of them did: a failed end stands just where a member failed
 -- (MicroProfile LRA 2.0, LRA states: all or nothing).
 pub record HasGoodEnd (J : History) (t : ℕ) : Type 0 where
-  pub closed : action_status J t ≡ Some action.Closed → (p : ℕ) → StaysUnder J t p → was_cancelled_below J t (action_of J p) ≡ false → IsKept J p
+  pub closed : action_status J t ≡ Some action.Closed → (p : ℕ) → StaysUnder J t p → was_cancelled_below J t (action_of J p) ≡ false → IsCompletedForGood J p
   pub undone : action_status J t ≡ Some action.Closed → (p : ℕ) → StaysUnder J t p → was_cancelled_below J t (action_of J p) ≡ true → member_status J p ≡ member.Compensated
   pub cancelled : action_status J t ≡ Some action.Cancelled → (p : ℕ) → StaysUnder J t p → member_status J p ≡ member.Compensated
   pub failed : action_is has_failed J t ≡ true → (p : ℕ) × StaysUnder J t p × (member_has_failed (member_status J p) ≡ true)

@@ -12,11 +12,11 @@ use Rattle.lra_model.specs.declared.entry.Entry.{Entry}
 use Rattle.lra_model.specs.Words.{is_active, same_status, has_gone}
 use Rattle.lra_model.specs.History.{History, Step, steps, first}
 use Rattle.lra_model.specs.Facts.{ActionFacts, MemberFacts, Facts, facts_of}
-use Rattle.lra_model.specs.Tests.{at_action, at_member, state_is, each_parent, is_moment, may_close, may_cancel, addresses_fit, may_skip, may_ask, may_reply, may_report}
+use Rattle.lra_model.specs.Tests.{at_action, at_member, status_is, each_parent, is_moment, may_close, may_cancel, addresses_fit, may_skip, may_ask, may_reply, may_report}
 
 -- a rule, and whether it is kept
-abbrev pub Verdict : Type 0
-Verdict = Rule × Bool
+abbrev pub Ruling : Type 0
+Ruling = Rule × Bool
 
 -- whether a version of the journal has the deed: version 1 knows no Renew
 abbrev pub has_deed : Version → Deed → Bool
@@ -41,14 +41,14 @@ abbrev pub is_here : Facts → ℕ → Bool
 is_here = at_member (λ (p : MemberFacts). not (has_gone p.status))
 
 -- the rules that bear on a deed, in the order of their codes
-abbrev pub deed_rules : Version → (List ℕ → Bool) → Facts → ℕ → Deed → List Verdict
+abbrev pub deed_rules : Version → (List ℕ → Bool) → Facts → ℕ → Deed → List Ruling
 deed_rules v t f m Enrol = []
 deed_rules v t f m (Start a parent limit) =
-    (rule.Number, a == f.actions + 1) ∷ (rule.Action, each_parent (is_action f) parent) ∷ (rule.Active, each_parent (state_is is_active f) parent) ∷ (rule.Limit, is_moment (m + limit)) ∷ []
+    (rule.Number, a == f.actions + 1) ∷ (rule.Action, each_parent (is_action f) parent) ∷ (rule.Active, each_parent (status_is is_active f) parent) ∷ (rule.Limit, is_moment (m + limit)) ∷ []
 deed_rules v t f m (Join p a uris) =
-    (rule.Number, p == f.members + 1) ∷ (rule.Action, is_action f a) ∷ (rule.Active, state_is is_active f a) ∷ (rule.Addresses, addresses_fit t uris) ∷ []
+    (rule.Number, p == f.members + 1) ∷ (rule.Action, is_action f a) ∷ (rule.Active, status_is is_active f a) ∷ (rule.Addresses, addresses_fit t uris) ∷ []
 deed_rules v t f m (Leave p) =
-    (rule.Member, is_member f p) ∷ (rule.Left, is_here f p) ∷ (rule.Active, at_member (λ (x : MemberFacts). state_is is_active f x.action) f p) ∷ []
+    (rule.Member, is_member f p) ∷ (rule.Left, is_here f p) ∷ (rule.Active, at_member (λ (x : MemberFacts). status_is is_active f x.action) f p) ∷ []
 deed_rules v t f m (Close a cause) =
     (rule.Action, is_action f a) ∷ (rule.Cause, at_action (may_close cause f) f a) ∷ []
 deed_rules v t f m (Cancel a cause) =
@@ -65,14 +65,14 @@ deed_rules v t f m (End a status) =
     (rule.Action, is_action f a) ∷ (rule.Unsettled, at_action (λ (x : ActionFacts). x.settled) f a) ∷ (rule.Ending, at_action (λ (x : ActionFacts). same_status status x.right_end) f a) ∷ []
 deed_rules v t f m Restart = []
 deed_rules v t f m (Renew a limit) =
-    (rule.Action, is_action f a) ∷ (rule.Active, state_is is_active f a) ∷ (rule.Limit, is_moment (m + limit)) ∷ []
+    (rule.Action, is_action f a) ∷ (rule.Active, status_is is_active f a) ∷ (rule.Limit, is_moment (m + limit)) ∷ []
 
 -- all rules that bear on an entry, in the order of their codes; t is the test of an address's text
-abbrev pub rules_on : Version → (List ℕ → Bool) → Facts → Entry → List Verdict
+abbrev pub rules_on : Version → (List ℕ → Bool) → Facts → Entry → List Ruling
 rules_on v t f e = (rule.Grammar, has_deed v e.deed) ∷ (rule.Clerk, clerk_fits f e.by e.deed) ∷ (rule.Moment, nat_le f.moment e.moment) ∷ deed_rules v t f e.moment e.deed
 
 -- the first rule that isn't kept
-abbrev pub first_broken : List Verdict → Option Rule
+abbrev pub first_broken : List Ruling → Option Rule
 first_broken [] = None
 first_broken ((r, kept) ∷ rest) = if kept then first_broken rest else Some r
 

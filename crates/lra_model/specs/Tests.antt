@@ -22,12 +22,12 @@ abbrev pub at_member : (MemberFacts → Bool) → Facts → ℕ → Bool
 at_member test f p = option_map_or test (f.member p) false
 
 -- whether an action is there, in a state that passes the test
-abbrev pub state_is : (ActionStatus → Bool) → Facts → ℕ → Bool
-state_is test = at_action (λ (a : ActionFacts). test a.status)
+abbrev pub status_is : (ActionStatus → Bool) → Facts → ℕ → Bool
+status_is test = at_action (λ (a : ActionFacts). test a.status)
 
 -- whether an action has a parent, in a state that passes the test
 abbrev pub parent_is : (ActionStatus → Bool) → Facts → ActionFacts → Bool
-parent_is test f a = option_map_or (state_is test f) a.parent false
+parent_is test f a = option_map_or (status_is test f) a.parent false
 
 -- no parent, or one that passes
 abbrev pub each_parent : (ℕ → Bool) → Option ℕ → Bool
@@ -71,7 +71,7 @@ addresses_fit is_address u =
 
 -- A member is completed without being asked where it is Active in a Closing action, and can be compensated and not completed.
 abbrev pub may_skip : Facts → MemberFacts → Bool
-may_skip f p = state_is is_closing f p.action && is_untouched p.status && not p.addresses.complete && p.addresses.compensate
+may_skip f p = status_is is_closing f p.action && is_untouched p.status && not p.addresses.complete && p.addresses.compensate
 
 -- whether the address that an ask of a kind goes to is there
 abbrev pub has_address : AskKind → Presence → Bool
@@ -88,8 +88,8 @@ was_accepted reply = option_map_or is_accepted reply false
 -- When a member may be asked what, but for its address and for an ask of it that is outstanding (MicroProfile LRA 2.0, Participant states;
 -- forget goes to members that failed, and to those of nested actions that completed; notices wait for the outermost action's end).
 abbrev pub is_time_for : AskKind → Facts → MemberFacts → Bool
-is_time_for ask.Complete f p = state_is is_closing f p.action && (is_untouched p.status || is_completing p.status)
-is_time_for ask.Compensate f p = state_is is_cancelling f p.action && (is_untouched p.status || is_completed p.status || is_compensating p.status)
+is_time_for ask.Complete f p = status_is is_closing f p.action && (is_untouched p.status || is_completing p.status)
+is_time_for ask.Compensate f p = status_is is_cancelling f p.action && (is_untouched p.status || is_completed p.status || is_compensating p.status)
 is_time_for ask.Status f p = (is_completing p.status && was_accepted p.completion) || (is_compensating p.status && was_accepted p.compensation)
 is_time_for ask.Forget f p =
     at_action (λ (a : ActionFacts). a.top_has_ended && (member_has_failed p.status || (is_completed p.status && is_some a.parent))) f p.action && not p.has_forgotten

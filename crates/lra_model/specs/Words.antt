@@ -50,11 +50,11 @@ has_failed action.FailedToClose = true
 has_failed action.FailedToCancel = true
 has_failed _ = false
 
--- an action that has ended, cancelled
-abbrev pub is_cancelled : ActionStatus → Bool
-is_cancelled action.Cancelled = true
-is_cancelled action.FailedToCancel = true
-is_cancelled _ = false
+-- an action that was cancelled and has ended, well or in failure (MicroProfile LRA 2.0, LRAStatus)
+abbrev pub has_finished_cancelling : ActionStatus → Bool
+has_finished_cancelling action.Cancelled = true
+has_finished_cancelling action.FailedToCancel = true
+has_finished_cancelling _ = false
 
 -- an action that its Cancelling parent cancels: one that is Active or that has closed (this project's choice on FailedToClose)
 abbrev pub is_cancellable : ActionStatus → Bool
@@ -129,7 +129,7 @@ is_decisive outcome.Done = true
 is_decisive outcome.Failed = true
 is_decisive _ = false
 
--- the answer that a forget or an after notice is repeated for
+-- the answer until which a forget or an after notice is repeated
 abbrev pub is_done : Outcome → Bool
 is_done outcome.Done = true
 is_done _ = false

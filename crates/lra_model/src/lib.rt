@@ -4,14 +4,12 @@
 
 mod asks;
 mod entry;
-mod laws;
 mod rule;
 mod status;
 mod version;
 
 pub use asks::{AskKind, Cause, Direction, Outcome, suits};
 pub use entry::{Deed, Entry, Uris};
-pub use laws::{legal_histories_have_good_ends, version_two_keeps_legal_histories};
 pub use rule::Rule;
 pub use status::{ActionStatus, Ending, MemberStatus};
 pub use std::alloc::AllocError as Memory;

@@ -18,9 +18,9 @@ use Rattle.lra_model.specs.Members.{action_of, addresses_of, has_left, stays, wa
 use Rattle.lra_model.specs.Ends.{staying, is_settled, right_end, top_has_ended}
 use Rattle.lra_model.specs.Facts.{facts_of}
 use Rattle.lra_model.specs.Rules.{broken, is_legal}
-use Rattle.lra_model.specs.GoodEnds.{was_cancelled_below, StaysUnder, IsKept, GoodEnds}
-use Rattle.lra_model.proofs.Worked.{is_http, at, u, c, uris, nest, undone, failing, cancelled_below, taken_back}
-use Rattle.lra_model.proofs.GoodLaw.{good_ends}
+use Rattle.lra_model.specs.GoodEnds.{was_cancelled_below, StaysUnder, IsCompletedForGood, GoodEnds}
+use Rattle.lra_laws.proofs.Worked.{is_http, at, u, c, uris, nest, undone, failing, cancelled_below, taken_back}
+use Rattle.lra_laws.proofs.GoodLaw.{good_ends}
 
 -- ---- histories without good ends
 
@@ -166,7 +166,7 @@ unfolding steps members parent is_under action_of addresses_of has_left stays
 all_stay = ((refl, refl, refl), (refl, refl, refl), (refl, refl, refl), (refl, refl, refl), (refl, refl, refl))
 
 -- the law, at a closed action whose nested one closed
-pub kept_member : IsKept kept 1
+pub kept_member : IsCompletedForGood kept 1
 unfolding steps clerks actions members asks last_moment parent top is_under action_status limit_in_force children members_of was_cancelled action_of addresses_of has_left stays was_asked ask_of replies decided member_status last_reply was_answered is_outstanding outstanding_ask staying is_settled right_end top_has_ended facts_of broken is_legal was_cancelled_below
 kept_member = (good_ends One is_http kept refl 1).closed refl 1 (refl, refl, refl) refl
 

@@ -15,7 +15,7 @@ use Rattle.lra_model.specs.declared.entry.Deed.{Deed}
 use Rattle.lra_model.specs.declared.entry.Deed.TheVariants.{Enrol, Start, Join, Leave, Close, Cancel, Skip, Ask, Reply, Report, End, Restart, Renew}
 use Rattle.lra_model.specs.declared.entry.Entry.{Entry}
 use Rattle.lra_model.specs.Addresses.{Addresses}
-use Rattle.lra_model.specs.Words.{has_ended, has_failed, is_closed, is_cancelled}
+use Rattle.lra_model.specs.Words.{has_ended, has_failed, is_closed, has_finished_cancelling}
 use Rattle.lra_model.specs.History.{History, steps, clerks, actions, members, asks, last_moment}
 use Rattle.lra_model.specs.Actions.{parent, top, is_under, action_status, limit_in_force, children, members_of}
 use Rattle.lra_model.specs.Members.{action_of, addresses_of, has_left, stays, was_asked, ask_of, replies, decided, member_status, last_reply, was_answered, is_outstanding, outstanding_ask}
@@ -210,7 +210,7 @@ abbrev tally : History → Tally
 tally J = record {
   unended = count_actions (λ x. not (has_ended x)) J;
   closed = count_actions is_closed J;
-  cancelled = count_actions (λ x. is_cancelled x && not (has_failed x)) J;
+  cancelled = count_actions (λ x. has_finished_cancelling x && not (has_failed x)) J;
   failed = map (λ t. (t, action_status J t, least_failed J t)) (failed_actions J);
 }
 

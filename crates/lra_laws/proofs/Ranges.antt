@@ -11,9 +11,9 @@ use Rattle.lra_model.specs.declared.entry.Entry.{Entry}
 use Rattle.lra_model.specs.History.{History, enrolled_by, started_by, joined_by, asked_by, clerks, actions, members, asks, is_among, last_moment}
 use Rattle.lra_model.specs.Facts.{facts_of}
 use Rattle.lra_model.specs.Rules.{is_number, numbers_fit, in_range, clerk_fits, is_legal}
-use Rattle.lra_model.proofs.Push.{read_push, clerks_push, last_moment_push}
-use Rattle.lra_model.proofs.Tested.{both, and_intro}
-use Rattle.lra_model.proofs.Legal.{Allowed, entry_kept, legal_induction, among_push}
+use Rattle.lra_laws.proofs.Push.{read_push, clerks_push, last_moment_push}
+use Rattle.lra_laws.proofs.Tested.{both, and_intro}
+use Rattle.lra_laws.proofs.Legal.{Allowed, entry_kept, legal_induction, among_push}
 
 -- the numbers of an entry, one by one
 pub record Ranged (e : Entry) : Type 0 where

@@ -22,10 +22,10 @@ use Rattle.lra_model.specs.Actions.{parent_given, parent, status_given, action_s
 use Rattle.lra_model.specs.Members.{action_given, action_of, no_addresses, addresses_given, addresses_of, is_leave_of, has_left, is_ask_for, was_asked}
 use Rattle.lra_model.specs.Ends.{action_is}
 use Rattle.lra_model.specs.Facts.{ActionFacts, MemberFacts, Facts, action_facts, member_facts, facts_of}
-use Rattle.lra_model.specs.Tests.{at_action, at_member, state_is, each_parent, is_moment, may_close, may_cancel, addresses_fit, may_skip, may_ask, may_reply, may_report}
-use Rattle.lra_model.specs.Rules.{Verdict, has_deed, clerk_fits, is_action, is_member, is_here, deed_rules, rules_on, first_broken, broken, in_range, allows, is_legal}
-use Rattle.lra_model.proofs.Push.{any_push, step, steps_push, clerks_push, actions_push, members_push, asks_push, action_status_push, parent_push, children_push, members_of_push, action_of_push, addresses_of_push}
-use Rattle.lra_model.proofs.Tested.{both, and_intro, none_from_test}
+use Rattle.lra_model.specs.Tests.{at_action, at_member, status_is, each_parent, is_moment, may_close, may_cancel, addresses_fit, may_skip, may_ask, may_reply, may_report}
+use Rattle.lra_model.specs.Rules.{Ruling, has_deed, clerk_fits, is_action, is_member, is_here, deed_rules, rules_on, first_broken, broken, in_range, allows, is_legal}
+use Rattle.lra_laws.proofs.Push.{any_push, step, steps_push, clerks_push, actions_push, members_push, asks_push, action_status_push, parent_push, children_push, members_of_push, action_of_push, addresses_of_push}
+use Rattle.lra_laws.proofs.Tested.{both, and_intro, none_from_test}
 
 -- ---- induction from the end
 
@@ -88,17 +88,17 @@ legal_induction v t P base more J = snoc_induction (λ K. is_legal v t K ≡ tru
 -- ---- the rules that an entry keeps, by its deed
 
 -- each of these rules is kept
-abbrev pub AllKept : List Verdict → Type 0
+abbrev pub AllKept : List Ruling → Type 0
 AllKept [] = Unit {0}
 AllKept ((r, b) ∷ rest) = (b ≡ true) × AllKept rest
 
 -- where no rule is broken, each is kept; and the other way round
-pub all_kept : (rules : List Verdict) → first_broken rules ≡ None → AllKept rules
+pub all_kept : (rules : List Ruling) → first_broken rules ≡ None → AllKept rules
 all_kept [] h = tt
 all_kept ((r, true) ∷ rest) h = (refl, all_kept rest h)
 all_kept ((r, false) ∷ rest) h = absurd cc
 
-pub none_broken : (rules : List Verdict) → AllKept rules → first_broken rules ≡ None
+pub none_broken : (rules : List Ruling) → AllKept rules → first_broken rules ≡ None
 none_broken [] h = refl
 none_broken ((r, true) ∷ rest) h = none_broken rest h.1
 none_broken ((r, false) ∷ rest) h = absurd cc
@@ -119,7 +119,7 @@ entry_kept v t f e h =
 pub record StartKept (f : Facts) (m a : ℕ) (parent : Option ℕ) (limit : ℕ) : Type 0 where
   pub number : a ≡ f.actions + 1
   pub parent_there : each_parent (is_action f) parent ≡ true
-  pub parent_active : each_parent (state_is is_active f) parent ≡ true
+  pub parent_active : each_parent (status_is is_active f) parent ≡ true
   pub limit_fits : is_moment (m + limit) ≡ true
 
 pub start_kept : (v : Version) (t : List ℕ → Bool) (f : Facts) (m a : ℕ) (parent : Option ℕ) (limit : ℕ) → AllKept (deed_rules v t f m (Start a parent limit)) → StartKept f m a parent limit
@@ -128,7 +128,7 @@ start_kept v t f m a parent limit k = record { number = eqb-true a (f.actions + 
 pub record JoinKept (t : List ℕ → Bool) (f : Facts) (p a : ℕ) (uris : Addresses) : Type 0 where
   pub number : p ≡ f.members + 1
   pub there : is_action f a ≡ true
-  pub active : state_is is_active f a ≡ true
+  pub active : status_is is_active f a ≡ true
   pub addresses : addresses_fit t uris ≡ true
 
 pub join_kept : (v : Version) (t : List ℕ → Bool) (f : Facts) (m p a : ℕ) (uris : Addresses) → AllKept (deed_rules v t f m (Join p a uris)) → JoinKept t f p a uris
@@ -137,7 +137,7 @@ join_kept v t f m p a uris k = record { number = eqb-true p (f.members + 1) k.0;
 pub record LeaveKept (f : Facts) (p : ℕ) : Type 0 where
   pub there : is_member f p ≡ true
   pub here : is_here f p ≡ true
-  pub active : at_member (λ (x : MemberFacts). state_is is_active f x.action) f p ≡ true
+  pub active : at_member (λ (x : MemberFacts). status_is is_active f x.action) f p ≡ true
 
 pub leave_kept : (v : Version) (t : List ℕ → Bool) (f : Facts) (m p : ℕ) → AllKept (deed_rules v t f m (Leave p)) → LeaveKept f p
 leave_kept v t f m p k = record { there = k.0; here = k.1.0; active = k.1.1.0 }
@@ -197,7 +197,7 @@ end_kept v t f m a s k = record { there = k.0; settled = k.1.0; right = k.1.1.0 
 
 pub record RenewKept (f : Facts) (m a limit : ℕ) : Type 0 where
   pub there : is_action f a ≡ true
-  pub active : state_is is_active f a ≡ true
+  pub active : status_is is_active f a ≡ true
   pub limit_fits : is_moment (m + limit) ≡ true
 
 pub renew_kept : (v : Version) (t : List ℕ → Bool) (f : Facts) (m a limit : ℕ) → AllKept (deed_rules v t f m (Renew a limit)) → RenewKept f m a limit
@@ -491,7 +491,7 @@ status_is_there v t = legal_induction v t (λ J. (a : ℕ) → is_some (action_s
     ∙ sym (ap (λ (ns : List ℕ). is_among ns a) (actions_push J e) ∙ among_push (actions J) (started_by e.deed) a))
 
 -- in a legal history, the test of a state by the facts is that of the history
-pub state_is_lem : (v : Version) (t : List ℕ → Bool) (J : History) → is_legal v t J ≡ true → (test : ActionStatus → Bool) (a : ℕ) → state_is test (facts_of J) a ≡ action_is test J a
+pub state_is_lem : (v : Version) (t : List ℕ → Bool) (J : History) → is_legal v t J ≡ true → (test : ActionStatus → Bool) (a : ℕ) → status_is test (facts_of J) a ≡ action_is test J a
 unfolding facts_of
 state_is_lem v t J l test a = both_ways (is_among (actions J) a) (action_status J a) (status_is_there v t J l a)
   where

@@ -18,12 +18,12 @@ use Rattle.lra_model.specs.Words.{when, same_kind, same_direction, is_closing, i
 use Rattle.lra_model.specs.History.{History, steps, members, is_among}
 use Rattle.lra_model.specs.Members.{Asked, asked_at, ask_of, ask_direction, was_asked, Replied, replied_at, replies, last_reply, has_left, decided, by_decision, member_status, is_ask_for}
 use Rattle.lra_model.specs.Facts.{MemberFacts, Facts, member_facts, facts_of}
-use Rattle.lra_model.specs.Tests.{at_member, has_address, is_time_for, was_accepted, may_ask, state_is}
+use Rattle.lra_model.specs.Tests.{at_member, has_address, is_time_for, was_accepted, may_ask, status_is}
 use Rattle.lra_model.specs.Rules.{is_member, is_here, is_legal}
 use Rattle.lra_model.specs.Wants.{wants_completion, wants_compensation, wants_notice, wanted, wants}
-use Rattle.lra_model.proofs.Push.{step, was_asked_push, ask_of_push, last_reply_push}
-use Rattle.lra_model.proofs.Tested.{both, and_intro, or_left}
-use Rattle.lra_model.proofs.Legal.{Allowed, legal_induction, AskKept, ask_kept, entry_kept, member_fact, at_member_from}
+use Rattle.lra_laws.proofs.Push.{step, was_asked_push, ask_of_push, last_reply_push}
+use Rattle.lra_laws.proofs.Tested.{both, and_intro, or_left}
+use Rattle.lra_laws.proofs.Legal.{Allowed, legal_induction, AskKept, ask_kept, entry_kept, member_fact, at_member_from}
 
 -- ---- the state of a member, by the words that it is read from
 
@@ -273,7 +273,7 @@ timely_completion f p kind fresh h = by_status (was_accepted p.completion) refl 
         )
       where
         state_is_closing : Bool
-        state_is_closing = state_is is_closing f p.action
+        state_is_closing = status_is is_closing f p.action
     by_status true g false i j = plain j
     by_status false g y i j = plain j
 

@@ -10,9 +10,9 @@ use Rattle.lra_model.specs.declared.entry.Entry.{Entry}
 use Rattle.lra_model.specs.History.{History, clerks, is_among, last_moment}
 use Rattle.lra_model.specs.Facts.{facts_of}
 use Rattle.lra_model.specs.Rules.{has_deed, clerk_fits, is_number, numbers_fit, deed_rules, rules_on, is_legal}
-use Rattle.lra_model.proofs.Push.{last_moment_push}
-use Rattle.lra_model.proofs.Legal.{Allowed, AllKept, none_broken, legal_more}
-use Rattle.lra_model.proofs.Ranges.{ranged, in_range_from, clerk_in_range, writer_there}
+use Rattle.lra_laws.proofs.Push.{last_moment_push}
+use Rattle.lra_laws.proofs.Legal.{Allowed, AllKept, none_broken, legal_more}
+use Rattle.lra_laws.proofs.Ranges.{ranged, in_range_from, clerk_in_range, writer_there}
 
 -- who may write, and when: a clerk that is there, at a moment that isn't before the last one
 pub record MayWrite (v : Version) (t : List ℕ → Bool) (J : History) (by m : ℕ) : Type 0 where

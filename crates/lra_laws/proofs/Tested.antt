@@ -3,7 +3,7 @@ use Rattle.std.proofs.Common.{◌≡◌, Bool, true, false, List, [], ◌∷◌,
 use Rattle.std.specs.Prelude.{◌&&◌, ◌||◌, is_none}
 use Rattle.std.specs.List.{list_all}
 use Rattle.lra_model.specs.declared.rule.Rule.{Rule}
-use Rattle.lra_model.specs.Rules.{Verdict, first_broken}
+use Rattle.lra_model.specs.Rules.{Ruling, first_broken}
 
 -- both parts of a test that holds
 pub both : (a b : Bool) → (a && b) ≡ true → (a ≡ true) × (b ≡ true)
@@ -33,11 +33,11 @@ list_all-weaker p q w (x ∷ xs) h =
     and_intro (q x) (list_all q xs) (w x k.0) (list_all-weaker p q w xs k.1)
 
 -- where no rule is broken, the first is kept, and none after it is broken
-pub kept : (r : Rule) (b : Bool) (rest : List Verdict) → first_broken ((r, b) ∷ rest) ≡ None → (b ≡ true) × (first_broken rest ≡ None)
+pub kept : (r : Rule) (b : Bool) (rest : List Ruling) → first_broken ((r, b) ∷ rest) ≡ None → (b ≡ true) × (first_broken rest ≡ None)
 kept r true rest h = (refl, h)
 kept r false rest h = absurd cc
 
 -- a rule that is kept is passed over
-pub passed : (r : Rule) (b : Bool) (rest : List Verdict) → b ≡ true → first_broken rest ≡ None → first_broken ((r, b) ∷ rest) ≡ None
+pub passed : (r : Rule) (b : Bool) (rest : List Ruling) → b ≡ true → first_broken rest ≡ None → first_broken ((r, b) ∷ rest) ≡ None
 passed r true rest h k = k
 passed r false rest h k = absurd cc

@@ -14,9 +14,9 @@ use Rattle.lra_model.specs.Words.{is_active}
 use Rattle.lra_model.specs.History.{History, Step, steps}
 use Rattle.lra_model.specs.Facts.{ActionFacts, Facts, facts_of}
 use Rattle.lra_model.specs.Tests.{at_action, may_cancel, may_take_back}
-use Rattle.lra_model.specs.Rules.{Verdict, is_action, clerk_fits, deed_rules, rules_on, first_broken, broken, in_range, allows, is_legal}
+use Rattle.lra_model.specs.Rules.{Ruling, is_action, clerk_fits, deed_rules, rules_on, first_broken, broken, in_range, allows, is_legal}
 use Rattle.lra_model.specs.Upgrade.{VersionTwoKeepsLegal}
-use Rattle.lra_model.proofs.Tested.{both, and_intro, or_left, none_from_test, list_all-weaker, kept, passed}
+use Rattle.lra_laws.proofs.Tested.{both, and_intro, or_left, none_from_test, list_all-weaker, kept, passed}
 
 cancel_kept : (m : ℕ) (c : Cause) (f : Facts) (a : ActionFacts) → may_cancel One m c f a ≡ true → may_cancel Two m c f a ≡ true
 cancel_kept m cause.Client f a h = or_left (is_active a.status) (may_take_back Two f a) (sym (or-false (is_active a.status)) ∙ h)
@@ -34,8 +34,8 @@ rules_kept t f by m (Cancel a c) h =
     let moment = kept rule.Moment (nat_le f.moment m) (deed_rules One t f m (Cancel a c)) clerk.1 in
     let there = kept rule.Action (is_action f a) ((rule.Cause, at_action (may_cancel One m c f) f a) ∷ []) moment.1 in
     let fits = kept rule.Cause (at_action (may_cancel One m c f) f a) [] there.1 in
-    let cancels : List Verdict = (rule.Cause, at_action (may_cancel Two m c f) f a) ∷ [] in
-    let acts : List Verdict = (rule.Action, is_action f a) ∷ cancels in
+    let cancels : List Ruling = (rule.Cause, at_action (may_cancel Two m c f) f a) ∷ [] in
+    let acts : List Ruling = (rule.Action, is_action f a) ∷ cancels in
     passed rule.Clerk (clerk_fits f by (Cancel a c)) ((rule.Moment, nat_le f.moment m) ∷ acts) clerk.0
     (passed rule.Moment (nat_le f.moment m) acts moment.0
     (passed rule.Action (is_action f a) cancels there.0

@@ -17,12 +17,12 @@ use Rattle.lra_model.specs.History.{History, actions, members, is_among, first, 
 use Rattle.lra_model.specs.Actions.{action_status}
 use Rattle.lra_model.specs.Ends.{settles, is_settled, right_end}
 use Rattle.lra_model.specs.Facts.{ActionFacts, MemberFacts, member_facts, facts_of}
-use Rattle.lra_model.specs.Tests.{at_action, state_is, may_close, may_cancel, may_skip}
+use Rattle.lra_model.specs.Tests.{at_action, status_is, may_close, may_cancel, may_skip}
 use Rattle.lra_model.specs.Settling.{may_be_skipped, by_parent, next_settling}
-use Rattle.lra_model.proofs.Tested.{both}
-use Rattle.lra_model.proofs.Legal.{Allowed, action_fact, member_fact, at_action_from, at_member_from, status_is_there}
-use Rattle.lra_model.proofs.Ranges.{action_in_range, member_in_range}
-use Rattle.lra_model.proofs.Writes.{MayWrite, known_deed, may_write}
+use Rattle.lra_laws.proofs.Tested.{both}
+use Rattle.lra_laws.proofs.Legal.{Allowed, action_fact, member_fact, at_action_from, at_member_from, status_is_there}
+use Rattle.lra_laws.proofs.Ranges.{action_in_range, member_in_range}
+use Rattle.lra_laws.proofs.Writes.{MayWrite, known_deed, may_write}
 
 -- ---- what is found
 
@@ -64,9 +64,9 @@ skip_allowed v t J by m p k h =
 
     here : (x : MemberFacts) → may_skip (facts_of J) x ≡ true → not (has_gone x.status) ≡ true
     here x g =
-        let a = both (state_is is_closing (facts_of J) x.action && is_untouched x.status && not x.addresses.complete) x.addresses.compensate g in
-        let b = both (state_is is_closing (facts_of J) x.action && is_untouched x.status) (not x.addresses.complete) a.0 in
-        here_by x.status (both (state_is is_closing (facts_of J) x.action) (is_untouched x.status) b.0).1
+        let a = both (status_is is_closing (facts_of J) x.action && is_untouched x.status && not x.addresses.complete) x.addresses.compensate g in
+        let b = both (status_is is_closing (facts_of J) x.action && is_untouched x.status) (not x.addresses.complete) a.0 in
+        here_by x.status (both (status_is is_closing (facts_of J) x.action) (is_untouched x.status) b.0).1
 
 parent_allowed : (v : Version) (t : List ℕ → Bool) (J : History) (by m a : ℕ) (d : Deed) → MayWrite v t J by m → by_parent J a ≡ Some d → Allowed v t J (record { by = by; moment = m; deed = d })
 parent_allowed v t J by m a d k h = by_tests (at_action (may_close cause.Parent (facts_of J)) (facts_of J) a) refl (at_action (may_cancel version.One 0 cause.Parent (facts_of J)) (facts_of J) a) refl h

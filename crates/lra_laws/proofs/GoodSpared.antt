@@ -20,12 +20,12 @@ use Rattle.lra_model.specs.Actions.{parent, status_given, action_status, child_g
 use Rattle.lra_model.specs.Members.{action_of, is_leave_of, is_ask_for}
 use Rattle.lra_model.specs.Ends.{action_is, settles, is_settled, right_end}
 use Rattle.lra_model.specs.Facts.{ActionFacts, MemberFacts, Facts, action_facts, member_facts, facts_of}
-use Rattle.lra_model.specs.Tests.{at_action, state_is, parent_is, may_close, may_cancel, may_take_back, limit_has_passed, has_address, is_time_for, may_ask}
+use Rattle.lra_model.specs.Tests.{at_action, status_is, parent_is, may_close, may_cancel, may_take_back, limit_has_passed, has_address, is_time_for, may_ask}
 use Rattle.lra_model.specs.Rules.{deed_rules, is_legal}
-use Rattle.lra_model.proofs.Push.{action_status_push}
-use Rattle.lra_model.proofs.Tested.{both}
-use Rattle.lra_model.proofs.Legal.{Allowed, AllKept, entry_kept, start_kept, join_kept, leave_kept, close_kept, cancel_kept, ask_kept, end_kept, action_fact, member_fact, at_action_from, started_number, actions_numbered, numbered_among, state_is_lem, parent_there, child_of, member_action, legal_induction}
-use Rattle.lra_model.proofs.GoodKept.{Spares, untouched, before_end, EndsAgain, EndsStand, ends_again_after, ends_again_now, settles_decided, settles_ended}
+use Rattle.lra_laws.proofs.Push.{action_status_push}
+use Rattle.lra_laws.proofs.Tested.{both}
+use Rattle.lra_laws.proofs.Legal.{Allowed, AllKept, entry_kept, start_kept, join_kept, leave_kept, close_kept, cancel_kept, ask_kept, end_kept, action_fact, member_fact, at_action_from, started_number, actions_numbered, numbered_among, state_is_lem, parent_there, child_of, member_action, legal_induction}
+use Rattle.lra_laws.proofs.GoodKept.{Spares, untouched, before_end, EndsAgain, EndsStand, ends_again_after, ends_again_now, settles_decided, settles_ended}
 
 -- ---- states
 
@@ -64,7 +64,7 @@ action_is_from test J a s h k = ap (λ (o : Option ActionStatus). option_map_or 
 -- ---- what a kept rule says of states
 
 -- an action that may be closed is Active
-pub close_active : (f : Facts) (a : ℕ) (c : Cause) → at_action (may_close c f) f a ≡ true → state_is is_active f a ≡ true
+pub close_active : (f : Facts) (a : ℕ) (c : Cause) → at_action (may_close c f) f a ≡ true → status_is is_active f a ≡ true
 close_active f a c h = one c (f.action a) h
   where
     one : (c : Cause) (o : Option ActionFacts) → option_map_or (may_close c f) o false ≡ true → option_map_or (λ (x : ActionFacts). is_active x.status) o false ≡ true
@@ -109,7 +109,7 @@ spares_ended v t J l by m d k a ended below = record { no_child = no_child d rul
     rules = (entry_kept v t (facts_of J) (record { by = by; moment = m; deed = d }) k.unbroken).deed
 
     -- a test of a state by the facts that holds of an action which has ended
-    not_here : (test : ActionStatus → Bool) → ((s : ActionStatus) → test s ≡ true → has_ended s ≡ true → ⊥) → (b c : ℕ) → b ≡ c → action_is has_ended J c ≡ true → state_is test (facts_of J) b ≡ true → ⊥
+    not_here : (test : ActionStatus → Bool) → ((s : ActionStatus) → test s ≡ true → has_ended s ≡ true → ⊥) → (b c : ℕ) → b ≡ c → action_is has_ended J c ≡ true → status_is test (facts_of J) b ≡ true → ⊥
     not_here test apart b c e h g = not_in_both test has_ended apart J c (ap (action_is test J) (sym e) ∙ sym (state_is_lem v t J l test b) ∙ g) h
 
     no_child : (d : Deed) → AllKept (deed_rules v t (facts_of J) m d) → child_given a d ≡ None
@@ -127,7 +127,7 @@ spares_ended v t J l by m d k a ended below = record { no_child = no_child d rul
     no_leave (Leave q) r p h =
         false_from_ne_true (q == p) (λ g.
         let its = ap (action_of J) (eqb-true q p g) ∙ (member_action v t J l a p h).1 in
-        let active = (member_fact (λ (x : MemberFacts). state_is is_active (facts_of J) x.action) J q (leave_kept v t (facts_of J) m q r).active).1 in
+        let active = (member_fact (λ (x : MemberFacts). status_is is_active (facts_of J) x.action) J q (leave_kept v t (facts_of J) m q r).active).1 in
         not_here is_active active_not_ended (action_of J q) a its ended active)
     no_leave _ r p h = refl
 
@@ -138,7 +138,7 @@ spares_ended v t J l by m d k a ended below = record { no_child = no_child d rul
         let x = member_facts J q in
         let may = (member_fact (may_ask ask.Compensate (facts_of J)) J q (ask_kept v t (facts_of J) m n q ask.Compensate r).may).1 in
         let time = (both (not x.is_asked && has_address ask.Compensate x.addresses) (is_time_for ask.Compensate (facts_of J) x) may).1 in
-        let cancelling = (both (state_is is_cancelling (facts_of J) x.action) (is_untouched x.status || is_completed x.status || is_compensating x.status) time).0 in
+        let cancelling = (both (status_is is_cancelling (facts_of J) x.action) (is_untouched x.status || is_completed x.status || is_compensating x.status) time).0 in
         not_here is_cancelling cancelling_not_ended (action_of J q) a its ended cancelling)
     no_ask (Ask n q kind) r p h = and-false (q == p)
     no_ask _ r p h = refl
@@ -160,8 +160,8 @@ spares_ended v t J l by m d k a ended below = record { no_child = no_child d rul
         its_parent : (b == c) ≡ true → parent J b ≡ Some a
         its_parent g = ap (parent J) (eqb-true b c g) ∙ child_of v t J l a c h
 
-        of_parent : (test : ActionStatus → Bool) → (b == c) ≡ true → parent_is test (facts_of J) (action_facts J b) ≡ true → state_is test (facts_of J) a ≡ true
-        of_parent test g i = ap (λ (o : Option ℕ). option_map_or (state_is test (facts_of J)) o false) (sym (its_parent g)) ∙ i
+        of_parent : (test : ActionStatus → Bool) → (b == c) ≡ true → parent_is test (facts_of J) (action_facts J b) ≡ true → status_is test (facts_of J) a ≡ true
+        of_parent test g i = ap (λ (o : Option ℕ). option_map_or (status_is test (facts_of J)) o false) (sym (its_parent g)) ∙ i
 
         turned : (b == c) ≡ true → (is_active (action_facts J b).status ≡ true) ⊎ (parent_is is_active (facts_of J) (action_facts J b) ≡ true) ⊎ (parent_is is_cancelling (facts_of J) (action_facts J b) ≡ true) → ⊥
         turned g (inl i) = not_here is_active active_not_ended b c (eqb-true b c g) (below c h) (at_action_from (λ (x : ActionFacts). is_active x.status) J b fact.0 i)

@@ -11,9 +11,9 @@ use Rattle.lra_model.specs.Ends.{action_is}
 use Rattle.lra_model.specs.Rules.{is_legal}
 use Rattle.lra_model.specs.GoodEnds.{StaysUnder}
 use Rattle.lra_model.specs.Tallies.{least_failed}
-use Rattle.lra_model.proofs.Tested.{both, and_intro}
-use Rattle.lra_model.proofs.Legal.{members_numbered, range_among}
-use Rattle.lra_model.proofs.GoodLaw.{good_ends}
+use Rattle.lra_laws.proofs.Tested.{both, and_intro}
+use Rattle.lra_laws.proofs.Legal.{members_numbered, range_among}
+use Rattle.lra_laws.proofs.GoodLaw.{good_ends}
 
 -- what is found is among them, and passes
 find_passes : (f : ℕ → Bool) (xs : List ℕ) (p : ℕ) → find f xs ≡ Some p → (is_among xs p ≡ true) × (f p ≡ true)

@@ -12,8 +12,8 @@ use Rattle.lra_model.specs.History.{History, actions, is_among}
 use Rattle.lra_model.specs.Actions.{parent, top_within, top, is_within, is_under, action_status, was_cancelled}
 use Rattle.lra_model.specs.Rules.{is_legal}
 use Rattle.lra_model.specs.GoodEnds.{cancelled_within, was_cancelled_below}
-use Rattle.lra_model.proofs.Legal.{actions_numbered, numbered_among, status_is_there, parent_there}
-use Rattle.lra_model.proofs.GoodLaw.{cancels, was_cancelled_lem}
+use Rattle.lra_laws.proofs.Legal.{actions_numbered, numbered_among, status_is_there, parent_there}
+use Rattle.lra_laws.proofs.GoodLaw.{cancels, was_cancelled_lem}
 
 -- each step of a walk reads an action, and what the walk is at its parent; two walks with steps enough are one
 walk_enough : {X : Type 0} (J : History) → ((a b : ℕ) → parent J a ≡ Some b → b < a) → (f : ℕ → ℕ → X) (g : ℕ → Option X → X)

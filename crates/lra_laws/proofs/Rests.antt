@@ -26,14 +26,14 @@ use Rattle.lra_model.specs.Actions.{status_given, action_status}
 use Rattle.lra_model.specs.Members.{has_left, was_asked, Heard, heard_at, decides, decided, by_decision, member_status}
 use Rattle.lra_model.specs.Ends.{settles, is_settled, ends_as, right_end}
 use Rattle.lra_model.specs.Facts.{ActionFacts, MemberFacts, action_facts, member_facts, facts_of}
-use Rattle.lra_model.specs.Tests.{at_action, state_is, parent_is, may_close, may_cancel, may_skip}
+use Rattle.lra_model.specs.Tests.{at_action, status_is, parent_is, may_close, may_cancel, may_skip}
 use Rattle.lra_model.specs.Rules.{deed_rules}
 use Rattle.lra_model.specs.Settling.{is_settling, may_be_skipped, by_parent, next_settling}
-use Rattle.lra_model.proofs.Push.{step, actions_push, members_push, action_status_push, decided_push}
-use Rattle.lra_model.proofs.Tested.{both}
-use Rattle.lra_model.proofs.Legal.{Allowed, AllKept, entry_kept, close_kept, cancel_kept, skip_kept, end_kept, action_fact, member_fact}
-use Rattle.lra_model.proofs.Writes.{MayWrite}
-use Rattle.lra_model.proofs.Settled.{settling_allowed}
+use Rattle.lra_laws.proofs.Push.{step, actions_push, members_push, action_status_push, decided_push}
+use Rattle.lra_laws.proofs.Tested.{both}
+use Rattle.lra_laws.proofs.Legal.{Allowed, AllKept, entry_kept, close_kept, cancel_kept, skip_kept, end_kept, action_fact, member_fact}
+use Rattle.lra_laws.proofs.Writes.{MayWrite}
+use Rattle.lra_laws.proofs.Settled.{settling_allowed}
 
 -- ---- how much may be left to settle
 
@@ -256,9 +256,9 @@ settling_lessens v t J by m d k h = by_deed d h (entry_kept v t (facts_of J) (re
     by_deed (Skip p) s r =
         let f = member_fact (may_skip (facts_of J)) J p (skip_kept v t (facts_of J) m p r).may in
         let x : MemberFacts = member_facts J p in
-        let a = both (state_is is_closing (facts_of J) x.action && is_untouched x.status && not x.addresses.complete) x.addresses.compensate f.1 in
-        let b = both (state_is is_closing (facts_of J) x.action && is_untouched x.status) (not x.addresses.complete) a.0 in
-        skip_lessens J by m p f.0 (both (state_is is_closing (facts_of J) x.action) (is_untouched x.status) b.0).1
+        let a = both (status_is is_closing (facts_of J) x.action && is_untouched x.status && not x.addresses.complete) x.addresses.compensate f.1 in
+        let b = both (status_is is_closing (facts_of J) x.action && is_untouched x.status) (not x.addresses.complete) a.0 in
+        skip_lessens J by m p f.0 (both (status_is is_closing (facts_of J) x.action) (is_untouched x.status) b.0).1
     by_deed (End a z) s r =
         let k = end_kept v t (facts_of J) m a z r in
         let f = action_fact (λ (x : ActionFacts). x.settled) J a k.settled in

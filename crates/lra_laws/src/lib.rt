@@ -1,4 +1,6 @@
-//! Laws of histories: public functions that do nothing, whose contracts say what holds of every history.
+//! Laws of histories: public functions that do nothing, whose contracts say what holds of every history. The lemmas about
+//! the definitions of `lra_model`, which every crate above cites, stand in `proofs/`.
+#![tactic(auto)]
 
 ghost use Rattle.lra_model.specs.GoodEnds.{LegalHistoriesHaveGoodEnds};
 ghost use Rattle.lra_model.specs.Upgrade.{VersionTwoKeepsLegal};

@@ -15,8 +15,8 @@ use Rattle.lra_model.specs.Members.{Asked, asked_at, ask_of, ask_direction, stan
 use Rattle.lra_model.specs.Facts.{facts_of}
 use Rattle.lra_model.specs.Tests.{may_reply}
 use Rattle.lra_model.specs.Rules.{is_legal}
-use Rattle.lra_model.proofs.Push.{step, asks_push, ask_of_push, is_outstanding_push}
-use Rattle.lra_model.proofs.Legal.{Allowed, snoc_induction, legal_induction, among_push, member_there_push, members_named, members_named_there}
+use Rattle.lra_laws.proofs.Push.{step, asks_push, ask_of_push, is_outstanding_push}
+use Rattle.lra_laws.proofs.Legal.{Allowed, snoc_induction, legal_induction, among_push, member_there_push, members_named, members_named_there}
 
 -- an ask that is outstanding is there
 pub outstanding_there : (J : History) (n : ℕ) → is_outstanding J n ≡ true → is_among (asks J) n ≡ true

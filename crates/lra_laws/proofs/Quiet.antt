@@ -15,7 +15,7 @@ use Rattle.lra_model.specs.Facts.{ActionFacts, facts_of}
 use Rattle.lra_model.specs.Tests.{at_action, may_close, may_cancel, may_skip}
 use Rattle.lra_model.specs.Rules.{deed_rules, allows}
 use Rattle.lra_model.specs.Settling.{is_settling, IsQuiet, may_be_skipped, by_parent, next_settling}
-use Rattle.lra_model.proofs.Legal.{AllKept, allowed, entry_kept, close_kept, cancel_kept, skip_kept, end_kept, action_fact, member_fact}
+use Rattle.lra_laws.proofs.Legal.{AllKept, allowed, entry_kept, close_kept, cancel_kept, skip_kept, end_kept, action_fact, member_fact}
 
 -- ---- lists that give nothing
 

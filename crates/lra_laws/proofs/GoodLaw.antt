@@ -12,21 +12,21 @@ use Rattle.lra_model.specs.declared.status.MemberStatus.TheVariants as member
 use Rattle.lra_model.specs.declared.asks.Cause.{Cause}
 use Rattle.lra_model.specs.declared.entry.Deed.{Deed}
 use Rattle.lra_model.specs.declared.entry.Deed.TheVariants.{Start, Close, Cancel, End}
-use Rattle.lra_model.specs.Words.{when, is_active, has_ended, has_failed, is_cancelled, member_has_failed, same_status, is_completed, is_compensated, is_done_completing, is_done_compensating}
+use Rattle.lra_model.specs.Words.{when, is_active, has_ended, has_failed, has_finished_cancelling, member_has_failed, same_status, is_completed, is_compensated, is_done_completing, is_done_compensating}
 use Rattle.lra_model.specs.History.{History, actions, members, is_among}
 use Rattle.lra_model.specs.Actions.{parent, is_within, is_under, status_given, action_status, children, members_of, is_cancel_of, was_cancelled}
 use Rattle.lra_model.specs.Members.{action_of, stays, member_status}
 use Rattle.lra_model.specs.Ends.{staying, action_is, settles, is_settled, children_are_well, ends_as, right_end}
 use Rattle.lra_model.specs.Facts.{ActionFacts, facts_of}
 use Rattle.lra_model.specs.Rules.{is_legal}
-use Rattle.lra_model.specs.GoodEnds.{cancelled_within, was_cancelled_below, StaysUnder, IsKept, HasGoodEnd, LegalHistoriesHaveGoodEnds}
-use Rattle.lra_model.proofs.Push.{action_status_push, was_cancelled_push}
-use Rattle.lra_model.proofs.Tested.{both}
-use Rattle.lra_model.proofs.Legal.{Allowed, entry_kept, close_kept, end_kept, action_fact, started_number, actions_numbered, numbered_among, numbered_fresh, state_is_lem, status_is_there, parent_there, child_of, child_from, member_action, member_from, legal_induction}
-use Rattle.lra_model.proofs.GoodLists.{passes_at, fails_at, found_at, none_at}
-use Rattle.lra_model.proofs.GoodStatus.{completed_never_asked}
-use Rattle.lra_model.proofs.GoodKept.{staying_member, staying_from, EndsAgain, EndsStand}
-use Rattle.lra_model.proofs.GoodSpared.{close_active, same_status_true, ends_stand}
+use Rattle.lra_model.specs.GoodEnds.{cancelled_within, was_cancelled_below, StaysUnder, IsCompletedForGood, HasGoodEnd, LegalHistoriesHaveGoodEnds}
+use Rattle.lra_laws.proofs.Push.{action_status_push, was_cancelled_push}
+use Rattle.lra_laws.proofs.Tested.{both}
+use Rattle.lra_laws.proofs.Legal.{Allowed, entry_kept, close_kept, end_kept, action_fact, started_number, actions_numbered, numbered_among, numbered_fresh, state_is_lem, status_is_there, parent_there, child_of, child_from, member_action, member_from, legal_induction}
+use Rattle.lra_laws.proofs.GoodLists.{passes_at, fails_at, found_at, none_at}
+use Rattle.lra_laws.proofs.GoodStatus.{completed_never_asked}
+use Rattle.lra_laws.proofs.GoodKept.{staying_member, staying_from, EndsAgain, EndsStand}
+use Rattle.lra_laws.proofs.GoodSpared.{close_active, same_status_true, ends_stand}
 
 -- ---- an action was cancelled just where it is cancelling or has ended so
 
@@ -158,7 +158,7 @@ record HasCancelled (J : History) (a : ℕ) : Type 0 where
 has_cancelled : (J : History) (a : ℕ) → EndsAgain J a action.Cancelled → HasCancelled J a
 has_cancelled J a h = record {
   members = λ p k. compensated_from (member_status J p) (passes_at (λ q. is_compensated (member_status J q)) (staying J a) p right.0 k);
-  children = λ c k. ended (action_status J c) (passes_at (action_is is_cancelled J) (children J a) c (both (list_all (λ q. is_done_compensating (member_status J q)) (staying J a)) (list_all (action_is is_cancelled J) (children J a)) h.settled).1 k) (well_children J a right.1 c k);
+  children = λ c k. ended (action_status J c) (passes_at (action_is has_finished_cancelling J) (children J a) c (both (list_all (λ q. is_done_compensating (member_status J q)) (staying J a)) (list_all (action_is has_finished_cancelling J) (children J a)) h.settled).1 k) (well_children J a right.1 c k);
 }
   where
     chosen : (b : Bool) → cond b action.Cancelled action.FailedToCancel ≡ action.Cancelled → b ≡ true
@@ -168,7 +168,7 @@ has_cancelled J a h = record {
     right : (list_all (λ q. is_compensated (member_status J q)) (staying J a) ≡ true) × (children_are_well J a ≡ true)
     right = both (list_all (λ q. is_compensated (member_status J q)) (staying J a)) (children_are_well J a) (chosen (list_all (λ q. is_compensated (member_status J q)) (staying J a) && children_are_well J a) h.right)
 
-    ended : (o : Option ActionStatus) → option_map_or is_cancelled o false ≡ true → option_map_or has_failed o false ≡ false → o ≡ Some action.Cancelled
+    ended : (o : Option ActionStatus) → option_map_or has_finished_cancelling o false ≡ true → option_map_or has_failed o false ≡ false → o ≡ Some action.Cancelled
     ended (Some action.Cancelled) g i = refl
     ended _ g i = absurd cc
 
@@ -220,7 +220,7 @@ has_failed_by J a s failed h = by_state s failed h
         either is_done_completing is_completed not_completed (both (list_all (λ q. is_done_completing (member_status J q)) (staying J a)) (list_all (action_is has_ended J) (children J a)) i.settled).0
         (list_all (λ q. is_completed (member_status J q)) (staying J a)) refl (left_out (list_all (λ q. is_completed (member_status J q)) (staying J a) && children_are_well J a) action.Closed action.FailedToClose refl refl i.right)
     by_state action.FailedToCancel g i =
-        either is_done_compensating is_compensated not_compensated (both (list_all (λ q. is_done_compensating (member_status J q)) (staying J a)) (list_all (action_is is_cancelled J) (children J a)) i.settled).0
+        either is_done_compensating is_compensated not_compensated (both (list_all (λ q. is_done_compensating (member_status J q)) (staying J a)) (list_all (action_is has_finished_cancelling J) (children J a)) i.settled).0
         (list_all (λ q. is_compensated (member_status J q)) (staying J a)) refl (left_out (list_all (λ q. is_compensated (member_status J q)) (staying J a) && children_are_well J a) action.Cancelled action.FailedToCancel refl refl i.right)
     by_state _ g i = absurd cc
 
@@ -419,7 +419,7 @@ good_end J k t = record {
     Either : ℕ → Type 0
     Either p = ((member_status J p ≡ member.Completed) × (was_cancelled_below J t (action_of J p) ≡ false)) ⊎ ((member_status J p ≡ member.Compensated) × (was_cancelled_below J t (action_of J p) ≡ true))
 
-    completed : (p : ℕ) → Either p → was_cancelled_below J t (action_of J p) ≡ false → IsKept J p
+    completed : (p : ℕ) → Either p → was_cancelled_below J t (action_of J p) ≡ false → IsCompletedForGood J p
     completed p (inl r) g = record { completed = r.0; never_asked = completed_never_asked J p r.0 }
     completed p (inr r) g = absurd (true≢false (sym r.1 ∙ g))
 

@@ -13,20 +13,20 @@ use Rattle.lra_model.specs.declared.asks.AskKind.TheVariants as ask
 use Rattle.lra_model.specs.declared.entry.Deed.{Deed}
 use Rattle.lra_model.specs.declared.entry.Entry.{Entry}
 use Rattle.lra_model.specs.Addresses.{Addresses}
-use Rattle.lra_model.specs.Words.{has_ended, has_failed, is_cancelled, is_completed, is_compensated, is_done_completing, is_done_compensating}
+use Rattle.lra_model.specs.Words.{has_ended, has_failed, has_finished_cancelling, is_completed, is_compensated, is_done_completing, is_done_compensating}
 use Rattle.lra_model.specs.History.{History, is_among}
 use Rattle.lra_model.specs.Actions.{status_given, action_status, child_given, children, member_given, members_of}
 use Rattle.lra_model.specs.Members.{addresses_of, is_leave_of, has_left, stays, is_ask_for, member_status}
 use Rattle.lra_model.specs.Ends.{staying, action_is, settles, children_are_well, ends_as}
 use Rattle.lra_model.specs.Rules.{is_legal}
-use Rattle.lra_model.proofs.Push.{action_status_push, children_push, members_of_push, has_left_push}
-use Rattle.lra_model.proofs.Tested.{both, and_intro}
-use Rattle.lra_model.proofs.Legal.{addresses_stay, member_action}
-use Rattle.lra_model.proofs.GoodLists.{list_all_same, list_any_same, filter_same, passes_at, among_filter}
-use Rattle.lra_model.proofs.GoodStatus.{is_decided, member_status_kept}
+use Rattle.lra_laws.proofs.Push.{action_status_push, children_push, members_of_push, has_left_push}
+use Rattle.lra_laws.proofs.Tested.{both, and_intro}
+use Rattle.lra_laws.proofs.Legal.{addresses_stay, member_action}
+use Rattle.lra_laws.proofs.GoodLists.{list_all_same, list_any_same, filter_same, passes_at, among_filter}
+use Rattle.lra_laws.proofs.GoodStatus.{is_decided, member_status_kept}
 
 -- an action that ended cancelled has ended
-cancelled_has_ended : (s : ActionStatus) → is_cancelled s ≡ true → has_ended s ≡ true
+cancelled_has_ended : (s : ActionStatus) → has_finished_cancelling s ≡ true → has_ended s ≡ true
 cancelled_has_ended action.Cancelled h = refl
 cancelled_has_ended action.FailedToCancel h = refl
 cancelled_has_ended _ h = absurd cc
@@ -90,7 +90,7 @@ children_same J e a u test =
 
 settles_same : (J : History) (e : Entry) (a : ℕ) → Untouched J e a → (s : Option ActionStatus) → settles s (J ++ e ∷ []) a ≡ settles s J a
 settles_same J e a u (Some action.Closing) = ap₂ (λ (b c : Bool). b && c) (members_same J e a u is_done_completing) (children_same J e a u has_ended)
-settles_same J e a u (Some action.Cancelling) = ap₂ (λ (b c : Bool). b && c) (members_same J e a u is_done_compensating) (children_same J e a u is_cancelled)
+settles_same J e a u (Some action.Cancelling) = ap₂ (λ (b c : Bool). b && c) (members_same J e a u is_done_compensating) (children_same J e a u has_finished_cancelling)
 settles_same J e a u _ = refl
 
 well_same : (J : History) (e : Entry) (a : ℕ) → Untouched J e a → children_are_well (J ++ e ∷ []) a ≡ children_are_well J a
@@ -145,7 +145,7 @@ settles_decided J a action.Closing h p k = decided (member_status J p) (passes_a
     decided member.Completed g = refl
     decided member.FailedToComplete g = refl
     decided _ g = absurd cc
-settles_decided J a action.Cancelling h p k = decided (member_status J p) (passes_at (λ q. is_done_compensating (member_status J q)) (staying J a) p (both (list_all (λ q. is_done_compensating (member_status J q)) (staying J a)) (list_all (action_is is_cancelled J) (children J a)) h).0 k)
+settles_decided J a action.Cancelling h p k = decided (member_status J p) (passes_at (λ q. is_done_compensating (member_status J q)) (staying J a) p (both (list_all (λ q. is_done_compensating (member_status J q)) (staying J a)) (list_all (action_is has_finished_cancelling J) (children J a)) h).0 k)
   where
     decided : (x : MemberStatus) → is_done_compensating x ≡ true → is_decided x ≡ true
     decided member.Compensated g = refl
@@ -157,9 +157,9 @@ settles_decided J a _ h p k = absurd cc
 -- and the actions nested in it have ended
 pub settles_ended : (J : History) (a : ℕ) (s : ActionStatus) → settles (Some s) J a ≡ true → (c : ℕ) → is_among (children J a) c ≡ true → action_is has_ended J c ≡ true
 settles_ended J a action.Closing h c k = passes_at (action_is has_ended J) (children J a) c (both (list_all (λ q. is_done_completing (member_status J q)) (staying J a)) (list_all (action_is has_ended J) (children J a)) h).1 k
-settles_ended J a action.Cancelling h c k = ended (action_status J c) (passes_at (action_is is_cancelled J) (children J a) c (both (list_all (λ q. is_done_compensating (member_status J q)) (staying J a)) (list_all (action_is is_cancelled J) (children J a)) h).1 k)
+settles_ended J a action.Cancelling h c k = ended (action_status J c) (passes_at (action_is has_finished_cancelling J) (children J a) c (both (list_all (λ q. is_done_compensating (member_status J q)) (staying J a)) (list_all (action_is has_finished_cancelling J) (children J a)) h).1 k)
   where
-    ended : (o : Option ActionStatus) → option_map_or is_cancelled o false ≡ true → option_map_or has_ended o false ≡ true
+    ended : (o : Option ActionStatus) → option_map_or has_finished_cancelling o false ≡ true → option_map_or has_ended o false ≡ true
     ended None g = absurd cc
     ended (Some s) g = cancelled_has_ended s g
 settles_ended J a _ h c k = absurd cc

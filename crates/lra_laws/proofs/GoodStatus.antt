@@ -17,8 +17,8 @@ use Rattle.lra_model.specs.declared.entry.Entry.{Entry}
 use Rattle.lra_model.specs.Words.{when, is_decisive, same_kind, same_direction}
 use Rattle.lra_model.specs.History.{History, steps}
 use Rattle.lra_model.specs.Members.{has_left, is_leave_of, is_ask_for, was_asked, status_direction, ask_direction, Asked, asked_at, ask_of, Heard, heard_at, decides, decided, by_decision, member_status}
-use Rattle.lra_model.proofs.Push.{step, has_left_push, was_asked_push, ask_of_push, decided_push}
-use Rattle.lra_model.proofs.Legal.{snoc_induction}
+use Rattle.lra_laws.proofs.Push.{step, has_left_push, was_asked_push, ask_of_push, decided_push}
+use Rattle.lra_laws.proofs.Legal.{snoc_induction}
 
 -- ---- an ask in compensation is of a member that was asked to compensate
 
