@@ -23,7 +23,8 @@ use Rattle.lra_laws.proofs.RowLists.{eqb_self, among_apart, map_within, count_wi
 use Rattle.lra_laws.proofs.Told.{entry, more}
 use Rattle.lra_laws.proofs.MemberWords.{concerns, quiet_row}
 use Rattle.lra_laws.proofs.MemberRows.{members_stay, joined_row}
-use Rattle.lra_laws.proofs.ActionWords.{counts_in, staying_count, is_parent, children_count, top_stays, status_kept, limit_kept, actions_stay}
+use Rattle.lra_laws.proofs.Tops.{top_stays}
+use Rattle.lra_laws.proofs.ActionWords.{counts_in, staying_count, is_parent, children_count, status_kept, limit_kept, actions_stay}
 
 -- a row, by its parts
 pub row_is : (K : History) (a : ℕ) (r : ActionRow) → parent K a ≡ r.parent → top K a ≡ r.top → unwrap_or (action_status K a) action.Active ≡ r.status → (limit_in_force K a) ≡ r.limit

@@ -19,7 +19,8 @@ use Rattle.lra_laws.proofs.Legal.{Allowed, legal_more, numbered_fresh, actions_n
 use Rattle.lra_laws.specs.Rows.{ActionRow, member_row, action_row, state_of, count_staying, count_children, counts_as, is_left_to_complete, is_left_to_compensate, is_uncompleted, is_uncompensated, is_unended, is_uncancelled, one, with_new_child, change_row, new_action, new_top}
 use Rattle.lra_laws.proofs.RowLists.{eqb_self, eqb_flip, among_apart, map_within, count_within, count_none, count_push, rows_changed, rows_more, row_there}
 use Rattle.lra_laws.proofs.Told.{entry, more, StartTold}
-use Rattle.lra_laws.proofs.ActionWords.{counts_in, staying_count, is_parent, children_count, top_stays, top_by_parent, status_kept, limit_kept}
+use Rattle.lra_laws.proofs.Tops.{top_stays, top_by_parent}
+use Rattle.lra_laws.proofs.ActionWords.{counts_in, staying_count, is_parent, children_count, status_kept, limit_kept}
 use Rattle.lra_laws.proofs.ActionRows.{row_is, staying_still}
 
 -- an action has the next number: it is new

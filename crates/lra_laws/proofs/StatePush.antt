@@ -76,29 +76,29 @@ turned v t J by m d c now l k x no_clerk no_ask no_void =
 
 -- ---- each deed
 
-replied : (v : Version) (t : List ℕ → Bool) (J : History) (by m n : ℕ) (o : Outcome) (x : Asked) → is_legal v t J ≡ true → Allowed v t J (entry by m (Reply n o)) → ReplyTold J n x → AsksListed J → AsksStand J
-    → state_of (more J by m (Reply n o)) ≡ after_deed m (Reply n o) (at_moment m (state_of J))
-replied v t J by m n o x l k told list stand =
-    one_member v t J by m (Reply n o) x.member (with_reply o) (length (asks J)) l k refl refl there
+-- a reply changes the row of the one that was asked
+pub reply_at : (v : Version) (t : List ℕ → Bool) (J : History) (by m n : ℕ) (o : Outcome) (x : Asked) → is_legal v t J ≡ true → Allowed v t J (entry by m (Reply n o)) → ReplyTold J n x → AsksListed J → AsksStand J
+    → state_of (more J by m (Reply n o)) ≡ change_member (with_reply o) x.member (at_moment m (state_of J))
+reply_at v t J by m n o x l k told list stand =
+    one_member v t J by m (Reply n o) x.member (with_reply o) (length (asks J)) l k refl refl (list.there n x told.asked)
     (λ q h. ap (λ (a : Option Asked). option_map_or (λ (y : Asked). y.member == q) a false) told.asked ∙ h)
     (λ a. refl) (λ a. refl) refl refl (asks_kept J by m (Reply n o) refl)
-    (reply_row J by m n o x told.asked (list.went n x told.asked) stands) same
-    ∙ ap (λ (p : ℕ). change_member (with_reply o) p (at_moment m (state_of J)))
-    (sym (place_is n (member_row J) (members J) x.member (members_numbered v t J l) there
-    (ap (λ (s : Option Standing). stands_for s n) stands ∙ eqb_self n) (stands_alone J n x told stand)))
+    (reply_row J by m n o x told.asked (list.went n x told.asked) (replied_stands J n x told stand)) same
   where
-    there : is_among (members J) x.member ≡ true
-    there = list.there n x told.asked
-
-    stands : standing J x.member ≡ Some (record { number = n; kind = x.kind; direction = x.direction })
-    stands = replied_stands J n x told stand
-
     of_row : (s : Option Standing) (r : MemberRow) → (option_map_or (λ (y : Standing). with_reply_to y o r) s r).action ≡ r.action
     of_row None r = refl
     of_row (Some y) r = refl
 
     same : (with_reply o (member_row J x.member)).action ≡ (member_row J x.member).action
     same = of_row (standing J x.member) (member_row J x.member)
+
+replied : (v : Version) (t : List ℕ → Bool) (J : History) (by m n : ℕ) (o : Outcome) (x : Asked) → is_legal v t J ≡ true → Allowed v t J (entry by m (Reply n o)) → ReplyTold J n x → AsksListed J → AsksStand J
+    → state_of (more J by m (Reply n o)) ≡ after_deed m (Reply n o) (at_moment m (state_of J))
+replied v t J by m n o x l k told list stand =
+    reply_at v t J by m n o x l k told list stand
+    ∙ ap (λ (p : ℕ). change_member (with_reply o) p (at_moment m (state_of J)))
+    (sym (place_is n (member_row J) (members J) x.member (members_numbered v t J l) (list.there n x told.asked)
+    (ap (λ (s : Option Standing). stands_for s n) (replied_stands J n x told stand) ∙ eqb_self n) (stands_alone J n x told stand)))
 
 pub push_by_deed : (v : Version) (t : List ℕ → Bool) (J : History) (by m : ℕ) (d : Deed) → is_legal v t J ≡ true → Allowed v t J (entry by m d) → Told J by d → state_of (more J by m d) ≡ after_deed m d (at_moment m (state_of J))
 push_by_deed v t J by m Enrol l k x =

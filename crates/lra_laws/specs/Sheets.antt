@@ -1,0 +1,149 @@
+-- What tables keep of a history: the rows that the rules read, and what else is asked of an action, of a member and of an ask.
+use Rattle.std.specs.Prelude.{ℕ, suc, ◌+◌, Bool, cond, List, [], ◌∷◌, ◌++◌, map, Option, Some, None, unwrap_or}
+use Rattle.std.specs.Option.{option_map_or}
+use Rattle.std.specs.List.{filter_map}
+use Rattle.lra_model.specs.declared.asks.AskKind.{AskKind}
+use Rattle.lra_model.specs.declared.asks.AskKind.TheVariants as ask
+use Rattle.lra_model.specs.declared.asks.Outcome.{Outcome}
+use Rattle.lra_model.specs.declared.entry.Deed.{Deed}
+use Rattle.lra_model.specs.declared.entry.Deed.TheVariants.{Start, Join, Ask, Reply}
+use Rattle.lra_model.specs.declared.entry.Entry.{Entry}
+use Rattle.lra_model.specs.Addresses.{Addresses}
+use Rattle.lra_model.specs.Words.{is_undecided}
+use Rattle.lra_model.specs.History.{History, steps, actions, members}
+use Rattle.lra_model.specs.Actions.{children, members_of}
+use Rattle.lra_model.specs.Depths.{depth}
+use Rattle.lra_model.specs.Members.{Asked, asked_at, addresses_of}
+use Rattle.lra_model.specs.Wants.{stage_of, repeat_count, last_repeat}
+use Rattle.lra_laws.specs.Rows.{State, MemberRow, state_of, row_at, change_row, change_member, way_asked, with_reply, after_deed}
+
+-- where an action stands among others: how deep it is nested, the actions nested in it, and its members
+pub record Nest : Type 0 where
+  pub depth : ℕ
+  pub children : List ℕ
+  pub members : List ℕ
+
+-- how often a member gave no final answer in a stage, and when it last did; 0 where it never did
+pub record Repeats : Type 0 where
+  pub count : ℕ
+  pub last : ℕ
+
+-- how a member is reached, and its repeats in each stage
+pub record Contact : Type 0 where
+  pub addresses : Addresses
+  pub completing : Repeats
+  pub compensating : Repeats
+  pub forgetting : Repeats
+  pub telling : Repeats
+
+-- the state with all that tables keep beside it: by the number of the action, of the member and of the ask
+pub record Sheet : Type 0 where
+  pub state : State
+  pub nests : List Nest
+  pub contacts : List Contact
+  pub asks : List Asked
+
+-- ---- what the sheet is, by the words of the history
+
+-- where an action stands
+abbrev pub nest_of : History → ℕ → Nest
+nest_of J a = record { depth = depth J a; children = children J a; members = members_of J a }
+
+-- a member's repeats in a stage
+abbrev pub repeats_in : History → ℕ → AskKind → Repeats
+repeats_in J p stage = record { count = repeat_count J p stage; last = unwrap_or (last_repeat J p stage) 0 }
+
+-- how a member is reached, and its repeats
+abbrev pub contact_of : History → ℕ → Contact
+contact_of J p = record {
+  addresses = addresses_of J p;
+  completing = repeats_in J p ask.Complete;
+  compensating = repeats_in J p ask.Compensate;
+  forgetting = repeats_in J p ask.Forget;
+  telling = repeats_in J p ask.After;
+}
+
+-- the asks that were made, in order
+unfoldable pub asks_made : History → List Asked
+asks_made J = filter_map asked_at (steps J)
+
+-- the sheet that stands for a history
+abbrev pub sheet_of : History → Sheet
+sheet_of J = record { state = state_of J; nests = map (nest_of J) (actions J); contacts = map (contact_of J) (members J); asks = asks_made J }
+
+-- ---- one more entry
+
+-- one more number for an action's children
+abbrev pub with_child_number : ℕ → Nest → Nest
+with_child_number c n = record n { children = n.children ++ c ∷ [] }
+
+-- one more number for an action's members
+abbrev pub with_member_number : ℕ → Nest → Nest
+with_member_number p n = record n { members = n.members ++ p ∷ [] }
+
+-- how deep a new action is nested
+abbrev pub new_depth : List Nest → Option ℕ → ℕ
+new_depth nests parent = option_map_or (λ b. option_map_or (λ (n : Nest). suc n.depth) (row_at nests b) 1) parent 1
+
+-- a new action has no children and no members
+abbrev pub new_nest : ℕ → Nest
+new_nest depth = record { depth = depth; children = []; members = [] }
+
+-- where the actions stand after one more deed
+abbrev pub nests_after : Deed → List Nest → List Nest
+nests_after (Start c parent limit) nests = option_map_or (λ b. change_row (with_child_number c) b nests) parent nests ++ new_nest (new_depth nests parent) ∷ []
+nests_after (Join p a uris) nests = change_row (with_member_number p) a nests
+nests_after _ nests = nests
+
+-- no repeat yet
+abbrev pub no_repeats : Repeats
+no_repeats = record { count = 0; last = 0 }
+
+-- one that has just joined has none in any stage
+abbrev pub new_contact : Addresses → Contact
+new_contact uris = record { addresses = uris; completing = no_repeats; compensating = no_repeats; forgetting = no_repeats; telling = no_repeats }
+
+-- one more repeat, at a moment
+abbrev pub again : ℕ → Repeats → Repeats
+again m r = record { count = r.count + 1; last = m }
+
+-- one more in a stage
+abbrev pub with_repeat : ℕ → AskKind → Contact → Contact
+with_repeat m ask.Complete c = record c { completing = again m c.completing }
+with_repeat m ask.Compensate c = record c { compensating = again m c.compensating }
+with_repeat m ask.Forget c = record c { forgetting = again m c.forgetting }
+with_repeat m ask.After c = record c { telling = again m c.telling }
+with_repeat m ask.Status c = c
+
+-- a member that answers an ask at a moment
+abbrev pub with_answer : ℕ → Outcome → Asked → Contact → Contact
+with_answer m o x c = cond (is_undecided o) (with_repeat m (stage_of x.kind x.direction) c) c
+
+-- how members are reached after one more deed at a moment
+abbrev pub contacts_after : ℕ → List Asked → Deed → List Contact → List Contact
+contacts_after m asks (Join p a uris) contacts = contacts ++ new_contact uris ∷ []
+contacts_after m asks (Reply n o) contacts = option_map_or (λ (x : Asked). change_row (with_answer m o x) x.member contacts) (row_at asks n) contacts
+contacts_after m asks _ contacts = contacts
+
+-- an ask of a member, as its row has it
+abbrev pub new_ask_by : State → ℕ → ℕ → AskKind → List Asked
+new_ask_by s n p kind = option_map_or (λ (r : MemberRow). record { number = n; member = p; kind = kind; direction = way_asked kind r.status } ∷ []) (row_at s.members p) []
+
+-- the asks after one more deed
+abbrev pub asks_after : State → Deed → List Asked → List Asked
+asks_after s (Ask n p kind) asks = asks ++ new_ask_by s n p kind
+asks_after s _ asks = asks
+
+-- the state after one more deed at a moment: the one that answers is found by the ask
+abbrev pub state_after : ℕ → List Asked → Deed → State → State
+state_after m asks (Reply n o) s = option_map_or (λ (x : Asked). change_member (with_reply o) x.member s) (row_at asks n) s
+state_after m asks d s = after_deed m d s
+
+-- the sheet after one more entry, where it is allowed
+abbrev pub sheet_after : Entry → Sheet → Sheet
+sheet_after e s = record {
+  state = state_after e.moment s.asks e.deed (record s.state { moment = e.moment });
+  nests = nests_after e.deed s.nests;
+  contacts = contacts_after e.moment s.asks e.deed s.contacts;
+  asks = asks_after s.state e.deed s.asks;
+}
