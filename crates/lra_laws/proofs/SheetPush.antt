@@ -1,5 +1,5 @@
 -- The sheet of a history after one more entry that is allowed.
-use Rattle.std.proofs.Common.{◌≡◌, ℕ, Bool, true, List, [], ◌∷◌, ◌++◌, map, Option, Some, refl, sym, ap, ◌∙◌}
+use Rattle.std.proofs.Common.{◌≡◌, ℕ, Bool, true, List, [], ◌∷◌, ◌++◌, map, Option, Some, refl, sym, ap, ◌∙◌, length-append}
 use Rattle.std.specs.Option.{option_map_or}
 use Rattle.lra_model.specs.declared.asks.Outcome.{Outcome}
 use Rattle.lra_model.specs.declared.entry.Deed.{Deed}
@@ -10,9 +10,9 @@ use Rattle.lra_model.specs.History.{History, members}
 use Rattle.lra_model.specs.Members.{Asked}
 use Rattle.lra_model.specs.Rules.{is_legal, allows}
 use Rattle.lra_laws.specs.Rows.{state_of, row_at, change_row, change_member, with_reply}
-use Rattle.lra_laws.specs.Sheets.{Contact, contact_of, asks_made, with_answer, contacts_after, state_after, sheet_of, sheet_after}
+use Rattle.lra_laws.specs.Sheets.{Sheet, StandsFor, contact_of, asks_made, with_answer, contacts_after, state_after, sheet_of, sheet_after}
 use Rattle.lra_laws.proofs.Push.{step}
-use Rattle.lra_laws.proofs.Legal.{Allowed, allowed}
+use Rattle.lra_laws.proofs.Legal.{Allowed, allowed, legal_more}
 use Rattle.lra_laws.proofs.Told.{entry, more, Told, told, ReplyTold}
 use Rattle.lra_laws.proofs.AskWords.{asks_listed, asks_stand}
 use Rattle.lra_laws.proofs.StatePush.{push_by_deed, reply_at}
@@ -41,6 +41,7 @@ state_push v t J by m d l k x = push_by_deed v t J by m d l k x
 
 push_allowed : (v : Version) (t : List ℕ → Bool) (J : History) (by m : ℕ) (d : Deed) → is_legal v t J ≡ true → Allowed v t J (entry by m d) → Told J by d → sheet_of (more J by m d) ≡ sheet_after (entry by m d) (sheet_of J)
 push_allowed v t J by m d l k x = λ i. record {
+  entries = length-append J (entry by m d ∷ []) i;
   state = state_push v t J by m d l k x i;
   nests = nests_push v t J by m d l k x i;
   contacts = contacts_push v t J by m d l x i;
@@ -50,3 +51,12 @@ push_allowed v t J by m d l k x = λ i. record {
 -- the sheet of a legal history, after an entry that is allowed
 pub sheet_push : (v : Version) (t : List ℕ → Bool) (J : History) (e : Entry) → is_legal v t J ≡ true → allows v t J e ≡ true → sheet_of (J ++ e ∷ []) ≡ sheet_after e (sheet_of J)
 sheet_push v t J e l k = let a = allowed v t J e k in push_allowed v t J e.by e.moment e.deed l a (told v t J e.by e.moment e.deed a)
+
+-- so it stands for the longer history
+pub StandsFor-push : (s : Sheet) (J : History) (e : Entry) (h : StandsFor s J) → allows h.version h.is_address J e ≡ true → StandsFor (sheet_after e s) (J ++ e ∷ [])
+StandsFor-push s J e h k = record {
+  version = h.version;
+  is_address = h.is_address;
+  legal = legal_more h.version h.is_address J e h.legal (allowed h.version h.is_address J e k);
+  sheet = ap (sheet_after e) h.sheet ∙ sym (sheet_push h.version h.is_address J e h.legal k);
+}

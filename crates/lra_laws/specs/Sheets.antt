@@ -1,10 +1,11 @@
 -- What tables keep of a history: the rows that the rules read, and what else is asked of an action, of a member and of an ask.
-use Rattle.std.specs.Prelude.{ℕ, suc, ◌+◌, Bool, cond, List, [], ◌∷◌, ◌++◌, map, Option, Some, None, unwrap_or}
+use Rattle.std.specs.Prelude.{◌≡◌, ℕ, suc, ◌+◌, Bool, true, cond, List, [], ◌∷◌, ◌++◌, length, map, Option, Some, None, unwrap_or}
 use Rattle.std.specs.Option.{option_map_or}
 use Rattle.std.specs.List.{filter_map}
 use Rattle.lra_model.specs.declared.asks.AskKind.{AskKind}
 use Rattle.lra_model.specs.declared.asks.AskKind.TheVariants as ask
 use Rattle.lra_model.specs.declared.asks.Outcome.{Outcome}
+use Rattle.lra_model.specs.declared.version.Version.{Version}
 use Rattle.lra_model.specs.declared.entry.Deed.{Deed}
 use Rattle.lra_model.specs.declared.entry.Deed.TheVariants.{Start, Join, Ask, Reply}
 use Rattle.lra_model.specs.declared.entry.Entry.{Entry}
@@ -15,6 +16,7 @@ use Rattle.lra_model.specs.Actions.{children, members_of}
 use Rattle.lra_model.specs.Depths.{depth}
 use Rattle.lra_model.specs.Members.{Asked, asked_at, addresses_of}
 use Rattle.lra_model.specs.Wants.{stage_of, repeat_count, last_repeat}
+use Rattle.lra_model.specs.Rules.{is_legal, allows}
 use Rattle.lra_laws.specs.Rows.{State, MemberRow, state_of, row_at, change_row, change_member, way_asked, with_reply, after_deed}
 
 -- where an action stands among others: how deep it is nested, the actions nested in it, and its members
@@ -36,8 +38,9 @@ pub record Contact : Type 0 where
   pub forgetting : Repeats
   pub telling : Repeats
 
--- the state with all that tables keep beside it: by the number of the action, of the member and of the ask
+-- the state with all that tables keep beside it: how many entries there are, and lists by the number of the action, of the member and of the ask
 pub record Sheet : Type 0 where
+  pub entries : ℕ
   pub state : State
   pub nests : List Nest
   pub contacts : List Contact
@@ -69,7 +72,20 @@ asks_made J = filter_map asked_at (steps J)
 
 -- the sheet that stands for a history
 abbrev pub sheet_of : History → Sheet
-sheet_of J = record { state = state_of J; nests = map (nest_of J) (actions J); contacts = map (contact_of J) (members J); asks = asks_made J }
+sheet_of J = record { entries = length J; state = state_of J; nests = map (nest_of J) (actions J); contacts = map (contact_of J) (members J); asks = asks_made J }
+
+-- the sheet stands for a legal history
+pub record StandsFor (s : Sheet) (J : History) : Type 0 where
+  pub version : Version
+  pub is_address : List ℕ → Bool
+  pub legal : is_legal version is_address J ≡ true
+  pub sheet : s ≡ sheet_of J
+
+-- the sheet stands for a legal history after which the entry is allowed
+pub record Follows (s : Sheet) (e : Entry) : Type 0 where
+  pub history : History
+  pub stands : StandsFor s history
+  pub allowed : allows stands.version stands.is_address history e ≡ true
 
 -- ---- one more entry
 
@@ -139,11 +155,15 @@ abbrev pub state_after : ℕ → List Asked → Deed → State → State
 state_after m asks (Reply n o) s = option_map_or (λ (x : Asked). change_member (with_reply o) x.member s) (row_at asks n) s
 state_after m asks d s = after_deed m d s
 
+-- the sheet after one more deed at a moment, but for the count of entries
+abbrev pub deed_done : ℕ → Deed → Sheet → Sheet
+deed_done m d s = record s {
+  state = state_after m s.asks d (record s.state { moment = m });
+  nests = nests_after d s.nests;
+  contacts = contacts_after m s.asks d s.contacts;
+  asks = asks_after s.state d s.asks;
+}
+
 -- the sheet after one more entry, where it is allowed
 abbrev pub sheet_after : Entry → Sheet → Sheet
-sheet_after e s = record {
-  state = state_after e.moment s.asks e.deed (record s.state { moment = e.moment });
-  nests = nests_after e.deed s.nests;
-  contacts = contacts_after e.moment s.asks e.deed s.contacts;
-  asks = asks_after s.state e.deed s.asks;
-}
+sheet_after e s = record (deed_done e.moment e.deed s) { entries = s.entries + 1 }
