@@ -1,0 +1,16 @@
+-- What a change of rows does.
+use Rattle.std.specs.Prelude.{ℕ, List, Option}
+use Rattle.lra_model.specs.declared.asks.Direction.{Direction}
+use Rattle.lra_model.specs.declared.asks.Direction.TheVariants as direction
+use Rattle.lra_model.specs.declared.asks.Outcome.{Outcome}
+use Rattle.lra_laws.specs.Rows.{change_row}
+
+-- the rows with that of n replaced, if it is there
+abbrev pub with_row : {R : Type 0} → ℕ → R → List R → List R
+with_row n r rows = change_row (λ _. r) n rows
+
+-- one of three by the way that a reply goes
+abbrev pub by_way : Direction → Option Outcome → Option Outcome → Option Outcome → Option Outcome
+by_way direction.Completion completion compensation neither = completion
+by_way direction.Compensation completion compensation neither = compensation
+by_way direction.Neither completion compensation neither = neither

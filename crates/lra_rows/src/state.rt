@@ -1,0 +1,159 @@
+//! What the rules read of a member and of an action.
+
+use lra_model::{ActionStatus, AskKind, Direction, MemberStatus, Outcome};
+use std::marker::Model;
+
+/// A limit in milliseconds, where 0 is none, and the moment that it counts from.
+#[derive(Clone, Copy)]
+pub(crate) struct Limit {
+    pub(crate) length: u64,
+    pub(crate) since: u64,
+}
+
+impl Model for Limit {
+    ghost use Rattle.lra_model.specs.Actions as words;
+
+    ghost Value = { words.Limit };
+
+    ghost view = { λ l. record { length_of = l.length; since = l.since } };
+
+    ghost inverse = { λ l. record { length = l.length_of; since = l.since } };
+}
+
+/// Which addresses a member has.
+#[derive(Clone, Copy)]
+pub(crate) struct Presence {
+    pub(crate) compensate: bool,
+    pub(crate) complete: bool,
+    pub(crate) status: bool,
+    pub(crate) forget: bool,
+    pub(crate) after: bool,
+}
+
+impl Model for Presence {
+    ghost use Rattle.lra_model.specs.Addresses as texts;
+
+    ghost Value = { texts.Presence };
+
+    ghost view = { λ p. record { compensate = p.compensate; complete = p.complete; status = p.status; forget = p.forget; after = p.after } };
+
+    ghost inverse = { λ p. record { compensate = p.compensate; complete = p.complete; status = p.status; forget = p.forget; after = p.after } };
+}
+
+/// An ask that its member hasn't answered; a restart may have made it void.
+#[derive(Clone, Copy)]
+pub(crate) struct Standing {
+    pub(crate) number: u64,
+    pub(crate) kind: AskKind,
+    pub(crate) direction: Direction,
+}
+
+impl Model for Standing {
+    ghost use Rattle.lra_laws.specs.Rows as rows;
+
+    ghost Value = { rows.Standing };
+
+    ghost view = { λ s. record { number = s.number; kind = s.kind; direction = s.direction } };
+
+    ghost inverse = { λ s. record { number = s.number; kind = s.kind; direction = s.direction } };
+}
+
+/// A member, as the rules see it.
+#[derive(Clone, Copy)]
+pub(crate) struct MemberState {
+    pub(crate) action: u64,
+    pub(crate) addresses: Presence,
+    pub(crate) status: MemberStatus,
+    /// The last reply in completion.
+    pub(crate) completion: Option<Outcome>,
+    /// The last reply in compensation.
+    pub(crate) compensation: Option<Outcome>,
+    pub(crate) asked: Option<Standing>,
+    pub(crate) has_forgotten: bool,
+    pub(crate) was_told: bool,
+}
+
+impl Model for MemberState {
+    ghost use Rattle.lra_laws.specs.Rows as rows;
+
+    ghost Value = { rows.MemberRow };
+
+    ghost view = { λ r. record {
+      action = r.action;
+      addresses = r.addresses;
+      status = r.status;
+      completion = r.completion;
+      compensation = r.compensation;
+      asked = r.asked;
+      has_forgotten = r.has_forgotten;
+      was_told = r.was_told;
+    } };
+
+    ghost inverse = { λ r. record {
+      action = r.action;
+      addresses = r.addresses;
+      status = r.status;
+      completion = r.completion;
+      compensation = r.compensation;
+      asked = r.asked;
+      has_forgotten = r.has_forgotten;
+      was_told = r.was_told;
+    } };
+}
+
+/// An action, as the rules see it, with how many of its staying members and of the actions nested in it are in which status.
+#[derive(Clone, Copy)]
+pub(crate) struct ActionState {
+    pub(crate) parent: Option<u64>,
+    pub(crate) top: u64,
+    pub(crate) status: ActionStatus,
+    pub(crate) limit: Limit,
+    /// Staying members that a Closing action waits for.
+    pub(crate) completing: u64,
+    /// Staying members that a Cancelling action waits for.
+    pub(crate) compensating: u64,
+    /// Staying members that haven't completed.
+    pub(crate) uncompleted: u64,
+    /// Staying members that haven't compensated.
+    pub(crate) uncompensated: u64,
+    /// Nested actions that haven't ended.
+    pub(crate) unended: u64,
+    /// Nested actions that haven't ended cancelled.
+    pub(crate) uncancelled: u64,
+    /// Nested actions that ended in failure.
+    pub(crate) failed: u64,
+}
+
+impl Model for ActionState {
+    ghost use Rattle.lra_laws.specs.Rows as rows;
+
+    ghost Value = { rows.ActionRow };
+
+    ghost view = { λ r. record {
+      parent = r.parent;
+      top = r.top;
+      status = r.status;
+      limit = r.limit;
+      completing = r.completing;
+      compensating = r.compensating;
+      uncompleted = r.uncompleted;
+      uncompensated = r.uncompensated;
+      unended = r.unended;
+      uncancelled = r.uncancelled;
+      failed = r.failed;
+    } };
+
+    ghost inverse = { λ r. record {
+      parent = r.parent;
+      top = r.top;
+      status = r.status;
+      limit = r.limit;
+      completing = r.completing;
+      compensating = r.compensating;
+      uncompleted = r.uncompleted;
+      uncompensated = r.uncompensated;
+      unended = r.unended;
+      uncancelled = r.uncancelled;
+      failed = r.failed;
+    } };
+}
