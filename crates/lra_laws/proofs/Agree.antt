@@ -111,7 +111,7 @@ there_agrees {R = R} {F = F} g read facts ns h each n = decide (is_among ns n) r
     decide true e = ap (option_map read) (row_there g ns n h e) ∙ (λ i. Some (each n e i))
     decide false e = ap (option_map read) (row_absent g ns n h e)
 
-clerk_agrees : (ns : List ℕ) → IsNumbered ns → (n : ℕ) → (nat_lt 0 n && nat_le n (length ns)) ≡ is_among ns n
+pub clerk_agrees : (ns : List ℕ) → IsNumbered ns → (n : ℕ) → (nat_lt 0 n && nat_le n (length ns)) ≡ is_among ns n
 clerk_agrees ns h n = decide (is_among ns n) refl
   where
     decide : (b : Bool) → is_among ns n ≡ b → (nat_lt 0 n && nat_le n (length ns)) ≡ b

@@ -1,19 +1,30 @@
--- No count of a sheet is more than its entries.
-use Rattle.std.proofs.Common.{◌≡◌, ℕ, ◌+◌, ◌≤◌, Bool, true, false, List, [], ◌∷◌, ◌++◌, length, map, Option, Some, None, refl, sym, ap, ◌∙◌, cond, arith, subst, IfSome, count_by}
+-- The sheet of no entries; and no count of a sheet is more than its entries, so that there is room for one more.
+use Rattle.std.proofs.Common.{◌≡◌, ℕ, zero, suc, ◌+◌, ◌<◌, ◌≤◌, ◌^◌, ◌==◌, Bool, true, false, List, [], ◌∷◌, ◌++◌, length, map, Option, Some, None, refl, sym, ap, ◌∙◌, cond, arith, subst, IfSome, count_by}
 use Rattle.std.specs.Prelude.{◌&&◌}
+use Rattle.std.specs.Option.{option_map_or}
 use Rattle.std.specs.List.{filter_map, cons_option}
 use Rattle.lra_model.specs.declared.entry.Entry.{Entry}
 use Rattle.lra_model.specs.declared.version.Version.{Version}
 use Rattle.lra_model.specs.declared.status.ActionStatus.{ActionStatus}
 use Rattle.lra_model.specs.declared.status.MemberStatus.{MemberStatus}
-use Rattle.lra_model.specs.Words.{has_failed}
-use Rattle.lra_model.specs.History.{History, actions, started_by, members, joined_by, is_among}
+use Rattle.lra_model.specs.declared.asks.AskKind.{AskKind}
+use Rattle.lra_model.specs.declared.asks.AskKind.TheVariants as ask
+use Rattle.lra_model.specs.declared.entry.Deed.{Deed}
+use Rattle.lra_model.specs.declared.entry.Deed.TheVariants.{Enrol, Ask}
+use Rattle.lra_model.specs.Words.{when, has_failed, same_kind, is_undecided}
+use Rattle.lra_model.specs.History.{History, steps_after, steps, clerks, actions, started_by, members, joined_by, asks, is_among, last_moment}
+use Rattle.lra_model.specs.Depths.{depth_within, depth}
+use Rattle.lra_model.specs.Members.{Replied, replied_at, replies}
+use Rattle.lra_model.specs.Wants.{stage_of, repeats, repeat_count}
 use Rattle.lra_model.specs.Actions.{parent}
 use Rattle.lra_model.specs.Ends.{action_is}
 use Rattle.lra_model.specs.Rules.{is_legal}
-use Rattle.lra_laws.specs.Rows.{ActionRow, one, row_at, action_row, member_row, count_staying, count_children, is_left_to_complete, is_left_to_compensate, is_uncompleted, is_uncompensated, is_unended, is_uncancelled}
-use Rattle.lra_rows.specs.inner.Counts.{CountsTo, AllCountTo}
-use Rattle.lra_laws.proofs.Legal.{actions_numbered}
+use Rattle.lra_laws.specs.Sheets.{Sheet, nest_of, contact_of, asks_made, sheet_of, StandsFor, Follows}
+use Rattle.lra_laws.specs.Rows.{ActionRow, state_of, void_asks, one, row_at, action_row, member_row, count_staying, count_children, is_left_to_complete, is_left_to_compensate, is_uncompleted, is_uncompensated, is_unended, is_uncancelled}
+use Rattle.lra_rows.specs.inner.Counts.{CountsTo, RepeatsTo, DeepTo, CanCount}
+use Rattle.lra_rows.specs.inner.Changes.{IsNext}
+use Rattle.lra_laws.proofs.Legal.{IsNumbered, numbered_among, actions_numbered, members_numbered, allowed}
+use Rattle.lra_laws.proofs.Told.{Told, told}
 use Rattle.lra_laws.proofs.RowLists.{count_cons, row_there, row_absent}
 use Rattle.lra_laws.proofs.ActionWords.{counts_in, staying_count, is_parent, children_count}
 
@@ -64,9 +75,84 @@ row_counts v t J l a = record {
         let h = count-le (λ c. is_parent a (parent J c) && action_is test J c) (actions J) in
         let k = actions-le J in omega arith
 
-pub all_count : (v : Version) (t : List ℕ → Bool) (J : History) → is_legal v t J ≡ true → AllCountTo (length J) (map (action_row J) (actions J))
-all_count v t J l n = decide (is_among (actions J) n) refl
+CountsTo-more : (n k : ℕ) (r : ActionRow) → n ≤ k → CountsTo n r → CountsTo k r
+CountsTo-more n k r h c = record {
+  completing = omega (arith, c.completing);
+  compensating = omega (arith, c.compensating);
+  uncompleted = omega (arith, c.uncompleted);
+  uncompensated = omega (arith, c.uncompensated);
+  unended = omega (arith, c.unended);
+  uncancelled = omega (arith, c.uncancelled);
+  failed = omega (arith, c.failed);
+}
+
+-- nothing has happened
+pub sheet_empty : sheet_of [] ≡ record { entries = 0; state = record { moment = 0; clerks = 0; asks = 0; void = 0; actions = []; members = [] }; nests = []; contacts = []; asks = [] }
+unfolding steps clerks actions members asks last_moment void_asks asks_made
+sheet_empty = refl
+
+steps-length : (past es : History) → length (steps_after past es) ≡ length es
+steps-length past [] = refl
+steps-length past (e ∷ es) = ap (λ (n : ℕ). suc n) (steps-length (past ++ e ∷ []) es)
+
+repeats-le : (J : History) (p : ℕ) (stage : AskKind) → repeat_count J p stage ≤ length J
+unfolding repeats replies steps
+repeats-le J p stage =
+    let a = read-le (λ (r : Replied). when ((r.to.member == p) && same_kind (stage_of r.to.kind r.to.direction) stage && is_undecided r.outcome) r.moment) (filter_map replied_at (steps_after [] J)) in
+    let b = read-le replied_at (steps_after [] J) in
+    let c = steps-length [] J in omega arith
+
+depth_within-le : (n : ℕ) (J : History) (a : ℕ) → depth_within n J a ≤ suc n
+depth_within-le zero J a = omega arith
+depth_within-le (suc n) J a = above (parent J a) (λ b. depth_within-le n J b)
   where
-    decide : (b : Bool) → is_among (actions J) n ≡ b → IfSome (row_at (map (action_row J) (actions J)) n) (CountsTo (length J))
-    decide true h = subst (λ (o : Option ActionRow). IfSome o (CountsTo (length J))) (sym (row_there (action_row J) (actions J) n (actions_numbered v t J l) h)) (row_counts v t J l n)
-    decide false h = subst (λ (o : Option ActionRow). IfSome o (CountsTo (length J))) (sym (row_absent (action_row J) (actions J) n (actions_numbered v t J l) h)) tt
+    above : (o : Option ℕ) → ((b : ℕ) → depth_within n J b ≤ suc n) → option_map_or (λ b. suc (depth_within n J b)) o 1 ≤ suc (suc n)
+    above None h = omega arith
+    above (Some b) h = let k = h b in omega arith
+
+depth-le : (v : Version) (t : List ℕ → Bool) (J : History) → is_legal v t J ≡ true → (a : ℕ) → is_among (actions J) a ≡ true → depth J a ≤ length J + 1
+unfolding depth
+depth-le v t J l a h = let k = depth_within-le a J a in let g = numbered_among (actions J) (actions_numbered v t J l) a h in let m = actions-le J in omega (arith, g.1)
+
+-- a bound of each row that is there
+rows_bounded : {R : Type 0} (P : R → Type 0) (g : ℕ → R) (ns : List ℕ) → IsNumbered ns → ((n : ℕ) → is_among ns n ≡ true → P (g n)) → (n : ℕ) → IfSome (row_at (map g ns) n) P
+rows_bounded {R = R} P g ns numbered each n = decide (is_among ns n) refl
+  where
+    decide : (b : Bool) → is_among ns n ≡ b → IfSome (row_at (map g ns) n) P
+    decide true h = subst (λ (o : Option R). IfSome o P) (sym (row_there g ns n numbered h)) (each n h)
+    decide false h = subst (λ (o : Option R). IfSome o P) (sym (row_absent g ns n numbered h)) tt
+
+-- there is room for one more entry in each count of a sheet that stands for a history
+pub CanCount-from_StandsFor : (s : Sheet) (J : History) → StandsFor s J → s.entries < 2 ^ 63 → CanCount s
+CanCount-from_StandsFor s J h few = subst CanCount (sym h.sheet) (of_history (let e = ap (λ (x : Sheet). x.entries) h.sheet in omega arith))
+  where
+    v : Version
+    v = h.version
+
+    t : List ℕ → Bool
+    t = h.is_address
+
+    of_history : length J < 2 ^ 63 → CanCount (sheet_of J)
+    of_history k = record {
+      entries = k;
+      actions = rows_bounded (CountsTo (2 ^ 63)) (action_row J) (actions J) (actions_numbered v t J h.legal) (λ a g. CountsTo-more (length J) (2 ^ 63) (action_row J a) (omega arith) (row_counts v t J h.legal a));
+      nests = rows_bounded (DeepTo (2 ^ 63)) (nest_of J) (actions J) (actions_numbered v t J h.legal) (λ a g. let d = depth-le v t J h.legal a g in omega arith);
+      contacts = rows_bounded (RepeatsTo (2 ^ 63)) (contact_of J) (members J) (members_numbered v t J h.legal) (λ p g. record {
+        completing = few_repeats p ask.Complete;
+        compensating = few_repeats p ask.Compensate;
+        forgetting = few_repeats p ask.Forget;
+        telling = few_repeats p ask.After;
+      });
+    }
+      where
+        few_repeats : (p : ℕ) (stage : AskKind) → repeat_count J p stage ≤ 2 ^ 63
+        few_repeats p stage = let r = repeats-le J p stage in omega arith
+
+-- one that enrols or asks has the next number
+pub IsNext-from_Follows : (s : Sheet) (e : Entry) → Follows s e → IsNext s.state e.deed e.by
+IsNext-from_Follows s e h = subst (λ (x : Sheet). IsNext x.state e.deed e.by) (sym h.stands.sheet) (of_deed e.deed (told h.stands.version h.stands.is_address h.history e.by e.moment e.deed (allowed h.stands.version h.stands.is_address h.history e h.allowed)))
+  where
+    of_deed : (d : Deed) → Told h.history e.by d → IsNext (state_of h.history) d e.by
+    of_deed Enrol x = x
+    of_deed (Ask n p kind) x = x.number
+    of_deed _ x = tt

@@ -2,10 +2,16 @@
 //! changes them.
 #![tactic(auto)]
 
+mod apply;
 mod changes;
 mod contact;
+mod found;
+mod lists;
 mod nest;
+mod rows;
 mod state;
 mod words;
 
+pub use found::{ActionRow, AskRow};
 pub use lra_model::Memory;
+pub use rows::Rows;

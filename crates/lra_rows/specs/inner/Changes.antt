@@ -1,9 +1,11 @@
 -- What a change of rows does.
-use Rattle.std.specs.Prelude.{ℕ, List, Option}
+use Rattle.std.specs.Prelude.{◌≡◌, ℕ, ◌+◌, List, Option}
 use Rattle.lra_model.specs.declared.asks.Direction.{Direction}
 use Rattle.lra_model.specs.declared.asks.Direction.TheVariants as direction
 use Rattle.lra_model.specs.declared.asks.Outcome.{Outcome}
-use Rattle.lra_laws.specs.Rows.{change_row}
+use Rattle.lra_model.specs.declared.entry.Deed.{Deed}
+use Rattle.lra_model.specs.declared.entry.Deed.TheVariants.{Enrol, Ask}
+use Rattle.lra_laws.specs.Rows.{State, change_row}
 
 -- the rows with that of n replaced, if it is there
 abbrev pub with_row : {R : Type 0} → ℕ → R → List R → List R
@@ -14,3 +16,9 @@ abbrev pub by_way : Direction → Option Outcome → Option Outcome → Option O
 by_way direction.Completion completion compensation neither = completion
 by_way direction.Compensation completion compensation neither = compensation
 by_way direction.Neither completion compensation neither = neither
+
+-- one that enrols has the next clerk's number, and an ask the next ask's
+abbrev pub IsNext : State → Deed → ℕ → Type 0
+IsNext s Enrol by = by ≡ s.clerks + 1
+IsNext s (Ask n p kind) by = n ≡ s.asks + 1
+IsNext s _ by = Unit {0}

@@ -1,0 +1,62 @@
+-- What a sheet has of a number is what is found of the history.
+use Rattle.std.proofs.Common.{◌≡◌, ℕ, ◌+◌, Bool, true, false, List, [], ◌∷◌, map, Option, Some, None, refl, sym, ap, ◌∙◌, cond}
+use Rattle.std.specs.Prelude.{◌&&◌, nat_lt, option_map}
+use Rattle.std.specs.Option.{option_map_or, option_and_then}
+use Rattle.lra_model.specs.declared.version.Version.{Version}
+use Rattle.lra_model.specs.History.{History, actions, members, is_among}
+use Rattle.lra_model.specs.Actions.{children, members_of}
+use Rattle.lra_model.specs.Members.{Asked, ask_of, is_outstanding}
+use Rattle.lra_model.specs.Rules.{is_legal}
+use Rattle.lra_laws.specs.Rows as laws
+use Rattle.lra_laws.specs.Rows.{row_at, stands_as, action_row, member_row, void_asks, standing}
+use Rattle.lra_laws.specs.Sheets.{Nest, nest_of, asks_made, sheet_of}
+use Rattle.lra_laws.proofs.Legal.{actions_numbered, members_numbered}
+use Rattle.lra_laws.proofs.RowLists.{row_there, row_absent}
+use Rattle.lra_laws.proofs.AskWords.{asks_listed, asks_stand, stands_for, stands_yet}
+use Rattle.lra_laws.proofs.AskList.{ask_at}
+use Rattle.lra_laws.proofs.Nests.{nothing_in}
+use Rattle.lra_rows.specs.declared.found.ActionRow.{ActionRow}
+use Rattle.lra_rows.specs.declared.found.AskRow.{AskRow}
+use Rattle.lra_rows.specs.Found.{found_action, found_ask}
+use Rattle.lra_rows.specs.inner.Held.{held_action, held_standing, held_ask, held_children, held_members}
+
+pub action_held : (v : Version) (t : List ℕ → Bool) (J : History) → is_legal v t J ≡ true → (a : ℕ) → held_action (sheet_of J) a ≡ found_action J a
+action_held v t J l a = decide (is_among (actions J) a) refl
+  where
+    row : laws.ActionRow → Nest → ActionRow
+    row r x = record { parent = r.parent; limit = r.limit.length_of; since = r.limit.since; depth = x.depth; status = r.status }
+
+    decide : (b : Bool) → is_among (actions J) a ≡ b → held_action (sheet_of J) a ≡ cond b (Some (row (action_row J a) (nest_of J a))) None
+    decide true e =
+        ap (option_and_then (λ (r : laws.ActionRow). option_map (row r) (row_at (map (nest_of J) (actions J)) a))) (row_there (action_row J) (actions J) a (actions_numbered v t J l) e)
+        ∙ ap (option_map (row (action_row J a))) (row_there (nest_of J) (actions J) a (actions_numbered v t J l) e)
+    decide false e =
+        ap (option_and_then (λ (r : laws.ActionRow). option_map (row r) (row_at (map (nest_of J) (actions J)) a))) (row_absent (action_row J) (actions J) a (actions_numbered v t J l) e)
+
+pub ask_held : (v : Version) (t : List ℕ → Bool) (J : History) → is_legal v t J ≡ true → (n : ℕ) → held_ask (sheet_of J) n ≡ found_ask J n
+ask_held v t J l n = ap (option_map (row (held_standing (sheet_of J) n))) (ask_at v t J l n) ∙ known (ask_of J n) refl
+  where
+    row : (ℕ → Bool) → Asked → AskRow
+    row out x = record { member = x.member; kind = x.kind; direction = x.direction; outstanding = out x.member }
+
+    stands : (x : Asked) → ask_of J n ≡ Some x → held_standing (sheet_of J) n x.member ≡ is_outstanding J n
+    stands x e =
+        ap (λ (o : Option laws.MemberRow). nat_lt (void_asks J) n && option_map_or (stands_as n) o false) (row_there (member_row J) (members J) x.member (members_numbered v t J l) ((asks_listed v t J l).there n x e))
+        ∙ sym ((asks_stand v t J l).outstanding n ∙ ap (stands_yet J n) e)
+
+    known : (o : Option Asked) → ask_of J n ≡ o → option_map (row (held_standing (sheet_of J) n)) o ≡ option_map (row (λ p. is_outstanding J n)) o
+    known None e = refl
+    known (Some x) e = λ i. Some (record { member = x.member; kind = x.kind; direction = x.direction; outstanding = stands x e i })
+
+nest_held : (v : Version) (t : List ℕ → Bool) (J : History) → is_legal v t J ≡ true → (read : Nest → List ℕ) (a : ℕ) → (is_among (actions J) a ≡ false → read (nest_of J a) ≡ []) → option_map_or read (row_at (map (nest_of J) (actions J)) a) [] ≡ read (nest_of J a)
+nest_held v t J l read a none = decide (is_among (actions J) a) refl
+  where
+    decide : (b : Bool) → is_among (actions J) a ≡ b → option_map_or read (row_at (map (nest_of J) (actions J)) a) [] ≡ read (nest_of J a)
+    decide true e = ap (λ (o : Option Nest). option_map_or read o []) (row_there (nest_of J) (actions J) a (actions_numbered v t J l) e)
+    decide false e = ap (λ (o : Option Nest). option_map_or read o []) (row_absent (nest_of J) (actions J) a (actions_numbered v t J l) e) ∙ sym (none e)
+
+pub children_held : (v : Version) (t : List ℕ → Bool) (J : History) → is_legal v t J ≡ true → (a : ℕ) → held_children (sheet_of J) a ≡ children J a
+children_held v t J l a = nest_held v t J l (λ (x : Nest). x.children) a (λ e. (nothing_in v t J a l e).0)
+
+pub members_held : (v : Version) (t : List ℕ → Bool) (J : History) → is_legal v t J ≡ true → (a : ℕ) → held_members (sheet_of J) a ≡ members_of J a
+members_held v t J l a = nest_held v t J l (λ (x : Nest). x.members) a (λ e. (nothing_in v t J a l e).1)

@@ -1,0 +1,6 @@
+use Rattle.std.proofs.Common.{ap, ◌∙◌}
+use Rattle.lra_laws.specs.Sheets.{Sheet}
+use Rattle.lra_rows.proofs.rows.Rows.count_asks.Goals as goal
+
+pub returns : goal.returns
+returns c = λ J h. ap (λ (s : Sheet). s.state.asks) (c.self.view_is ∙ h.sheet)

@@ -1,0 +1,20 @@
+-- What is found of a history by a number.
+use Rattle.std.specs.Prelude.{ℕ, cond, Option, Some, None, option_map, unwrap_or}
+use Rattle.lra_model.specs.declared.status.ActionStatus.TheVariants as action
+use Rattle.lra_model.specs.History.{History, actions, is_among}
+use Rattle.lra_model.specs.Actions.{parent, action_status, limit_in_force}
+use Rattle.lra_model.specs.Depths.{depth}
+use Rattle.lra_model.specs.Members.{Asked, ask_of, is_outstanding}
+use Rattle.lra_rows.specs.declared.found.ActionRow.{ActionRow}
+use Rattle.lra_rows.specs.declared.found.AskRow.{AskRow}
+
+-- an action, if it is there: its parent, the limit in force, how deep it is nested, and its status
+abbrev pub found_action : History → ℕ → Option ActionRow
+found_action J a =
+    cond (is_among (actions J) a)
+    (Some (record { parent = parent J a; limit = (limit_in_force J a).length_of; since = (limit_in_force J a).since; depth = depth J a; status = unwrap_or (action_status J a) action.Active }))
+    None
+
+-- an ask, if it was made: of whom, for what, which way it goes, and whether it is outstanding
+abbrev pub found_ask : History → ℕ → Option AskRow
+found_ask J n = option_map (λ (x : Asked). record { member = x.member; kind = x.kind; direction = x.direction; outstanding = is_outstanding J n }) (ask_of J n)

@@ -1,0 +1,34 @@
+-- What a sheet has of a number.
+use Rattle.std.specs.Prelude.{ℕ, ◌&&◌, nat_le, nat_lt, Bool, false, List, [], Option, option_map}
+use Rattle.std.specs.Option.{option_map_or, option_and_then}
+use Rattle.lra_model.specs.Members.{Asked}
+use Rattle.lra_laws.specs.Rows as laws
+use Rattle.lra_laws.specs.Rows.{row_at, stands_as}
+use Rattle.lra_laws.specs.Sheets.{Nest, Sheet}
+use Rattle.lra_rows.specs.declared.found.ActionRow.{ActionRow}
+use Rattle.lra_rows.specs.declared.found.AskRow.{AskRow}
+
+-- an action
+abbrev pub held_action : Sheet → ℕ → Option ActionRow
+held_action s a =
+    option_and_then (λ (r : laws.ActionRow). option_map (λ (x : Nest). record { parent = r.parent; limit = r.limit.length_of; since = r.limit.since; depth = x.depth; status = r.status }) (row_at s.nests a)) (row_at s.state.actions a)
+
+-- whether the ask that a member's row has is that of the number, and was made after the last restart
+abbrev pub held_standing : Sheet → ℕ → ℕ → Bool
+held_standing s n p = nat_lt s.state.void n && option_map_or (stands_as n) (row_at s.state.members p) false
+
+-- an ask
+abbrev pub held_ask : Sheet → ℕ → Option AskRow
+held_ask s n = option_map (λ (x : Asked). record { member = x.member; kind = x.kind; direction = x.direction; outstanding = held_standing s n x.member }) (row_at s.asks n)
+
+-- an action's children
+abbrev pub held_children : Sheet → ℕ → List ℕ
+held_children s a = option_map_or (λ (x : Nest). x.children) (row_at s.nests a) []
+
+-- an action's members
+abbrev pub held_members : Sheet → ℕ → List ℕ
+held_members s a = option_map_or (λ (x : Nest). x.members) (row_at s.nests a) []
+
+-- whether a clerk has that number
+abbrev pub held_clerk : Sheet → ℕ → Bool
+held_clerk s n = nat_lt 0 n && nat_le n s.state.clerks

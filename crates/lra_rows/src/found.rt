@@ -1,0 +1,196 @@
+//! What is asked of the rows.
+
+ghost use Rattle.std.specs.Prelude.{◌≡◌, length, ◌&&◌};
+ghost use Rattle.lra_model.specs.History as history;
+ghost use Rattle.lra_model.specs.Actions as words;
+ghost use Rattle.lra_laws.specs.Sheets.{StandsFor};
+ghost use Rattle.lra_laws.specs.Rows.{stands_as};
+ghost use Rattle.lra_rows.specs.Found.{found_action, found_ask};
+ghost use Rattle.lra_rows.specs.inner.Held as held;
+
+use crate::lists::{at, lent};
+use crate::rows::Rows;
+use crate::state::MemberState;
+use lra_model::{ActionStatus, AskKind, Direction};
+
+/// An action, as it is now.
+#[derive(Clone, Copy, Debug)]
+pub struct ActionRow {
+    pub parent: Option<u64>,
+    /// The limit in force in milliseconds, where 0 is none.
+    pub limit: u64,
+    /// The moment that the limit counts from.
+    pub since: u64,
+    /// How deep it is nested: 1 where it has no parent.
+    pub depth: u64,
+    pub status: ActionStatus,
+}
+
+/// An ask that was made.
+#[derive(Clone, Copy, Debug)]
+pub struct AskRow {
+    pub member: u64,
+    pub kind: AskKind,
+    pub direction: Direction,
+    /// Whether neither its reply nor a restart came after it.
+    pub outstanding: bool,
+}
+
+/// Whether the ask of that number is what the member's row has.
+fn stands_as(number: u64, row: &MemberState) -> bool
+    ensures { result ≡ stands_as number row.now }
+{
+    match row.asked {
+        Some(asked) => asked.number == number,
+        None => false,
+    }
+}
+
+impl Rows {
+    ghost use Rattle.std.specs.Prelude.{◌≡◌, length};
+    ghost use Rattle.lra_model.specs.History as history;
+    ghost use Rattle.lra_model.specs.History.{History};
+    ghost use Rattle.lra_model.specs.Actions as words;
+    ghost use Rattle.lra_laws.specs.Sheets.{StandsFor};
+    ghost use Rattle.lra_rows.specs.Found.{found_action, found_ask};
+    ghost use Rattle.lra_rows.specs.inner.Held as held;
+
+    fn held_action(&self, number: u64) -> Option<ActionRow>
+        ensures { result ≡ held.held_action self.now number }
+    {
+        let row = at(&self.actions, number)?;
+        let nest = lent(&self.nests, number)?;
+        Some(ActionRow {
+            parent: row.parent,
+            limit: row.limit.length,
+            since: row.limit.since,
+            depth: nest.depth,
+            status: row.status,
+        })
+    }
+
+    /// The action of that number, if it is there.
+    pub fn action(&self, number: u64) -> Option<ActionRow>
+        ensures { (J : History) → StandsFor self.now J → result ≡ found_action J number }
+    {
+        self.held_action(number)
+    }
+
+    fn held_standing(&self, number: u64, member: u64) -> bool
+        ensures { result ≡ held.held_standing self.now number member }
+    {
+        if number <= self.void {
+            return false;
+        }
+        match at(&self.members, member) {
+            Some(row) => stands_as(number, &row),
+            None => false,
+        }
+    }
+
+    fn held_ask(&self, number: u64) -> Option<AskRow>
+        ensures { result ≡ held.held_ask self.now number }
+    {
+        let asked = at(&self.asks, number)?;
+        Some(AskRow {
+            member: asked.member,
+            kind: asked.kind,
+            direction: asked.direction,
+            outstanding: self.held_standing(number, asked.member),
+        })
+    }
+
+    /// The ask of that number, if it was made.
+    pub fn ask(&self, number: u64) -> Option<AskRow>
+        ensures { (J : History) → StandsFor self.now J → result ≡ found_ask J number }
+    {
+        self.held_ask(number)
+    }
+
+    fn held_children(&self, number: u64) -> &[u64]
+        ensures { result.now ≡ held.held_children self.now number }
+    {
+        match lent(&self.nests, number) {
+            Some(nest) => &nest.children,
+            None => &[],
+        }
+    }
+
+    /// The numbers of the actions nested directly in an action, rising.
+    pub fn children(&self, number: u64) -> &[u64]
+        ensures { (J : History) → StandsFor self.now J → result.now ≡ words.children J number }
+    {
+        self.held_children(number)
+    }
+
+    fn held_members(&self, number: u64) -> &[u64]
+        ensures { result.now ≡ held.held_members self.now number }
+    {
+        match lent(&self.nests, number) {
+            Some(nest) => &nest.members,
+            None => &[],
+        }
+    }
+
+    /// The numbers of an action's members, those that left among them, rising.
+    pub fn members(&self, number: u64) -> &[u64]
+        ensures { (J : History) → StandsFor self.now J → result.now ≡ words.members_of J number }
+    {
+        self.held_members(number)
+    }
+
+    fn held_clerk(&self, number: u32) -> bool
+        ensures { result ≡ held.held_clerk self.now number }
+    {
+        0 < number && u64::from(number) <= self.clerks
+    }
+
+    /// Whether a clerk is enrolled.
+    pub fn is_clerk(&self, number: u32) -> bool
+        ensures { (J : History) → StandsFor self.now J → result ≡ history.is_among (history.clerks J) number }
+    {
+        self.held_clerk(number)
+    }
+
+    /// How many entries there are.
+    pub fn count_entries(&self) -> u64
+        ensures { (J : History) → StandsFor self.now J → result ≡ length J }
+    {
+        self.entries
+    }
+
+    /// How many clerks are enrolled.
+    pub fn count_clerks(&self) -> u64
+        ensures { (J : History) → StandsFor self.now J → result ≡ length (history.clerks J) }
+    {
+        self.clerks
+    }
+
+    /// How many actions were started.
+    pub fn count_actions(&self) -> u64
+        ensures { (J : History) → StandsFor self.now J → result ≡ length (history.actions J) }
+    {
+        self.actions.len() as u64
+    }
+
+    /// How many members joined.
+    pub fn count_members(&self) -> u64
+        ensures { (J : History) → StandsFor self.now J → result ≡ length (history.members J) }
+    {
+        self.members.len() as u64
+    }
+
+    /// How many asks were made.
+    pub fn count_asks(&self) -> u64
+        ensures { (J : History) → StandsFor self.now J → result ≡ length (history.asks J) }
+    {
+        self.asked
+    }
+
+    /// The moment of the last entry; 0 where there is none.
+    pub fn last_moment(&self) -> u64
+        ensures { (J : History) → StandsFor self.now J → result ≡ history.last_moment J }
+    {
+        self.moment
+    }
+}

@@ -1,0 +1,55 @@
+//! Lists of rows by number: the row of n is at the place n - 1.
+
+ghost use Rattle.std.specs.Prelude.{◌≡◌, ◌<◌, ◌++◌, ◌∷◌, [], suc, MatchOption, vec_len, vec_capacity};
+ghost use Rattle.std.specs.Option.{option_copied};
+ghost use Rattle.lra_laws.specs.Rows.{row_at};
+ghost use Rattle.lra_rows.specs.inner.Changes.{with_row};
+
+/// The place of a number's row; 0 has none.
+pub(crate) fn place_of(number: u64) -> Option<usize>
+    ensures { MatchOption result (number ≡ 0) (λ place. number ≡ suc place) }
+{
+    match number {
+        0 => None,
+        _ => Some((number - 1) as usize),
+    }
+}
+
+/// The row of a number, if it is there, lent.
+pub(crate) fn lent<T>(rows: &[T], number: u64) -> Option<&T>
+    ensures { option_copied result ≡ row_at rows.now number }
+{
+    match place_of(number) {
+        Some(place) => rows.get(place),
+        None => None,
+    }
+}
+
+/// The row of a number, if it is there.
+pub(crate) fn at<T: Copy>(rows: &[T], number: u64) -> Option<T>
+    ensures { result ≡ row_at rows.now number }
+{
+    let place = number.checked_sub(1)?;
+    rows.get(place as usize).copied()
+}
+
+/// Puts a row in the place of the one that is there.
+pub(crate) fn put<T: Copy>(rows: &mut Vec<T>, number: u64, row: T)
+    ensures items { rows.new.items ≡ with_row number row rows.old.items }
+    ensures len { vec_len rows.new ≡ vec_len rows.old }
+    ensures room { vec_capacity rows.new ≡ vec_capacity rows.old }
+{
+    if let Some(place) = number.checked_sub(1)
+        && (place as usize) < rows.len()
+    {
+        rows[place as usize] = row;
+    }
+}
+
+/// Adds a row, for which there is room.
+pub(crate) fn add<T: Drop>(rows: &mut Vec<T>, row: T)
+    requires { vec_len rows.old < vec_capacity rows.old }
+    ensures { rows.new.items ≡ rows.old.items ++ row ∷ [] }
+{
+    let _ = rows.push(row);
+}

@@ -1,0 +1,76 @@
+//! What is kept of a history.
+
+ghost use Rattle.std.specs.Prelude.{◌≡◌, ℕ, length, Some, None, []};
+ghost use Rattle.lra_laws.specs.Rows as laws;
+
+use crate::contact::{Asked, Contact};
+use crate::lists::at;
+use crate::nest::Nest;
+use crate::state::{ActionState, MemberState};
+use std::alloc::Global;
+use std::marker::Model;
+
+/// The rows of a history: of each action, of each member and of each ask, by their numbers.
+#[derive(Drop)]
+pub struct Rows {
+    pub(crate) alloc: Global,
+    pub(crate) entries: u64,
+    /// The moment of the last entry.
+    pub(crate) moment: u64,
+    /// How many clerks are enrolled.
+    pub(crate) clerks: u64,
+    /// How many asks were made.
+    pub(crate) asked: u64,
+    /// Asks up to this number are void.
+    pub(crate) void: u64,
+    pub(crate) actions: Vec<ActionState>,
+    pub(crate) members: Vec<MemberState>,
+    pub(crate) nests: Vec<Nest>,
+    pub(crate) contacts: Vec<Contact>,
+    pub(crate) asks: Vec<Asked>,
+}
+
+impl Model for Rows {
+    ghost use Rattle.lra_laws.specs.Sheets as sheets;
+
+    ghost Value = { sheets.Sheet };
+
+    ghost view = { λ r. record {
+      entries = r.entries;
+      state = record {
+        moment = r.moment;
+        clerks = r.clerks;
+        asks = r.asked;
+        void = r.void;
+        actions = r.actions.items;
+        members = r.members.items;
+      };
+      nests = r.nests.items;
+      contacts = r.contacts.items;
+      asks = r.asks.items;
+    } };
+}
+
+impl Rows {
+    ghost use Rattle.std.specs.Prelude.{◌≡◌, []};
+    ghost use Rattle.lra_laws.specs.Sheets as sheets;
+
+    /// Of no entries.
+    pub fn empty(alloc: Global) -> Rows
+        ensures { sheets.StandsFor result [] }
+    {
+        Rows {
+            alloc,
+            entries: 0,
+            moment: 0,
+            clerks: 0,
+            asked: 0,
+            void: 0,
+            actions: Vec::new(alloc),
+            members: Vec::new(alloc),
+            nests: Vec::new(alloc),
+            contacts: Vec::new(alloc),
+            asks: Vec::new(alloc),
+        }
+    }
+}
