@@ -314,21 +314,24 @@ asks_stand v t = legal_induction v t AsksStand stand_empty (λ J e l k h. stand_
 
 -- ---- what the rules read of it
 
-find_none : (f : ℕ → Bool) (ns : List ℕ) → ((n : ℕ) → is_among ns n ≡ true → f n ≡ false) → is_some (find f ns) ≡ false
-find_none f [] h = refl
-find_none f (n ∷ ns) h = ap (λ (b : Bool). is_some (cond b (Some n) (find f ns))) (h n (among_here n ns)) ∙ find_none f ns (λ m k. h m (among_there n ns m k))
+find_nothing : (f : ℕ → Bool) (ns : List ℕ) → ((n : ℕ) → is_among ns n ≡ true → f n ≡ false) → find f ns ≡ None
+find_nothing f [] h = refl
+find_nothing f (n ∷ ns) h = ap (λ (b : Bool). cond b (Some n) (find f ns)) (h n (among_here n ns)) ∙ find_nothing f ns (λ m k. h m (among_there n ns m k))
 
-find_some : (f : ℕ → Bool) (ns : List ℕ) (n : ℕ) → is_among ns n ≡ true → f n ≡ true → is_some (find f ns) ≡ true
-find_some f ns n h k = decide (is_some (find f ns)) refl
+-- the one number that passes is found
+find_only : (f : ℕ → Bool) (ns : List ℕ) (n : ℕ) → is_among ns n ≡ true → f n ≡ true → ((m : ℕ) → is_among ns m ≡ true → f m ≡ true → m ≡ n) → find f ns ≡ Some n
+find_only f [] n there here only = absurd cc
+find_only f (m ∷ ns) n there here only = either (f m) refl (m == n) refl there (λ h. find_only f ns n h here (λ k g. only k (among_there m ns k g)))
   where
-    decide : (b : Bool) → is_some (find f ns) ≡ b → b ≡ true
-    decide true e = refl
-    decide false e = let g : f n ≡ false = none_of f ns n e h in absurd cc
+    either : (b : Bool) → f m ≡ b → (c : Bool) → (m == n) ≡ c → (c || is_among ns n) ≡ true → (is_among ns n ≡ true → find f ns ≡ Some n) → cond b (Some m) (find f ns) ≡ Some n
+    either true e c g h rest = λ i. Some (only m (among_here m ns) e i)
+    either false e true g h rest = absurd (let x : f m ≡ true = ap f (eqb-true m n g) ∙ here in cc)
+    either false e false g h rest = rest h
 
--- whether an ask of a member is outstanding, by what stands with it
-pub is_asked_by : (J : History) (p : ℕ) → AsksListed J → AsksStand J → is_some (outstanding_ask J p) ≡ option_map_or (λ (x : Standing). nat_lt (void_asks J) x.number) (standing J p) false
+-- the ask of a member that is outstanding, by what stands with it
+pub outstanding_by : (J : History) (p : ℕ) → AsksListed J → AsksStand J → outstanding_ask J p ≡ option_map_or (λ (x : Standing). when (nat_lt (void_asks J) x.number) x.number) (standing J p) None
 unfolding outstanding_ask
-is_asked_by J p list ih = decide (standing J p) refl
+outstanding_by J p list ih = decide (standing J p) refl
   where
     -- an ask of the member is outstanding only where it stands
     only : (n : ℕ) → is_among (read_deeds (ask_given p) J) n ≡ true → is_outstanding J n ≡ (nat_lt (void_asks J) n && stands_for (standing J p) n)
@@ -338,17 +341,39 @@ is_asked_by J p list ih = decide (standing J p) refl
         found None e g = absurd cc
         found (Some y) e g = ih.outstanding n ∙ ap (stands_yet J n) e ∙ ap (λ (q : ℕ). nat_lt (void_asks J) n && stands_for (standing J q) n) (eqb-true y.member p g)
 
-    decide : (o : Option Standing) → standing J p ≡ o → is_some (find (is_outstanding J) (read_deeds (ask_given p) J)) ≡ option_map_or (λ (x : Standing). nat_lt (void_asks J) x.number) o false
-    decide None e = find_none (is_outstanding J) (read_deeds (ask_given p) J) (λ n h. only n h ∙ ap (λ (s : Option Standing). nat_lt (void_asks J) n && stands_for s n) e ∙ and-false (nat_lt (void_asks J) n))
+    decide : (o : Option Standing) → standing J p ≡ o → find (is_outstanding J) (read_deeds (ask_given p) J) ≡ option_map_or (λ (x : Standing). when (nat_lt (void_asks J) x.number) x.number) o None
+    decide None e = find_nothing (is_outstanding J) (read_deeds (ask_given p) J) (λ n h. only n h ∙ ap (λ (s : Option Standing). nat_lt (void_asks J) n && stands_for s n) e ∙ and-false (nat_lt (void_asks J) n))
     decide (Some s) e = live (nat_lt (void_asks J) s.number) refl
       where
         here : is_among (read_deeds (ask_given p) J) s.number ≡ true
         here = list.listed s.number (asked_of p s) (ih.stands p s e)
 
-        live : (b : Bool) → nat_lt (void_asks J) s.number ≡ b → is_some (find (is_outstanding J) (read_deeds (ask_given p) J)) ≡ b
-        live true g = find_some (is_outstanding J) (read_deeds (ask_given p) J) s.number here (only s.number here ∙ ap (λ (x : Option Standing). nat_lt (void_asks J) s.number && stands_for x s.number) e ∙ (λ i. g i && eqb_self s.number i))
-        live false g = find_none (is_outstanding J) (read_deeds (ask_given p) J) (λ n h. only n h ∙ ap (λ (x : Option Standing). nat_lt (void_asks J) n && stands_for x n) e ∙ void n (s.number == n) refl)
+        stands : (n : ℕ) → is_among (read_deeds (ask_given p) J) n ≡ true → is_outstanding J n ≡ (nat_lt (void_asks J) n && (s.number == n))
+        stands n h = only n h ∙ ap (λ (x : Option Standing). nat_lt (void_asks J) n && stands_for x n) e
+
+        that : (n : ℕ) (b c : Bool) → (s.number == n) ≡ c → (b && c) ≡ true → n ≡ s.number
+        that n true true f h = sym (eqb-true s.number n f)
+        that n true false f h = absurd cc
+        that n false c f h = absurd cc
+
+        live : (b : Bool) → nat_lt (void_asks J) s.number ≡ b → find (is_outstanding J) (read_deeds (ask_given p) J) ≡ when b s.number
+        live true g =
+            find_only (is_outstanding J) (read_deeds (ask_given p) J) s.number here (stands s.number here ∙ (λ i. g i && eqb_self s.number i))
+            (λ n h k. that n (nat_lt (void_asks J) n) (s.number == n) refl (sym (stands n h) ∙ k))
+        live false g = find_nothing (is_outstanding J) (read_deeds (ask_given p) J) (λ n h. stands n h ∙ void n (s.number == n) refl)
           where
             void : (n : ℕ) (c : Bool) → (s.number == n) ≡ c → (nat_lt (void_asks J) n && c) ≡ false
             void n true f = ap (λ (x : ℕ). nat_lt (void_asks J) x && true) (sym (eqb-true s.number n f)) ∙ ap (λ (b : Bool). b && true) g
             void n false f = and-false (nat_lt (void_asks J) n)
+
+-- whether there is one
+pub is_asked_by : (J : History) (p : ℕ) → AsksListed J → AsksStand J → is_some (outstanding_ask J p) ≡ option_map_or (λ (x : Standing). nat_lt (void_asks J) x.number) (standing J p) false
+is_asked_by J p list ih = ap is_some (outstanding_by J p list ih) ∙ of_standing (standing J p)
+  where
+    either : (b : Bool) (n : ℕ) → is_some (when b n) ≡ b
+    either true n = refl
+    either false n = refl
+
+    of_standing : (o : Option Standing) → is_some (option_map_or (λ (x : Standing). when (nat_lt (void_asks J) x.number) x.number) o None) ≡ option_map_or (λ (x : Standing). nat_lt (void_asks J) x.number) o false
+    of_standing None = refl
+    of_standing (Some s) = either (nat_lt (void_asks J) s.number) s.number

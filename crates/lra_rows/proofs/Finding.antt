@@ -5,20 +5,27 @@ use Rattle.std.specs.Option.{option_map_or, option_and_then}
 use Rattle.lra_model.specs.declared.version.Version.{Version}
 use Rattle.lra_model.specs.History.{History, actions, members, is_among}
 use Rattle.lra_model.specs.Actions.{children, members_of}
-use Rattle.lra_model.specs.Members.{Asked, ask_of, is_outstanding}
+use Rattle.lra_model.specs.Members.{Asked, ask_of, is_outstanding, outstanding_ask}
+use Rattle.lra_model.specs.declared.asks.AskKind.{AskKind}
+use Rattle.lra_model.specs.Addresses.{Addresses}
+use Rattle.lra_model.specs.Words.{when}
+use Rattle.lra_model.specs.Facts.{Facts}
+use Rattle.lra_model.specs.Wants.{wants, wanted}
 use Rattle.lra_model.specs.Rules.{is_legal}
 use Rattle.lra_laws.specs.Rows as laws
-use Rattle.lra_laws.specs.Rows.{row_at, stands_as, action_row, member_row, void_asks, standing}
-use Rattle.lra_laws.specs.Sheets.{Nest, nest_of, asks_made, sheet_of}
+use Rattle.lra_laws.specs.Rows.{row_at, stands_as, action_row, member_row, void_asks, standing, state_of, facts_by, member_by}
+use Rattle.lra_laws.specs.Sheets.{Nest, Contact, nest_of, contact_of, asks_made, sheet_of}
 use Rattle.lra_laws.proofs.Legal.{actions_numbered, members_numbered}
 use Rattle.lra_laws.proofs.RowLists.{row_there, row_absent}
-use Rattle.lra_laws.proofs.AskWords.{asks_listed, asks_stand, stands_for, stands_yet}
+use Rattle.lra_laws.proofs.Agree.{agree}
+use Rattle.lra_laws.proofs.AskWords.{asks_listed, asks_stand, outstanding_by, stands_for, stands_yet}
 use Rattle.lra_laws.proofs.AskList.{ask_at}
 use Rattle.lra_laws.proofs.Nests.{nothing_in}
 use Rattle.lra_rows.specs.declared.found.ActionRow.{ActionRow}
+use Rattle.lra_rows.specs.declared.found.MemberRow.{MemberRow}
 use Rattle.lra_rows.specs.declared.found.AskRow.{AskRow}
-use Rattle.lra_rows.specs.Found.{found_action, found_ask}
-use Rattle.lra_rows.specs.inner.Held.{held_action, held_standing, held_ask, held_children, held_members}
+use Rattle.lra_rows.specs.Found.{found_action, found_member, found_addresses, found_ask}
+use Rattle.lra_rows.specs.inner.Held.{held_action, held_member, held_addresses, held_standing, held_ask, held_children, held_members}
 
 pub action_held : (v : Version) (t : List ℕ → Bool) (J : History) → is_legal v t J ≡ true → (a : ℕ) → held_action (sheet_of J) a ≡ found_action J a
 action_held v t J l a = decide (is_among (actions J) a) refl
@@ -60,3 +67,35 @@ children_held v t J l a = nest_held v t J l (λ (x : Nest). x.children) a (λ e.
 
 pub members_held : (v : Version) (t : List ℕ → Bool) (J : History) → is_legal v t J ≡ true → (a : ℕ) → held_members (sheet_of J) a ≡ members_of J a
 members_held v t J l a = nest_held v t J l (λ (x : Nest). x.members) a (λ e. (nothing_in v t J a l e).1)
+
+-- what a member wants, by its row
+want_held : (v : Version) (t : List ℕ → Bool) (J : History) → is_legal v t J ≡ true → (p : ℕ) → is_among (members J) p ≡ true → wanted (facts_by (state_of J)) (member_by (state_of J) (member_row J p)) ≡ wants J p
+unfolding wants
+want_held v t J l p e =
+    sym (ap (λ (f : Facts). option_map_or (wanted f) (f.member p) None) (sym (agree v t J l))
+    ∙ ap (λ (o : Option laws.MemberRow). option_map_or (wanted (facts_by (state_of J))) (option_map (member_by (state_of J)) o) None) (row_there (member_row J) (members J) p (members_numbered v t J l) e))
+
+pub member_held : (v : Version) (t : List ℕ → Bool) (J : History) → is_legal v t J ≡ true → (p : ℕ) → held_member (sheet_of J) p ≡ found_member J p
+member_held v t J l p = decide (is_among (members J) p) refl
+  where
+    row : Option ℕ → Option AskKind → laws.MemberRow → MemberRow
+    row out want r = record { action = r.action; status = r.status; completion = r.completion; compensation = r.compensation; outstanding = out; want = want }
+
+    held : laws.MemberRow → MemberRow
+    held r = row (option_map_or (λ (x : laws.Standing). when (nat_lt (void_asks J) x.number) x.number) r.asked None) (wanted (facts_by (state_of J)) (member_by (state_of J) r)) r
+
+    decide : (b : Bool) → is_among (members J) p ≡ b → held_member (sheet_of J) p ≡ cond b (Some (row (outstanding_ask J p) (wants J p) (member_row J p))) None
+    decide true e =
+        ap (option_map held) (row_there (member_row J) (members J) p (members_numbered v t J l) e)
+        ∙ (λ i. Some (row (out i) (want_held v t J l p e i) (member_row J p)))
+      where
+        out : option_map_or (λ (x : laws.Standing). when (nat_lt (void_asks J) x.number) x.number) (standing J p) None ≡ outstanding_ask J p
+        out = sym (outstanding_by J p (asks_listed v t J l) (asks_stand v t J l))
+    decide false e = ap (option_map held) (row_absent (member_row J) (members J) p (members_numbered v t J l) e)
+
+pub addresses_held : (v : Version) (t : List ℕ → Bool) (J : History) → is_legal v t J ≡ true → (p : ℕ) → held_addresses (sheet_of J) p ≡ found_addresses J p
+addresses_held v t J l p = decide (is_among (members J) p) refl
+  where
+    decide : (b : Bool) → is_among (members J) p ≡ b → held_addresses (sheet_of J) p ≡ cond b (Some (contact_of J p).addresses) None
+    decide true e = ap (option_map (λ (c : Contact). c.addresses)) (row_there (contact_of J) (members J) p (members_numbered v t J l) e)
+    decide false e = ap (option_map (λ (c : Contact). c.addresses)) (row_absent (contact_of J) (members J) p (members_numbered v t J l) e)

@@ -1,11 +1,15 @@
 -- What is found of a history by a number.
 use Rattle.std.specs.Prelude.{ℕ, cond, Option, Some, None, option_map, unwrap_or}
 use Rattle.lra_model.specs.declared.status.ActionStatus.TheVariants as action
-use Rattle.lra_model.specs.History.{History, actions, is_among}
+use Rattle.lra_model.specs.declared.asks.Direction.TheVariants as direction
+use Rattle.lra_model.specs.Addresses.{Addresses}
+use Rattle.lra_model.specs.History.{History, actions, members, is_among}
 use Rattle.lra_model.specs.Actions.{parent, action_status, limit_in_force}
 use Rattle.lra_model.specs.Depths.{depth}
-use Rattle.lra_model.specs.Members.{Asked, ask_of, is_outstanding}
+use Rattle.lra_model.specs.Members.{Asked, ask_of, action_of, addresses_of, member_status, last_reply, is_outstanding, outstanding_ask}
+use Rattle.lra_model.specs.Wants.{wants}
 use Rattle.lra_rows.specs.declared.found.ActionRow.{ActionRow}
+use Rattle.lra_rows.specs.declared.found.MemberRow.{MemberRow}
 use Rattle.lra_rows.specs.declared.found.AskRow.{AskRow}
 
 -- an action, if it is there: its parent, the limit in force, how deep it is nested, and its status
@@ -14,6 +18,24 @@ found_action J a =
     cond (is_among (actions J) a)
     (Some (record { parent = parent J a; limit = (limit_in_force J a).length_of; since = (limit_in_force J a).since; depth = depth J a; status = unwrap_or (action_status J a) action.Active }))
     None
+
+-- a member, if it is there: its action, its status, its last replies both ways, the ask of it that is outstanding, and what it wants
+abbrev pub found_member : History → ℕ → Option MemberRow
+found_member J p =
+    cond (is_among (members J) p)
+    (Some (record {
+      action = action_of J p;
+      status = member_status J p;
+      completion = last_reply J p direction.Completion;
+      compensation = last_reply J p direction.Compensation;
+      outstanding = outstanding_ask J p;
+      want = wants J p;
+    }))
+    None
+
+-- the addresses that a member joined with, if it is there
+abbrev pub found_addresses : History → ℕ → Option Addresses
+found_addresses J p = cond (is_among (members J) p) (Some (addresses_of J p)) None
 
 -- an ask, if it was made: of whom, for what, which way it goes, and whether it is outstanding
 abbrev pub found_ask : History → ℕ → Option AskRow

@@ -5,13 +5,13 @@ ghost use Rattle.lra_model.specs.History as history;
 ghost use Rattle.lra_model.specs.Actions as words;
 ghost use Rattle.lra_laws.specs.Sheets.{StandsFor};
 ghost use Rattle.lra_laws.specs.Rows.{stands_as};
-ghost use Rattle.lra_rows.specs.Found.{found_action, found_ask};
+ghost use Rattle.lra_rows.specs.Found.{found_action, found_member, found_addresses, found_ask};
 ghost use Rattle.lra_rows.specs.inner.Held as held;
 
 use crate::lists::{at, lent};
 use crate::rows::Rows;
 use crate::state::MemberState;
-use lra_model::{ActionStatus, AskKind, Direction};
+use lra_model::{ActionStatus, AskKind, Direction, MemberStatus, Outcome, Uris};
 
 /// An action, as it is now.
 #[derive(Clone, Copy, Debug)]
@@ -24,6 +24,21 @@ pub struct ActionRow {
     /// How deep it is nested: 1 where it has no parent.
     pub depth: u64,
     pub status: ActionStatus,
+}
+
+/// A member, as it is now.
+#[derive(Clone, Copy, Debug)]
+pub struct MemberRow {
+    pub action: u64,
+    pub status: MemberStatus,
+    /// The last reply in completion.
+    pub completion: Option<Outcome>,
+    /// The last reply in compensation.
+    pub compensation: Option<Outcome>,
+    /// The ask of it that is outstanding.
+    pub outstanding: Option<u64>,
+    /// What it wants to be asked next.
+    pub want: Option<AskKind>,
 }
 
 /// An ask that was made.
@@ -48,11 +63,12 @@ fn stands_as(number: u64, row: &MemberState) -> bool
 
 impl Rows {
     ghost use Rattle.std.specs.Prelude.{◌≡◌, length};
+    ghost use Rattle.std.specs.Option.{option_copied};
     ghost use Rattle.lra_model.specs.History as history;
     ghost use Rattle.lra_model.specs.History.{History};
     ghost use Rattle.lra_model.specs.Actions as words;
     ghost use Rattle.lra_laws.specs.Sheets.{StandsFor};
-    ghost use Rattle.lra_rows.specs.Found.{found_action, found_ask};
+    ghost use Rattle.lra_rows.specs.Found.{found_action, found_member, found_addresses, found_ask};
     ghost use Rattle.lra_rows.specs.inner.Held as held;
 
     fn held_action(&self, number: u64) -> Option<ActionRow>
@@ -74,6 +90,52 @@ impl Rows {
         ensures { (J : History) → StandsFor self.now J → result ≡ found_action J number }
     {
         self.held_action(number)
+    }
+
+    fn outstanding(&self, row: &MemberState) -> Option<u64>
+        ensures { result ≡ held.held_outstanding self.now row.now }
+    {
+        match row.asked {
+            Some(asked) if self.void < asked.number => Some(asked.number),
+            _ => None,
+        }
+    }
+
+    fn held_member(&self, number: u64) -> Option<MemberRow>
+        ensures { result ≡ held.held_member self.now number }
+    {
+        let row = at(&self.members, number)?;
+        Some(MemberRow {
+            action: row.action,
+            status: row.status,
+            completion: row.completion,
+            compensation: row.compensation,
+            outstanding: self.outstanding(&row),
+            want: self.want(&row),
+        })
+    }
+
+    /// The member of that number, if it is there.
+    pub fn member(&self, number: u64) -> Option<MemberRow>
+        ensures { (J : History) → StandsFor self.now J → result ≡ found_member J number }
+    {
+        self.held_member(number)
+    }
+
+    fn held_addresses(&self, number: u64) -> Option<&Uris>
+        ensures { option_copied result ≡ held.held_addresses self.now number }
+    {
+        match lent(&self.contacts, number) {
+            Some(contact) => Some(&contact.uris),
+            None => None,
+        }
+    }
+
+    /// The addresses that a member joined with, if it is there.
+    pub fn addresses(&self, number: u64) -> Option<&Uris>
+        ensures { (J : History) → StandsFor self.now J → option_copied result ≡ found_addresses J number }
+    {
+        self.held_addresses(number)
     }
 
     fn held_standing(&self, number: u64, member: u64) -> bool

@@ -10,8 +10,9 @@ mod lists;
 mod nest;
 mod rows;
 mod state;
+mod wants;
 mod words;
 
-pub use found::{ActionRow, AskRow};
+pub use found::{ActionRow, AskRow, MemberRow};
 pub use lra_model::Memory;
 pub use rows::Rows;

@@ -1,17 +1,40 @@
 -- What a sheet has of a number.
-use Rattle.std.specs.Prelude.{ℕ, ◌&&◌, nat_le, nat_lt, Bool, false, List, [], Option, option_map}
+use Rattle.std.specs.Prelude.{ℕ, ◌&&◌, nat_le, nat_lt, Bool, false, List, [], Option, Some, None, option_map}
 use Rattle.std.specs.Option.{option_map_or, option_and_then}
+use Rattle.lra_model.specs.Addresses.{Addresses}
+use Rattle.lra_model.specs.Words.{when}
 use Rattle.lra_model.specs.Members.{Asked}
+use Rattle.lra_model.specs.Wants.{wanted}
 use Rattle.lra_laws.specs.Rows as laws
-use Rattle.lra_laws.specs.Rows.{row_at, stands_as}
-use Rattle.lra_laws.specs.Sheets.{Nest, Sheet}
+use Rattle.lra_laws.specs.Rows.{Standing, row_at, stands_as, facts_by, member_by}
+use Rattle.lra_laws.specs.Sheets.{Nest, Contact, Sheet}
 use Rattle.lra_rows.specs.declared.found.ActionRow.{ActionRow}
+use Rattle.lra_rows.specs.declared.found.MemberRow.{MemberRow}
 use Rattle.lra_rows.specs.declared.found.AskRow.{AskRow}
 
 -- an action
 abbrev pub held_action : Sheet → ℕ → Option ActionRow
 held_action s a =
     option_and_then (λ (r : laws.ActionRow). option_map (λ (x : Nest). record { parent = r.parent; limit = r.limit.length_of; since = r.limit.since; depth = x.depth; status = r.status }) (row_at s.nests a)) (row_at s.state.actions a)
+
+-- the ask of a member that is outstanding, by its row
+abbrev pub held_outstanding : Sheet → laws.MemberRow → Option ℕ
+held_outstanding s r = option_map_or (λ (x : Standing). when (nat_lt s.state.void x.number) x.number) r.asked None
+
+-- a member
+abbrev pub held_member : Sheet → ℕ → Option MemberRow
+held_member s p = option_map (λ (r : laws.MemberRow). record {
+  action = r.action;
+  status = r.status;
+  completion = r.completion;
+  compensation = r.compensation;
+  outstanding = held_outstanding s r;
+  want = wanted (facts_by s.state) (member_by s.state r);
+}) (row_at s.state.members p)
+
+-- a member's addresses
+abbrev pub held_addresses : Sheet → ℕ → Option Addresses
+held_addresses s p = option_map (λ (c : Contact). c.addresses) (row_at s.contacts p)
 
 -- whether the ask that a member's row has is that of the number, and was made after the last restart
 abbrev pub held_standing : Sheet → ℕ → ℕ → Bool
