@@ -1,7 +1,7 @@
 -- The list of the asks that were made: each stands at the place of its number.
-use Rattle.std.proofs.Common.{◌≡◌, ℕ, zero, suc, ◌+◌, ◌<◌, ◌≤◌, Bool, true, false, List, [], ◌∷◌, ◌++◌, length, map, Option, Some, None, refl, sym, ap, ◌∙◌, cond, arith, ne_eqb, eq-eqb, append-nil}
+use Rattle.std.proofs.Common.{◌≡◌, ℕ, zero, suc, ◌+◌, ◌<◌, Bool, true, List, [], ◌∷◌, ◌++◌, length, map, Option, Some, None, refl, sym, ap, ◌∙◌, cond, arith, ne_eqb, eq-eqb, append-nil}
 use Rattle.std.proofs.lemmas.List.{length-map, map-append}
-use Rattle.std.specs.Prelude.{◌==◌, option_to_list, option_map, slice_get}
+use Rattle.std.specs.Prelude.{◌==◌, option_to_list, slice_get}
 use Rattle.std.specs.Option.{option_map_or}
 use Rattle.std.specs.List.{filter_map, find, range_with_len}
 use Rattle.lra_model.specs.declared.asks.AskKind.{AskKind}
@@ -9,11 +9,11 @@ use Rattle.lra_model.specs.declared.entry.Deed.{Deed}
 use Rattle.lra_model.specs.declared.entry.Deed.TheVariants.{Ask}
 use Rattle.lra_model.specs.declared.entry.Entry.{Entry}
 use Rattle.lra_model.specs.declared.version.Version.{Version}
-use Rattle.lra_model.specs.History.{History, Step, steps, asks, asked_by, members, is_among}
-use Rattle.lra_model.specs.Members.{Asked, asked_at, ask_of, member_status}
+use Rattle.lra_model.specs.History.{History, steps, asks, asked_by, members}
+use Rattle.lra_model.specs.Members.{Asked, asked_at, ask_of}
 use Rattle.lra_model.specs.Rules.{is_legal}
 use Rattle.lra_laws.specs.Rows.{MemberRow, member_row, state_of, row_at, way_asked}
-use Rattle.lra_laws.specs.Sheets.{asks_made, new_ask_by, asks_after}
+use Rattle.lra_laws.specs.Sheets.{asks_made, asks_after}
 use Rattle.lra_laws.proofs.Push.{step, steps_push, read_push, asks_push}
 use Rattle.lra_laws.proofs.Legal.{snoc_induction, asks_numbered, members_numbered}
 use Rattle.lra_laws.proofs.RowLists.{row_there}

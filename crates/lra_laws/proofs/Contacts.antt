@@ -13,7 +13,7 @@ use Rattle.lra_model.specs.declared.version.Version.{Version}
 use Rattle.lra_model.specs.Addresses.{Addresses}
 use Rattle.lra_model.specs.Words.{when, same_kind, is_undecided}
 use Rattle.lra_model.specs.History.{History, steps, last, members, joined_by, is_among}
-use Rattle.lra_model.specs.Members.{no_addresses, addresses_of, Asked, ask_of, Replied, replied_at, replies}
+use Rattle.lra_model.specs.Members.{no_addresses, Asked, ask_of, Replied, replied_at, replies}
 use Rattle.lra_model.specs.Wants.{stage_of, repeats}
 use Rattle.lra_model.specs.Rules.{is_legal}
 use Rattle.lra_laws.specs.Rows.{change_row}
@@ -23,7 +23,7 @@ use Rattle.lra_laws.proofs.Legal.{legal_induction, Allowed, numbered_fresh, memb
 use Rattle.lra_laws.proofs.RowLists.{eqb_self, eqb_flip, among_apart, map_within, rows_changed, rows_more}
 use Rattle.lra_laws.proofs.Told.{entry, more, Told, told}
 use Rattle.lra_laws.proofs.MemberRows.{members_stay}
-use Rattle.lra_laws.proofs.AskWords.{AsksListed, asks_listed}
+use Rattle.lra_laws.proofs.AskWords.{asks_listed}
 
 -- what a reply counts for
 abbrev repeat_of : ℕ → AskKind → Replied → Option ℕ

@@ -1,7 +1,6 @@
 -- The sheet of a history after one more entry that is allowed.
-use Rattle.std.proofs.Common.{◌≡◌, ℕ, Bool, true, List, [], ◌∷◌, ◌++◌, map, Option, Some, refl, sym, ap, ◌∙◌, length-append}
+use Rattle.std.proofs.Common.{◌≡◌, ℕ, Bool, true, List, [], ◌∷◌, ◌++◌, map, Option, refl, sym, ap, ◌∙◌, length-append}
 use Rattle.std.specs.Option.{option_map_or}
-use Rattle.lra_model.specs.declared.asks.Outcome.{Outcome}
 use Rattle.lra_model.specs.declared.entry.Deed.{Deed}
 use Rattle.lra_model.specs.declared.entry.Deed.TheVariants.{Join, Reply}
 use Rattle.lra_model.specs.declared.entry.Entry.{Entry}
@@ -11,7 +10,6 @@ use Rattle.lra_model.specs.Members.{Asked}
 use Rattle.lra_model.specs.Rules.{is_legal, allows}
 use Rattle.lra_laws.specs.Rows.{state_of, row_at, change_row, change_member, with_reply}
 use Rattle.lra_laws.specs.Sheets.{Sheet, StandsFor, contact_of, asks_made, with_answer, contacts_after, state_after, sheet_of, sheet_after}
-use Rattle.lra_laws.proofs.Push.{step}
 use Rattle.lra_laws.proofs.Legal.{Allowed, allowed, legal_more}
 use Rattle.lra_laws.proofs.Told.{entry, more, Told, told, ReplyTold}
 use Rattle.lra_laws.proofs.AskWords.{asks_listed, asks_stand}
