@@ -1,5 +1,5 @@
 -- What a sheet has of a number is what is found of the history.
-use Rattle.std.proofs.Common.{◌≡◌, ℕ, ◌+◌, Bool, true, false, List, [], ◌∷◌, map, Option, Some, None, refl, sym, ap, ◌∙◌, cond}
+use Rattle.std.proofs.Common.{◌≡◌, ℕ, Bool, true, false, List, [], map, Option, Some, None, refl, sym, ap, ◌∙◌, cond}
 use Rattle.std.specs.Prelude.{◌&&◌, nat_lt, option_map}
 use Rattle.std.specs.Option.{option_map_or, option_and_then}
 use Rattle.lra_model.specs.declared.version.Version.{Version}
@@ -7,18 +7,17 @@ use Rattle.lra_model.specs.History.{History, actions, members, is_among}
 use Rattle.lra_model.specs.Actions.{children, members_of}
 use Rattle.lra_model.specs.Members.{Asked, ask_of, is_outstanding, outstanding_ask}
 use Rattle.lra_model.specs.declared.asks.AskKind.{AskKind}
-use Rattle.lra_model.specs.Addresses.{Addresses}
 use Rattle.lra_model.specs.Words.{when}
 use Rattle.lra_model.specs.Facts.{Facts}
 use Rattle.lra_model.specs.Wants.{wants, wanted}
 use Rattle.lra_model.specs.Rules.{is_legal}
 use Rattle.lra_laws.specs.Rows as laws
 use Rattle.lra_laws.specs.Rows.{row_at, stands_as, action_row, member_row, void_asks, standing, state_of, facts_by, member_by}
-use Rattle.lra_laws.specs.Sheets.{Nest, Contact, nest_of, contact_of, asks_made, sheet_of}
+use Rattle.lra_laws.specs.Sheets.{Nest, Contact, nest_of, contact_of, sheet_of}
 use Rattle.lra_laws.proofs.Legal.{actions_numbered, members_numbered}
 use Rattle.lra_laws.proofs.RowLists.{row_there, row_absent}
 use Rattle.lra_laws.proofs.Agree.{agree}
-use Rattle.lra_laws.proofs.AskWords.{asks_listed, asks_stand, outstanding_by, stands_for, stands_yet}
+use Rattle.lra_laws.proofs.AskWords.{asks_listed, asks_stand, outstanding_by, stands_yet}
 use Rattle.lra_laws.proofs.AskList.{ask_at}
 use Rattle.lra_laws.proofs.Nests.{nothing_in}
 use Rattle.lra_rows.specs.declared.found.ActionRow.{ActionRow}

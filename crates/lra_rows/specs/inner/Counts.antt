@@ -1,5 +1,5 @@
 -- What the counts of a sheet are at most, so that one more entry can raise each by one.
-use Rattle.std.specs.Prelude.{ℕ, ◌+◌, ◌^◌, ◌<◌, ◌≤◌, List, IfSome}
+use Rattle.std.specs.Prelude.{ℕ, ◌^◌, ◌<◌, ◌≤◌, List, IfSome}
 use Rattle.lra_laws.specs.Rows.{ActionRow, row_at}
 use Rattle.lra_laws.specs.Sheets.{Nest, Contact, Sheet}
 

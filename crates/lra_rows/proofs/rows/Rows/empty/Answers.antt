@@ -1,4 +1,4 @@
-use Rattle.std.proofs.Common.{refl, sym}
+use Rattle.std.proofs.Common.{sym}
 use Rattle.lra_model.specs.declared.version.Version.TheVariants as version
 use Rattle.std.specs.Prelude.{true}
 use Rattle.lra_laws.proofs.Legal.{legal_empty}
