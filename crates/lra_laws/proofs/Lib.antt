@@ -33,5 +33,6 @@ pub mod Told
 pub mod Tops
 pub mod Upgraded
 pub mod Wanted
+pub mod WantedWay
 pub mod Worked
 pub mod Writes

@@ -105,3 +105,15 @@ decided_anew way o l None gc None gd h k wc wd = refl
 decided_anew way o l None gc (Some y) gd h k wc wd = refl
 decided_anew way o l (Some x) gc None gd h k wc wd = refl
 decided_anew way o l (Some x) gc (Some y) gd h k wc wd = refl
+
+-- one that was asked nothing yet, or goes on, goes the way of its asks
+pub goes_or_rests : (l : Bool) (c : Option Outcome) (gc : Bool) (d : Option Outcome) (gd : Bool) → (is_untouched (status_by l c gc d gd) || is_completing (status_by l c gc d gd) || is_compensating (status_by l c gc d gd)) ≡ true
+    → cond gc direction.Compensation direction.Completion ≡ way_of (status_by l c gc d gd)
+goes_or_rests true c gc d gd h = absurd cc
+goes_or_rests false (Some outcome.Done) gc d gd h = absurd cc
+goes_or_rests false (Some outcome.Failed) gc d gd h = absurd cc
+goes_or_rests false c true d gd h = refl
+goes_or_rests false c false (Some outcome.Done) gd h = absurd cc
+goes_or_rests false c false (Some outcome.Failed) gd h = absurd cc
+goes_or_rests false c false d true h = refl
+goes_or_rests false c false d false h = refl

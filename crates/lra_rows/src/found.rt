@@ -8,6 +8,8 @@ ghost use Rattle.lra_laws.specs.Rows.{stands_as};
 ghost use Rattle.lra_rows.specs.Found.{found_action, found_member, found_addresses, found_ask};
 ghost use Rattle.lra_rows.specs.inner.Held as held;
 
+use crate::changes::way_asked;
+use crate::contact::{Repeats, stage_of};
 use crate::lists::{at, lent};
 use crate::rows::Rows;
 use crate::state::MemberState;
@@ -39,6 +41,10 @@ pub struct MemberRow {
     pub outstanding: Option<u64>,
     /// What it wants to be asked next.
     pub want: Option<AskKind>,
+    /// How often it was asked for that in vain; 0 where it wants nothing.
+    pub k: u64,
+    /// The moment of the last such answer.
+    pub last: Option<u64>,
 }
 
 /// An ask that was made.
@@ -58,6 +64,17 @@ fn stands_as(number: u64, row: &MemberState) -> bool
     match row.asked {
         Some(asked) => asked.number == number,
         None => false,
+    }
+}
+
+/// When the last of some repeats was.
+fn last_of(repeats: Repeats) -> Option<u64>
+    ensures { result ≡ held.last_of repeats }
+{
+    if repeats.count == 0 {
+        None
+    } else {
+        Some(repeats.last)
     }
 }
 
@@ -101,10 +118,23 @@ impl Rows {
         }
     }
 
+    fn held_repeats(&self, number: u64, row: &MemberState) -> Repeats
+        ensures { result ≡ held.held_repeats self.now number row.now }
+    {
+        let Some(kind) = self.want(row) else {
+            return Repeats::NONE;
+        };
+        match lent(&self.contacts, number) {
+            Some(contact) => contact.repeats(stage_of(kind, way_asked(kind, row.status))),
+            None => Repeats::NONE,
+        }
+    }
+
     fn held_member(&self, number: u64) -> Option<MemberRow>
         ensures { result ≡ held.held_member self.now number }
     {
         let row = at(&self.members, number)?;
+        let repeats = self.held_repeats(number, &row);
         Some(MemberRow {
             action: row.action,
             status: row.status,
@@ -112,6 +142,8 @@ impl Rows {
             compensation: row.compensation,
             outstanding: self.outstanding(&row),
             want: self.want(&row),
+            k: repeats.count,
+            last: last_of(repeats),
         })
     }
 

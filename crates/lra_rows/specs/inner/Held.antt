@@ -1,13 +1,15 @@
 -- What a sheet has of a number.
-use Rattle.std.specs.Prelude.{ℕ, ◌&&◌, nat_le, nat_lt, Bool, false, List, [], Option, None, option_map}
+use Rattle.std.specs.Prelude.{ℕ, ◌==◌, cond, ◌&&◌, nat_le, nat_lt, Bool, false, List, [], Option, Some, None, option_map}
 use Rattle.std.specs.Option.{option_map_or, option_and_then}
+use Rattle.lra_model.specs.declared.asks.AskKind.{AskKind}
+use Rattle.lra_model.specs.declared.asks.AskKind.TheVariants as ask
 use Rattle.lra_model.specs.Addresses.{Addresses}
 use Rattle.lra_model.specs.Words.{when}
 use Rattle.lra_model.specs.Members.{Asked}
-use Rattle.lra_model.specs.Wants.{wanted}
+use Rattle.lra_model.specs.Wants.{wanted, stage_of}
 use Rattle.lra_laws.specs.Rows as laws
-use Rattle.lra_laws.specs.Rows.{Standing, row_at, stands_as, facts_by, member_by}
-use Rattle.lra_laws.specs.Sheets.{Nest, Contact, Sheet}
+use Rattle.lra_laws.specs.Rows.{Standing, row_at, stands_as, facts_by, member_by, way_asked}
+use Rattle.lra_laws.specs.Sheets.{Nest, Repeats, Contact, Sheet, no_repeats}
 use Rattle.lra_rows.specs.declared.found.ActionRow.{ActionRow}
 use Rattle.lra_rows.specs.declared.found.MemberRow.{MemberRow}
 use Rattle.lra_rows.specs.declared.found.AskRow.{AskRow}
@@ -21,6 +23,23 @@ held_action s a =
 abbrev pub held_outstanding : Sheet → laws.MemberRow → Option ℕ
 held_outstanding s r = option_map_or (λ (x : Standing). when (nat_lt s.state.void x.number) x.number) r.asked None
 
+-- a member's repeats in a stage; a status ask is none
+abbrev pub repeats_at : AskKind → Contact → Repeats
+repeats_at ask.Complete c = c.completing
+repeats_at ask.Compensate c = c.compensating
+repeats_at ask.Forget c = c.forgetting
+repeats_at ask.After c = c.telling
+repeats_at ask.Status c = no_repeats
+
+-- the repeats of what a member wants
+abbrev pub held_repeats : Sheet → ℕ → laws.MemberRow → Repeats
+held_repeats s p r =
+    option_map_or (λ (kind : AskKind). option_map_or (repeats_at (stage_of kind (way_asked kind r.status))) (row_at s.contacts p) no_repeats) (wanted (facts_by s.state) (member_by s.state r)) no_repeats
+
+-- when the last of some repeats was
+abbrev pub last_of : Repeats → Option ℕ
+last_of r = cond (r.count == 0) None (Some r.last)
+
 -- a member
 abbrev pub held_member : Sheet → ℕ → Option MemberRow
 held_member s p = option_map (λ (r : laws.MemberRow). record {
@@ -30,6 +49,8 @@ held_member s p = option_map (λ (r : laws.MemberRow). record {
   compensation = r.compensation;
   outstanding = held_outstanding s r;
   want = wanted (facts_by s.state) (member_by s.state r);
+  k = (held_repeats s p r).count;
+  last = last_of (held_repeats s p r);
 }) (row_at s.state.members p)
 
 -- a member's addresses
