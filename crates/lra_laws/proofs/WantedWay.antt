@@ -1,11 +1,10 @@
 -- The way of what a member wants, by its status.
-use Rattle.std.proofs.Common.{◌≡◌, ℕ, Bool, true, false, Option, Some, None, refl, sym, ap, ◌∙◌, cond}
+use Rattle.std.proofs.Common.{◌≡◌, ℕ, Bool, true, false, Some, None, refl, sym, ap, ◌∙◌, cond}
 use Rattle.std.specs.Prelude.{◌&&◌, ◌||◌}
 use Rattle.std.specs.Option.{option_map_or, option_or}
 use Rattle.lra_model.specs.declared.status.MemberStatus.{MemberStatus}
 use Rattle.lra_model.specs.declared.asks.AskKind.{AskKind}
 use Rattle.lra_model.specs.declared.asks.AskKind.TheVariants as ask
-use Rattle.lra_model.specs.declared.asks.Direction.{Direction}
 use Rattle.lra_model.specs.declared.asks.Direction.TheVariants as direction
 use Rattle.lra_model.specs.Words.{when, is_closing, is_cancelling, is_untouched, is_completing, is_completed, is_compensating, has_gone}
 use Rattle.lra_model.specs.History.{History, members, is_among}
