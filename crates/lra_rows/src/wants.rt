@@ -99,10 +99,7 @@ impl Rows {
         if !(is_time && row.addresses.compensate) {
             return None;
         }
-        if is_compensating(row.status)
-            && was_accepted(row.compensation)
-            && row.addresses.status
-        {
+        if is_compensating(row.status) && was_accepted(row.compensation) && row.addresses.status {
             Some(AskKind::Status)
         } else {
             Some(AskKind::Compensate)
