@@ -3,3 +3,4 @@ pub mod Views
 pub mod Rule
 pub mod Steps
 pub mod Locks
+pub mod Example

@@ -8,8 +8,6 @@ use Rattle.lra_ticket.specs.declared.lock.TicketLock.{TicketLock}
 use Rattle.lra_ticket.specs.declared.lock.Pass.{Pass}
 use Rattle.lra_ticket.specs.declared.lock.Queued.{Queued}
 use Rattle.lra_ticket.specs.declared.lock.Held.{Held}
-use Rattle.lra_ticket.specs.declared.entries.AddFault.{AddFault}
-use Rattle.lra_ticket.specs.declared.entries.AddFault.TheVariants as add
 use Rattle.lra_ticket.specs.declared.lock.TryFault.{TryFault}
 use Rattle.lra_ticket.specs.declared.lock.TryFault.TheVariants.{Busy, Worn}
 use Rattle.lra_ticket.specs.declared.view.Place.TheVariants.{Idle, Looked, Peeked, Missed}
@@ -67,13 +65,3 @@ module _ {O : Type 0} where
   abbrev pub HasFailed : View O → TryFault → View O → Type 0
   HasFailed v Busy w = HasMissed v w
   HasFailed v Worn w = w ≡ moved (tried v) (Peeked last_ticket)
-
-  -- w is v, after it saw a history with nothing more under its number, and added an entry of its own to it
-  abbrev pub HasAdded : View O → Entry → View O → Type 0
-  HasAdded v e w = (history : List Entry) × IsPrefix v.seen history × (entries_by v.number history ≡ v.mine)
-      × (w ≡ record v { seen = history ++ e ∷ []; mine = v.mine ++ e ∷ []; place = Idle })
-
-  -- w is v, which added nothing: it drew no ticket, or it saw a history with nothing more under its number
-  abbrev pub HasNotAdded : View O → AddFault → View O → Type 0
-  HasNotAdded v add.Worn w = w ≡ moved v (Looked last_ticket)
-  HasNotAdded v add.Memory w = (history : List Entry) × IsPrefix v.seen history × (entries_by v.number history ≡ v.mine) × (w ≡ record v { seen = history; place = Idle })
