@@ -1,6 +1,8 @@
 -- What clauses read of a lock and of its tokens, and what its calls say of them.
-use Rattle.std.specs.Prelude.{◌≡◌, ◌≢◌, ℕ, ◌+◌, ◌-◌, ◌^◌, ◌<◌, List, [], ◌∷◌, ◌++◌}
-use mathlib.Core.List.{IsPrefix}
+use Rattle.std.specs.Prelude.{◌≡◌, ◌≢◌, ◌⊎◌, ℕ, ◌+◌, ◌-◌, ◌^◌, ◌<◌, List, [], ◌∷◌, Option}
+use mathlib.Core.Option.{some}
+use lib.ListN.{get_elem?}
+use Rattle.atomic_table.specs.Table.{State}
 use Rattle.atomic_table.specs.Seated.{TableId}
 use Rattle.lra_model.specs.declared.entry.Entry.{Entry}
 use Rattle.lra_ticket.specs.declared.kept.Kept.{Ghosts}
@@ -8,11 +10,12 @@ use Rattle.lra_ticket.specs.declared.lock.TicketLock.{TicketLock}
 use Rattle.lra_ticket.specs.declared.lock.Pass.{Pass}
 use Rattle.lra_ticket.specs.declared.lock.Queued.{Queued}
 use Rattle.lra_ticket.specs.declared.lock.Held.{Held}
+use Rattle.lra_ticket.specs.declared.lock.Parts.{Parts}
 use Rattle.lra_ticket.specs.declared.lock.TryFault.{TryFault}
 use Rattle.lra_ticket.specs.declared.lock.TryFault.TheVariants.{Busy, Worn}
-use Rattle.lra_ticket.specs.declared.view.Place.TheVariants.{Idle, Looked, Peeked, Missed}
+use Rattle.lra_ticket.specs.declared.view.Place.TheVariants.{Peeked, Missed}
 use Rattle.lra_ticket.specs.declared.view.View.{View}
-use Rattle.lra_ticket.specs.History.{entries_by}
+use Rattle.lra_ticket.specs.Rule.{IsOrderly, IsOut, IsInLine}
 use Rattle.lra_ticket.specs.Views.{moved, taking}
 
 -- the last number of a word, which is never drawn as a ticket
@@ -65,3 +68,12 @@ module _ {O : Type 0} where
   abbrev pub HasFailed : View O → TryFault → View O → Type 0
   HasFailed v Busy w = HasMissed v w
   HasFailed v Worn w = w ≡ moved (tried v) (Peeked last_ticket)
+
+-- what a lock was when it ended: a state that meets the rule, which has this view among its own, and where no one holds the lock this value
+pub record HasEnded {X O : Type 0} (origin : X → O) (history : X → List Entry) (lawful : X → Type 0) (o : O) (v : View O) (parts : Parts X) : Type 0 where
+  pub state : State (Option X) (View O)
+  pub orderly : IsOrderly origin history lawful o state
+  pub in_line : IsInLine state
+  pub known : (i : ℕ) × (get_elem? state.views i ≡ some v)
+  pub atomic_words : state.words ≡ parts.next ∷ parts.serving ∷ []
+  pub slot : (state.homes ≡ some parts.value ∷ []) ⊎ IsOut state

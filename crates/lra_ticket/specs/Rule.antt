@@ -59,7 +59,7 @@ module _ {X O : Type 0} (origin : X → O) (history : X → List Entry) (lawful 
     pub next : ℕ
     pub serving : ℕ
     pub log : List Entry
-    pub words : s.words ≡ next ∷ serving ∷ []
+    pub atomic_words : s.words ≡ next ∷ serving ∷ []
     pub served : serving ≤ next
     pub small : next < 2 ^ 64
     pub slot : IsHome o log s ⊎ IsOut s

@@ -20,6 +20,15 @@ pub record Suits {X O : Type 0} (origin : X → O) (history : X → List Entry) 
   pub own : entries_by v.number (history x) ≡ v.mine
   pub enrolled : v.number ≢ 0 → v.mine ≢ []
 
+-- what a view knows beside a second one, with this number and what it had seen
+pub record IsMet {O : Type 0} (v : View O) (number : ℕ) (seen : List Entry) : Type 0 where
+  -- of their histories one begins the other
+  pub in_line : Comparable v.seen seen
+  -- all the view's own entries in the second history are known to it
+  pub complete : IsPrefix v.seen seen → entries_by v.number seen ≡ v.mine
+  -- no two have one number other than 0
+  pub apart : v.number ≢ 0 → v.number ≢ number
+
 -- a seat: its view, and the slots that it has
 abbrev pub Hand : Type 0 → Type 0 → Type 0
 Hand X O = Me (Option X) (View O)
@@ -54,6 +63,6 @@ module _ {X O : Type 0} where
   abbrev pub peeked : Step (Option X) → Hand X O → ℕ → Hand X O → Type 0
   peeked st m found n = n ≡ (peeking m.0 found, m.1)
 
-  -- compare, between pair and part: of the two histories that a view stands for one begins the other, and its own entries are complete in both
+  -- compare, between pair and part: what is told of the two histories that a view stands for
   abbrev pub met : Step (Option X) → Hand X O → ℕ → Hand X O → Type 0
-  met st m found n = (n ≡ m) × ((k : ℕ) (h : List Entry) → m.0.place ≡ Paired k h → Comparable m.0.seen h × (IsPrefix m.0.seen h → entries_by m.0.number h ≡ m.0.mine))
+  met st m found n = (n ≡ m) × ((k : ℕ) (h : List Entry) → m.0.place ≡ Paired k h → IsMet m.0 k h)

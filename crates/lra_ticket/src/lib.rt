@@ -20,5 +20,5 @@ mod tests;
 mod view;
 
 pub use kept::Kept;
-pub use lock::{Held, Pass, TicketLock, TryFault, Worn};
+pub use lock::{Held, Parts, Pass, TicketLock, TryFault, Worn};
 pub use view::{Place, View};

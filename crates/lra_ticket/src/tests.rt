@@ -441,14 +441,16 @@ fn a_lock_made_for_a_number_goes_on_under_it(rt: HostRuntime) -> Result<(), Fail
     assert!(rt; push(&mut entries, entry(2, 0)));
     let (lock, pass) = EntryLock::new_for(rt.alloc(), entries, 2)?;
     let pass = append(&rt, &lock, pass, 2, 1).expect(&rt, "the lock is free");
-    let (lock, _) = match lock.close(pass) {
+    let (lock, pass) = match lock.close(pass) {
         Ok(entries) => {
             assert!(rt; entries.len() == 2 && counts_up(&entries, 2, 1));
             EntryLock::starting_at(rt.alloc(), entries, 5)?
         }
         Err(refused) => refused,
     };
-    assert_eq!(rt; lock.into_tickets(), (5, 5));
+    let parts = lock.into_parts(pass);
+    assert_eq!(rt; (parts.next, parts.serving), (5, 5));
+    assert!(rt; parts.value.is_some());
     Ok(())
 }
 
