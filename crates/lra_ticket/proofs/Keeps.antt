@@ -18,10 +18,10 @@ use Rattle.lra_ticket.specs.declared.view.Place.TheVariants.{Idle, Looked, Waiti
 use Rattle.lra_ticket.specs.declared.lock.Parts.{Parts}
 use Rattle.lra_ticket.specs.declared.view.View.{View}
 use Rattle.lra_ticket.specs.History.{entries_by, block_after, longer, number_after, MayAdd}
-use Rattle.lra_ticket.specs.Views.{is_resting, has_ticket, holds_lock, Sight, sight, sights_at, sights, bearers, view, spent_view, moved, newcomer, peeking, taking, given, paired, second, second_at, joined}
+use Rattle.lra_ticket.specs.Views.{is_resting, has_ticket, holds_lock, Sight, sight, sights_at, sights, bearers, view, moved, newcomer, taking, given}
+use Rattle.lra_ticket.specs.inner.Steps.{spent_view, peeking, paired, second, second_at, joined, Hand, Takes, watched, grabbed, gave, looked, drew, peeked, met}
+use Rattle.lra_ticket.specs.Locks.{last_ticket, HasEnded, Suits}
 use Rattle.lra_ticket.specs.Rule.{IsPlaced, Fits, Stands, IsHome, IsOut, IsOrderly, IsInLine}
-use Rattle.lra_ticket.specs.Locks.{last_ticket, HasEnded}
-use Rattle.lra_ticket.specs.Steps.{Suits, Hand, Takes, watched, grabbed, gave, looked, drew, peeked, met}
 use Rattle.lra_ticket.proofs.Counts.{sum_by-at, term_le, terms_le, some_term, no_terms, set-swap}
 use Rattle.lra_ticket.proofs.Histories.{whole, prefix_refl, prefix_trans, in_line, entries_by-between, entries_by-none, number_after-kept, number_after-none, entries_by-given, entries_by-others, nil_cases, nil_left, nil_right, longer_cases}
 

@@ -1,5 +1,5 @@
 use Rattle.std.proofs.Common.{sym, subst, refl, ◌≡◌, ◌∙◌, Some, IsSome}
-use Rattle.lra_ticket.specs.Steps.{Suits}
+use Rattle.lra_ticket.specs.Locks.{Suits}
 use Rattle.lra_ticket.proofs.Keeps.{ends}
 use Rattle.lra_ticket.proofs.lock.TicketLock.last_value.Goals as goal
 

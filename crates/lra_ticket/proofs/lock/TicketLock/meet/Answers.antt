@@ -2,8 +2,7 @@ use Rattle.std.proofs.Common.{rules, ap, refl, subst, ◌∙◌, ◌≡◌, ℕ,
 use Rattle.lra_model.specs.declared.entry.Entry.{Entry}
 use Rattle.lra_ticket.specs.declared.view.Place.TheVariants.{Paired}
 use Rattle.lra_ticket.specs.declared.view.View.{View}
-use Rattle.lra_ticket.specs.Steps.{Hand, IsMet}
-use Rattle.lra_ticket.specs.Views.{paired}
+use Rattle.lra_ticket.specs.inner.Steps.{Hand, IsMet, paired}
 use Rattle.lra_ticket.proofs.Keeps.{pairs, compares, parts}
 use Rattle.lra_ticket.proofs.lock.TicketLock.meet.Goals as goal
 
