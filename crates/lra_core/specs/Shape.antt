@@ -5,8 +5,8 @@ use Rattle.lra_model.specs.declared.status.ActionStatus.TheVariants as action
 use Rattle.lra_model.specs.declared.version.Version.{Version}
 use Rattle.lra_model.specs.History.{History, members}
 use Rattle.lra_model.specs.Actions.{parent, children, action_status}
-use Rattle.lra_core.specs.declared.limits.Limits.{Limits}
-use Rattle.lra_core.specs.Terms.{Terms}
+use Rattle.lra_commands.specs.declared.limits.Limits.{Limits}
+use Rattle.lra_commands.specs.declared.limits.Terms.{Terms}
 
 -- a coordinator: what it was made with, its history, and how many entries it has room for
 pub record Shape : Type 0 where

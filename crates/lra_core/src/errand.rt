@@ -21,7 +21,7 @@ pub struct Errand {
 impl Model for Errand {
     ghost use Rattle.std.specs.Prelude.{string_bytes};
     ghost use Rattle.lra_model.specs.Addresses.{text_of};
-    ghost use Rattle.lra_core.specs.Errands.{Asking};
+    ghost use Rattle.lra_commands.specs.Errands.{Asking};
 
     ghost Value = { Asking };
 

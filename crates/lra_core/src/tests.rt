@@ -1,7 +1,7 @@
 //! Commands given one after another, and what they are answered.
 
 ghost use Rattle.std.specs.Prelude.{◌≡◌};
-ghost use Rattle.lra_core.specs.Terms.{AreKeepable};
+ghost use Rattle.lra_commands.specs.Terms.{AreKeepable};
 
 use crate::{
     Command, Committed, Coordinator, Instance, Limits, Prepared, Refusal, Resource, Told, Version,

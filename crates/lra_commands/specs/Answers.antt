@@ -1,20 +1,21 @@
 -- What a call is answered, and the history after it.
-use Rattle.std.specs.Prelude.{◌≡◌, ℕ, List, [], ◌++◌, length, Result, Ok, Err, is_some, cond}
+use Rattle.std.specs.Prelude.{◌≡◌, ◌≢◌, ℕ, List, [], ◌++◌, length, Result, Ok, Err, is_some, cond}
 use Rattle.std.specs.Option.{option_map_or}
 use Rattle.lra_model.specs.declared.entry.Entry.{Entry}
 use Rattle.lra_model.specs.History.{History, clerks, actions, members, asks}
 use Rattle.lra_model.specs.Members.{member_status}
-use Rattle.lra_core.specs.declared.command.Command.{Command}
-use Rattle.lra_core.specs.declared.command.Command.TheVariants as command
-use Rattle.lra_core.specs.declared.command.Told.{Told}
-use Rattle.lra_core.specs.declared.command.Told.TheVariants as told
-use Rattle.lra_core.specs.declared.refusal.Refusal.{Refusal}
-use Rattle.lra_core.specs.Terms.{Terms}
-use Rattle.lra_core.specs.Calls.{Call, moment_of}
-use Rattle.lra_core.specs.Due.{due, late}
-use Rattle.lra_core.specs.Deeds.{already_member, stored_addresses, is_open, is_decided, may_be_cancelled}
-use Rattle.lra_core.specs.Blocks.{block}
-use Rattle.lra_core.specs.Refusals.{status_at, refused}
+use Rattle.lra_model.specs.Settling.{IsQuiet}
+use Rattle.lra_ids.specs.Addresses.{is_address}
+use Rattle.lra_commands.specs.declared.command.Command.TheVariants as command
+use Rattle.lra_commands.specs.declared.command.Told.{Told}
+use Rattle.lra_commands.specs.declared.command.Told.TheVariants as told
+use Rattle.lra_commands.specs.declared.refusal.Refusal.{Refusal}
+use Rattle.lra_commands.specs.declared.limits.Terms.{Terms}
+use Rattle.lra_commands.specs.Calls.{Command, Call, moment_of}
+use Rattle.lra_commands.specs.Due.{due, late}
+use Rattle.lra_commands.specs.Deeds.{already_member, stored_addresses, is_open, is_decided, may_be_cancelled}
+use Rattle.lra_commands.specs.Blocks.{block}
+use Rattle.lra_commands.specs.Refusals.{status_at, refused}
 
 -- what a command is told, where it isn't refused: J is the history before it, and K the one after; a state after what was written is that in K
 abbrev pub tells : Terms → History → History → ℕ → Command → Told
@@ -52,3 +53,7 @@ after_call s J c = J ++ growth s J c
 -- K is what J grows to by a call
 abbrev pub Grows : Terms → History → Call → History → Type 0
 Grows s J c K = K ≡ after_call s J c
+
+-- nothing is left to settle after a call that writes
+abbrev pub IsQuietAfter : Terms → History → Call → Type 0
+IsQuietAfter s J c = block s J c ≢ [] → IsQuiet s.version is_address (after_call s J c)

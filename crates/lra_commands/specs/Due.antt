@@ -8,7 +8,7 @@ use Rattle.lra_model.specs.Actions.{limit_in_force}
 use Rattle.lra_model.specs.Members.{ask_direction}
 use Rattle.lra_model.specs.Ends.{action_is}
 use Rattle.lra_model.specs.Wants.{wants, stage_of, repeat_count, last_repeat}
-use Rattle.lra_core.specs.declared.limits.Limits.{Limits}
+use Rattle.lra_commands.specs.declared.limits.Limits.{Limits}
 
 -- a number, with the moment from which something of it is due
 pub record Timed : Type 0 where

@@ -14,14 +14,14 @@ use Rattle.lra_laws.proofs.Settled.{settling_allowed}
 use Rattle.lra_laws.proofs.Quiet.{no_next_is_quiet}
 use Rattle.lra_laws.proofs.Rests.{left_to_settle, left_is_bounded, next_lessens}
 use Rattle.lra_ids.specs.Addresses.{is_address}
-use Rattle.lra_core.specs.declared.refusal.Refusal.{Refusal}
-use Rattle.lra_core.specs.Terms.{Terms}
-use Rattle.lra_core.specs.Calls.{Call, moment_of}
-use Rattle.lra_core.specs.Deeds.{own_deed, entry_of}
-use Rattle.lra_core.specs.Blocks.{settling_within, most_settling, settling, with_settling, block}
-use Rattle.lra_core.specs.Answers.{growth, after_call}
-use Rattle.lra_core.specs.Runs.{CallsLeaveQuiet}
-use Rattle.lra_core.proofs.Keeps.{call_keeps}
+use Rattle.lra_commands.specs.declared.refusal.Refusal.{Refusal}
+use Rattle.lra_commands.specs.declared.limits.Terms.{Terms}
+use Rattle.lra_commands.specs.Calls.{Call, moment_of}
+use Rattle.lra_commands.specs.Deeds.{own_deed, entry_of}
+use Rattle.lra_commands.specs.Blocks.{settling_within, most_settling, settling, with_settling, block}
+use Rattle.lra_commands.specs.Answers.{growth, after_call}
+use Rattle.lra_commands.specs.Runs.{CallsLeaveQuiet}
+use Rattle.lra_commands.proofs.Keeps.{call_keeps}
 
 -- ---- the entries that settle
 

@@ -23,11 +23,10 @@ use Rattle.lra_model.specs.Facts.{facts_of}
 use Rattle.lra_model.specs.Tests.{at_action, may_cancel}
 use Rattle.lra_model.specs.Wants.{wants}
 use Rattle.lra_ids.specs.Addresses.{address_of}
-use Rattle.lra_core.specs.declared.command.Command.{Command}
-use Rattle.lra_core.specs.declared.command.Command.TheVariants as command
-use Rattle.lra_core.specs.Terms.{Terms}
-use Rattle.lra_core.specs.Calls.{Call, moment_of}
-use Rattle.lra_core.specs.Due.{due, late}
+use Rattle.lra_commands.specs.declared.command.Command.TheVariants as command
+use Rattle.lra_commands.specs.declared.limits.Terms.{Terms}
+use Rattle.lra_commands.specs.Calls.{Command, Call, moment_of}
+use Rattle.lra_commands.specs.Due.{due, late}
 
 -- the text that an address is stored as: that of its URL (the URL Standard, section 4.5)
 abbrev pub stored : List ℕ → List ℕ

@@ -29,17 +29,16 @@ use Rattle.lra_laws.proofs.Writes.{MayWrite, known_deed, may_write}
 use Rattle.lra_laws.proofs.Wanted.{not_gone, wants_may}
 use Rattle.std.specs.Result.{is_ok}
 use Rattle.lra_ids.specs.Addresses.{address_of, is_address}
-use Rattle.lra_core.specs.declared.command.Command.{Command}
-use Rattle.lra_core.specs.declared.command.Command.TheVariants as command
-use Rattle.lra_core.specs.Terms.{Terms}
-use Rattle.lra_core.specs.Errands.{Asking}
-use Rattle.lra_core.specs.Calls.{are_texts}
-use Rattle.lra_core.specs.Due.{late}
-use Rattle.lra_core.specs.Deeds.{stored_addresses, is_decided, outcome_told, is_open, may_be_cancelled}
-use Rattle.lra_core.specs.Refusals.{is_old, is_of, is_asked, is_asked_for, command_grounds}
-use Rattle.lra_core.proofs.KeepsGrounds.{NoneHolds}
-use Rattle.lra_core.proofs.KeepsAddresses.{stored_fit}
-use Rattle.lra_core.proofs.KeepsLate.{IsLate, late_is}
+use Rattle.lra_commands.specs.declared.command.Command.TheVariants as command
+use Rattle.lra_commands.specs.declared.limits.Terms.{Terms}
+use Rattle.lra_commands.specs.Errands.{Asking}
+use Rattle.lra_commands.specs.Calls.{Command, are_texts}
+use Rattle.lra_commands.specs.Due.{late}
+use Rattle.lra_commands.specs.Deeds.{stored_addresses, is_decided, outcome_told, is_open, may_be_cancelled}
+use Rattle.lra_commands.specs.Refusals.{is_old, is_of, is_asked, is_asked_for, command_grounds}
+use Rattle.lra_commands.proofs.KeepsGrounds.{NoneHolds}
+use Rattle.lra_commands.proofs.KeepsAddresses.{stored_fit}
+use Rattle.lra_commands.proofs.KeepsLate.{IsLate, late_is}
 
 -- who writes may write: legal, enrolled, and not before the last moment
 abbrev pub Writes : Terms → History → ℕ → ℕ → Type 0

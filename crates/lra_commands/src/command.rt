@@ -1,11 +1,10 @@
 //! What clerks ask of a coordinator, and what it answers.
 
-use crate::errand::Errand;
 use lra_model::{ActionStatus, Ending, MemberStatus, Outcome, Uris};
 
-/// What a clerk asks of the coordinator.
+/// What a clerk asks of the coordinator. `E` is the errand that a request to a member was carried by.
 #[derive(Debug, Drop)]
-pub enum Command<'a> {
+pub enum Command<'a, E> {
     /// To have a number as a clerk.
     Enrol,
     /// To start an action. A limit is in milliseconds, and 0 is none.
@@ -37,7 +36,7 @@ pub enum Command<'a> {
     NextAsk,
     /// To take down what came of an ask.
     Record {
-        errand: &'a Errand,
+        errand: &'a E,
         outcome: Outcome,
     },
     /// To take down what a member tells of itself.
@@ -52,11 +51,11 @@ pub enum Command<'a> {
         action: u64,
         limit: u64,
     },
-    /// To know an action's state.
+    /// To know an action's status.
     Status {
         action: u64,
     },
-    /// To know a member's state.
+    /// To know a member's status.
     MemberStatus {
         member: u64,
     },
@@ -74,9 +73,9 @@ pub enum Told {
     /// The member that has joined this action with these addresses before.
     AlreadyMember(u64),
     Left,
-    /// The action's state, once its close or cancel was taken.
+    /// The action's status, once its close or cancel was taken.
     Now(ActionStatus),
-    /// The action's state, where it was closed or cancelled before.
+    /// The action's status, where it was closed or cancelled before.
     Already(ActionStatus),
     /// The action that was cancelled since its limit has passed.
     Fired(u64),
@@ -85,14 +84,14 @@ pub enum Told {
     /// The number of the ask.
     Asked(u64),
     Recorded,
-    /// The member's state, once its report was taken.
+    /// The member's status, once its report was taken.
     MemberNow(MemberStatus),
-    /// The member's state, where it had told of that direction before.
+    /// The member's status, where it had told of that direction before.
     MemberAlready(MemberStatus),
     Restarted,
     Renewed,
-    /// The action's state.
+    /// The action's status.
     ActionIs(ActionStatus),
-    /// The member's state.
+    /// The member's status.
     MemberIs(MemberStatus),
 }

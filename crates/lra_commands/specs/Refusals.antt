@@ -15,18 +15,17 @@ use Rattle.lra_model.specs.Depths.{depth}
 use Rattle.lra_model.specs.Members.{Asked, action_of, has_left, member_status, is_outstanding, ask_of}
 use Rattle.lra_model.specs.Tests.{is_moment, each_parent, addresses_fit}
 use Rattle.lra_ids.specs.Addresses.{address_of}
-use Rattle.lra_core.specs.declared.limits.Limits.{Limits}
-use Rattle.lra_core.specs.declared.command.Command.{Command}
-use Rattle.lra_core.specs.declared.command.Command.TheVariants as command
-use Rattle.lra_core.specs.declared.refusal.Resource.{Resource}
-use Rattle.lra_core.specs.declared.refusal.Resource.TheVariants as resource
-use Rattle.lra_core.specs.declared.refusal.Refusal.{Refusal}
-use Rattle.lra_core.specs.declared.refusal.Refusal.TheVariants as refusal
-use Rattle.lra_core.specs.Terms.{Terms}
-use Rattle.lra_core.specs.Errands.{Asking}
-use Rattle.lra_core.specs.Calls.{Call, moment_of}
-use Rattle.lra_core.specs.Deeds.{is_open, is_decided, direction_told, may_be_cancelled}
-use Rattle.lra_core.specs.Blocks.{block}
+use Rattle.lra_commands.specs.declared.limits.Limits.{Limits}
+use Rattle.lra_commands.specs.declared.command.Command.TheVariants as command
+use Rattle.lra_commands.specs.declared.refusal.Resource.{Resource}
+use Rattle.lra_commands.specs.declared.refusal.Resource.TheVariants as resource
+use Rattle.lra_commands.specs.declared.refusal.Refusal.{Refusal}
+use Rattle.lra_commands.specs.declared.refusal.Refusal.TheVariants as refusal
+use Rattle.lra_commands.specs.declared.limits.Terms.{Terms}
+use Rattle.lra_commands.specs.Errands.{Asking}
+use Rattle.lra_commands.specs.Calls.{Command, Call, moment_of}
+use Rattle.lra_commands.specs.Deeds.{is_open, is_decided, direction_told, may_be_cancelled}
+use Rattle.lra_commands.specs.Blocks.{block}
 
 -- a refusal, and whether it holds
 abbrev pub Ground : Type 0

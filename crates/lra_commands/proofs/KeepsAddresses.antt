@@ -13,8 +13,8 @@ use Rattle.lra_laws.proofs.Tested.{both, and_intro}
 use Rattle.lra_ids.specs.declared.fault.UriFault.{UriFault}
 use Rattle.lra_ids.specs.Addresses.{address_of, is_address}
 use Rattle.lra_ids.proofs.AddressFacts.{address_is_own}
-use Rattle.lra_core.specs.Calls.{is_text, are_texts}
-use Rattle.lra_core.specs.Deeds.{stored, stored_addresses}
+use Rattle.lra_commands.specs.Calls.{is_text, are_texts}
+use Rattle.lra_commands.specs.Deeds.{stored, stored_addresses}
 use lib.Utf8.{scalar, scalar_cases, encode, encodes, scalars}
 
 -- ---- a text is of bytes

@@ -21,20 +21,20 @@ use Rattle.lra_laws.proofs.Ranges.{last_moment_in_range}
 use Rattle.lra_laws.proofs.Writes.{MayWrite, may_enrol, may_go_on}
 use Rattle.lra_laws.proofs.Settled.{settling_allowed}
 use Rattle.lra_ids.specs.Addresses.{is_address}
-use Rattle.lra_core.specs.declared.limits.Limits.{Limits}
-use Rattle.lra_core.specs.declared.command.Command.{Command}
-use Rattle.lra_core.specs.declared.command.Command.TheVariants as command
-use Rattle.lra_core.specs.declared.refusal.Refusal.{Refusal}
-use Rattle.lra_core.specs.Terms.{Terms, AreKeepable}
-use Rattle.lra_core.specs.Calls.{Call, moment_of, IsCall}
-use Rattle.lra_core.specs.Due.{due, late}
-use Rattle.lra_core.specs.Deeds.{already_member, stored_addresses, is_open, outcome_told, is_decided, may_be_cancelled, own_deed, entry_of}
-use Rattle.lra_core.specs.Blocks.{settling_within, most_settling, settling, with_settling, block}
-use Rattle.lra_core.specs.Refusals.{refused}
-use Rattle.lra_core.specs.Answers.{growth, after_call}
-use Rattle.lra_core.specs.Runs.{IsWithin, IsKept, CallsKeepHistories, CallsMakeHistories}
-use Rattle.lra_core.proofs.KeepsGrounds.{IsUnrefused, unrefused, within_after}
-use Rattle.lra_core.proofs.KeepsOwn.{Writes, IsAllowed, start_allowed, close_allowed, cancel_allowed, tick_allowed, renew_allowed, join_allowed, leave_allowed, report_allowed, ask_allowed, reply_allowed, restart_allowed}
+use Rattle.lra_commands.specs.declared.limits.Limits.{Limits}
+use Rattle.lra_commands.specs.declared.command.Command.TheVariants as command
+use Rattle.lra_commands.specs.declared.refusal.Refusal.{Refusal}
+use Rattle.lra_commands.specs.declared.limits.Terms.{Terms}
+use Rattle.lra_commands.specs.Terms.{AreKeepable}
+use Rattle.lra_commands.specs.Calls.{Command, Call, moment_of, IsCall}
+use Rattle.lra_commands.specs.Due.{due, late}
+use Rattle.lra_commands.specs.Deeds.{already_member, stored_addresses, is_open, outcome_told, is_decided, may_be_cancelled, own_deed, entry_of}
+use Rattle.lra_commands.specs.Blocks.{settling_within, most_settling, settling, with_settling, block}
+use Rattle.lra_commands.specs.Refusals.{refused}
+use Rattle.lra_commands.specs.Answers.{growth, after_call}
+use Rattle.lra_commands.specs.Runs.{IsWithin, IsLawful, CallsKeepHistories, CallsMakeHistories}
+use Rattle.lra_commands.proofs.KeepsGrounds.{IsUnrefused, unrefused, within_after}
+use Rattle.lra_commands.proofs.KeepsOwn.{Writes, IsAllowed, start_allowed, close_allowed, cancel_allowed, tick_allowed, renew_allowed, join_allowed, leave_allowed, report_allowed, ask_allowed, reply_allowed, restart_allowed}
 
 -- ---- counts only grow
 
@@ -99,7 +99,7 @@ moment_fits s J m l h =
     let k = ltb-true (last_moment J) (2 ^ 64) (last_moment_in_range s.version is_address J l) in
     lt-ltb (max m (last_moment J)) (2 ^ 64) (omega arith)
 
-enrolled_writes : (s : Terms) (J : History) (by m : ℕ) → IsKept s J → m < 2 ^ 64 → not (is_among (clerks J) by) ≡ false → Writes s J by (max m (last_moment J))
+enrolled_writes : (s : Terms) (J : History) (by m : ℕ) → IsLawful s J → m < 2 ^ 64 → not (is_among (clerks J) by) ≡ false → Writes s J by (max m (last_moment J))
 enrolled_writes s J by m k h g = record { legal = k.legal; clerk = not-false _ g; moment = moment_later J m; fits = moment_fits s J m k.legal h }
 
 -- the deed of a test that holds
@@ -108,7 +108,7 @@ when_holds true x d h = (refl, cc)
 when_holds false x d h = absurd cc
 
 -- what a call writes of its own is allowed
-own_allowed : (s : Terms) (J : History) (by m : ℕ) (c : Command) → AreKeepable s.limits → IsKept s J → IsCall (record { by = by; moment = m; command = c }) → IsUnrefused s J (record { by = by; moment = m; command = c })
+own_allowed : (s : Terms) (J : History) (by m : ℕ) (c : Command) → AreKeepable s.limits → IsLawful s J → IsCall (record { by = by; moment = m; command = c }) → IsUnrefused s J (record { by = by; moment = m; command = c })
     → (d : Deed) → own_deed s J (max m (last_moment J)) c ≡ Some d → IsWithin s.limits (J ++ entry_of J (record { by = by; moment = m; command = c }) d ∷ [])
     → Allowed s.version is_address J (entry_of J (record { by = by; moment = m; command = c }) d)
 unfolding clerks actions members asks
@@ -198,12 +198,12 @@ own_allowed s J by m (command.MemberStatus p) l k call u d h w = absurd cc
 -- ---- calls
 
 -- a call that isn't refused keeps a history
-block_keeps : (s : Terms) (J : History) (c : Call) → AreKeepable s.limits → IsKept s J → IsCall c → IsUnrefused s J c → IsKept s (J ++ block s J c)
+block_keeps : (s : Terms) (J : History) (c : Call) → AreKeepable s.limits → IsLawful s J → IsCall c → IsUnrefused s J c → IsLawful s (J ++ block s J c)
 unfolding block
 block_keeps s J c l k call u = by_deed (own_deed s J (moment_of J c) c.command) refl
   where
-    by_deed : (o : Option Deed) → own_deed s J (moment_of J c) c.command ≡ o → IsKept s (J ++ option_map_or (with_settling J) (option_map (entry_of J c) o) [])
-    by_deed None g = subst (IsKept s) (sym (append-nil J)) k
+    by_deed : (o : Option Deed) → own_deed s J (moment_of J c) c.command ≡ o → IsLawful s (J ++ option_map_or (with_settling J) (option_map (entry_of J c) o) [])
+    by_deed None g = subst (IsLawful s) (sym (append-nil J)) k
     by_deed (Some d) g =
         let e : Entry = entry_of J c d in
         let es : List Entry = settling e.by e.moment (J ++ e ∷ []) in
@@ -216,12 +216,12 @@ block_keeps s J c l k call u = by_deed (own_deed s J (moment_of J c) c.command) 
         }
 
 -- a call keeps a history
-pub call_keeps : (s : Terms) (J : History) (c : Call) → AreKeepable s.limits → IsKept s J → IsCall c → IsKept s (after_call s J c)
+pub call_keeps : (s : Terms) (J : History) (c : Call) → AreKeepable s.limits → IsLawful s J → IsCall c → IsLawful s (after_call s J c)
 unfolding growth
 call_keeps s J c l k call = by_refusal (refused s J c) refl
   where
-    by_refusal : (o : Option Refusal) → refused s J c ≡ o → IsKept s (J ++ cond (is_some o) [] (block s J c))
-    by_refusal (Some r) g = subst (IsKept s) (sym (append-nil J)) k
+    by_refusal : (o : Option Refusal) → refused s J c ≡ o → IsLawful s (J ++ cond (is_some o) [] (block s J c))
+    by_refusal (Some r) g = subst (IsLawful s) (sym (append-nil J)) k
     by_refusal None g = block_keeps s J c l k call (unrefused s J c g)
 
 -- so do calls, one after another
@@ -230,7 +230,7 @@ calls_keep s J [] l k calls = k
 calls_keep s J (c ∷ cs) l k calls = calls_keep s (after_call s J c) cs l (call_keeps s J c l k (All-head IsCall c cs calls)) (All-tail IsCall c cs calls)
 
 -- no entries are legal, and within any limits
-pub kept_from_nothing : (s : Terms) → IsKept s []
+pub kept_from_nothing : (s : Terms) → IsLawful s []
 unfolding clerks actions members
 kept_from_nothing s = record { legal = legal_empty s.version is_address; within = record { clerks = omega arith; actions = omega arith; members = omega arith; entries = omega arith } }
 

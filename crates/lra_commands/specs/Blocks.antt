@@ -5,9 +5,9 @@ use Rattle.lra_model.specs.declared.entry.Deed.{Deed}
 use Rattle.lra_model.specs.declared.entry.Entry.{Entry}
 use Rattle.lra_model.specs.History.{History, actions, members}
 use Rattle.lra_model.specs.Settling.{next_settling}
-use Rattle.lra_core.specs.Terms.{Terms}
-use Rattle.lra_core.specs.Calls.{Call}
-use Rattle.lra_core.specs.Deeds.{own_entry}
+use Rattle.lra_commands.specs.declared.limits.Terms.{Terms}
+use Rattle.lra_commands.specs.Calls.{Call}
+use Rattle.lra_commands.specs.Deeds.{own_entry}
 
 -- one settling entry after another, at most so many, all by one clerk and at one moment
 abbrev pub settling_within : ℕ → ℕ → ℕ → History → List Entry

@@ -1,7 +1,9 @@
 //! How much a coordinator takes.
 
 ghost use Rattle.std.specs.Prelude.{◌≡◌};
-ghost use Rattle.lra_core.specs.Terms.{usual};
+ghost use Rattle.lra_commands.specs.Terms.{usual};
+
+use lra_model::Version;
 
 /// How much a coordinator takes, and how it repeats its asks.
 #[derive(Clone, Copy, Debug, PartialEq, Eq)]
@@ -33,4 +35,11 @@ impl Limits {
             retry_cap: 60_000,
         }
     }
+}
+
+/// What answers depend on beside the history: the version of the journal, and the limits.
+#[derive(Clone, Copy, Debug, PartialEq, Eq)]
+pub struct Terms {
+    pub version: Version,
+    pub limits: Limits,
 }

@@ -4,13 +4,13 @@ use Rattle.std.proofs.lemmas.Bool.{ltb-false}
 use Rattle.std.specs.Prelude.{◌&&◌}
 use Rattle.lra_model.specs.declared.entry.Entry.{Entry}
 use Rattle.lra_model.specs.History.{History, clerks, actions, members}
-use Rattle.lra_core.specs.declared.refusal.Resource.{Resource}
-use Rattle.lra_core.specs.declared.refusal.Resource.TheVariants as resource
-use Rattle.lra_core.specs.Terms.{Terms}
-use Rattle.lra_core.specs.Calls.{Call, moment_of}
-use Rattle.lra_core.specs.Blocks.{block}
-use Rattle.lra_core.specs.Refusals.{Ground, is_filled, passes, overfills, full_grounds, command_grounds, is_stranger, grounds, first_ground, refused}
-use Rattle.lra_core.specs.Runs.{IsWithin}
+use Rattle.lra_commands.specs.declared.refusal.Resource.{Resource}
+use Rattle.lra_commands.specs.declared.refusal.Resource.TheVariants as resource
+use Rattle.lra_commands.specs.declared.limits.Terms.{Terms}
+use Rattle.lra_commands.specs.Calls.{Call, moment_of}
+use Rattle.lra_commands.specs.Blocks.{block}
+use Rattle.lra_commands.specs.Refusals.{Ground, is_filled, passes, overfills, full_grounds, command_grounds, is_stranger, grounds, first_ground, refused}
+use Rattle.lra_commands.specs.Runs.{IsWithin}
 
 -- none of these grounds holds
 abbrev pub NoneHolds : List Ground → Type 0

@@ -5,8 +5,13 @@ use Rattle.std.specs.Str.{is_utf8}
 use Rattle.lra_model.specs.Addresses.{Addresses}
 use Rattle.lra_model.specs.Words.{outcome_suits}
 use Rattle.lra_model.specs.History.{History, last_moment}
-use Rattle.lra_core.specs.declared.command.Command.{Command}
-use Rattle.lra_core.specs.declared.command.Command.TheVariants.{Enrol, Start, Join, Close, Status, Record}
+use Rattle.lra_commands.specs.declared.command.Command.{Command as CommandOf}
+use Rattle.lra_commands.specs.Errands.{Asking}
+use Rattle.lra_commands.specs.declared.command.Command.TheVariants.{Enrol, Start, Join, Close, Status, Record}
+
+-- a command: its errand is seen as what it says
+abbrev pub Command : Type 0
+Command = CommandOf Asking
 
 -- a command, with the clerk that gives it and the moment that it hands in; the clerk doesn't matter where it enrols
 pub record Call : Type 0 where
@@ -36,11 +41,3 @@ is_fitting _ = true
 pub record IsCall (c : Call) : Type 0 where
   pub moment : c.moment < 2 ^ 64
   pub fits : is_fitting c.command ≡ true
-
--- the commands that a coordinator takes so far
-abbrev pub is_taken : Command → Bool
-is_taken Enrol = true
-is_taken (Start None limit) = true
-is_taken (Close action) = true
-is_taken (Status action) = true
-is_taken _ = false

@@ -1,6 +1,6 @@
 //! Laws of coordinators: public functions that do nothing, whose contracts say what holds whatever commands are given.
 
-ghost use Rattle.lra_core.specs.Runs.{CallsKeepHistories, CallsLeaveQuiet, CallsMakeHistories};
+ghost use Rattle.lra_commands.specs.Runs.{CallsKeepHistories, CallsLeaveQuiet, CallsMakeHistories};
 
 /// Whatever commands are given to a coordinator, by any clerks, at any moments and in any order, refused ones among
 /// them, its history stays legal in the version of its journal, and within its limits.

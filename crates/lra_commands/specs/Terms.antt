@@ -1,16 +1,10 @@
 -- What a coordinator is made with.
 use Rattle.std.specs.Prelude.{◌<◌, ◌^◌}
-use Rattle.lra_model.specs.declared.version.Version.{Version}
-use Rattle.lra_core.specs.declared.limits.Limits.{Limits}
+use Rattle.lra_commands.specs.declared.limits.Limits.{Limits}
 
 -- the limits that serve most teams (this project's choice)
 abbrev pub usual : Limits
 usual = record { clerks = 1000000; actions = 100000; members = 400000; entries = 4000000; depth = 64; retry_base = 100; retry_cap = 60000 }
-
--- what answers depend on, beside the history: the version of the journal, and the limits
-pub record Terms : Type 0 where
-  pub version : Version
-  pub limits : Limits
 
 -- limits that numbers of the journal and identifiers can keep: an identifier has 62 bits for an action or a member
 pub record AreKeepable (l : Limits) : Type 0 where

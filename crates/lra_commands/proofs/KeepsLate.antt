@@ -7,7 +7,7 @@ use Rattle.lra_model.specs.History.{History, actions}
 use Rattle.lra_model.specs.Actions.{limit_in_force}
 use Rattle.lra_model.specs.Ends.{action_is}
 use Rattle.lra_laws.proofs.Tested.{both}
-use Rattle.lra_core.specs.Due.{Timed, earlier, earliest, first_due, deadline_of, late}
+use Rattle.lra_commands.specs.Due.{Timed, earlier, earliest, first_due, deadline_of, late}
 
 -- what holds of each of these
 abbrev Each : (Timed → Type 0) → List Timed → Type 0

@@ -1,7 +1,7 @@
 //! Why a command is refused.
 
 ghost use Rattle.std.specs.Prelude.{◌≡◌};
-ghost use Rattle.lra_core.specs.Names.{resource_name, refusal_name};
+ghost use Rattle.lra_commands.specs.Names.{resource_name, refusal_name};
 
 use lra_model::ActionStatus;
 use std::alloc::{AllocError, AllocFailed};
@@ -33,7 +33,7 @@ pub enum Refusal {
     WrongAction,
     #[error("the member has left")]
     HasLeft,
-    /// The action's state doesn't allow it.
+    /// The action's status doesn't allow it.
     #[error("the action isn't active")]
     NotActive(ActionStatus),
     /// A text is no address, or the member has none that it needs.
@@ -59,7 +59,7 @@ pub enum Refusal {
 
 impl From<AllocError> for Refusal {
     ghost use Rattle.std.specs.Prelude.{◌≡◌};
-    ghost use Rattle.lra_core.specs.declared.refusal.Refusal.TheVariants.{Memory};
+    ghost use Rattle.lra_commands.specs.declared.refusal.Refusal.TheVariants.{Memory};
 
     ghost from_gives = { λ _ refusal. refusal ≡ Memory };
 
@@ -70,7 +70,7 @@ impl From<AllocError> for Refusal {
 
 impl<T: Drop> From<AllocFailed<T>> for Refusal {
     ghost use Rattle.std.specs.Prelude.{◌≡◌};
-    ghost use Rattle.lra_core.specs.declared.refusal.Refusal.TheVariants.{Memory};
+    ghost use Rattle.lra_commands.specs.declared.refusal.Refusal.TheVariants.{Memory};
 
     ghost from_gives = { λ _ refusal. refusal ≡ Memory };
 

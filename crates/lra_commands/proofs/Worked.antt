@@ -25,21 +25,21 @@ use Rattle.lra_model.specs.Facts.{facts_of}
 use Rattle.lra_model.specs.Settling.{next_settling}
 use Rattle.lra_model.specs.Wants.{wants, repeats}
 use Rattle.lra_laws.proofs.Worked.{at, u, c, uris, nest, undone, failing, cancelled_below, taken_back}
-use Rattle.lra_core.specs.declared.command.Command.{Command}
-use Rattle.lra_core.specs.declared.command.Command.TheVariants as command
-use Rattle.lra_core.specs.declared.command.Told.{Told}
-use Rattle.lra_core.specs.declared.command.Told.TheVariants.{Clerk, Action, Left, Now, Already, Fired, Idle, Asked, Recorded, MemberNow, MemberAlready, Restarted, Renewed, ActionIs, MemberIs}
-use Rattle.lra_core.specs.declared.refusal.Resource.TheVariants as resource
-use Rattle.lra_core.specs.declared.refusal.Refusal.{Refusal}
-use Rattle.lra_core.specs.declared.refusal.Refusal.TheVariants.{NoSuchClerk, OldJournal, NoSuchAction, NoSuchMember, WrongAction, HasLeft, NotActive, BadAddresses, LimitTooFar, TooDeep, Full, NotAsked}
-use Rattle.lra_core.specs.Terms.{usual, Terms, AreKeepable}
-use Rattle.lra_core.specs.Calls.{Call}
-use Rattle.lra_core.specs.Due.{pause, due, late}
-use Rattle.lra_core.specs.Deeds.{already_member}
-use Rattle.lra_core.specs.Blocks.{block}
-use Rattle.lra_core.specs.Refusals.{refused}
-use Rattle.lra_core.specs.Answers.{answer, growth}
-use Rattle.lra_core.specs.Runs.{after_calls, answers}
+use Rattle.lra_commands.specs.declared.command.Command.TheVariants as command
+use Rattle.lra_commands.specs.declared.command.Told.{Told}
+use Rattle.lra_commands.specs.declared.command.Told.TheVariants.{Clerk, Action, Left, Now, Already, Fired, Idle, Asked, Recorded, MemberNow, MemberAlready, Restarted, Renewed, ActionIs, MemberIs}
+use Rattle.lra_commands.specs.declared.refusal.Resource.TheVariants as resource
+use Rattle.lra_commands.specs.declared.refusal.Refusal.{Refusal}
+use Rattle.lra_commands.specs.declared.refusal.Refusal.TheVariants.{NoSuchClerk, OldJournal, NoSuchAction, NoSuchMember, WrongAction, HasLeft, NotActive, BadAddresses, LimitTooFar, TooDeep, Full, NotAsked}
+use Rattle.lra_commands.specs.declared.limits.Terms.{Terms}
+use Rattle.lra_commands.specs.Terms.{usual, AreKeepable}
+use Rattle.lra_commands.specs.Calls.{Command, Call}
+use Rattle.lra_commands.specs.Due.{pause, due, late}
+use Rattle.lra_commands.specs.Deeds.{already_member}
+use Rattle.lra_commands.specs.Blocks.{block}
+use Rattle.lra_commands.specs.Refusals.{refused}
+use Rattle.lra_commands.specs.Answers.{answer, growth}
+use Rattle.lra_commands.specs.Runs.{after_calls, answers}
 
 -- what a clerk says at a moment
 abbrev says : ℕ → ℕ → Command → Call

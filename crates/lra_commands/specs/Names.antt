@@ -1,9 +1,9 @@
 -- The words by which scripts and bodies name refusals.
 use Rattle.std.specs.Prelude.{ℕ, List, codes}
-use Rattle.lra_core.specs.declared.refusal.Resource.{Resource}
-use Rattle.lra_core.specs.declared.refusal.Resource.TheVariants as resource
-use Rattle.lra_core.specs.declared.refusal.Refusal.{Refusal}
-use Rattle.lra_core.specs.declared.refusal.Refusal.TheVariants as refusal
+use Rattle.lra_commands.specs.declared.refusal.Resource.{Resource}
+use Rattle.lra_commands.specs.declared.refusal.Resource.TheVariants as resource
+use Rattle.lra_commands.specs.declared.refusal.Refusal.{Refusal}
+use Rattle.lra_commands.specs.declared.refusal.Refusal.TheVariants as refusal
 
 -- the word for what there may be too much of (this project's own)
 abbrev pub resource_name : Resource → List ℕ
