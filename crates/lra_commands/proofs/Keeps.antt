@@ -230,9 +230,9 @@ calls_keep s J [] l k calls = k
 calls_keep s J (c ∷ cs) l k calls = calls_keep s (after_call s J c) cs l (call_keeps s J c l k (All-head IsCall c cs calls)) (All-tail IsCall c cs calls)
 
 -- no entries are legal, and within any limits
-pub kept_from_nothing : (s : Terms) → IsLawful s []
+pub lawful_from_nothing : (s : Terms) → IsLawful s []
 unfolding clerks actions members
-kept_from_nothing s = record { legal = legal_empty s.version is_address; within = record { clerks = omega arith; actions = omega arith; members = omega arith; entries = omega arith } }
+lawful_from_nothing s = record { legal = legal_empty s.version is_address; within = record { clerks = omega arith; actions = omega arith; members = omega arith; entries = omega arith } }
 
 pub calls_make : CallsMakeHistories
-calls_make s cs l calls = calls_keep s [] cs l (kept_from_nothing s) calls
+calls_make s cs l calls = calls_keep s [] cs l (lawful_from_nothing s) calls

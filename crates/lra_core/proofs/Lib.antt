@@ -1,11 +1,4 @@
 pub mod Committing
 pub mod Judging
-pub mod Keeps
-pub mod KeepsAddresses
-pub mod KeepsGrounds
-pub mod KeepsLate
-pub mod KeepsOwn
 pub mod Plain
-pub mod Rests
 pub mod Walks
-pub mod Worked

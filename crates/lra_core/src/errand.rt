@@ -3,6 +3,9 @@
 use lra_model::{ActionStatus, AskKind, Direction};
 use std::marker::Model;
 
+/// What a clerk asks of the coordinator.
+pub type Command<'a> = lra_commands::Command<'a, Errand>;
+
 /// One request to a member. The coordinator alone makes errands, and each has to be spent: recorded, or discarded.
 #[derive(Debug)]
 pub struct Errand {
