@@ -1,4 +1,5 @@
 pub mod Committing
 pub mod Judging
 pub mod Plain
+pub mod Sounds
 pub mod Walks

@@ -1,4 +1,5 @@
 pub mod Shape
 pub mod Prepares
 pub mod Performs
+pub mod Texts
 pub mod Drafts

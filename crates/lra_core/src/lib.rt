@@ -4,12 +4,14 @@
 mod block;
 mod coordinator;
 mod errand;
+mod laws;
 mod ledger;
 mod walk;
 
 pub use block::{Block, Committed, Prepared};
 pub use coordinator::Coordinator;
 pub use errand::{Command, Errand};
+pub use laws::commands_make_sound_texts;
 pub use lra_commands::{
     Limits, Refusal, Resource, Told, calls_leave_quiet_histories, commands_keep_histories,
     commands_make_histories,
