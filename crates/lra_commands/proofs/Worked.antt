@@ -33,8 +33,9 @@ use Rattle.lra_commands.specs.declared.refusal.Refusal.{Refusal}
 use Rattle.lra_commands.specs.declared.refusal.Refusal.TheVariants.{NoSuchClerk, OldJournal, NoSuchAction, NoSuchMember, WrongAction, HasLeft, NotActive, BadAddresses, LimitTooFar, TooDeep, Full, NotAsked}
 use Rattle.lra_commands.specs.declared.limits.Terms.{Terms}
 use Rattle.lra_commands.specs.Terms.{usual, AreKeepable}
+use Rattle.lra_timers.specs.Pauses.{pause}
 use Rattle.lra_commands.specs.Calls.{Command, Call}
-use Rattle.lra_commands.specs.Due.{pause, due, late}
+use Rattle.lra_commands.specs.Due.{due, late}
 use Rattle.lra_commands.specs.Deeds.{already_member}
 use Rattle.lra_commands.specs.Blocks.{block}
 use Rattle.lra_commands.specs.Refusals.{refused}
@@ -234,7 +235,7 @@ finishes = refl
 
 -- ---- asks
 
-pub pauses : map (pause usual) (1 ∷ 2 ∷ 3 ∷ 10 ∷ 11 ∷ []) ≡ 100 ∷ 200 ∷ 400 ∷ 51200 ∷ 60000 ∷ []
+pub pauses : map (pause usual.retry_base usual.retry_cap) (1 ∷ 2 ∷ 3 ∷ 10 ∷ 11 ∷ []) ≡ 100 ∷ 200 ∷ 400 ∷ 51200 ∷ 60000 ∷ []
 pauses = refl
 
 abbrev three_uris : Addresses

@@ -1,5 +1,5 @@
 -- What is due at a moment, and which actions are late.
-use Rattle.std.specs.Prelude.{ℕ, zero, suc, ◌+◌, ◌-◌, ◌*◌, ◌^◌, ◌==◌, ◌&&◌, not, min, nat_le, List, [], ◌∷◌, Option, Some, None, option_map, unwrap_or, cond}
+use Rattle.std.specs.Prelude.{ℕ, zero, suc, ◌+◌, ◌-◌, ◌^◌, ◌==◌, ◌&&◌, not, min, nat_le, List, [], ◌∷◌, Option, Some, None, option_map, unwrap_or, cond}
 use Rattle.std.specs.List.{filter_map}
 use Rattle.lra_model.specs.declared.asks.AskKind.{AskKind}
 use Rattle.lra_model.specs.Words.{when, is_active}
@@ -8,6 +8,7 @@ use Rattle.lra_model.specs.Actions.{limit_in_force}
 use Rattle.lra_model.specs.Members.{ask_direction}
 use Rattle.lra_model.specs.Ends.{action_is}
 use Rattle.lra_model.specs.Wants.{wants, stage_of, repeat_count, last_repeat}
+use Rattle.lra_timers.specs.Pauses.{pause}
 use Rattle.lra_commands.specs.declared.limits.Limits.{Limits}
 
 -- a number, with the moment from which something of it is due
@@ -29,14 +30,10 @@ earliest (x ∷ xs) = Some (earlier x (earliest xs))
 abbrev pub first_due : ℕ → List Timed → Option ℕ
 first_due now xs = option_map (λ (x : Timed). x.number) (earliest (filter_map (λ (x : Timed). when (nat_le x.moment now) x) xs))
 
--- how long the kth repetition of an ask waits: a base for the first, doubled for each further one, and never more than a cap
-abbrev pub pause : Limits → ℕ → ℕ
-pause l k = min (l.retry_base * 2 ^ (k - 1)) l.retry_cap
-
 -- when a want is due that was repeated so often, the last time at that moment: at once, or after a pause
 abbrev pub due_after : Limits → ℕ → Option ℕ → ℕ
 due_after l zero before = 0
-due_after l (suc k) before = min (unwrap_or before 0 + pause l (suc k)) (2 ^ 64 - 1)
+due_after l (suc k) before = min (unwrap_or before 0 + pause l.retry_base l.retry_cap (suc k)) (2 ^ 64 - 1)
 
 -- the stage of what a member wants
 abbrev pub stage_wanted : History → ℕ → AskKind → AskKind
