@@ -1,14 +1,5 @@
-pub mod Terms
-pub mod Names
-pub mod Errands
-pub mod Calls
-pub mod Due
-pub mod Deeds
-pub mod Blocks
-pub mod Refusals
-pub mod Answers
-pub mod Prepares
-pub mod Runs
 pub mod Shape
+pub mod Prepares
 pub mod Performs
+pub mod Texts
 pub mod Drafts
