@@ -6,7 +6,9 @@ use Rattle.lra_auditor.specs.declared.rows.ActionRow.{ActionRow}
 use Rattle.lra_auditor.specs.declared.rows.MemberRow.{MemberRow}
 use Rattle.lra_auditor.specs.declared.verdict.FailedEnd.{FailedEnd}
 use Rattle.lra_auditor.specs.declared.verdict.Summary.{Summary}
-use Rattle.lra_auditor.specs.Rows.{State, row_at, is_unended}
+use Rattle.lra_auditor.specs.inner.Rows.{State}
+use Rattle.lra_auditor.specs.Listed.{row_at}
+use Rattle.lra_auditor.specs.Verdicts.{is_unended}
 use Rattle.lra_auditor.specs.Verdicts.{ended_cancelled}
 
 -- whether an action is t or stands below it, by the parents in the rows

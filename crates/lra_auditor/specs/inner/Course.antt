@@ -6,25 +6,26 @@ use Rattle.lra_model.specs.History.{History}
 use Rattle.lra_model.specs.Rules.{is_legal}
 use Rattle.lra_auditor.specs.declared.rows.ActionRow.{ActionRow}
 use Rattle.lra_ids.specs.Addresses.{is_address}
-use Rattle.lra_auditor.specs.Rows.{State, state_of, row_at, after_entry}
-use Rattle.lra_auditor.specs.Start.{no_entries}
+use Rattle.lra_auditor.specs.inner.Rows.{State, state_of, after_entry}
+use Rattle.lra_auditor.specs.Listed.{row_at}
+use Rattle.lra_auditor.specs.inner.Start.{no_entries}
 
 -- the version, how many entries there are, and the state after them
-pub record Progress : Type 0 where
+pub record HistoryRead : Type 0 where
   pub version : Version
   pub entries : ℕ
   pub rows : State
 
 -- nothing has happened
-abbrev pub at_start : Version → Progress
+abbrev pub at_start : Version → HistoryRead
 at_start v = record { version = v; entries = 0; rows = no_entries }
 
 -- one more entry
-abbrev pub with_entry : Entry → Progress → Progress
+abbrev pub with_entry : Entry → HistoryRead → HistoryRead
 with_entry e c = record c { entries = c.entries + 1; rows = after_entry e c.rows }
 
 -- it has come as far as the legal history
-pub record HasCome (J : History) (c : Progress) : Type 0 where
+pub record HasCome (J : History) (c : HistoryRead) : Type 0 where
   pub legal : is_legal c.version is_address J ≡ true
   pub entries : c.entries ≡ length J
   pub rows : c.rows ≡ state_of J

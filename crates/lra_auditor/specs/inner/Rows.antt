@@ -23,6 +23,8 @@ use Rattle.lra_model.specs.Actions.{parent, top, action_status, limit_in_force, 
 use Rattle.lra_model.specs.Members.{Asked, ask_of, action_of, addresses_of, member_status, last_reply, was_answered, ask_direction}
 use Rattle.lra_model.specs.Ends.{staying, action_is}
 use Rattle.lra_model.specs.Facts.{ActionFacts, MemberFacts, Facts}
+use Rattle.lra_auditor.specs.Listed.{row_at}
+use Rattle.lra_auditor.specs.Verdicts.{is_unended}
 use Rattle.lra_auditor.specs.declared.rows.Limit.{Limit}
 use Rattle.lra_auditor.specs.declared.rows.Presence.{Presence}
 use Rattle.lra_auditor.specs.declared.rows.Standing.{Standing}
@@ -96,10 +98,6 @@ is_uncompleted s = not (is_completed s)
 abbrev pub is_uncompensated : MemberStatus → Bool
 is_uncompensated s = not (is_compensated s)
 
--- an action that has not ended
-abbrev pub is_unended : ActionStatus → Bool
-is_unended s = not (has_ended s)
-
 -- an action that has not ended cancelled
 abbrev pub is_uncancelled : ActionStatus → Bool
 is_uncancelled s = not (has_finished_cancelling s)
@@ -145,11 +143,6 @@ state_of J = record {
 }
 
 -- ---- what the rules read there
-
--- row n - 1 of a list of rows: numbers are counted from 1
-abbrev pub row_at : {R : Type 0} → List R → ℕ → Option R
-row_at rows zero = None
-row_at rows (suc n) = slice_get rows n
 
 -- whether an action may end, by its counts
 abbrev pub settled_by : ActionRow → Bool
@@ -309,6 +302,12 @@ asked_as _ s = s
 abbrev pub with_ask : ℕ → AskKind → MemberRow → MemberRow
 with_ask n kind r = record r { status = asked_as kind r.status; asked = Some (record { number = n; kind = kind; direction = way_asked kind r.status }) }
 
+-- one of three by the way that a reply goes
+abbrev pub by_way : Direction → Option Outcome → Option Outcome → Option Outcome → Option Outcome
+by_way direction.Completion completion compensation neither = completion
+by_way direction.Compensation completion compensation neither = compensation
+by_way direction.Neither completion compensation neither = neither
+
 -- a member that answers the ask that stands
 abbrev pub with_reply_to : Standing → Outcome → MemberRow → MemberRow
 with_reply_to x o r = record r {
@@ -319,11 +318,6 @@ with_reply_to x o r = record r {
   has_forgotten = r.has_forgotten || (same_kind x.kind ask.Forget && is_done o);
   was_told = r.was_told || (same_kind x.kind ask.After && is_done o);
 }
-  where
-    by_way : Direction → Option Outcome → Option Outcome → Option Outcome → Option Outcome
-    by_way direction.Completion completion compensation neither = completion
-    by_way direction.Compensation completion compensation neither = compensation
-    by_way direction.Neither completion compensation neither = neither
 
 -- a member that answers
 abbrev pub with_reply : Outcome → MemberRow → MemberRow

@@ -2,7 +2,8 @@
 use Rattle.std.specs.Prelude.{◌≡◌, ℕ, ◌≤◌, true, false, List, Option, Some}
 use Rattle.std.specs.Option.{option_map_or}
 use Rattle.lra_auditor.specs.declared.rows.MemberRow.{MemberRow}
-use Rattle.lra_auditor.specs.Rows.{row_at, stands_as}
+use Rattle.lra_auditor.specs.Listed.{row_at}
+use Rattle.lra_auditor.specs.inner.Rows.{stands_as}
 
 -- the ask is the one that stands in the member's row
 abbrev pub Holds : List MemberRow → ℕ → ℕ → Type 0

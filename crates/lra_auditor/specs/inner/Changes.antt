@@ -1,12 +1,10 @@
 -- What a change of the rows needs and does.
-use Rattle.std.specs.Prelude.{◌≡◌, ℕ, ◌+◌, ◌-◌, ◌<◌, ◌^◌, List, Option, IfSome}
-use Rattle.lra_model.specs.declared.asks.Direction.{Direction}
-use Rattle.lra_model.specs.declared.asks.Direction.TheVariants as direction
-use Rattle.lra_model.specs.declared.asks.Outcome.{Outcome}
+use Rattle.std.specs.Prelude.{◌≡◌, ℕ, ◌+◌, ◌-◌, ◌<◌, ◌^◌, List, IfSome}
 use Rattle.lra_auditor.specs.declared.rows.ActionRow.{ActionRow}
 use Rattle.lra_model.specs.declared.entry.Deed.{Deed}
 use Rattle.lra_model.specs.declared.entry.Deed.TheVariants.{Enrol, Ask}
-use Rattle.lra_auditor.specs.Rows.{State, row_at, change_row}
+use Rattle.lra_auditor.specs.inner.Rows.{State, change_row}
+use Rattle.lra_auditor.specs.Listed.{row_at}
 
 -- the counts of an action can go up by one
 pub record CanCount (r : ActionRow) : Type 0 where
@@ -26,14 +24,8 @@ AllCanCount rows = (n : ℕ) → IfSome (row_at rows n) CanCount
 abbrev pub with_row : {R : Type 0} → ℕ → R → List R → List R
 with_row n r rows = change_row (λ _. r) n rows
 
--- one of three by the way that a reply goes
-abbrev pub by_way : Direction → Option Outcome → Option Outcome → Option Outcome → Option Outcome
-by_way direction.Completion completion compensation neither = completion
-by_way direction.Compensation completion compensation neither = compensation
-by_way direction.Neither completion compensation neither = neither
-
 -- one that enrols has the next clerk's number, and an ask the next ask's
-abbrev pub IsNext : State → Deed → ℕ → Type 0
-IsNext s Enrol by = by ≡ s.clerks + 1
-IsNext s (Ask n p kind) by = n ≡ s.asks + 1
-IsNext s _ by = Unit {0}
+abbrev pub TakesNextNumber : State → Deed → ℕ → Type 0
+TakesNextNumber s Enrol by = by ≡ s.clerks + 1
+TakesNextNumber s (Ask n p kind) by = n ≡ s.asks + 1
+TakesNextNumber s _ by = Unit {0}
