@@ -1,5 +1,3 @@
 pub mod Moments
-pub mod Order
 pub mod Planned
-pub mod Schedule
-pub mod Tree
+pub mod inner
