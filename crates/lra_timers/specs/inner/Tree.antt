@@ -1,7 +1,7 @@
 -- A tree of winners in a list: the deadlines from place `width` on, and at each place i from 1 below it the winner of those at 2i and 2i + 1.
 use Rattle.std.specs.Prelude.{◌≡◌, ℕ, ◌+◌, ◌*◌, ◌≤◌, ◌<◌, List, length, drop}
 use Rattle.lra_timers.specs.declared.deadline.Deadline.{Deadline}
-use Rattle.lra_timers.specs.Order.{IsNotAfter, IsWinner, node, last}
+use Rattle.lra_timers.specs.inner.Order.{IsNotAfter, IsWinner, node, last}
 
 -- the match at a place was won by what stands there
 abbrev pub IsWonAt : List Deadline → ℕ → Type 0
