@@ -1,3 +1,13 @@
+pub use Rattle.lra_commands.specs.Terms
+pub use Rattle.lra_commands.specs.Errands
+pub use Rattle.lra_commands.specs.Calls
+pub use Rattle.lra_commands.specs.Due
+pub use Rattle.lra_commands.specs.Deeds
+pub use Rattle.lra_commands.specs.Blocks
+pub use Rattle.lra_commands.specs.Refusals
+pub use Rattle.lra_commands.specs.Answers
+pub use Rattle.lra_commands.specs.Runs
+pub use Rattle.lra_commands.specs.Names
 pub mod Shape
 pub mod Prepares
 pub mod Performs
