@@ -2,4 +2,5 @@ pub mod Verdicts
 pub mod OneVerdict
 pub mod Listed
 pub mod Listings
+pub mod Feeding
 pub mod inner

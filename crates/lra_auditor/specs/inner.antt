@@ -7,4 +7,4 @@ pub mod Presence
 pub mod Course
 pub mod Totals
 pub mod Listings
-pub mod Feeding
+pub mod Reading
