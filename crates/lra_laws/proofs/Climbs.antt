@@ -1,12 +1,12 @@
 -- The words read from an action's lineage, each as a climb by parents of at most so many steps: working words of the proofs.
-use Rattle.std.proofs.Common.{◌≡◌, ℕ, zero, suc, Bool, true, false, List, [], ◌∷◌, Option, Some, None, refl, sym, ap, ◌∙◌, cond, arith}
+use Rattle.std.proofs.Common.{◌≡◌, ℕ, zero, suc, Bool, true, false, [], ◌∷◌, Option, Some, None, refl, ap, ◌∙◌, cond, arith}
 use Rattle.std.specs.Prelude.{◌+◌, ◌==◌, ◌||◌, not, unwrap_or, take}
 use Rattle.std.specs.Option.{option_map_or}
 use Rattle.std.specs.List.{list_any, last_or}
 use Rattle.std.proofs.Math.Bool.{or-false}
 use Rattle.std.specs.List.{before_first, position_or_len}
 use Rattle.lra_model.specs.History.{History, is_among}
-use Rattle.lra_model.specs.Actions.{parent, lineage_within, lineage, top, is_under, was_cancelled, was_cancelled_below}
+use Rattle.lra_model.specs.Actions.{parent, lineage_within, top, is_under, was_cancelled, was_cancelled_below}
 
 -- the last action that is met
 abbrev pub top_within : ℕ → History → ℕ → ℕ

@@ -14,7 +14,7 @@ use Rattle.lra_model.specs.declared.entry.Deed.{Deed}
 use Rattle.lra_model.specs.declared.entry.Deed.TheVariants.{Start, Close, Cancel, End}
 use Rattle.lra_model.specs.Words.{when, is_active, has_ended, has_failed, has_finished_cancelling, member_has_failed, same_status, is_completed, is_compensated, is_done_completing, is_done_compensating}
 use Rattle.lra_model.specs.History.{History, actions, members, is_among}
-use Rattle.lra_model.specs.Actions.{parent, is_under, status_given, action_status, children, members_of, is_cancel_of, was_cancelled, was_cancelled_below}
+use Rattle.lra_model.specs.Actions.{parent, status_given, action_status, children, members_of, is_cancel_of, was_cancelled, was_cancelled_below}
 use Rattle.lra_model.specs.Members.{action_of, stays, member_status}
 use Rattle.lra_model.specs.Ends.{staying, action_is, settles, is_settled, children_are_well, ends_as, right_end}
 use Rattle.lra_model.specs.Facts.{ActionFacts, facts_of}

@@ -1,18 +1,17 @@
 -- The walks up by parents are plain recursions in a legal history: a parent's number is less, so the count of steps that each is given is enough.
 use Rattle.std.proofs.Common.{◌≡◌, ℕ, zero, suc, ◌<◌, ◌≤◌, Bool, true, false, Option, Some, None, refl, sym, ap, ◌∙◌, cond, arith}
-use Rattle.std.specs.Prelude.{◌==◌, ◌||◌, is_some, unwrap_or, option_map}
+use Rattle.std.specs.Prelude.{◌==◌, ◌||◌, unwrap_or, option_map}
 use Rattle.std.specs.Option.{option_map_or}
 use Rattle.std.proofs.Math.Bool.{or-false}
-use Rattle.std.proofs.lemmas.Bool.{false_from_ne_true}
 use Rattle.lra_model.specs.declared.version.Version.{Version}
 use Rattle.lra_model.specs.declared.status.ActionStatus.{ActionStatus}
 use Rattle.lra_model.specs.declared.status.ActionStatus.TheVariants as action
 use Rattle.std.specs.Prelude.{List}
-use Rattle.lra_model.specs.History.{History, actions, is_among}
+use Rattle.lra_model.specs.History.{History}
 use Rattle.lra_model.specs.Actions.{parent, top, is_under, action_status, was_cancelled, was_cancelled_below}
 use Rattle.lra_model.specs.Rules.{is_legal}
 use Rattle.lra_laws.proofs.Climbs.{top_within, top_climbs, is_within, under_climbs, cancelled_within, below_climbs}
-use Rattle.lra_laws.proofs.Legal.{actions_numbered, numbered_among, status_is_there, parent_there}
+use Rattle.lra_laws.proofs.Legal.{parent_there}
 use Rattle.lra_laws.proofs.GoodLaw.{cancels, was_cancelled_lem}
 
 -- each step of a walk reads an action, and what the walk is at its parent; two walks with steps enough are one

@@ -5,7 +5,6 @@ use Rattle.std.specs.Prelude.{◌==◌, ◌||◌, option_map}
 use Rattle.std.specs.Option.{option_or}
 use Rattle.std.specs.List.{filter_map, cons_option, last_or, find}
 use Rattle.lra_model.specs.declared.version.Version.{Version}
-use Rattle.lra_model.specs.declared.version.Version.TheVariants as version
 use Rattle.lra_model.specs.declared.asks.Cause.TheVariants as cause
 use Rattle.lra_model.specs.declared.entry.Deed.{Deed}
 use Rattle.lra_model.specs.declared.entry.Deed.TheVariants.{Close, Cancel, Skip, End}

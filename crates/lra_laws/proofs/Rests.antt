@@ -7,7 +7,6 @@ use Rattle.std.specs.Prelude.{◌==◌, ◌&&◌, ◌||◌, not, is_some, unwrap
 use Rattle.std.specs.Option.{option_or, option_map_or}
 use Rattle.std.specs.List.{filter_map, cons_option, find, sum_by}
 use Rattle.lra_model.specs.declared.version.Version.{Version}
-use Rattle.lra_model.specs.declared.version.Version.TheVariants as version
 use Rattle.lra_model.specs.declared.status.ActionStatus.{ActionStatus}
 use Rattle.lra_model.specs.declared.status.ActionStatus.TheVariants as action
 use Rattle.lra_model.specs.declared.status.MemberStatus.TheVariants as member
