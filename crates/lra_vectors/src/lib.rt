@@ -1,0 +1,7 @@
+//! Tests of the crates below: each over their public surface alone.
+#![tactic(auto)]
+
+#[cfg(test)]
+mod ids;
+#[cfg(test)]
+mod journal;
