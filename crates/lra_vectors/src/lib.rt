@@ -2,4 +2,6 @@
 #![tactic(auto)]
 
 #[cfg(test)]
+mod ticket;
+#[cfg(test)]
 mod timers;
