@@ -15,8 +15,6 @@ mod plays;
 mod rule;
 mod slot;
 mod take;
-#[cfg(test)]
-mod tests;
 mod view;
 
 pub use kept::Kept;

@@ -7,3 +7,7 @@ mod core;
 mod ids;
 #[cfg(test)]
 mod journal;
+#[cfg(test)]
+mod ticket;
+#[cfg(test)]
+mod timers;

@@ -3,7 +3,7 @@ use Rattle.std.proofs.lemmas.List.{take_more}
 use Rattle.lra_model.specs.declared.entry.Entry.{Entry}
 use Rattle.lra_ticket.specs.History.{entries_by}
 use Rattle.lra_ticket.proofs.Histories.{entries_by-append}
-use Rattle.lra_ticket.proofs.tests.has_none_by.Goals as goal
+use Rattle.lra_vectors.proofs.ticket.has_none_by.Goals as goal
 
 pub loop-entry-preserved : goal.loop-entry-preserved
 loop-entry-preserved c = let xs = c.deref-entry-items.result.now in let n = c.args.number in let i = c.loop-entry.entry-index in let e = c.entry-item.result in

@@ -1,6 +1,6 @@
 use Rattle.std.proofs.Common.{◌≡◌}
 use Rattle.lra_ticket.specs.Locks.{lock_id, pass_id, pass_view}
-use Rattle.lra_ticket.proofs.tests.clerk.Given as goal
+use Rattle.lra_vectors.proofs.ticket.clerk.Given as goal
 
 abbrev pub invariant-loop-block : goal.invariant-loop-block
 invariant-loop-block g l = record {
