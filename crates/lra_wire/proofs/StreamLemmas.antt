@@ -1,6 +1,7 @@
 -- From the bytes that an inbox kept to the stream that it stands for.
-use Rattle.std.proofs.Common.{◌≡◌, ℕ, ◌≤◌, List, [], ◌++◌, length, drop, refl, sym, ap, subst, ◌∙◌, arith, Option, Some, None}
+use Rattle.std.proofs.Common.{◌≡◌, ℕ, ◌≤◌, Bool, true, ◌==◌, List, [], ◌∷◌, ◌++◌, length, drop, refl, sym, ap, subst, ◌∙◌, arith, Option, Some, None}
 use Rattle.std.specs.Prelude.{IfSome}
+use Rattle.std.proofs.lemmas.Bool.Decides.{nat_tests}
 use Rattle.std.specs.Io.KnownBytes.{Keeps, prepend_known, IsAtEnd}
 use Rattle.std.proofs.lemmas.List.{drop-append-le, length-append, append-nil}
 use Rattle.lra_wire.specs.declared.inbox.Inbox.{Inbox}
@@ -54,3 +55,8 @@ known (Some xs) P h = h xs
 pub prepend_none : (kept : List ℕ) (left : Option (List ℕ)) → kept ≡ [] → prepend_known kept left ≡ left
 prepend_none kept None e = refl
 prepend_none kept (Some xs) e = ap (λ bs. Some (bs ++ xs)) e
+
+-- no byte came
+pub empty_bytes : (bytes kept : List ℕ) (is_empty : Bool) → bytes ≡ kept → is_empty ≡ (length bytes == 0) → is_empty ≡ true → kept ≡ []
+empty_bytes [] kept is_empty same says shown = sym same
+empty_bytes (b ∷ bytes) kept is_empty same says shown = grind (arith, nat_tests)

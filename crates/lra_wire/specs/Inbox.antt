@@ -43,3 +43,23 @@ Fills remaining old new (Err fault) = IsOutside fault
 abbrev pub FillsTo : {R : Type 0} → (R → Option (List ℕ)) → ℕ → Inbox R → Inbox R → Result (Unit {0}) WireFault → Type 0
 FillsTo remaining len old new (Ok u) = Grows remaining old new × (len ≤ length (kept_bytes new))
 FillsTo remaining len old new (Err fault) = IsOutside fault ⊎ ((fault ≡ Cut) × Grows remaining old new × IsAtEnd (remaining new.reader) × (length (kept_bytes new) < len))
+
+-- the bytes that had come and belonged to no message yet, when the reader was last asked for more
+abbrev pub asked_at : {R : Type 0} → Inbox R → List ℕ
+asked_at inbox = inbox.asked.value.items
+
+-- The reader wasn't asked, or last of all where such bytes had come. Within a call bytes are only added, so that there were no more of them at any earlier time.
+abbrev pub AsksAt : {R : Type 0} → (List ℕ → Type 0) → Inbox R → Inbox R → Type 0
+AsksAt Awaits old new = ((new.reader ≡ old.reader) × (asked_at new ≡ asked_at old)) ⊎ Awaits (asked_at new)
+
+-- these bytes and some more, but not so many
+pub record IsShort (len : ℕ) (old bytes : List ℕ) : Type 0 where
+  pub more : List ℕ
+  pub front : bytes ≡ old ++ more
+  pub few : length bytes < len
+
+-- these bytes and some more, and behind a place of them such a text
+pub record Lacks (Open : List ℕ → Type 0) (start : ℕ) (old bytes : List ℕ) : Type 0 where
+  pub more : List ℕ
+  pub front : bytes ≡ old ++ more
+  pub there : Open (drop start bytes)
