@@ -10,8 +10,9 @@ use Rattle.lra_wire.specs.declared.fault.WireFault.{WireFault}
 use Rattle.lra_wire.specs.declared.framing.Framing.TheVariants.{Chunks}
 use Rattle.lra_wire.specs.declared.inbox.Inbox.{Inbox}
 use Rattle.lra_wire.specs.Chunks.{Chunk, IsChunk, print_chunk, content_of, HasChunks, HasLast, IsChunked, RefusesChunk, RefusesChunks, AwaitsChunk, AwaitsChunks}
-use Rattle.lra_wire.specs.Inbox.{kept_bytes, stream_of, Grows, Lacks}
-use Rattle.lra_wire.specs.Steps.{IsPieceAt, ReadsPiece, FindsBody, LacksBody, AsksBehind}
+use Rattle.lra_wire.specs.Inbox.{kept_bytes, stream_of}
+use Rattle.lra_wire.specs.inner.Growth.{Grows, Lacks}
+use Rattle.lra_wire.specs.inner.Steps.{IsPieceAt, ReadsPiece, FindsBody, LacksBody, AsksBehind}
 use Rattle.lra_wire.proofs.InboxLemmas.{Grows_trans, Grows_refl, asks_on}
 use Rattle.lra_wire.proofs.StreamLemmas.{on_stream, some_both, drop_more_bytes}
 

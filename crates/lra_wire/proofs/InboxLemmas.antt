@@ -4,7 +4,8 @@ use Rattle.std.specs.Prelude.{◌⊎◌}
 use Rattle.std.proofs.lemmas.List.{append-nil}
 use Rattle.std.specs.Io.KnownBytes.{Keeps}
 use Rattle.lra_wire.specs.declared.inbox.Inbox.{Inbox}
-use Rattle.lra_wire.specs.Inbox.{kept_bytes, stream_of, asked_at, Grows, AsksAt}
+use Rattle.lra_wire.specs.Inbox.{kept_bytes, stream_of, asked_at, AsksAt}
+use Rattle.lra_wire.specs.inner.Growth.{Grows}
 
 pub Keeps_refl : (a : Option (List ℕ)) → Keeps a a
 Keeps_refl None = tt

@@ -7,8 +7,9 @@ use Rattle.httparse.specs.Grammar.{print_chunk_line, print_extension, chunk_size
 use Rattle.lra_wire.specs.declared.fault.WireFault.{WireFault}
 use Rattle.lra_wire.specs.declared.inbox.Inbox.{Inbox}
 use Rattle.lra_wire.specs.Chunks.{HasLast, RefusesLine, RefusesTrailer, RefusesContent, RefusesChunk, AwaitsChunk}
-use Rattle.lra_wire.specs.Inbox.{kept_bytes, stream_of, Grows, IsOutside, AsksAt, IsShort, Lacks}
-use Rattle.lra_wire.specs.Steps.{IsLineOf, ReadsLineAt, ReadsLast, ReadsContent, IsPieceAt, AsksBehind}
+use Rattle.lra_wire.specs.Inbox.{kept_bytes, stream_of, IsOutside, AsksAt}
+use Rattle.lra_wire.specs.inner.Growth.{Grows, LacksBytes, Lacks}
+use Rattle.lra_wire.specs.inner.Steps.{IsLineOf, ReadsLineAt, ReadsLast, ReadsContent, IsPieceAt, AsksBehind}
 use Rattle.lra_wire.proofs.ChunkLemmas.{line_refused, line_there}
 use Rattle.lra_wire.proofs.InboxLemmas.{Grows_trans, asks_on, asks_weaker}
 use Rattle.lra_wire.proofs.StreamLemmas.{on_stream, some_weaker, some_both, grown, drop_more_bytes}
@@ -162,9 +163,9 @@ asks_trailer place size old new zero asks =
     asks_weaker (Lacks HasNoSection place (kept_bytes old)) (Lacks (IsOpenBehind size) place (kept_bytes old)) old new asks
     (λ bytes l. record { more = l.more; front = l.front; there = inl (zero, l.there) })
 
-pub asks_content : {R : Type 0} (place size : ℕ) (old new : Inbox R) → 0 < size → AsksAt (IsShort (place + size + 2) (kept_bytes old)) old new → AsksBehind (IsOpenBehind size) place old new
+pub asks_content : {R : Type 0} (place size : ℕ) (old new : Inbox R) → 0 < size → AsksAt (LacksBytes (place + size + 2) (kept_bytes old)) old new → AsksBehind (IsOpenBehind size) place old new
 asks_content place size old new some asks =
-    asks_weaker (IsShort (place + size + 2) (kept_bytes old)) (Lacks (IsOpenBehind size) place (kept_bytes old)) old new asks
+    asks_weaker (LacksBytes (place + size + 2) (kept_bytes old)) (Lacks (IsOpenBehind size) place (kept_bytes old)) old new asks
     (λ bytes l. record { more = l.more; front = l.front; there = inr (some, omega (arith, l.few, length-drop place bytes)) })
 
 -- a chunk line has a digit at least

@@ -15,9 +15,10 @@ use Rattle.lra_wire.specs.declared.fields.Stated.TheVariants.{Nothing, Length, M
 use Rattle.lra_wire.specs.declared.inbox.Inbox.{Inbox}
 use Rattle.lra_wire.specs.declared.request.RequestRead.{RequestRead}
 use Rattle.lra_wire.specs.Fields.{is_coded, stated_of, stated_body, body_length_of, lists_close}
-use Rattle.lra_wire.specs.Heads.{IsHeadAt, FindsHead}
-use Rattle.lra_wire.specs.Inbox.{kept_bytes, stream_of, Grows, IsOutside, FillsTo, AsksAt, IsShort}
-use Rattle.lra_wire.specs.Reading.{request_at}
+use Rattle.lra_wire.specs.inner.Heads.{IsHeadAt, FindsHead}
+use Rattle.lra_wire.specs.Inbox.{kept_bytes, stream_of, IsOutside, AsksAt}
+use Rattle.lra_wire.specs.inner.Growth.{Grows, FillsTo, LacksBytes}
+use Rattle.lra_wire.specs.inner.Reading.{request_at}
 use Rattle.lra_wire.specs.Request.{IsRequest, Request, request_of, fields_of, RefusesBody, RefusesRequest, EndsInBody, GivesRequest, AwaitsRequest}
 use Rattle.lra_wire.specs.Streams.{IfBothKnown}
 use Rattle.lra_wire.proofs.InboxLemmas.{Grows_trans, asks_on}
@@ -164,9 +165,9 @@ cut_body {R} remaining old mid new headers spans size fault grows at stated (inr
 -- more is asked for in a head, and then in the body
 pub asks_body : {R : Type 0} (old mid new : Inbox R) (headers : List HeaderSpan) (spans : RequestSpans) (size : ℕ) → IsHeadAt (kept_bytes mid) headers spans
     → body_length_of (map (header_bytes (kept_bytes mid)) (take spans.headers headers)) ≡ Ok size
-    → AsksAt AwaitsRequest old mid → AsksAt (IsShort (spans.len + size) (kept_bytes mid)) mid new → AsksAt AwaitsRequest old new
+    → AsksAt AwaitsRequest old mid → AsksAt (LacksBytes (spans.len + size) (kept_bytes mid)) mid new → AsksAt AwaitsRequest old new
 asks_body old mid new headers spans size at stated first then =
-    asks_on AwaitsRequest (IsShort (spans.len + size) (kept_bytes mid)) AwaitsRequest old mid new first then (λ bytes p. p)
+    asks_on AwaitsRequest (LacksBytes (spans.len + size) (kept_bytes mid)) AwaitsRequest old mid new first then (λ bytes p. p)
     (λ bytes short. subst AwaitsRequest (sym short.front) (inr (inr (lacks_body (kept_bytes mid) short.more headers spans size at stated
     (subst (λ (bs : List ℕ). length bs < spans.len + size) short.front short.few)))))
 

@@ -18,12 +18,13 @@ use Rattle.lra_wire.specs.declared.inbox.Inbox.{Inbox}
 use Rattle.lra_wire.specs.declared.response.Head.{Head}
 use Rattle.lra_wire.specs.Chunks.{content_of, RefusesLine, RefusesTrailer, RefusesContent, RefusesBehind, RefusesChunk}
 use Rattle.lra_wire.specs.Fields.{is_alike, values_of, stated_of}
-use Rattle.lra_wire.specs.Inbox.{kept_bytes, stream_of, Grows, IsOutside, FillsTo, AsksAt, IsShort, Lacks}
+use Rattle.lra_wire.specs.Inbox.{kept_bytes, stream_of, IsOutside, AsksAt}
+use Rattle.lra_wire.specs.inner.Growth.{Grows, FillsTo, LacksBytes, Lacks}
 use Rattle.lra_wire.specs.Response.{IsShort, HasResponse, NeverShort, is_interim, IsInterim, Skips, HasFinal, fields_in, stated_framing, coded_framing, framing_of, IsResponse, RefusesFramed, RefusesRest, RefusesResponse, AwaitsBody, AwaitsResponse}
-use Rattle.lra_wire.specs.Steps.{IsHeadOf, ReadsHeadAt, FindsBody, LacksBody, ReadsToTheEnd, AsksBehind, IsOpenHead}
+use Rattle.lra_wire.specs.inner.Steps.{IsHeadOf, FindsResponse, ReadsHeadAt, FindsBody, LacksBody, ReadsToTheEnd, AsksBehind, IsOpenHead}
 use Rattle.lra_wire.specs.Streams.{IfBothKnown}
 use Rattle.lra_wire.proofs.InboxLemmas.{Grows_refl, Grows_trans, asks_on, asks_weaker}
-use Rattle.lra_wire.proofs.StreamLemmas.{on_stream, on_stream_end, some_weaker, some_both, grown, drop_more_bytes, known}
+use Rattle.lra_wire.proofs.StreamLemmas.{on_stream, on_stream_end, some_weaker, some_both, grown, drop_more_bytes, known, behind_in}
 
 -- ---- heads
 
@@ -44,6 +45,13 @@ never_after_open bytes none long more head rest found =
 NeverShort-append : (text rest : List ℕ) → NeverShort text → NeverShort (text ++ rest)
 NeverShort-append text rest never more head behind found =
     never (rest ++ more) head behind (subst (λ (bs : List ℕ). HasResponse bs head behind) (append_assoc text rest more) found)
+
+-- the head behind a place is open
+pub open_head : {R : Type 0} (remaining : R → Option (List ℕ)) (start : ℕ) (old mid : Inbox R) (bytes : List ℕ) (found : Option Head) → Grows remaining old mid
+    → bytes ≡ kept_bytes mid → found ≡ None → FindsResponse (slice_range bytes start (length bytes)) (Ok found) → Lacks IsOpenHead start (kept_bytes old) (kept_bytes mid)
+open_head remaining start old mid bytes found grows same is finds =
+    let none = subst (λ (o : Option Head). FindsResponse (slice_range bytes start (length bytes)) (Ok o)) is finds in
+    record { more = grows.more; front = grows.kept; there = subst IsOpenHead (behind_in start same) (none.0, none.1) }
 
 -- ---- bodies
 
@@ -70,9 +78,9 @@ sized_found remaining start size old new body within limit small filled is = rec
 }
 
 -- more is asked for in it
-pub asks_sized : {R : Type 0} (start size : ℕ) (old new : Inbox R) → start ≤ length (kept_bytes old) → AsksAt (IsShort (start + size) (kept_bytes old)) old new → AsksBehind (AwaitsBody (Sized size)) start old new
+pub asks_sized : {R : Type 0} (start size : ℕ) (old new : Inbox R) → start ≤ length (kept_bytes old) → AsksAt (LacksBytes (start + size) (kept_bytes old)) old new → AsksBehind (AwaitsBody (Sized size)) start old new
 asks_sized start size old new within asks =
-    asks_weaker (IsShort (start + size) (kept_bytes old)) (Lacks (AwaitsBody (Sized size)) start (kept_bytes old)) old new asks
+    asks_weaker (LacksBytes (start + size) (kept_bytes old)) (Lacks (AwaitsBody (Sized size)) start (kept_bytes old)) old new asks
     (λ bytes l. record { more = l.more; front = l.front; there = omega (arith, l.few, within, ap length l.front, length-append (kept_bytes old) l.more, length-drop start bytes) })
 
 pub rest_found : {R : Type 0} (remaining : R → Option (List ℕ)) (start end : ℕ) (old new : Inbox R) (body : List ℕ) → start ≤ length (kept_bytes old) → start ≤ 73728

@@ -1,19 +1,25 @@
 -- A search for an end in what comes, which looks only where a line feed came.
-use Rattle.std.proofs.Common.{◌≡◌, ℕ, ◌+◌, ◌<◌, ◌≤◌, Bool, true, false, ◌||◌, ◌==◌, List, [], ◌∷◌, ◌++◌, length, take, drop, refl, sym, ap, subst, ◌∙◌, arith, append_assoc, Option, inl}
+use Rattle.std.proofs.Common.{◌≡◌, ℕ, ◌+◌, ◌-◌, ◌<◌, ◌≤◌, Bool, true, false, ◌||◌, ◌==◌, List, [], ◌∷◌, ◌++◌, length, take, drop, refl, sym, ap, subst, ◌∙◌, arith, append_assoc, Option, None, Ok, Err, inl, inr}
+use Rattle.std.specs.Prelude.{slice_range}
 use Rattle.std.specs.List.{list_any, flat_map}
 use Rattle.std.proofs.lemmas.Bool.Decides.{nat_tests}
 use Rattle.std.proofs.lemmas.List.{take-append-drop, take-append-le, take_at, drop-append-le, length-append, length-take, length-drop, take_all}
 use Rattle.httparse.specs.Ascii.{crlf_bytes}
-use Rattle.httparse.specs.Grammar.{ChunkLine, print_chunk_line, print_extension, HasNoChunkLine, Field, LineEnd, crlf, lf, print_end, print_field, print_section, HasNoSection}
+use Rattle.httparse.specs.Grammar.{ChunkLine, print_chunk_line, print_extension, HasNoChunkLine, Field, LineEnd, crlf, lf, print_end, print_field, print_section, HasNoSection, NeverHasChunkLine, MayBecomeChunkLine, MayBecomeSection}
+use Rattle.httparse.specs.Spans.{SectionOverflows}
+use Rattle.lra_wire.specs.declared.fault.WireFault.{WireFault}
+use Rattle.lra_wire.specs.declared.fault.WireFault.TheVariants.{Cut}
 use Rattle.lra_wire.specs.declared.inbox.Inbox.{Inbox}
-use Rattle.lra_wire.specs.Inbox.{kept_bytes, Grows, AsksAt, Lacks}
-use Rattle.lra_wire.specs.Steps.{AsksBehind}
+use Rattle.lra_wire.specs.Inbox.{kept_bytes, AsksAt}
+use Rattle.lra_wire.specs.inner.Growth.{Grows, Fills, Lacks}
+use Rattle.lra_wire.specs.inner.Steps.{FindsLine, FindsNewLine, ReadsLineAt, FindsTrailer, FindsNewTrailer, ReadsTrailerAt, AsksBehind}
 use Rattle.lra_wire.proofs.InboxLemmas.{Grows_refl, Grows_trans, asks_more}
+use Rattle.lra_wire.proofs.StreamLemmas.{behind_in}
 
 -- ---- line feeds
 
 -- the text ends in a line feed
-EndsLine : List ℕ → Type 0
+abbrev EndsLine : List ℕ → Type 0
 EndsLine text = (front : List ℕ) × (text ≡ front ++ 10 ∷ [])
 
 ends_behind : (a b : List ℕ) → EndsLine b → EndsLine (a ++ b)
@@ -49,14 +55,18 @@ ends_before bytes text rest n (front, ends) within is none = (drop m (take n byt
     same : take m (take n bytes) ≡ text
     same = sym (take-append-le m (take n bytes) (drop n bytes) before) ∙ ap (take m) (take-append-drop n bytes ∙ is) ∙ take_at text rest m refl
 
-pub no_line : (bytes : List ℕ) (n : ℕ) → n ≤ length bytes → HasNoChunkLine (take n bytes) → list_any (λ b. b == 10) (drop n bytes) ≡ false → HasNoChunkLine bytes
+-- none comes in what is new
+no_feed : (bytes : List ℕ) (n : ℕ) → list_any (λ b. b == 10) (slice_range bytes n (length bytes)) ≡ false → list_any (λ b. b == 10) (drop n bytes) ≡ false
+no_feed bytes n none = subst (λ (bs : List ℕ). list_any (λ b. b == 10) bs ≡ false) (behind_in n refl) none
+
+pub no_line : (bytes : List ℕ) (n : ℕ) → n ≤ length bytes → HasNoChunkLine (take n bytes) → list_any (λ b. b == 10) (slice_range bytes n (length bytes)) ≡ false → HasNoChunkLine bytes
 no_line bytes n within none feed line rest reads =
-    let there = ends_before bytes (print_chunk_line line) rest n (line_ends line) within reads.1 feed in
+    let there = ends_before bytes (print_chunk_line line) rest n (line_ends line) within reads.1 (no_feed bytes n feed) in
     none line there.0 (reads.0, there.1)
 
-pub no_section : (bytes : List ℕ) (n : ℕ) → n ≤ length bytes → HasNoSection (take n bytes) → list_any (λ b. b == 10) (drop n bytes) ≡ false → HasNoSection bytes
+pub no_section : (bytes : List ℕ) (n : ℕ) → n ≤ length bytes → HasNoSection (take n bytes) → list_any (λ b. b == 10) (slice_range bytes n (length bytes)) ≡ false → HasNoSection bytes
 no_section bytes n within none feed fields last rest reads =
-    let there = ends_before bytes (print_section fields last) rest n (section_ends fields last) within reads.1 feed in
+    let there = ends_before bytes (print_section fields last) rest n (section_ends fields last) within reads.1 (no_feed bytes n feed) in
     none fields last there.0 (reads.0, there.1)
 
 ends_some : (text rest : List ℕ) → EndsLine text → ¬ ([] ≡ text ++ rest)
@@ -67,6 +77,40 @@ no_line_yet line rest reads = ends_some (print_chunk_line line) rest (line_ends 
 
 pub no_section_yet : HasNoSection []
 no_section_yet fields last rest reads = ends_some (print_section fields last) rest (section_ends fields last) reads.1
+
+pub line_awaits : (start : ℕ) (bytes kept : List ℕ) (found : Option (ℕ × ℕ)) → bytes ≡ kept → found ≡ None → FindsNewLine (slice_range bytes start (length bytes)) (Ok found) → HasNoChunkLine (drop start kept)
+line_awaits start bytes kept found same is finds =
+    subst HasNoChunkLine (behind_in start same) (subst (λ (o : Option (ℕ × ℕ)). FindsNewLine (slice_range bytes start (length bytes)) (Ok o)) is finds)
+
+pub trailer_awaits : (start : ℕ) (bytes kept : List ℕ) (found : Option ℕ) → bytes ≡ kept → found ≡ None → FindsNewTrailer (slice_range bytes start (length bytes)) (Ok found) → HasNoSection (drop start kept)
+trailer_awaits start bytes kept found same is finds =
+    subst HasNoSection (behind_in start same) (subst (λ (o : Option ℕ). FindsNewTrailer (slice_range bytes start (length bytes)) (Ok o)) is finds)
+
+-- what the stream ends in is no line
+pub line_bad : {R : Type 0} (remaining : R → Option (List ℕ)) (start : ℕ) (old mid new : Inbox R) (bytes : List ℕ) (fault : WireFault) → Grows remaining old mid → Fills remaining mid new (Ok false)
+    → bytes ≡ kept_bytes new → FindsLine (slice_range bytes start (length bytes)) (Err fault) → ReadsLineAt remaining start old new (Err fault)
+line_bad remaining start old mid new bytes fault grows ended same finds =
+    inr (Grows_trans grows ended.0, inl (finds.0, subst NeverHasChunkLine (behind_in start same) finds.1))
+
+pub line_cut : {R : Type 0} (remaining : R → Option (List ℕ)) (start : ℕ) (old mid new : Inbox R) (bytes : List ℕ) (found : Option (ℕ × ℕ)) → Grows remaining old mid → Fills remaining mid new (Ok false)
+    → bytes ≡ kept_bytes new → found ≡ None → FindsLine (slice_range bytes start (length bytes)) (Ok found) → ReadsLineAt remaining start old new (Err Cut)
+line_cut remaining start old mid new bytes found grows ended same is finds =
+    let none = subst (λ (o : Option (ℕ × ℕ)). FindsLine (slice_range bytes start (length bytes)) (Ok o)) is finds in
+    let here = subst (λ (bs : List ℕ). HasNoChunkLine bs × MayBecomeChunkLine bs) (behind_in start same) none in
+    inr (Grows_trans grows ended.0, inr (inr (refl, ended.1, here.0, here.1)))
+
+-- nor a trailer
+pub trailer_bad : {R : Type 0} (remaining : R → Option (List ℕ)) (start : ℕ) (old mid new : Inbox R) (bytes : List ℕ) (fault : WireFault) → Grows remaining old mid → Fills remaining mid new (Ok false)
+    → bytes ≡ kept_bytes new → FindsTrailer (slice_range bytes start (length bytes)) (Err fault) → ReadsTrailerAt remaining start old new (Err fault)
+trailer_bad remaining start old mid new bytes fault grows ended same finds =
+    inr (Grows_trans grows ended.0, inl (finds.0, subst (SectionOverflows 64) (behind_in start same) finds.1))
+
+pub trailer_cut : {R : Type 0} (remaining : R → Option (List ℕ)) (start : ℕ) (old mid new : Inbox R) (bytes : List ℕ) (found : Option ℕ) → Grows remaining old mid → Fills remaining mid new (Ok false)
+    → bytes ≡ kept_bytes new → found ≡ None → FindsTrailer (slice_range bytes start (length bytes)) (Ok found) → ReadsTrailerAt remaining start old new (Err Cut)
+trailer_cut remaining start old mid new bytes found grows ended same is finds =
+    let none = subst (λ (o : Option ℕ). FindsTrailer (slice_range bytes start (length bytes)) (Ok o)) is finds in
+    let here = subst (λ (bs : List ℕ). HasNoSection bs × MayBecomeSection bs) (behind_in start same) none in
+    inr (Grows_trans grows ended.0, inr (inr (refl, ended.1, here.0, here.1)))
 
 -- ---- what a search keeps
 

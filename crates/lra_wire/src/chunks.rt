@@ -2,8 +2,9 @@
 ghost use Rattle.std.specs.Prelude.{◌≡◌, ◌≤◌, ◌<◌, ◌+◌, length, take, IfOk, IfErr};
 ghost use Rattle.httparse.specs.Grammar.{HasNoChunkLine, HasNoSection};
 ghost use Rattle.lra_wire.specs.Chunks.{AwaitsChunk, AwaitsChunks};
-ghost use Rattle.lra_wire.specs.Inbox.{kept_bytes, stream_of, AsksAt, IsShort};
-ghost use Rattle.lra_wire.specs.Steps.{FindsLine, FindsNewLine, ReadsLineAt, FindsTrailer, FindsNewTrailer, ReadsTrailerAt, ReadsLast, ReadsContent, ReadsPiece, FindsBody, LacksBody, AsksBehind};
+ghost use Rattle.lra_wire.specs.Inbox.{kept_bytes, stream_of, AsksAt};
+ghost use Rattle.lra_wire.specs.inner.Growth.{LacksBytes};
+ghost use Rattle.lra_wire.specs.inner.Steps.{FindsLine, FindsNewLine, ReadsLineAt, FindsTrailer, FindsNewTrailer, ReadsTrailerAt, ReadsLast, ReadsContent, ReadsPiece, FindsBody, LacksBody, AsksBehind};
 
 use crate::fault::WireFault;
 use crate::framing::Framing;
@@ -82,7 +83,7 @@ fn next_content<R: Read + Drop>(
     requires start { start ≤ length (kept_bytes inbox.old) }
     requires room { room ≤ 65536 }
     ensures reads { ReadsContent R.remaining start room size inbox.old inbox.new result }
-    ensures asks { AsksAt (IsShort (start + size + 2) (kept_bytes inbox.old)) inbox.old inbox.new }
+    ensures asks { AsksAt (LacksBytes (start + size + 2) (kept_bytes inbox.old)) inbox.old inbox.new }
 {
     if size > room as u64 {
         return Err(WireFault::TooLarge);

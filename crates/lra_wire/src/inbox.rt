@@ -44,7 +44,8 @@ pub struct Inbox<R> {
 
 impl<R: Read + Drop> Inbox<R> {
     ghost use Rattle.std.specs.Prelude.{length, drop, OnOk, IsFalse};
-    ghost use Rattle.lra_wire.specs.Inbox.{kept_bytes, stream_of, asked_at, is_spent, Fills, FillsTo, AsksAt, IsShort};
+    ghost use Rattle.lra_wire.specs.Inbox.{kept_bytes, stream_of, asked_at, is_spent, AsksAt};
+    ghost use Rattle.lra_wire.specs.inner.Growth.{Fills, FillsTo, LacksBytes};
 
     /// An inbox that has read nothing yet. Where memory is refused the reader is dropped.
     pub fn new(alloc: Global, reader: R) -> Result<Inbox<R>, AllocError>
@@ -88,7 +89,7 @@ impl<R: Read + Drop> Inbox<R> {
     /// Reads until there are so many bytes.
     pub(crate) fn fill_to(&mut self, len: usize) -> Result<(), WireFault>
         ensures fills { FillsTo R.remaining len self.old self.new result }
-        ensures asks { AsksAt (IsShort len (kept_bytes self.old)) self.old self.new }
+        ensures asks { AsksAt (LacksBytes len (kept_bytes self.old)) self.old self.new }
     {
         while self.bytes().len() < len {
             if !self.fill()? {

@@ -3,10 +3,10 @@ ghost use Rattle.std.specs.Prelude.{◌≡◌, ◌<◌, ◌≤◌, ◌+◌, ℕ,
 ghost use Rattle.httparse.specs.Spans.{IsHeaderWithin, header_bytes};
 ghost use Rattle.lra_wire.specs.declared.fault.WireFault.{WireFault};
 ghost use Rattle.lra_wire.specs.Fields.{body_length_of};
-ghost use Rattle.lra_wire.specs.Heads.{has_host, IsHeadAt, FindsHead, ReadsHead};
+ghost use Rattle.lra_wire.specs.inner.Heads.{has_host, IsHeadAt, FindsHead, ReadsHead};
 ghost use Rattle.lra_wire.specs.Inbox.{stream_of, is_spent, AsksAt};
-ghost use Rattle.lra_wire.specs.Request.{Request, GivesRequest, RefusesRequest, AwaitsRequest, request_of};
-ghost use Rattle.lra_wire.specs.Reading.{NextRequest, request_at};
+ghost use Rattle.lra_wire.specs.Request.{Request, IsRequest, GivesRequest, RefusesRequest, AwaitsRequest, request_of};
+ghost use Rattle.lra_wire.specs.inner.Reading.{NextRequest, request_at};
 ghost use Rattle.lra_wire.specs.Requests.{Requests, EndsAlike};
 ghost use Rattle.lra_wire.specs.Streams.{IfBothKnown};
 
@@ -67,9 +67,13 @@ pub fn read_request<R: Read + Drop>(
 /// it ends in a head that no continuation makes lawful, that is [`WireFault::BadHead`] or
 /// [`WireFault::Cut`].
 pub fn one_reading()
-    ensures { (bytes : List ℕ) (requests others : List Request) (end other : Option WireFault)
+    ensures reading { (bytes : List ℕ) (requests others : List Request) (end other : Option WireFault)
         → Requests bytes requests end → Requests bytes others other
         → (requests ≡ others) × EndsAlike end other }
+
+    // Where more of a request is asked for, the bytes that came spell none.
+    ensures rests { (bytes : List ℕ) (request : Request) (rest : List ℕ)
+        → AwaitsRequest bytes → ¬ (IsRequest bytes request rest) }
 {}
 
 fn next_request<R: Read + Drop>(

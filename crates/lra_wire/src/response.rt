@@ -2,7 +2,7 @@
 ghost use Rattle.std.specs.Prelude.{◌≡◌, ◌≤◌, length, IfOk, IfErr, IfSome, OnOk, OnErr, IsTrue, IsFalse, Err};
 ghost use Rattle.lra_wire.specs.Inbox.{kept_bytes, stream_of, is_spent, AsksAt};
 ghost use Rattle.lra_wire.specs.Response.{is_interim, IsResponse, RefusesResponse, AwaitsBody, AwaitsResponse};
-ghost use Rattle.lra_wire.specs.Steps.{FindsResponse, ReadsHeadAt, FindsBody, LacksBody, ReadsToTheEnd, IsSmall, NextResponse, AsksBehind, IsOpenHead};
+ghost use Rattle.lra_wire.specs.inner.Steps.{FindsResponse, ReadsHeadAt, FindsBody, LacksBody, ReadsToTheEnd, IsSmall, NextResponse, AsksBehind, IsOpenHead};
 ghost use Rattle.lra_wire.specs.Streams.{IfBothKnown};
 
 use crate::chunks::next_chunks;

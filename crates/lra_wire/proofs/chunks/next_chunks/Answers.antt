@@ -3,10 +3,10 @@ use Rattle.std.proofs.Common.{subst, Ok, Err}
 use Rattle.std.specs.Prelude.{slice_range}
 use Rattle.std.proofs.lemmas.Result.{err_from_is_err_and}
 use Rattle.lra_wire.specs.declared.chunks.Piece.{Piece}
-use Rattle.lra_wire.specs.declared.chunks.Piece.TheVariants.{Content}
+use Rattle.lra_wire.specs.declared.chunks.Piece.TheVariants.{Content, Last}
 use Rattle.lra_wire.specs.Inbox.{kept_bytes}
-use Rattle.lra_wire.specs.Steps.{ReadsPiece}
-use Rattle.lra_wire.proofs.ChunksLemmas.{Joins, joins_more, joins_refused, joins_asks}
+use Rattle.lra_wire.specs.inner.Steps.{ReadsPiece}
+use Rattle.lra_wire.proofs.ChunksLemmas.{Joins, joins_more, joins_end, joins_refused, joins_asks}
 use Rattle.lra_wire.proofs.chunks.next_chunks.Goals as goal
 
 pub returns-in_err-from-clause-err : goal.returns-in_err-from-clause-err
@@ -30,3 +30,15 @@ loop-body-preserved g c =
 pub returns-in_err-from-clause-asks : goal.returns-in_err-from-clause-asks
 returns-in_err-from-clause-asks g c = 
     joins_asks g.R.Read.remaining c.args.inbox.now c.loop-body.inbox c.next_piece.new.inbox c.args.start c.loop-body.at c.loop-body.body.items c.loop-body.invariant c.next_piece.ensures.asks
+
+pub returns-in_err-extend_from_slice-in-Content-clause-asks : goal.returns-in_err-extend_from_slice-in-Content-clause-asks
+returns-in_err-extend_from_slice-in-Content-clause-asks g c =
+    joins_asks g.R.Read.remaining c.args.inbox.now c.loop-body.inbox c.next_piece.new.inbox c.args.start c.loop-body.at c.loop-body.body.items c.loop-body.invariant c.next_piece.ensures.asks
+
+pub returns-in-Last-clause-ok : goal.returns-in-Last-clause-ok
+returns-in-Last-clause-ok g c =
+    let count : c.len.result ≡ length c.loop-body.body.items = omega (arith, c.len.ensures, c.loop-body.body.ok.0) in
+    let piece : ReadsPiece g.R.Read.remaining c.loop-body.at (65536 - c.len.result) c.loop-body.inbox c.next_piece.new.inbox (Ok (Last c.in-Last.end)) =
+    subst (λ (p : Piece). ReadsPiece g.R.Read.remaining c.loop-body.at (65536 - c.len.result) c.loop-body.inbox c.next_piece.new.inbox (Ok p)) c.in-Last.is c.in_ok-from.ensures.reads in
+    joins_end g.R.Read.remaining c.args.inbox.now c.loop-body.inbox c.next_piece.new.inbox c.args.start c.loop-body.at c.in-Last.end c.loop-body.body.items c.loop-body.invariant
+    (subst (λ (n : ℕ). ReadsPiece g.R.Read.remaining c.loop-body.at (65536 - n) c.loop-body.inbox c.next_piece.new.inbox (Ok (Last c.in-Last.end))) count piece)

@@ -1,7 +1,7 @@
 use Rattle.std.proofs.Common.{arith}
 use Rattle.std.proofs.lemmas.Result.{err_from_is_err_and}
 use Rattle.std.proofs.Common.{inr}
-use Rattle.lra_wire.specs.Inbox.{Grows}
+use Rattle.lra_wire.specs.inner.Growth.{Grows}
 use Rattle.lra_wire.proofs.ChunkLemmas.{trailer_refused, trailer_long, trailer_found}
 use Rattle.lra_wire.proofs.chunks.next_last.Goals as goal
 

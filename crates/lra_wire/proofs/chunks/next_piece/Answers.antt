@@ -28,7 +28,7 @@ returns-in_err-to-clause-reads g c =
 
 pub returns-clause-reads : goal.returns-clause-reads
 returns-clause-reads g c =
-    let line : 0 < c.in_ok-line.line = line_some (drop c.args.start (kept_bytes c.next_line.new.inbox)) (c.in_ok-line.line, c.in_ok-line.size) c.in_ok-line.ensures.1 in
+    let line : 0 < c.in_ok-line.line = line_some (drop c.args.start (kept_bytes c.next_line.new.inbox)) (c.in_ok-line.line, c.in_ok-line.size) c.in_ok-line.ensures.reads.1 in
     piece_content g.R.Read.remaining c.args.start c.args.room c.in_ok-to.to (c.in_ok-line.line, c.in_ok-line.size) c.args.inbox.now c.next_line.new.inbox c.next_content.new.inbox
     c.requires.start c.in_ok-line.ensures.reads (omega (arith, c.if-size-eq0.false)) line c.in_ok-to.ensures.reads
 

@@ -1,5 +1,6 @@
 use Rattle.std.proofs.Common.{◌≡◌, ℕ, List, [], Bool, Ok, subst, sym, ◌∙◌}
-use Rattle.lra_wire.specs.Inbox.{kept_bytes, Fills}
+use Rattle.lra_wire.specs.Inbox.{kept_bytes}
+use Rattle.lra_wire.specs.inner.Growth.{Fills}
 use Rattle.lra_wire.specs.Request.{AwaitsRequest}
 use Rattle.lra_wire.proofs.InboxLemmas.{Grows_trans, asks_more}
 use Rattle.lra_wire.proofs.ReadingLemmas.{head_awaits}

@@ -4,9 +4,9 @@ use Rattle.std.proofs.Common.{subst, Option, Ok}
 use Rattle.std.proofs.lemmas.Result.{err_from_is_err_and}
 use Rattle.std.specs.Prelude.{slice_range}
 use Rattle.httparse.specs.declared.spans.RequestSpans.{RequestSpans}
-use Rattle.lra_wire.specs.Heads.{ReadsHead}
+use Rattle.lra_wire.specs.inner.Heads.{ReadsHead}
 use Rattle.lra_wire.specs.Fields.{body_length_of}
-use Rattle.lra_wire.specs.Reading.{request_at}
+use Rattle.lra_wire.specs.inner.Reading.{request_at}
 use Rattle.lra_wire.specs.Request.{Request, AwaitsRequest}
 use Rattle.lra_wire.proofs.ReadingLemmas.{found_request, cut_body, size_refused, asks_body}
 use Rattle.lra_wire.proofs.InboxLemmas.{asks_taken}

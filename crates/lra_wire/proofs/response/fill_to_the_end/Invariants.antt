@@ -1,6 +1,7 @@
 use Rattle.std.proofs.Common.{◌-◌, ◌+◌, length}
 use Rattle.lra_wire.specs.declared.framing.Framing.TheVariants.{ToTheEnd}
-use Rattle.lra_wire.specs.Inbox.{kept_bytes, Lacks}
+use Rattle.lra_wire.specs.Inbox.{kept_bytes}
+use Rattle.lra_wire.specs.inner.Growth.{Lacks}
 use Rattle.lra_wire.specs.Response.{AwaitsBody}
 use Rattle.lra_wire.proofs.InboxLemmas.{Waits}
 use Rattle.lra_wire.proofs.response.fill_to_the_end.Given as goal

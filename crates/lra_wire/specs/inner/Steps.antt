@@ -14,7 +14,8 @@ use Rattle.lra_wire.specs.declared.inbox.Inbox.{Inbox}
 use Rattle.lra_wire.specs.declared.response.Head.{Head}
 use Rattle.lra_wire.specs.declared.response.ResponseRead.{ResponseRead}
 use Rattle.lra_wire.specs.Chunks.{Chunk, IsChunk, print_chunk, HasTrailer, HasLast, RefusesTrailer, RefusesContent, RefusesChunk}
-use Rattle.lra_wire.specs.Inbox.{kept_bytes, stream_of, Grows, IsOutside, AsksAt, Lacks}
+use Rattle.lra_wire.specs.Inbox.{kept_bytes, stream_of, IsOutside, AsksAt}
+use Rattle.lra_wire.specs.inner.Growth.{Grows, Lacks}
 use Rattle.lra_wire.specs.Response.{HasResponse, NeverShort, fields_in, framing_of, IsBody, RefusesFramed, IsResponse, RefusesResponse}
 use Rattle.lra_wire.specs.Streams.{IfBothKnown}
 
