@@ -11,3 +11,5 @@ mod journal;
 mod ticket;
 #[cfg(test)]
 mod timers;
+#[cfg(test)]
+mod wire;
