@@ -50,10 +50,6 @@ growth s J c = cond (is_some (refused s J c)) [] (block s J c)
 abbrev pub after_call : Terms → History → Call → History
 after_call s J c = J ++ growth s J c
 
--- K is what J grows to by a call
-abbrev pub Grows : Terms → History → Call → History → Type 0
-Grows s J c K = K ≡ after_call s J c
-
 -- nothing is left to settle after a call that writes
 abbrev pub IsQuietAfter : Terms → History → Call → Type 0
 IsQuietAfter s J c = block s J c ≢ [] → IsQuiet s.version is_address (after_call s J c)
