@@ -9,10 +9,9 @@ use Rattle.lra_model.specs.declared.asks.Cause.TheVariants as cause
 use Rattle.lra_model.specs.declared.entry.Deed.{Deed}
 use Rattle.lra_model.specs.declared.entry.Deed.TheVariants as deed
 use Rattle.lra_model.specs.declared.entry.Entry.{Entry}
-use Rattle.lra_model.specs.declared.version.Version.TheVariants.{One}
 use Rattle.lra_model.specs.Words.{when}
 use Rattle.lra_model.specs.Facts.{facts_of}
-use Rattle.lra_model.specs.Tests.{at_action, may_close, may_cancel}
+use Rattle.lra_model.specs.Tests.{at_action, may_close_with_parent, may_cancel_with_parent}
 use Rattle.lra_model.specs.Ends.{is_settled, right_end}
 use Rattle.lra_model.specs.History.{History, first, last, actions, members}
 use Rattle.lra_model.specs.Settling.{may_be_skipped, by_parent, next_settling}
@@ -72,14 +71,14 @@ first_of P f (x ∷ xs) h = first_cons P (f x) (filter_map f xs) (h x) (first_of
 
 -- whether its parent may cancel an action
 abbrev may_be_cancelled : History → ℕ → Bool
-may_be_cancelled J a = at_action (may_cancel One 0 cause.Parent (facts_of J)) (facts_of J) a
+may_be_cancelled J a = at_action (may_cancel_with_parent (facts_of J)) (facts_of J) a
 
 settling_writable : (J : History) → IfSome (next_settling J) HasAddressWords
 unfolding next_settling
 settling_writable J =
     either_or HasAddressWords _ _ (mapped HasAddressWords (λ p. deed.Skip p) (find (may_be_skipped J) (members J)) (λ p. tt))
     (either_or HasAddressWords _ _ (first_of HasAddressWords (by_parent J) (actions J) (λ a.
-    chosen HasAddressWords (at_action (may_close cause.Parent (facts_of J)) (facts_of J) a) (Some (deed.Close a cause.Parent)) (cond (may_be_cancelled J a) (Some (deed.Cancel a cause.Parent)) None) tt
+    chosen HasAddressWords (at_action (may_close_with_parent (facts_of J)) (facts_of J) a) (Some (deed.Close a cause.Parent)) (cond (may_be_cancelled J a) (Some (deed.Cancel a cause.Parent)) None) tt
     (chosen HasAddressWords (may_be_cancelled J a) (Some (deed.Cancel a cause.Parent)) None tt tt)))
     (mapped HasAddressWords (λ a. deed.End a (right_end J a)) (last (filter_map (λ a. cond (is_settled J a) (Some a) None) (actions J))) (λ a. tt)))
 

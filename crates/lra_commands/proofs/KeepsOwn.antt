@@ -18,7 +18,7 @@ use Rattle.lra_model.specs.Words.{is_active, same_kind, is_completing, is_compen
 use Rattle.lra_model.specs.History.{History, actions, members, asks, is_among}
 use Rattle.lra_model.specs.Members.{Asked, action_of, has_left, member_status, is_outstanding, ask_of}
 use Rattle.lra_model.specs.Facts.{ActionFacts, MemberFacts, action_facts, facts_of}
-use Rattle.lra_model.specs.Tests.{status_is, each_parent, is_moment, may_cancel, addresses_fit, may_report, limit_has_passed}
+use Rattle.lra_model.specs.Tests.{status_is, each_parent, is_moment, may_cancel_as_client, may_cancel_by_limit, addresses_fit, may_report, limit_has_passed}
 use Rattle.lra_model.specs.Rules.{is_action, is_member, is_here, is_number, has_deed}
 use Rattle.lra_model.specs.Wants.{wants}
 use Rattle.lra_laws.proofs.Tested.{both, and_intro}
@@ -116,7 +116,7 @@ close_allowed s J by m a w u h =
 
 pub cancel_allowed : (s : Terms) (J : History) (by m a : ℕ) → Writes s J by m → may_be_cancelled s J a ≡ true → IsAllowed s J by m (deed.Cancel a cause.Client)
 cancel_allowed s J by m a w h =
-    let there = (action_fact (may_cancel s.version 0 cause.Client (facts_of J)) J a h).0 in
+    let there = (action_fact (may_cancel_as_client s.version (facts_of J)) J a h).0 in
     let d : Deed = deed.Cancel a cause.Client in
     may_write s.version is_address J by m d w refl (action_in_range s.version is_address J w.legal a there) (known_deed s.version d refl) (action_there J a there, (h, tt))
 
@@ -125,7 +125,7 @@ tick_allowed s J by m a w h =
     may_write s.version is_address J by m d w refl (action_in_range s.version is_address J w.legal a active.0) (known_deed s.version d refl) (
       action_there J a active.0,
       (
-        at_action_from (may_cancel s.version m cause.Limit (facts_of J)) J a active.0
+        at_action_from (may_cancel_by_limit m) J a active.0
             (and_intro (is_active (action_facts J a).status) (limit_has_passed m (action_facts J a)) active.1 (and_intro (not ((action_facts J a).limit.length_of == 0)) (nat_le ((action_facts J a).limit.since + (action_facts J a).limit.length_of) m) l.limited l.passed)),
         tt,
       ),

@@ -17,8 +17,7 @@ use Rattle.lra_model.specs.declared.entry.Deed.TheVariants.{Enrol, Start, Join, 
 use Rattle.lra_model.specs.declared.entry.Entry.{Entry}
 use Rattle.lra_model.specs.Addresses.{Addresses}
 use Rattle.lra_model.specs.History.{History, steps, clerks, actions, members, asks, last_moment}
-use Rattle.lra_model.specs.Actions.{parent, top, action_status, limit_in_force, children, members_of}
-use Rattle.lra_model.specs.Depths.{depth}
+use Rattle.lra_model.specs.Actions.{parent, top, action_status, limit_in_force, children, members_of, depth}
 use Rattle.lra_model.specs.Members.{action_of, no_addresses, addresses_of, has_left, stays, was_asked, ask_of, replies, decided, member_status, last_reply, was_answered, is_outstanding, outstanding_ask}
 use Rattle.lra_model.specs.Ends.{staying, is_settled, right_end, top_has_ended}
 use Rattle.lra_model.specs.Facts.{facts_of}

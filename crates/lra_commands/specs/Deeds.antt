@@ -20,7 +20,7 @@ use Rattle.lra_model.specs.History.{History, clerks, actions, members, asks}
 use Rattle.lra_model.specs.Actions.{action_status, members_of}
 use Rattle.lra_model.specs.Members.{addresses_of, has_left, decided}
 use Rattle.lra_model.specs.Facts.{facts_of}
-use Rattle.lra_model.specs.Tests.{at_action, may_cancel}
+use Rattle.lra_model.specs.Tests.{at_action, may_cancel_as_client}
 use Rattle.lra_model.specs.Wants.{wants}
 use Rattle.lra_ids.specs.Addresses.{address_of}
 use Rattle.lra_commands.specs.declared.command.Command.TheVariants as command
@@ -81,7 +81,7 @@ is_open J a = option_map_or is_active (action_status J a) false
 
 -- whether a client may cancel an action
 abbrev pub may_be_cancelled : Terms → History → ℕ → Bool
-may_be_cancelled s J a = at_action (may_cancel s.version 0 cause.Client (facts_of J)) (facts_of J) a
+may_be_cancelled s J a = at_action (may_cancel_as_client s.version (facts_of J)) (facts_of J) a
 
 -- the deed that a command writes, where it isn't refused: none for a repeat, where nothing is due, and where it only reads
 abbrev pub own_deed : Terms → History → ℕ → Command → Option Deed

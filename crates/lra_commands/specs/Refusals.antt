@@ -10,8 +10,7 @@ use Rattle.lra_model.specs.declared.version.Version.{Version}
 use Rattle.lra_model.specs.declared.version.Version.TheVariants as version
 use Rattle.lra_model.specs.Words.{is_completing, is_compensating, same_kind, same_direction}
 use Rattle.lra_model.specs.History.{History, clerks, actions, members, is_among}
-use Rattle.lra_model.specs.Actions.{action_status}
-use Rattle.lra_model.specs.Depths.{depth}
+use Rattle.lra_model.specs.Actions.{action_status, depth}
 use Rattle.lra_model.specs.Members.{Asked, action_of, has_left, member_status, is_outstanding, ask_of}
 use Rattle.lra_model.specs.Tests.{is_moment, each_parent, addresses_fit}
 use Rattle.lra_ids.specs.Addresses.{address_of}

@@ -13,12 +13,12 @@ use Rattle.lra_model.specs.declared.version.Version.TheVariants.{One, Two}
 use Rattle.lra_model.specs.declared.entry.Deed.TheVariants.{Enrol, Start, Join, Close, Cancel, Ask, Reply, End}
 use Rattle.lra_model.specs.Words.{member_has_failed}
 use Rattle.lra_model.specs.History.{History, steps, clerks, actions, members, asks, is_among, last_moment}
-use Rattle.lra_model.specs.Actions.{parent, top, is_under, action_status, limit_in_force, children, members_of, was_cancelled}
+use Rattle.lra_model.specs.Actions.{parent, top, is_under, action_status, limit_in_force, children, members_of, was_cancelled, was_cancelled_below}
 use Rattle.lra_model.specs.Members.{action_of, addresses_of, has_left, stays, was_asked, ask_of, replies, decided, member_status, last_reply, was_answered, is_outstanding, outstanding_ask}
 use Rattle.lra_model.specs.Ends.{staying, is_settled, right_end, top_has_ended}
 use Rattle.lra_model.specs.Facts.{facts_of}
 use Rattle.lra_model.specs.Rules.{broken, is_legal}
-use Rattle.lra_model.specs.GoodEnds.{was_cancelled_below, StaysUnder, IsCompletedForGood, GoodEnds}
+use Rattle.lra_model.specs.GoodEnds.{StaysUnder, IsCompletedForGood, GoodEnds}
 use Rattle.lra_laws.proofs.Worked.{is_http, at, u, c, uris, nest, undone, failing, cancelled_below, taken_back}
 use Rattle.lra_laws.proofs.GoodLaw.{good_ends}
 

@@ -1,3 +1,4 @@
+pub mod Climbs
 pub mod GoodKept
 pub mod GoodLaw
 pub mod GoodLeast

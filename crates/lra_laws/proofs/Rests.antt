@@ -7,7 +7,6 @@ use Rattle.std.specs.Prelude.{◌==◌, ◌&&◌, ◌||◌, not, is_some, unwrap
 use Rattle.std.specs.Option.{option_or, option_map_or}
 use Rattle.std.specs.List.{filter_map, cons_option, find, sum_by}
 use Rattle.lra_model.specs.declared.version.Version.{Version}
-use Rattle.lra_model.specs.declared.version.Version.TheVariants as version
 use Rattle.lra_model.specs.declared.status.ActionStatus.{ActionStatus}
 use Rattle.lra_model.specs.declared.status.ActionStatus.TheVariants as action
 use Rattle.lra_model.specs.declared.status.MemberStatus.TheVariants as member
@@ -26,7 +25,7 @@ use Rattle.lra_model.specs.Actions.{status_given, action_status}
 use Rattle.lra_model.specs.Members.{has_left, was_asked, Heard, heard_at, decides, decided, by_decision, member_status}
 use Rattle.lra_model.specs.Ends.{settles, is_settled, ends_as, right_end}
 use Rattle.lra_model.specs.Facts.{ActionFacts, MemberFacts, action_facts, member_facts, facts_of}
-use Rattle.lra_model.specs.Tests.{at_action, status_is, parent_is, may_close, may_cancel, may_skip}
+use Rattle.lra_model.specs.Tests.{at_action, status_is, parent_is, may_close_with_parent, may_cancel_with_parent, may_skip}
 use Rattle.lra_model.specs.Rules.{deed_rules}
 use Rattle.lra_model.specs.Settling.{is_settling, may_be_skipped, by_parent, next_settling}
 use Rattle.lra_laws.proofs.Push.{step, actions_push, members_push, action_status_push, decided_push}
@@ -244,12 +243,12 @@ settling_lessens v t J by m d k h = by_deed d h (entry_kept v t (facts_of J) (re
 
     by_deed : (d : Deed) → is_settling d ≡ true → AllKept (deed_rules v t (facts_of J) m d) → left_to_settle (J ++ record { by = by; moment = m; deed = d } ∷ []) < left_to_settle J
     by_deed (Close a cause.Parent) s r =
-        let f = action_fact (may_close cause.Parent (facts_of J)) J a (close_kept v t (facts_of J) m a cause.Parent r).may in
+        let f = action_fact (may_close_with_parent (facts_of J)) J a (close_kept v t (facts_of J) m a cause.Parent r).may in
         let x : ActionFacts = action_facts J a in
         turn_lessens J by m (Close a cause.Parent) a action.Closing refl refl
         (record { there = f.0; turns = λ b. refl; less = from_active x.status (both (is_active x.status) (parent_is is_closing (facts_of J) x) f.1).0 })
     by_deed (Cancel a cause.Parent) s r =
-        let f = action_fact (may_cancel v m cause.Parent (facts_of J)) J a (cancel_kept v t (facts_of J) m a cause.Parent r).may in
+        let f = action_fact (may_cancel_with_parent (facts_of J)) J a (cancel_kept v t (facts_of J) m a cause.Parent r).may in
         let x : ActionFacts = action_facts J a in
         turn_lessens J by m (Cancel a cause.Parent) a action.Cancelling refl refl
         (record { there = f.0; turns = λ b. refl; less = from_cancellable x.status (both (is_cancellable x.status) (parent_is is_cancelling (facts_of J) x) f.1).0 })
@@ -288,7 +287,7 @@ next_settles J d h =
 
     parents : (ns : List ℕ) → option_map_or is_settling (first (filter_map (by_parent J) ns)) true ≡ true
     parents [] = refl
-    parents (a ∷ ns) = one (at_action (may_close cause.Parent (facts_of J)) (facts_of J) a) (at_action (may_cancel version.One 0 cause.Parent (facts_of J)) (facts_of J) a) (parents ns)
+    parents (a ∷ ns) = one (at_action (may_close_with_parent (facts_of J)) (facts_of J) a) (at_action (may_cancel_with_parent (facts_of J)) (facts_of J) a) (parents ns)
       where
         one : (close cancel : Bool) → option_map_or is_settling (first (filter_map (by_parent J) ns)) true ≡ true
             → option_map_or is_settling (first (cons_option (cond close (Some (Close a cause.Parent)) (cond cancel (Some (Cancel a cause.Parent)) None)) (filter_map (by_parent J) ns))) true ≡ true

@@ -1,6 +1,7 @@
 -- Of an action: its parent, its state, its limit, its nested actions and its members.
-use Rattle.std.specs.Prelude.{ℕ, zero, suc, ◌==◌, Bool, false, ◌||◌, List, Option, Some, None, unwrap_or}
+use Rattle.std.specs.Prelude.{ℕ, zero, suc, ◌==◌, Bool, false, List, [], ◌∷◌, length, Option, Some, None, unwrap_or}
 use Rattle.std.specs.Option.{option_map_or}
+use Rattle.std.specs.List.{before_first}
 use Rattle.std.specs.List.{filter_map, list_any}
 use Rattle.lra_model.specs.declared.status.ActionStatus.{ActionStatus}
 use Rattle.lra_model.specs.declared.status.ActionStatus.TheVariants as action
@@ -8,7 +9,7 @@ use Rattle.lra_model.specs.declared.entry.Deed.{Deed}
 use Rattle.lra_model.specs.declared.entry.Deed.TheVariants.{Start, Join, Close, Cancel, End, Renew}
 use Rattle.lra_model.specs.declared.entry.Entry.{Entry}
 use Rattle.lra_model.specs.Words.{when}
-use Rattle.lra_model.specs.History.{History, first, last, read_deeds}
+use Rattle.lra_model.specs.History.{History, first, last, read_deeds, is_among}
 
 -- the parent that a deed gives an action, if it starts it
 abbrev pub parent_given : ℕ → Deed → Option (Option ℕ)
@@ -19,23 +20,27 @@ parent_given a _ = None
 unfoldable pub parent : History → ℕ → Option ℕ
 parent J a = unwrap_or (first (read_deeds (parent_given a) J)) None
 
--- up by parents, at most so many steps
-abbrev pub top_within : ℕ → History → ℕ → ℕ
-top_within zero J a = a
-top_within (suc n) J a = option_map_or (top_within n J) (parent J a) a
+-- the actions met going up by parents, at most so many steps
+abbrev pub lineage_within : ℕ → History → ℕ → List ℕ
+lineage_within zero J a = a ∷ []
+lineage_within (suc n) J a = a ∷ option_map_or (lineage_within n J) (parent J a) []
 
--- the outermost action: up by parents, whose numbers are less, to one that has none
+-- The lineage of an action: itself, the action that it is nested in, and so on up to one that has no parent. A parent has a lesser number,
+-- so that the action's number is steps enough.
+abbrev pub lineage : History → ℕ → List ℕ
+lineage J a = lineage_within a J a
+
+-- the outermost action that an action stands in: the last of its lineage (MicroProfile LRA 2.0, top-level LRA)
 unfoldable pub top : History → ℕ → ℕ
-top J a = top_within a J a
+top J a = unwrap_or (last (lineage J a)) a
 
--- whether t is met going up by parents, at most so many steps
-abbrev pub is_within : ℕ → History → ℕ → ℕ → Bool
-is_within zero J t a = a == t
-is_within (suc n) J t a = (a == t) || option_map_or (is_within n J t) (parent J a) false
-
--- whether an action is t or stands below it
+-- whether an action is t or stands below it: whether its lineage has t
 unfoldable pub is_under : History → ℕ → ℕ → Bool
-is_under J t a = is_within a J t a
+is_under J t a = is_among (lineage J a) t
+
+-- how deep an action is nested: the length of its lineage, so that an action with no parent is at depth 1 (this project's choice of counting)
+unfoldable pub depth : History → ℕ → ℕ
+depth J a = length (lineage J a)
 
 -- the state that a deed gives an action
 abbrev pub status_given : ℕ → Deed → Option ActionStatus
@@ -93,3 +98,7 @@ is_cancel_of a _ = false
 -- whether an action was cancelled, however it ended
 unfoldable pub was_cancelled : History → ℕ → Bool
 was_cancelled J a = list_any (λ (e : Entry). is_cancel_of a e.deed) J
+
+-- whether a cancellation stands below t and at or above an action: whether one of its lineage before t was cancelled
+unfoldable pub was_cancelled_below : History → ℕ → ℕ → Bool
+was_cancelled_below J t a = list_any (was_cancelled J) (before_first (λ b. b == t) (lineage J a))

@@ -1,25 +1,15 @@
 -- What it means that an action ended well, or failed.
-use Rattle.std.specs.Prelude.{◌≡◌, ℕ, zero, suc, ◌==◌, Bool, true, false, ◌||◌, cond, List, Some}
-use Rattle.std.specs.Option.{option_map_or}
+use Rattle.std.specs.Prelude.{◌≡◌, ℕ, Bool, true, false, List, Some}
 use Rattle.lra_model.specs.declared.status.ActionStatus.TheVariants as action
 use Rattle.lra_model.specs.declared.status.MemberStatus.TheVariants as member
 use Rattle.lra_model.specs.declared.asks.AskKind.TheVariants as ask
 use Rattle.lra_model.specs.declared.version.Version.{Version}
 use Rattle.lra_model.specs.Words.{has_ended, has_failed, member_has_failed}
 use Rattle.lra_model.specs.History.{History, members, is_among}
-use Rattle.lra_model.specs.Actions.{parent, action_status, is_under, was_cancelled}
+use Rattle.lra_model.specs.Actions.{action_status, is_under, was_cancelled_below}
 use Rattle.lra_model.specs.Members.{action_of, stays, was_asked, member_status}
 use Rattle.lra_model.specs.Ends.{action_is}
 use Rattle.lra_model.specs.Rules.{is_legal}
-
--- whether a cancelled action is met going up by parents before t, at most so many steps
-abbrev pub cancelled_within : ℕ → History → ℕ → ℕ → Bool
-cancelled_within zero J t a = false
-cancelled_within (suc n) J t a = cond (a == t) false (was_cancelled J a || option_map_or (cancelled_within n J t) (parent J a) false)
-
--- whether an action below t, or one between it and t, was cancelled; t itself doesn't count
-unfoldable pub was_cancelled_below : History → ℕ → ℕ → Bool
-was_cancelled_below J t a = cancelled_within a J t a
 
 -- a member that stays in t or in an action below it
 abbrev pub StaysUnder : History → ℕ → ℕ → Type 0

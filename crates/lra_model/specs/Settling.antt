@@ -4,13 +4,12 @@ use Rattle.std.specs.Option.{option_or}
 use Rattle.std.specs.List.{filter_map, find}
 use Rattle.lra_model.specs.declared.asks.Cause.TheVariants as cause
 use Rattle.lra_model.specs.declared.version.Version.{Version}
-use Rattle.lra_model.specs.declared.version.Version.TheVariants as version
 use Rattle.lra_model.specs.declared.entry.Deed.{Deed}
 use Rattle.lra_model.specs.declared.entry.Deed.TheVariants.{Close, Cancel, Skip, End}
 use Rattle.lra_model.specs.History.{History, first, last, actions, members, last_moment}
 use Rattle.lra_model.specs.Ends.{is_settled, right_end}
 use Rattle.lra_model.specs.Facts.{facts_of}
-use Rattle.lra_model.specs.Tests.{at_action, at_member, may_close, may_cancel, may_skip}
+use Rattle.lra_model.specs.Tests.{at_action, at_member, may_close_with_parent, may_cancel_with_parent, may_skip}
 use Rattle.lra_model.specs.Rules.{allows}
 
 -- a deed that a coordinator does of itself: a skip, what a parent does to an action nested in it, an end
@@ -32,8 +31,8 @@ may_be_skipped J p = at_member (may_skip (facts_of J)) (facts_of J) p
 -- what its parent does to an action
 abbrev pub by_parent : History → ℕ → Option Deed
 by_parent J a =
-    cond (at_action (may_close cause.Parent (facts_of J)) (facts_of J) a) (Some (Close a cause.Parent))
-    (cond (at_action (may_cancel version.One 0 cause.Parent (facts_of J)) (facts_of J) a) (Some (Cancel a cause.Parent)) None)
+    cond (at_action (may_close_with_parent (facts_of J)) (facts_of J) a) (Some (Close a cause.Parent))
+    (cond (at_action (may_cancel_with_parent (facts_of J)) (facts_of J) a) (Some (Cancel a cause.Parent)) None)
 
 -- The deed that a coordinator does next, if any: the skip of the least member that may be skipped; else what its parent does to the least
 -- action to which it may; else the end of the greatest action that may end (this project's choice).

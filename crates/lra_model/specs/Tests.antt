@@ -37,11 +37,16 @@ each_parent test parent = option_map_or test parent true
 abbrev pub is_moment : ℕ → Bool
 is_moment n = nat_le n (2 ^ 64 - 1)
 
--- A close is allowed by the client at an Active action, and by the parent at an Active action whose parent is Closing
--- (MicroProfile LRA 2.0, closing an LRA closes what is nested in it).
+-- An action may be closed with its parent where it is Active and its parent is Closing (MicroProfile LRA 2.0: closing an LRA closes what is
+-- nested in it).
+abbrev pub may_close_with_parent : Facts → ActionFacts → Bool
+may_close_with_parent f a = is_active a.status && parent_is is_closing f a
+
+-- A close is allowed by its cause: the client may close an Active action (MicroProfile LRA 2.0, closing an LRA), the parent what it takes
+-- with it, and a limit nothing.
 abbrev pub may_close : Cause → Facts → ActionFacts → Bool
 may_close cause.Client f a = is_active a.status
-may_close cause.Parent f a = is_active a.status && parent_is is_closing f a
+may_close cause.Parent f a = may_close_with_parent f a
 may_close cause.Limit f a = false
 
 -- Version 2 lets a client take back a nested action that has closed, as long as its parent is Active (this project's choice).
@@ -53,12 +58,24 @@ may_take_back version.Two f a = is_closed a.status && parent_is is_active f a
 abbrev pub limit_has_passed : ℕ → ActionFacts → Bool
 limit_has_passed moment a = not (a.limit.length_of == 0) && nat_le (a.limit.since + a.limit.length_of) moment
 
--- A cancel is allowed by the client at an Active action, by the limit at an Active action whose limit has passed, and by the parent
--- at an action that is Active or has closed, whose parent is Cancelling (MicroProfile LRA 2.0, timeLimit and nested LRAs).
+-- The client may cancel an Active action (MicroProfile LRA 2.0, cancelling an LRA), and take back what the version lets it.
+abbrev pub may_cancel_as_client : Version → Facts → ActionFacts → Bool
+may_cancel_as_client v f a = is_active a.status || may_take_back v f a
+
+-- An action may be cancelled with its parent where it is Active or has closed and its parent is Cancelling (MicroProfile LRA 2.0: cancelling
+-- an LRA cancels what is nested in it).
+abbrev pub may_cancel_with_parent : Facts → ActionFacts → Bool
+may_cancel_with_parent f a = is_cancellable a.status && parent_is is_cancelling f a
+
+-- An action may be cancelled by its limit where it is Active and the limit has passed (MicroProfile LRA 2.0, timeLimit).
+abbrev pub may_cancel_by_limit : ℕ → ActionFacts → Bool
+may_cancel_by_limit moment a = is_active a.status && limit_has_passed moment a
+
+-- A cancel is allowed by its cause.
 abbrev pub may_cancel : Version → ℕ → Cause → Facts → ActionFacts → Bool
-may_cancel v moment cause.Client f a = is_active a.status || may_take_back v f a
-may_cancel v moment cause.Parent f a = is_cancellable a.status && parent_is is_cancelling f a
-may_cancel v moment cause.Limit f a = is_active a.status && limit_has_passed moment a
+may_cancel v moment cause.Client f a = may_cancel_as_client v f a
+may_cancel v moment cause.Parent f a = may_cancel_with_parent f a
+may_cancel v moment cause.Limit f a = may_cancel_by_limit moment a
 
 -- A member may have up to five addresses: compensate or after at least; complete, status and forget go with compensate. Each is the text
 -- of an address (MicroProfile LRA 2.0, joining an LRA).

@@ -3,3 +3,7 @@
 
 #[cfg(test)]
 mod core;
+#[cfg(test)]
+mod ids;
+#[cfg(test)]
+mod journal;
