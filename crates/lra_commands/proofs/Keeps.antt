@@ -32,8 +32,9 @@ use Rattle.lra_commands.specs.Deeds.{already_member, stored_addresses, is_open, 
 use Rattle.lra_commands.specs.Blocks.{settling_within, most_settling, settling, with_settling, block}
 use Rattle.lra_commands.specs.Refusals.{refused}
 use Rattle.lra_commands.specs.Answers.{growth, after_call}
-use Rattle.lra_commands.specs.Runs.{IsWithin, IsLawful, CallsKeepHistories, CallsMakeHistories}
+use Rattle.lra_commands.specs.Runs.{IsWithin, IsShallow, IsLawful, CallsKeepHistories, CallsMakeHistories}
 use Rattle.lra_commands.proofs.KeepsGrounds.{IsUnrefused, unrefused, within_after}
+use Rattle.lra_commands.proofs.KeepsDepth.{settling_shallow, own_shallow}
 use Rattle.lra_commands.proofs.KeepsOwn.{Writes, IsAllowed, start_allowed, close_allowed, cancel_allowed, tick_allowed, renew_allowed, join_allowed, leave_allowed, report_allowed, ask_allowed, reply_allowed, restart_allowed}
 
 -- ---- counts only grow
@@ -213,6 +214,9 @@ block_keeps s J c l k call u = by_deed (own_deed s J (moment_of J c) c.command) 
         record {
           legal = ap (is_legal s.version is_address) (after_entry J e es) ∙ settling_legal s.version is_address (most_settling (J ++ e ∷ [])) e.by e.moment (J ++ e ∷ []) (may_go_on s.version is_address J e.by e.moment d k.legal allow);
           within = within;
+          shallow = subst (IsShallow s.limits) (sym (after_entry J e es))
+              (settling_shallow s.version is_address s.limits (most_settling (J ++ e ∷ [])) e.by e.moment (J ++ e ∷ []) (may_go_on s.version is_address J e.by e.moment d k.legal allow)
+              (own_shallow s J e.by (moment_of J c) e.moment c.command k.legal u.fits d g k.shallow));
         }
 
 -- a call keeps a history
@@ -232,7 +236,7 @@ calls_keep s J (c ∷ cs) l k calls = calls_keep s (after_call s J c) cs l (call
 -- no entries are legal, and within any limits
 pub lawful_from_nothing : (s : Terms) → IsLawful s []
 unfolding clerks actions members
-lawful_from_nothing s = record { legal = legal_empty s.version is_address; within = record { clerks = omega arith; actions = omega arith; members = omega arith; entries = omega arith } }
+lawful_from_nothing s = record { legal = legal_empty s.version is_address; within = record { clerks = omega arith; actions = omega arith; members = omega arith; entries = omega arith }; shallow = λ a h. absurd cc }
 
 pub calls_make : CallsMakeHistories
 calls_make s cs l calls = calls_keep s [] cs l (lawful_from_nothing s) calls

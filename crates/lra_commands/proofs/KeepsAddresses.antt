@@ -81,7 +81,7 @@ stored_is (Some text) h k = by_answer (address_of text) refl k
     by_answer (Ok own) g i = ap (λ (r : Result (List ℕ) UriFault). is_address (unwrap_or (result_ok r) text)) g ∙ address_is_own text own (text_bytes text h) g
     by_answer (Err fault) g i = absurd cc
 
--- six tests that hold, and what each comes to
+-- six tests that hold, and what each says
 six : (p a b c d e p' a' b' c' d' e' : Bool) → p' ≡ p → (a ≡ true → a' ≡ true) → (b ≡ true → b' ≡ true) → (c ≡ true → c' ≡ true) → (d ≡ true → d' ≡ true) → (e ≡ true → e' ≡ true)
     → (p && a && b && c && d && e) ≡ true → (p' && a' && b' && c' && d' && e') ≡ true
 six p a b c d e p' a' b' c' d' e' same ia ib ic id ie h =

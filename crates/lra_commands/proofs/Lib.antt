@@ -1,5 +1,6 @@
 pub mod Keeps
 pub mod KeepsAddresses
+pub mod KeepsDepth
 pub mod KeepsGrounds
 pub mod KeepsLate
 pub mod KeepsOwn

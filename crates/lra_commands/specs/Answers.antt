@@ -17,7 +17,7 @@ use Rattle.lra_commands.specs.Deeds.{already_member, stored_addresses, is_open, 
 use Rattle.lra_commands.specs.Blocks.{block}
 use Rattle.lra_commands.specs.Refusals.{status_at, refused}
 
--- what a command is told, where it isn't refused: J is the history before it, and K the one after; a state after what was written is that in K
+-- what a command is told, where it isn't refused: J is the history before it, and K the one after; a status after what was written is that in K
 abbrev pub tells : Terms → History → History → ℕ → Command → Told
 tells s J K m command.Enrol = told.Clerk (length (clerks K))
 tells s J K m (command.Start parent limit) = told.Action (length (actions K))
@@ -49,10 +49,6 @@ growth s J c = cond (is_some (refused s J c)) [] (block s J c)
 -- the history after a call
 abbrev pub after_call : Terms → History → Call → History
 after_call s J c = J ++ growth s J c
-
--- K is what J grows to by a call
-abbrev pub Grows : Terms → History → Call → History → Type 0
-Grows s J c K = K ≡ after_call s J c
 
 -- nothing is left to settle after a call that writes
 abbrev pub IsQuietAfter : Terms → History → Call → Type 0

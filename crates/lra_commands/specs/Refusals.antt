@@ -38,7 +38,7 @@ no_action J a = not (is_among (actions J) a)
 abbrev pub no_member : History → ℕ → Bool
 no_member J p = not (is_among (members J) p)
 
--- the state of an action that is there
+-- the status of an action, and Active where it isn't there
 abbrev pub status_at : History → ℕ → ActionStatus
 status_at J a = unwrap_or (action_status J a) action.Active
 

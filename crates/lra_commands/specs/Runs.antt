@@ -1,6 +1,7 @@
 -- Commands one after another, by any clerks.
-use Rattle.std.specs.Prelude.{◌≡◌, ◌≤◌, true, List, [], ◌∷◌, length, None, All, Result}
-use Rattle.lra_model.specs.History.{History, clerks, actions, members}
+use Rattle.std.specs.Prelude.{◌≡◌, ℕ, ◌≤◌, true, List, [], ◌∷◌, length, None, All, Result}
+use Rattle.lra_model.specs.History.{History, clerks, actions, members, is_among}
+use Rattle.lra_model.specs.Actions.{depth}
 use Rattle.lra_model.specs.Rules.{is_legal}
 use Rattle.lra_ids.specs.Addresses.{is_address}
 use Rattle.lra_commands.specs.declared.limits.Limits.{Limits}
@@ -23,17 +24,22 @@ abbrev pub answers : Terms → History → List Call → List (Result Told Refus
 answers s J [] = []
 answers s J (c ∷ cs) = answer s J c ∷ answers s (after_call s J c) cs
 
--- a history passes none of the limits
+-- a history has no more of anything than the limits say
 pub record IsWithin (l : Limits) (J : History) : Type 0 where
   pub clerks : length (clerks J) ≤ l.clerks
   pub actions : length (actions J) ≤ l.actions
   pub members : length (members J) ≤ l.members
   pub entries : length J ≤ l.entries
 
--- a history that a coordinator can have: it is legal, and passes none of the limits
+-- no action is nested deeper than the limit
+abbrev pub IsShallow : Limits → History → Type 0
+IsShallow l J = (a : ℕ) → is_among (actions J) a ≡ true → depth J a ≤ l.depth
+
+-- a history that a coordinator can have: it is legal, and passes none of the limits, depth among them
 pub record IsLawful (s : Terms) (J : History) : Type 0 where
   pub legal : is_legal s.version is_address J ≡ true
   pub within : IsWithin s.limits J
+  pub shallow : IsShallow s.limits J
 
 -- whatever calls are made, by any clerks and in any order, the history stays legal and within the limits
 abbrev pub CallsKeepHistories : Type 0

@@ -1,5 +1,5 @@
 //! What each command of a coordinator is answered and appends, and laws about it. The definitions stand in `specs/`; the
-//! coordinator that meets them is `lra_core`.
+//! coordinator that keeps to them is `lra_core`.
 #![tactic(auto)]
 
 mod command;

@@ -12,4 +12,4 @@ pub mod Shape
 pub mod Prepares
 pub mod Performs
 pub mod Texts
-pub mod Drafts
+pub mod inner

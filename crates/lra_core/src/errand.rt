@@ -1,4 +1,4 @@
-//! What a member is to be asked.
+//! What a member is to be asked, and the commands of which one takes down what came of it.
 
 use lra_model::{ActionStatus, AskKind, Direction};
 use std::marker::Model;
