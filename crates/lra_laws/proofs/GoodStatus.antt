@@ -93,9 +93,9 @@ not_heard J by m (Skip q) p h = by_member (q == p)
     by_member false = refl
 not_heard J by m _ p h = refl
 
--- ---- the state of a member
+-- ---- the status of a member
 
--- a state that stays: completed, compensated or failed
+-- a status that stays: completed, compensated or failed
 abbrev pub is_decided : MemberStatus → Bool
 is_decided member.Completed = true
 is_decided member.FailedToComplete = true
@@ -103,7 +103,7 @@ is_decided member.Compensated = true
 is_decided member.FailedToCompensate = true
 is_decided _ = false
 
--- the state of a member, by the words that it is read from
+-- the status of a member, by the words that it is read from
 abbrev state_by : Bool → Option Outcome → Bool → Option Outcome → Bool → MemberStatus
 state_by left compensation asked completion begun =
     cond left member.Left
@@ -135,7 +135,7 @@ state_kept false (Some outcome.Silent) d' false c c' q q' h g = by_completion c 
 state_kept false None d' true c c' q q' h g = absurd cc
 state_kept false None d' false c c' q q' h g = ap (λ (o : Option Outcome). state_by false o false (option_or c c') q') (g refl) ∙ by_completion c c' q q' h
 
--- a state that is decided stays, where the member doesn't leave and isn't asked to compensate
+-- a status that is decided stays, where the member doesn't leave and isn't asked to compensate
 pub member_status_kept : (J : History) (e : Entry) (p : ℕ) → is_decided (member_status J p) ≡ true → is_leave_of p e.deed ≡ false → is_ask_for p ask.Compensate e.deed ≡ false → member_status (J ++ e ∷ []) p ≡ member_status J p
 unfolding member_status
 member_status_kept J e p h no_leave no_ask =

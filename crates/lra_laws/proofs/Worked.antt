@@ -189,10 +189,10 @@ pub of_version_two : faults (renewed ∷ renewed_too_soon ∷ taken_back ∷ [])
 unfolding steps clerks actions members asks last_moment parent top action_status limit_in_force children members_of action_of addresses_of has_left stays was_asked ask_of replies decided member_status last_reply was_answered is_outstanding outstanding_ask staying is_settled right_end top_has_ended facts_of broken first_fault
 of_version_two = refl
 
--- the states in the end: of the failing nest; of the member whose late reply changes nothing; of the one that was taken back
-pub states : map (action_status failing) (1 ∷ 2 ∷ []) ++ map (action_status taken_back) (1 ∷ 2 ∷ []) ≡ Some action.FailedToClose ∷ Some action.FailedToClose ∷ Some action.Closed ∷ Some action.Cancelled ∷ []
+-- the statuses in the end: of the failing nest; of the member whose late reply changes nothing; of the one that was taken back
+pub statuses : map (action_status failing) (1 ∷ 2 ∷ []) ++ map (action_status taken_back) (1 ∷ 2 ∷ []) ≡ Some action.FailedToClose ∷ Some action.FailedToClose ∷ Some action.Closed ∷ Some action.Cancelled ∷ []
 unfolding action_status
-states = refl
+statuses = refl
 
 pub member_states : member_status failing 1 ∷ member_status late_reply 1 ∷ member_status taken_back 1 ∷ member_status left_alone 1 ∷ []
     ≡ member.FailedToComplete ∷ member.Completed ∷ member.Compensated ∷ member.Left ∷ []

@@ -1,8 +1,8 @@
-//! The states of actions and of members.
+//! The statuses of actions and of members.
 
 ghost use Rattle.std.specs.Prelude.{◌≡◌, IfSome, Some};
 
-/// The state of an action (MicroProfile LRA 2.0, "LRA states").
+/// The status of an action (MicroProfile LRA 2.0, LRAStatus).
 #[derive(Clone, Copy, Debug, PartialEq, Eq)]
 pub enum ActionStatus {
     Active,
@@ -14,7 +14,7 @@ pub enum ActionStatus {
     FailedToCancel,
 }
 
-/// The state of a member (MicroProfile LRA 2.0, "Participant states"; `Left` is this project's own).
+/// The status of a member (MicroProfile LRA 2.0, ParticipantStatus; `Left` is this project's own).
 #[derive(Clone, Copy, Debug, PartialEq, Eq)]
 pub enum MemberStatus {
     Active,
@@ -54,7 +54,7 @@ impl ActionStatus {
         }
     }
 
-    /// The state of this name, if there is one.
+    /// The status of this name, if there is one.
     pub fn from_name(text: &[u8]) -> Option<Self>
         ensures found { IfSome result (λ status. text.now ≡ action_status_name status) }
         ensures only { (status : ActionStatus) → text.now ≡ action_status_name status → result ≡ Some status }
@@ -91,7 +91,7 @@ impl MemberStatus {
         }
     }
 
-    /// The state of this name, if there is one.
+    /// The status of this name, if there is one.
     pub fn from_name(text: &[u8]) -> Option<Self>
         ensures found { IfSome result (λ status. text.now ≡ member_status_name status) }
         ensures only { (status : MemberStatus) → text.now ≡ member_status_name status → result ≡ Some status }
