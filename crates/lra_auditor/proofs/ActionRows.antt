@@ -21,7 +21,8 @@ use Rattle.lra_laws.proofs.Legal.{Allowed, legal_more, numbered_fresh, actions_n
 use Rattle.lra_auditor.specs.declared.rows.Limit.{Limit}
 use Rattle.lra_auditor.specs.declared.rows.MemberRow.{MemberRow}
 use Rattle.lra_auditor.specs.declared.rows.ActionRow.{ActionRow}
-use Rattle.lra_auditor.specs.Rows.{row_limit, member_row, action_row, count_staying, count_children, counts_as, is_left_to_complete, is_left_to_compensate, is_uncompleted, is_uncompensated, is_unended, is_uncancelled, recount, one, with_member, with_new_member, with_child, change_row, new_member}
+use Rattle.lra_auditor.specs.inner.Rows.{row_limit, member_row, action_row, count_staying, count_children, counts_as, is_left_to_complete, is_left_to_compensate, is_uncompleted, is_uncompensated, is_uncancelled, recount, one, with_member, with_new_member, with_child, change_row, new_member}
+use Rattle.lra_auditor.specs.Verdicts.{is_unended}
 use Rattle.lra_auditor.proofs.RowLists.{eqb_self, among_apart, map_within, count_within, count_push, counted_anew, rows_changed}
 use Rattle.lra_auditor.proofs.Told.{entry, more}
 use Rattle.lra_auditor.proofs.MemberWords.{concerns, quiet_row}

@@ -19,7 +19,7 @@ use Rattle.lra_laws.proofs.Climbs.{top_within, top_climbs}
 use Rattle.lra_laws.proofs.Push.{actions_push, action_status_push, limit_push, children_push, members_push, members_of_push}
 use Rattle.lra_laws.proofs.Legal.{legal_induction, Allowed, numbered_fresh, actions_numbered, members_numbered, started_number, joined_number, parent_stays, parent_of_new, parent_there, action_of_stays, action_of_new}
 use Rattle.lra_auditor.specs.declared.rows.MemberRow.{MemberRow}
-use Rattle.lra_auditor.specs.Rows.{member_row, count_staying, count_children, counts_as}
+use Rattle.lra_auditor.specs.inner.Rows.{member_row, count_staying, count_children, counts_as}
 use Rattle.lra_auditor.proofs.RowLists.{eqb_self, filter_within, count_filter, count_within}
 use Rattle.lra_auditor.proofs.Told.{entry, more}
 use Rattle.lra_auditor.proofs.MemberWords.{status_is}

@@ -21,7 +21,7 @@ use Rattle.lra_model.specs.Rules.{is_legal}
 use Rattle.lra_laws.proofs.Push.{or_none, step, ask_of_push, asks_push, asks_to_push, is_outstanding_push, was_asked_push}
 use Rattle.lra_laws.proofs.Legal.{legal_induction, among_push, member_there_push}
 use Rattle.lra_auditor.specs.declared.rows.Standing.{Standing}
-use Rattle.lra_auditor.specs.Rows.{standing_at, standing, void_at, void_asks}
+use Rattle.lra_auditor.specs.inner.Rows.{standing_at, standing, void_at, void_asks}
 use Rattle.lra_auditor.proofs.RowLists.{eqb_self, among_here, among_there}
 use Rattle.lra_auditor.proofs.Told.{entry, more, AskTold, ReplyTold, Told, told}
 use Rattle.lra_auditor.proofs.MemberWords.{stand_after, stand_quiet, void_push}

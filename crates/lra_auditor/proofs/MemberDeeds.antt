@@ -21,7 +21,7 @@ use Rattle.lra_laws.proofs.Push.{step, has_left_push, was_asked_push, decided_pu
 use Rattle.lra_laws.proofs.Tested.{both}
 use Rattle.lra_auditor.specs.declared.rows.Standing.{Standing}
 use Rattle.lra_auditor.specs.declared.rows.MemberRow.{MemberRow}
-use Rattle.lra_auditor.specs.Rows.{standing_at, standing, presence, member_row, decided_as, way_of, way_asked, asked_as, with_ask, with_reply, with_reply_to, with_report}
+use Rattle.lra_auditor.specs.inner.Rows.{standing_at, standing, presence, member_row, decided_as, way_of, way_asked, asked_as, with_ask, with_reply, with_reply_to, with_report}
 use Rattle.lra_auditor.proofs.RowLists.{eqb_self}
 use Rattle.lra_auditor.proofs.Told.{entry, more, ask_fits}
 use Rattle.lra_auditor.proofs.MemberWords.{status_by, status_is, action_kept, addresses_kept, left_quiet, asked_quiet, decided_quiet, reply_after, answer_after, answer_kept, stand_after, heard_of, replied_of, answered_of}

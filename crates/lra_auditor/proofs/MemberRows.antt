@@ -22,7 +22,7 @@ use Rattle.lra_laws.proofs.Push.{members_push}
 use Rattle.lra_laws.proofs.Legal.{legal_induction, Allowed, IsNumbered, numbered_among, members_numbered, numbered_fresh, member_there_push, joined_there, action_of_new, addresses_of_new}
 use Rattle.lra_auditor.specs.declared.rows.Standing.{Standing}
 use Rattle.lra_auditor.specs.declared.rows.MemberRow.{MemberRow}
-use Rattle.lra_auditor.specs.Rows.{standing, void_asks, presence, member_row, change_row, new_member, place_of, stands_as}
+use Rattle.lra_auditor.specs.inner.Rows.{standing, void_asks, presence, member_row, change_row, new_member, place_of, stands_as}
 use Rattle.lra_auditor.proofs.RowLists.{among_apart, eqb_self, eqb_flip, map_within, rows_changed, rows_more}
 use Rattle.lra_auditor.proofs.Told.{entry, more, ReplyTold, Told, told}
 use Rattle.lra_auditor.proofs.MemberWords.{concerns, status_same, quiet_row, left_quiet, asked_quiet, decided_quiet, reply_after, answer_kept, stand_after}

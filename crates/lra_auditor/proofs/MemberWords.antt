@@ -21,7 +21,7 @@ use Rattle.lra_model.specs.History.{History, Step, steps, first, last, read_deed
 use Rattle.lra_model.specs.Members.{action_given, action_of, no_addresses, addresses_given, addresses_of, is_leave_of, has_left, is_ask_for, was_asked, ask_direction, status_direction, Asked, ask_of, Replied, replied_at, Heard, heard_at, decides, decided, by_decision, member_status, last_reply, was_answered}
 use Rattle.lra_laws.proofs.Push.{or_none, step, steps_push, last_read_push, action_of_push, addresses_of_push, has_left_push, was_asked_push, decided_push, last_reply_push, was_answered_push}
 use Rattle.lra_auditor.specs.declared.rows.Standing.{Standing}
-use Rattle.lra_auditor.specs.Rows.{standing_at, standing, void_at, void_asks, presence, member_row}
+use Rattle.lra_auditor.specs.inner.Rows.{standing_at, standing, void_at, void_asks, presence, member_row}
 use Rattle.lra_auditor.proofs.Told.{entry, more}
 
 pub standing_push : (J : History) (e : Entry) (p : ℕ) → standing (J ++ e ∷ []) p ≡ unwrap_or (standing_at p (step J e)) (standing J p)

@@ -9,7 +9,8 @@ use Rattle.std.proofs.lemmas.List.Sums.{sum_by-cons, sum_by_push}
 use Rattle.lra_model.specs.History.{is_among}
 use Rattle.std.proofs.lemmas.List.{map_push}
 use Rattle.lra_laws.proofs.Legal.{IsNumbered, numbered_among, numbered_there}
-use Rattle.lra_auditor.specs.Rows.{row_at, change_row, recount, one}
+use Rattle.lra_auditor.specs.Listed.{row_at}
+use Rattle.lra_auditor.specs.inner.Rows.{change_row, recount, one}
 
 -- ---- tests
 

@@ -18,7 +18,7 @@ use Rattle.lra_model.specs.Ends.{staying, is_settled, right_end, top_has_ended}
 use Rattle.lra_model.specs.Rules.{broken, is_legal}
 use Rattle.lra_model.specs.declared.version.Version.TheVariants.{Two}
 use Rattle.lra_model.specs.Facts.{ActionFacts, MemberFacts, Facts, facts_of}
-use Rattle.lra_auditor.specs.Rows.{State, state_of, facts_by, after_entry, standing, void_asks, count_staying, count_children}
+use Rattle.lra_auditor.specs.inner.Rows.{State, state_of, facts_by, after_entry, standing, void_asks, count_staying, count_children}
 
 -- what the clerk 1 did at a moment
 abbrev at : ℕ → Deed → Entry

@@ -18,7 +18,8 @@ use Rattle.lra_laws.proofs.GoodWalks.{top_lem}
 use Rattle.lra_laws.proofs.Push.{actions_push, action_status_push, limit_push}
 use Rattle.lra_laws.proofs.Legal.{Allowed, legal_more, numbered_fresh, actions_numbered, parent_stays, parent_of_new, parent_there, action_of_there}
 use Rattle.lra_auditor.specs.declared.rows.ActionRow.{ActionRow}
-use Rattle.lra_auditor.specs.Rows.{row_limit, member_row, action_row, state_of, count_staying, count_children, counts_as, is_left_to_complete, is_left_to_compensate, is_uncompleted, is_uncompensated, is_unended, is_uncancelled, one, with_new_child, change_row, new_action, new_top}
+use Rattle.lra_auditor.specs.inner.Rows.{row_limit, member_row, action_row, state_of, count_staying, count_children, counts_as, is_left_to_complete, is_left_to_compensate, is_uncompleted, is_uncompensated, is_uncancelled, one, with_new_child, change_row, new_action, new_top}
+use Rattle.lra_auditor.specs.Verdicts.{is_unended}
 use Rattle.lra_auditor.proofs.RowLists.{eqb_self, eqb_flip, among_apart, map_within, count_within, count_none, count_push, rows_changed, rows_more, row_there}
 use Rattle.lra_auditor.proofs.Told.{entry, more, StartTold}
 use Rattle.lra_auditor.proofs.ActionWords.{counts_in, staying_count, is_parent, children_count, top_stays, status_kept, limit_kept}

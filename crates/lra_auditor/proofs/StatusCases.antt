@@ -9,7 +9,7 @@ use Rattle.lra_model.specs.declared.asks.Direction.TheVariants as direction
 use Rattle.lra_model.specs.declared.asks.Outcome.{Outcome}
 use Rattle.lra_model.specs.declared.asks.Outcome.TheVariants as outcome
 use Rattle.lra_model.specs.Words.{when, is_untouched, is_completing, is_compensating, is_decisive, has_gone, same_direction}
-use Rattle.lra_auditor.specs.Rows.{decided_as, way_of}
+use Rattle.lra_auditor.specs.inner.Rows.{decided_as, way_of}
 use Rattle.lra_auditor.proofs.Told.{ask_fits}
 use Rattle.lra_auditor.proofs.MemberWords.{status_by}
 

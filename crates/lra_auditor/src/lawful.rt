@@ -9,8 +9,9 @@ ghost use Rattle.lra_model.specs.Tests as tests;
 ghost use Rattle.lra_model.specs.Rules as rules;
 ghost use Rattle.lra_journal.specs.Borrowed.{deed_seen};
 ghost use Rattle.lra_ids.specs.Addresses.{is_address};
-ghost use Rattle.lra_auditor.specs.Presence.{presence_facts};
-ghost use Rattle.lra_auditor.specs.Rows.{State, row_at, action_by, member_by, facts_by, settled_by, right_end_by, is_standing};
+ghost use Rattle.lra_auditor.specs.inner.Presence.{presence_facts};
+ghost use Rattle.lra_auditor.specs.inner.Rows.{State, action_by, member_by, facts_by, settled_by, right_end_by, is_standing};
+ghost use Rattle.lra_auditor.specs.Listed.{row_at};
 
 use crate::rows::{ActionRow, Limit, MemberRow, Presence, Standing};
 use crate::state::Rows;

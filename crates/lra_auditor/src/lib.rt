@@ -21,8 +21,6 @@ pub use entries::check;
 pub use laws::{bytes_have_one_verdict, legal_texts_are_sound};
 pub use listing::{Account, ListedAction, ListedMember, Listing};
 pub use lra_model::{Memory, Rule, Version};
-pub use rows::{ActionRow, Limit, MemberRow, Presence, Standing};
-pub use state::Rows;
 pub use verdict::{FailedEnd, FailedEnds, Summary, Verdict};
 
 #[cfg(test)]

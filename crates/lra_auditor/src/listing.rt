@@ -1,8 +1,8 @@
 //! An account of a journal: each action and each member of its history.
 
 ghost use Rattle.std.specs.Prelude.{◌≡◌, length};
-ghost use Rattle.lra_auditor.specs.Rows.{row_at};
-ghost use Rattle.lra_auditor.specs.Listed.{listed_by};
+ghost use Rattle.lra_auditor.specs.Listed.{row_at};
+ghost use Rattle.lra_auditor.specs.inner.Listings.{listed_by};
 
 use crate::state::Rows;
 use lra_model::{ActionStatus, MemberStatus, Rule};
@@ -31,7 +31,8 @@ pub struct Listing {
 }
 
 impl Model for Listing {
-    ghost use Rattle.lra_auditor.specs.Listed.{Listed, listed_by};
+    ghost use Rattle.lra_auditor.specs.Listed.{Listed};
+    ghost use Rattle.lra_auditor.specs.inner.Listings.{listed_by};
 
     ghost Value = { Listed };
 

@@ -3,8 +3,10 @@
 ghost use Rattle.std.specs.Prelude.{◌≡◌, ◌<◌, ◌≤◌, ℕ, IfOk, Some, None, true, false, cond, count_by, nat_lt, option_map, unwrap_or};
 ghost use Rattle.std.specs.Option.{option_map_or, option_or};
 ghost use Rattle.lra_model.specs.Words as words;
-ghost use Rattle.lra_auditor.specs.Rows.{State, is_unended, row_at, change_row};
-ghost use Rattle.lra_auditor.specs.Totals.{has_failed_here, is_within_by, least_failed_by, failed_ends_from, summary_by};
+ghost use Rattle.lra_auditor.specs.inner.Rows.{State, change_row};
+ghost use Rattle.lra_auditor.specs.Verdicts.{is_unended};
+ghost use Rattle.lra_auditor.specs.Listed.{row_at};
+ghost use Rattle.lra_auditor.specs.inner.Totals.{has_failed_here, is_within_by, least_failed_by, failed_ends_from, summary_by};
 ghost use Rattle.lra_auditor.specs.Verdicts.{ended_cancelled};
 
 use crate::changes::stays;

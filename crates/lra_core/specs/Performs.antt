@@ -1,9 +1,9 @@
 -- What a command comes to once it is given, and its block written at once.
 use Rattle.std.specs.Prelude.{◌≡◌, Result, Ok, MatchResult}
-use Rattle.lra_core.specs.declared.command.Told.{Told}
-use Rattle.lra_core.specs.declared.refusal.Refusal.{Refusal}
-use Rattle.lra_core.specs.Calls.{Call}
-use Rattle.lra_core.specs.Answers.{answer, after_call}
+use Rattle.lra_commands.specs.declared.command.Told.{Told}
+use Rattle.lra_commands.specs.declared.refusal.Refusal.{Refusal}
+use Rattle.lra_commands.specs.Calls.{Call}
+use Rattle.lra_commands.specs.Answers.{answer, after_call}
 use Rattle.lra_core.specs.Prepares.{IsRefusal}
 use Rattle.lra_core.specs.Shape.{Shape, terms_of, IsSame, IsGrown}
 

@@ -5,8 +5,10 @@ use Rattle.lra_model.specs.declared.status.ActionStatus.TheVariants as action
 use Rattle.lra_model.specs.declared.version.Version.{Version}
 use Rattle.lra_model.specs.History.{History, members}
 use Rattle.lra_model.specs.Actions.{parent, children, action_status}
-use Rattle.lra_core.specs.declared.limits.Limits.{Limits}
-use Rattle.lra_core.specs.Terms.{Terms}
+use Rattle.lra_commands.specs.declared.command.Command.TheVariants.{Enrol, Start, Close, Status}
+use Rattle.lra_commands.specs.Calls.{Command}
+use Rattle.lra_commands.specs.declared.limits.Limits.{Limits}
+use Rattle.lra_commands.specs.declared.limits.Terms.{Terms}
 
 -- a coordinator: what it was made with, its history, and how many entries it has room for
 pub record Shape : Type 0 where
@@ -33,16 +35,24 @@ pub record IsSame (before after : Shape) : Type 0 where
 abbrev pub IsGrown : Shape → Shape → History → Type 0
 IsGrown before after K = IsSame (record before { history = K }) after
 
--- a state that an action without members and nested actions is in between two commands, or has no action
-abbrev pub is_plain_state : Option ActionStatus → Bool
-is_plain_state None = true
-is_plain_state (Some action.Active) = true
-is_plain_state (Some action.Closed) = true
-is_plain_state _ = false
+-- the commands that a coordinator takes so far
+abbrev pub is_taken : Command → Bool
+is_taken Enrol = true
+is_taken (Start None limit) = true
+is_taken (Close action) = true
+is_taken (Status action) = true
+is_taken _ = false
+
+-- a status that an action without members and nested actions is in between two commands, or has no action
+abbrev pub is_plain_status : Option ActionStatus → Bool
+is_plain_status None = true
+is_plain_status (Some action.Active) = true
+is_plain_status (Some action.Closed) = true
+is_plain_status _ = false
 
 -- a history of what is taken so far: actions without members and nested actions, each Active or Closed
 pub record IsPlain (J : History) : Type 0 where
   pub members : members J ≡ []
   pub parents : (a : ℕ) → parent J a ≡ None
   pub children : (a : ℕ) → children J a ≡ []
-  pub states : (a : ℕ) → is_plain_state (action_status J a) ≡ true
+  pub statuses : (a : ℕ) → is_plain_status (action_status J a) ≡ true

@@ -4,17 +4,14 @@ ghost use Rattle.std.specs.Thread.{IsSync};
 ghost use Rattle.lra_ticket.specs.History.{entries_by};
 ghost use Rattle.lra_ticket.specs.Locks.{lock_id, pass_id, held_id, pass_view, held_view};
 
-use crate::{AddFault, Held, Pass, TicketLock, TryFault, Worn};
+use crate::example::{AddFault, EntryLock, EntryPass, add};
+use crate::{Held, TryFault, Worn};
 use crossbeam_channel::{Receiver, Sender, unbounded};
 use lra_model::{Deed, Entry};
 use std::alloc::Global;
 use std::sync::Wait;
 use std::test::Fail;
 use std::thread::{Threads, join};
-
-type Lock = TicketLock<Vec<Entry>>;
-
-type Ticket = Pass<Vec<Entry>>;
 
 fn entry(by: u32, moment: u64) -> Entry
     ensures { result.by ≡ by }
@@ -46,12 +43,12 @@ fn push(entries: &mut Vec<Entry>, entry: Entry) -> bool
 
 // Adds one entry under the holder's number, and gives the list back. Where memory is refused, the counts of the test are short.
 fn write(
-    lock: &Lock,
+    lock: &EntryLock,
     held: Held<Vec<Entry>>,
     mut entries: Vec<Entry>,
     number: u32,
     moment: u64,
-) -> Ticket
+) -> EntryPass
     requires lock { held_id held ≡ lock_id lock.now }
     requires history { (held_view held).seen ≡ entries.items }
     requires lawful { entries_by 0 entries.items ≡ [] }
@@ -64,11 +61,11 @@ fn write(
 
 // Writes the first entry of a number, where no other has it.
 fn enrol(
-    lock: &Lock,
+    lock: &EntryLock,
     held: Held<Vec<Entry>>,
     mut entries: Vec<Entry>,
     number: u32,
-) -> Option<Ticket>
+) -> Option<EntryPass>
     requires lock { held_id held ≡ lock_id lock.now }
     requires history { (held_view held).seen ≡ entries.items }
     requires lawful { entries_by 0 entries.items ≡ [] }
@@ -84,14 +81,14 @@ fn enrol(
 }
 
 // One block under the lock, after a wait. Where memory is refused, it asks once more.
-fn append<R: Wait>(rt: &R, lock: &Lock, pass: Ticket, number: u32, moment: u64) -> Option<Ticket>
+fn append<R: Wait>(rt: &R, lock: &EntryLock, pass: EntryPass, number: u32, moment: u64) -> Option<EntryPass>
     requires lock { pass_id pass ≡ lock_id lock.now }
     requires number { ((pass_view pass).number ≡ number) × (number ≢ 0) }
     ensures { IfSome result (λ p. (pass_id p ≡ lock_id lock.now) × ((pass_view p).number ≡ number)) }
 {
-    match lock.add(rt, pass, entry(number, moment)) {
+    match add(rt, lock, pass, entry(number, moment)) {
         Ok(pass) => Some(pass),
-        Err((pass, AddFault::Memory)) => lock.add(rt, pass, entry(number, moment)).ok(),
+        Err((pass, AddFault::Memory)) => add(rt, lock, pass, entry(number, moment)).ok(),
         Err((_, AddFault::Worn)) => None,
     }
 }
@@ -99,11 +96,11 @@ fn append<R: Wait>(rt: &R, lock: &Lock, pass: Ticket, number: u32, moment: u64) 
 // The same, after one try that does not wait.
 fn append_soon<R: Wait>(
     rt: &R,
-    lock: &Lock,
-    pass: Ticket,
+    lock: &EntryLock,
+    pass: EntryPass,
     number: u32,
     moment: u64,
-) -> Option<Ticket>
+) -> Option<EntryPass>
     requires lock { pass_id pass ≡ lock_id lock.now }
     requires number { ((pass_view pass).number ≡ number) × (number ≢ 0) }
     ensures { IfSome result (λ p. (pass_id p ≡ lock_id lock.now) × ((pass_view p).number ≡ number)) }
@@ -116,7 +113,7 @@ fn append_soon<R: Wait>(
 }
 
 // Takes the lock for its first block.
-fn first_block<R: Wait>(rt: &R, lock: &Lock, pass: Ticket, number: u32) -> Option<Ticket>
+fn first_block<R: Wait>(rt: &R, lock: &EntryLock, pass: EntryPass, number: u32) -> Option<EntryPass>
     requires lock { pass_id pass ≡ lock_id lock.now }
     requires number { ((pass_view pass).number ≡ 0) × (number ≢ 0) }
     ensures { IfSome result (λ p. (pass_id p ≡ lock_id lock.now) × ((pass_view p).number ≡ number)) }
@@ -128,7 +125,7 @@ fn first_block<R: Wait>(rt: &R, lock: &Lock, pass: Ticket, number: u32) -> Optio
 }
 
 // Enrols under a number, and adds this many blocks. Even numbers try before they wait.
-fn clerk<R: Wait>(rt: &R, lock: &Lock, pass: Ticket, number: u32, blocks: u64) -> Option<Ticket>
+fn clerk<R: Wait>(rt: &R, lock: &EntryLock, pass: EntryPass, number: u32, blocks: u64) -> Option<EntryPass>
     requires lock { pass_id pass ≡ lock_id lock.now }
     requires number { ((pass_view pass).number ≡ 0) × (number ≢ 0) }
     ensures { IfSome result (λ p. pass_id p ≡ lock_id lock.now) }
@@ -148,11 +145,11 @@ fn clerk<R: Wait>(rt: &R, lock: &Lock, pass: Ticket, number: u32, blocks: u64) -
 // Two clerks in two threads, under this number and the next.
 fn two<R: Threads + Wait + Sync>(
     rt: &R,
-    lock: &Lock,
-    pass: Ticket,
+    lock: &EntryLock,
+    pass: EntryPass,
     number: u32,
     blocks: u64,
-) -> Option<Ticket>
+) -> Option<EntryPass>
     requires lock { pass_id pass ≡ lock_id lock.now }
     requires number { ((pass_view pass).number ≡ 0) × (number ≢ 0) × (number < 100) }
     ensures { IfSome result (λ p. pass_id p ≡ lock_id lock.now) }
@@ -160,11 +157,11 @@ fn two<R: Threads + Wait + Sync>(
     let (one, other) = lock.split(pass);
     let (one, other) = join(
         rt,
-        move || -> Option<Ticket>
+        move || -> Option<EntryPass>
             requires { (pass_id one ≡ lock_id lock.now) × ((pass_view one).number ≡ 0) × (number ≢ 0) }
             ensures { IfSome result (λ p. pass_id p ≡ lock_id lock.entry.now) }
         { clerk(rt, lock, one, number, blocks) },
-        move || -> Option<Ticket>
+        move || -> Option<EntryPass>
             requires { (pass_id other ≡ lock_id lock.now) × ((pass_view other).number ≡ 0) × (number < 100) }
             ensures { IfSome result (λ p. pass_id p ≡ lock_id lock.entry.now) }
         { clerk(rt, lock, other, number + 1, blocks) },
@@ -175,11 +172,11 @@ fn two<R: Threads + Wait + Sync>(
 // Four, in four threads.
 fn four<R: Threads + Wait + Sync>(
     rt: &R,
-    lock: &Lock,
-    pass: Ticket,
+    lock: &EntryLock,
+    pass: EntryPass,
     number: u32,
     blocks: u64,
-) -> Option<Ticket>
+) -> Option<EntryPass>
     requires lock { pass_id pass ≡ lock_id lock.now }
     requires number { ((pass_view pass).number ≡ 0) × (number ≢ 0) × (number < 90) }
     ensures { IfSome result (λ p. pass_id p ≡ lock_id lock.now) }
@@ -187,11 +184,11 @@ fn four<R: Threads + Wait + Sync>(
     let (one, other) = lock.split(pass);
     let (one, other) = join(
         rt,
-        move || -> Option<Ticket>
+        move || -> Option<EntryPass>
             requires { (pass_id one ≡ lock_id lock.now) × ((pass_view one).number ≡ 0) × (number ≢ 0) × (number < 90) × IsSync R.row }
             ensures { IfSome result (λ p. pass_id p ≡ lock_id lock.entry.now) }
         { two(rt, lock, one, number, blocks) },
-        move || -> Option<Ticket>
+        move || -> Option<EntryPass>
             requires { (pass_id other ≡ lock_id lock.now) × ((pass_view other).number ≡ 0) × (number < 90) × IsSync R.row }
             ensures { IfSome result (λ p. pass_id p ≡ lock_id lock.entry.now) }
         { two(rt, lock, other, number + 2, blocks) },
@@ -200,7 +197,7 @@ fn four<R: Threads + Wait + Sync>(
 }
 
 // And eight.
-fn eight<R: Threads + Wait + Sync>(rt: &R, lock: &Lock, pass: Ticket, blocks: u64) -> Option<Ticket>
+fn eight<R: Threads + Wait + Sync>(rt: &R, lock: &EntryLock, pass: EntryPass, blocks: u64) -> Option<EntryPass>
     requires lock { pass_id pass ≡ lock_id lock.now }
     requires number { (pass_view pass).number ≡ 0 }
     ensures { IfSome result (λ p. pass_id p ≡ lock_id lock.now) }
@@ -208,11 +205,11 @@ fn eight<R: Threads + Wait + Sync>(rt: &R, lock: &Lock, pass: Ticket, blocks: u6
     let (one, other) = lock.split(pass);
     let (one, other) = join(
         rt,
-        move || -> Option<Ticket>
+        move || -> Option<EntryPass>
             requires { (pass_id one ≡ lock_id lock.now) × ((pass_view one).number ≡ 0) × IsSync R.row }
             ensures { IfSome result (λ p. pass_id p ≡ lock_id lock.entry.now) }
         { four(rt, lock, one, 1, blocks) },
-        move || -> Option<Ticket>
+        move || -> Option<EntryPass>
             requires { (pass_id other ≡ lock_id lock.now) × ((pass_view other).number ≡ 0) × IsSync R.row }
             ensures { IfSome result (λ p. pass_id p ≡ lock_id lock.entry.now) }
         { four(rt, lock, other, 5, blocks) },
@@ -223,11 +220,11 @@ fn eight<R: Threads + Wait + Sync>(rt: &R, lock: &Lock, pass: Ticket, blocks: u6
 // Takes the lock, says so, and gives it back once it is told to.
 fn hold<R: Wait>(
     rt: &R,
-    lock: &Lock,
-    pass: Ticket,
+    lock: &EntryLock,
+    pass: EntryPass,
     taken: Sender<()>,
     done: Receiver<()>,
-) -> Option<Ticket>
+) -> Option<EntryPass>
     requires { pass_id pass ≡ lock_id lock.now }
     ensures { IfSome result (λ p. pass_id p ≡ lock_id lock.now) }
 {
@@ -242,8 +239,8 @@ fn hold<R: Wait>(
 // Tries once, as soon as it is told that the lock is held. True where the answer is Busy.
 fn try_once<R: Wait>(
     rt: &R,
-    lock: &Lock,
-    pass: Ticket,
+    lock: &EntryLock,
+    pass: EntryPass,
     taken: Receiver<()>,
     done: Sender<()>,
 ) -> bool
@@ -255,7 +252,7 @@ fn try_once<R: Wait>(
     was_busy
 }
 
-fn is_busy(lock: &Lock, pass: Ticket) -> bool
+fn is_busy(lock: &EntryLock, pass: EntryPass) -> bool
     requires { pass_id pass ≡ lock_id lock.now }
 {
     match lock.try_take(pass) {
@@ -267,7 +264,7 @@ fn is_busy(lock: &Lock, pass: Ticket) -> bool
     }
 }
 
-fn give_unchanged(lock: &Lock, held: Held<Vec<Entry>>, entries: Vec<Entry>) -> Ticket
+fn give_unchanged(lock: &EntryLock, held: Held<Vec<Entry>>, entries: Vec<Entry>) -> EntryPass
     requires lock { held_id held ≡ lock_id lock.now }
     requires history { (held_view held).seen ≡ entries.items }
     requires lawful { entries_by 0 entries.items ≡ [] }
@@ -277,7 +274,7 @@ fn give_unchanged(lock: &Lock, held: Held<Vec<Entry>>, entries: Vec<Entry>) -> T
 }
 
 // The pass, where both ways to take the lock answer that no ticket is left.
-fn find_worn<R: Wait>(rt: &R, lock: &Lock, pass: Ticket) -> Option<Ticket>
+fn find_worn<R: Wait>(rt: &R, lock: &EntryLock, pass: EntryPass) -> Option<EntryPass>
     requires { pass_id pass ≡ lock_id lock.now }
     ensures { IfSome result (λ p. pass_id p ≡ lock_id lock.now) }
 {
@@ -307,8 +304,8 @@ fn find_worn<R: Wait>(rt: &R, lock: &Lock, pass: Ticket) -> Option<Ticket>
 fn overlap<R: Threads + Wait + Sync>(
     rt: &R,
     alloc: Global,
-    lock: &Lock,
-    pass: Ticket,
+    lock: &EntryLock,
+    pass: EntryPass,
 ) -> Result<bool, Fail>
     requires { pass_id pass ≡ lock_id lock.now }
 {
@@ -317,7 +314,7 @@ fn overlap<R: Threads + Wait + Sync>(
     let (one, other) = lock.split(pass);
     let (held, was_busy) = join(
         rt,
-        move || -> Option<Ticket>
+        move || -> Option<EntryPass>
             requires { pass_id one ≡ lock_id lock.now }
             ensures { IfSome result (λ p. pass_id p ≡ lock_id lock.entry.now) }
         { hold(rt, lock, one, taken, is_done) },
@@ -344,7 +341,7 @@ fn counts_up(entries: &[Entry], number: u32, blocks: u64) -> bool {
 
 #[test]
 fn two_threads_add_their_blocks_in_order(rt: HostRuntime) -> Result<(), Fail> {
-    let (lock, pass) = Lock::new(rt.alloc(), Vec::new(rt.alloc()))?;
+    let (lock, pass) = EntryLock::new(rt.alloc(), Vec::new(rt.alloc()))?;
     let pass = two(&rt, &lock, pass, 1, 100).expect(&rt, "both clerks wrote all their blocks");
     let Ok(entries) = lock.close(pass) else {
         panic!(rt; "no one holds the lock")
@@ -356,7 +353,7 @@ fn two_threads_add_their_blocks_in_order(rt: HostRuntime) -> Result<(), Fail> {
 
 #[test]
 fn eight_threads_lose_and_repeat_nothing(rt: HostRuntime) -> Result<(), Fail> {
-    let (lock, pass) = Lock::new(rt.alloc(), Vec::new(rt.alloc()))?;
+    let (lock, pass) = EntryLock::new(rt.alloc(), Vec::new(rt.alloc()))?;
     let pass = eight(&rt, &lock, pass, 10_000).expect(&rt, "each clerk wrote all its blocks");
     let Ok(entries) = lock.close(pass) else {
         panic!(rt; "no one holds the lock")
@@ -370,14 +367,14 @@ fn eight_threads_lose_and_repeat_nothing(rt: HostRuntime) -> Result<(), Fail> {
 
 #[test]
 fn a_try_beside_a_holder_is_busy(rt: HostRuntime) -> Result<(), Fail> {
-    let (lock, pass) = Lock::new(rt.alloc(), Vec::new(rt.alloc()))?;
+    let (lock, pass) = EntryLock::new(rt.alloc(), Vec::new(rt.alloc()))?;
     assert!(rt; overlap(&rt, rt.alloc(), &lock, pass)?);
     Ok(())
 }
 
 #[test]
 fn the_last_ticket_is_never_drawn(rt: HostRuntime) -> Result<(), Fail> {
-    let (lock, pass) = Lock::starting_at(rt.alloc(), Vec::new(rt.alloc()), u64::MAX)?;
+    let (lock, pass) = EntryLock::starting_at(rt.alloc(), Vec::new(rt.alloc()), u64::MAX)?;
     let pass = find_worn(&rt, &lock, pass).expect(&rt, "no ticket is left");
     let Ok(entries) = lock.close(pass) else {
         panic!(rt; "no one holds the lock")
@@ -388,7 +385,7 @@ fn the_last_ticket_is_never_drawn(rt: HostRuntime) -> Result<(), Fail> {
 
 #[test]
 fn the_ticket_before_the_last_is_drawn_once(rt: HostRuntime) -> Result<(), Fail> {
-    let (lock, pass) = Lock::starting_at(rt.alloc(), Vec::new(rt.alloc()), u64::MAX - 1)?;
+    let (lock, pass) = EntryLock::starting_at(rt.alloc(), Vec::new(rt.alloc()), u64::MAX - 1)?;
     let Ok((held, entries)) = lock.take(&rt, pass) else {
         panic!(rt; "one ticket was left")
     };
@@ -403,7 +400,7 @@ fn the_ticket_before_the_last_is_drawn_once(rt: HostRuntime) -> Result<(), Fail>
 
 #[test]
 fn passes_are_split_met_and_joined(rt: HostRuntime) -> Result<(), Fail> {
-    let (lock, first) = Lock::new(rt.alloc(), Vec::new(rt.alloc()))?;
+    let (lock, first) = EntryLock::new(rt.alloc(), Vec::new(rt.alloc()))?;
     let (first, second) = lock.split(first);
     let Ok((held, entries)) = lock.try_take(first) else {
         panic!(rt; "no one holds the lock")
@@ -421,7 +418,7 @@ fn passes_are_split_met_and_joined(rt: HostRuntime) -> Result<(), Fail> {
 
 #[test]
 fn a_refused_close_hands_lock_and_pass_back(rt: HostRuntime) -> Result<(), Fail> {
-    let (lock, first) = Lock::new(rt.alloc(), Vec::new(rt.alloc()))?;
+    let (lock, first) = EntryLock::new(rt.alloc(), Vec::new(rt.alloc()))?;
     let (first, second) = lock.split(first);
     let Ok((held, entries)) = lock.take(&rt, first) else {
         panic!(rt; "the lock is free")
@@ -442,25 +439,27 @@ fn a_refused_close_hands_lock_and_pass_back(rt: HostRuntime) -> Result<(), Fail>
 fn a_lock_made_for_a_number_goes_on_under_it(rt: HostRuntime) -> Result<(), Fail> {
     let mut entries = Vec::new(rt.alloc());
     assert!(rt; push(&mut entries, entry(2, 0)));
-    let (lock, pass) = Lock::new_for(rt.alloc(), entries, 2)?;
+    let (lock, pass) = EntryLock::new_for(rt.alloc(), entries, 2)?;
     let pass = append(&rt, &lock, pass, 2, 1).expect(&rt, "the lock is free");
-    let (lock, _) = match lock.close(pass) {
+    let (lock, pass) = match lock.close(pass) {
         Ok(entries) => {
             assert!(rt; entries.len() == 2 && counts_up(&entries, 2, 1));
-            Lock::starting_at(rt.alloc(), entries, 5)?
+            EntryLock::starting_at(rt.alloc(), entries, 5)?
         }
         Err(refused) => refused,
     };
-    assert_eq!(rt; lock.into_tickets(), (5, 5));
+    let parts = lock.into_parts(pass);
+    assert_eq!(rt; (parts.next, parts.serving), (5, 5));
+    assert!(rt; parts.value.is_some());
     Ok(())
 }
 
 // Where one growth is refused, each call answers so and leaves the lock as it was, so that a second one succeeds.
 #[test]
 fn a_refused_growth_changes_nothing(rt: HostRuntime) -> Result<(), Fail> {
-    let (lock, one) = match Lock::new(rt.alloc(), Vec::new(rt.alloc())) {
+    let (lock, one) = match EntryLock::new(rt.alloc(), Vec::new(rt.alloc())) {
         Ok(made) => made,
-        Err(_) => Lock::new(rt.alloc(), Vec::new(rt.alloc()))?,
+        Err(_) => EntryLock::new(rt.alloc(), Vec::new(rt.alloc()))?,
     };
     let (one, other) = lock.split(one);
     let pass = match clerk(&rt, &lock, one, 1, 8) {

@@ -1,10 +1,11 @@
-ghost use Rattle.std.specs.Prelude.{◌≡◌, ◌-◌, ◌*◌, ◌^◌, ◌≤◌, min};
+ghost use Rattle.std.specs.Prelude.{◌≡◌, ◌≤◌};
+ghost use Rattle.lra_timers.specs.Pauses.{pause};
 
 /// How long to wait before a member is asked again, in milliseconds, where k asks in a row told nothing final:
 /// the base for the first, doubled for each further one, and never more than the cap.
 pub fn pause(base: u64, cap: u64, k: u64) -> u64
     requires { 1 ≤ k }
-    ensures { result ≡ min (base * 2 ^ (k - 1)) cap }
+    ensures { result ≡ pause base cap k }
 {
     let doublings = k - 1;
     if base == 0 {

@@ -1,0 +1,7 @@
+pub mod Keeps
+pub mod KeepsAddresses
+pub mod KeepsGrounds
+pub mod KeepsLate
+pub mod KeepsOwn
+pub mod Rests
+pub mod Worked

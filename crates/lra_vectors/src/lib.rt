@@ -1,0 +1,9 @@
+//! Tests of the crates below: each over their public surface alone.
+#![tactic(auto)]
+
+#[cfg(test)]
+mod core;
+#[cfg(test)]
+mod ids;
+#[cfg(test)]
+mod journal;
