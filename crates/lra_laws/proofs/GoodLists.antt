@@ -1,15 +1,15 @@
 -- Tests of all or some of a list of numbers, by what is among them.
-use Rattle.std.proofs.Common.{◌≡◌, ℕ, Bool, true, false, List, [], ◌∷◌, refl, sym, ap, ◌∙◌, cond, eqb-true, eq-eqb}
+use Rattle.std.proofs.Common.{◌≡◌, ℕ, Bool, true, false, List, [], ◌∷◌, Option, Some, None, refl, sym, ap, ◌∙◌, cond, eqb-true, eq-eqb}
 use Rattle.std.specs.Prelude.{◌==◌, ◌&&◌, ◌||◌, filter}
-use Rattle.std.specs.List.{list_all, list_any}
+use Rattle.std.specs.List.{list_all, list_any, find}
 use Rattle.std.proofs.Math.Bool.{and-false}
 use Rattle.lra_model.specs.History.{is_among}
 
 -- the first is among them
-among_first : (x : ℕ) (xs : List ℕ) → is_among (x ∷ xs) x ≡ true
+pub among_first : (x : ℕ) (xs : List ℕ) → is_among (x ∷ xs) x ≡ true
 among_first x xs = ap (λ (b : Bool). b || is_among xs x) (eq-eqb x x refl)
 
-among_rest : (x n : ℕ) (xs : List ℕ) → is_among xs n ≡ true → is_among (x ∷ xs) n ≡ true
+pub among_rest : (x n : ℕ) (xs : List ℕ) → is_among xs n ≡ true → is_among (x ∷ xs) n ≡ true
 among_rest x n xs h = either (x == n)
   where
     either : (b : Bool) → (b || is_among xs n) ≡ true
@@ -77,3 +77,13 @@ among_filter f (x ∷ xs) n = either (x == n) refl (f x) refl (among_filter f xs
     either false e true g i = ap (λ (b : Bool). b || is_among (filter f xs) n) e ∙ i
     either true e false g i = let fails = ap f (sym (eqb-true x n e)) ∙ g in i ∙ ap (λ (b : Bool). is_among xs n && b) fails ∙ and-false (is_among xs n) ∙ sym fails
     either false e false g i = i
+
+-- where none is found, none among them passes
+pub find_nothing : (f : ℕ → Bool) (ns : List ℕ) (n : ℕ) → find f ns ≡ None → is_among ns n ≡ true → f n ≡ false
+find_nothing f [] n h k = absurd cc
+find_nothing f (x ∷ ns) n h k = either (f x) refl (x == n) refl h k (find_nothing f ns n)
+  where
+    either : (c : Bool) → f x ≡ c → (b : Bool) → (x == n) ≡ b → cond c (Some x) (find f ns) ≡ None → (b || is_among ns n) ≡ true → (find f ns ≡ None → is_among ns n ≡ true → f n ≡ false) → f n ≡ false
+    either true g b e i j rest = absurd cc
+    either false g true e i j rest = ap f (sym (eqb-true x n e)) ∙ g
+    either false g false e i j rest = rest i j

@@ -85,6 +85,13 @@ legal_induction v t P base more J = snoc_induction (λ K. is_legal v t K ≡ tru
     step_on : (K : History) (e : Entry) → (is_legal v t K ≡ true → P K) → is_legal v t (K ++ e ∷ []) ≡ true → P (K ++ e ∷ [])
     step_on K e h l = let k = legal_push v t K e l in more K e k.0 k.1 (h k.0)
 
+-- what a legal history begins with is legal
+pub legal_begins : (v : Version) (t : List ℕ → Bool) (J es : History) → is_legal v t (J ++ es) ≡ true → is_legal v t J ≡ true
+legal_begins v t J es = snoc_induction (λ fs. is_legal v t (J ++ fs) ≡ true → is_legal v t J ≡ true) (λ h. sym (ap (is_legal v t) (append-nil J)) ∙ h) more es
+  where
+    more : (fs : History) (e : Entry) → (is_legal v t (J ++ fs) ≡ true → is_legal v t J ≡ true) → is_legal v t (J ++ (fs ++ e ∷ [])) ≡ true → is_legal v t J ≡ true
+    more fs e rest h = rest (legal_push v t (J ++ fs) e (ap (is_legal v t) (append_assoc J fs (e ∷ [])) ∙ h)).0
+
 -- ---- the rules that an entry keeps, by its deed
 
 -- each of these rules is kept

@@ -89,7 +89,7 @@ sum_less f g (x ∷ xs) n h k l = either (x == n) refl k (λ i. sum_less f g xs 
 -- ---- what an entry changes
 
 -- the outcome that decides a direction is decisive
-decided_is_decisive : (J : History) (p : ℕ) (d : Direction) → option_map_or is_decisive (decided J p d) true ≡ true
+pub decided_is_decisive : (J : History) (p : ℕ) (d : Direction) → option_map_or is_decisive (decided J p d) true ≡ true
 unfolding decided
 decided_is_decisive J p d = found (filter_map heard_at (steps J))
   where

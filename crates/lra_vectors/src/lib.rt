@@ -7,3 +7,5 @@ mod core;
 mod ids;
 #[cfg(test)]
 mod journal;
+#[cfg(test)]
+mod model;
