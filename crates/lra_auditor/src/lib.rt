@@ -22,6 +22,3 @@ pub use laws::{bytes_have_one_verdict, legal_texts_are_sound};
 pub use listing::{Account, ListedAction, ListedMember, Listing};
 pub use lra_model::{Memory, Rule, Version};
 pub use verdict::{FailedEnd, FailedEnds, Summary, Verdict};
-
-#[cfg(test)]
-mod tests;

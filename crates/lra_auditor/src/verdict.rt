@@ -31,7 +31,7 @@ impl Model for FailedEnds {
 
 impl FailedEnds {
     /// The ends of a list.
-    pub fn from_vec(ends: Vec<FailedEnd>) -> FailedEnds
+    pub(crate) fn from_vec(ends: Vec<FailedEnd>) -> FailedEnds
         ensures { result ≡ ends.items }
     {
         FailedEnds { ends }

@@ -2,6 +2,8 @@
 #![tactic(auto)]
 
 #[cfg(test)]
+mod auditor;
+#[cfg(test)]
 mod core;
 #[cfg(test)]
 mod ids;
