@@ -278,14 +278,6 @@ IsIndex-pushed asks rows r f ok unasked = record {
     still m q None e h = absurd (let g : false ≡ true = (rw e at h) in cc)
     still m q (Some x) e h = rw (row_at-push_there rows r x q e) (rw e at h)
 
--- an index that says the same
-pub IsIndex-same : (asks : ℕ) (rows : List MemberRow) (f g : ℕ → Option ℕ) → IsIndex asks rows f → ((q : ℕ) → g q ≡ f q) → IsIndex asks rows g
-IsIndex-same asks rows f g ok same = record {
-  found = λ m q e. ok.found m q (sym (same m) ∙ e);
-  all = λ m q h. same m ∙ ok.all m q h;
-  made = λ m q e. ok.made m q (sym (same m) ∙ e);
-}
-
 -- rows that can count, and one among them that is replaced by another that can
 pub AllCanCount-with_row : (rows : List ActionRow) (a : ℕ) (r now : ActionRow) → AllCanCount rows → row_at rows a ≡ Some r → CanCount now → AllCanCount (with_row a now rows)
 AllCanCount-with_row rows a r now all there can n =

@@ -18,11 +18,11 @@ use Rattle.lra_laws.proofs.Worked.{at}
 use Rattle.lra_journal.specs.Line.{line, text}
 use Rattle.lra_journal.proofs.Apart.{body_of, title_of, not_nil}
 use Rattle.lra_ids.specs.Addresses.{is_address}
+use Rattle.lra_laws.proofs.Legal.{legal_empty}
 use Rattle.lra_auditor.specs.declared.verdict.Summary.{Summary}
 use Rattle.lra_auditor.specs.declared.verdict.Verdict.{Verdict}
 use Rattle.lra_auditor.specs.declared.verdict.Verdict.TheVariants.{Sound, Unsound}
 use Rattle.lra_auditor.specs.Verdicts.{IsVerdict, summary}
-use Rattle.lra_auditor.proofs.Faults.{is_legal-empty}
 use Rattle.lra_auditor.proofs.Feeds.{text-push}
 use Rattle.lra_auditor.proofs.LegalTexts.{legal_has_text}
 use Rattle.lra_auditor.proofs.OneVerdict.{one_verdict, legal_text_sound}
@@ -37,7 +37,7 @@ summary_empty = refl
 
 -- a header alone is sound
 pub header_alone : (v : Version) (i : ℕ) (x : Verdict) → i < 2 ^ 60 → IsVerdict (text v i []) x → x ≡ Sound nothing
-header_alone v i x small h = rw (sym summary_empty) (legal_text_sound v i [] x small (is_legal-empty v is_address) h)
+header_alone v i x small h = rw (sym summary_empty) (legal_text_sound v i [] x small (legal_empty v is_address) h)
 
 -- an action that is started and closed
 abbrev closed : History
@@ -76,7 +76,7 @@ stray_unsound x h =
       line stray,
       record {
         place = refl;
-        front = record { spelled = legal_has_text One 7 [] (omega arith) (is_legal-empty One is_address); legal = is_legal-empty One is_address; whole = refl };
+        front = record { spelled = legal_has_text One 7 [] (omega arith) (legal_empty One is_address); legal = legal_empty One is_address; whole = refl };
         whole = text-push One 7 [] stray;
         goes_on = omega (arith, length-append (body_of stray) (10 ∷ []));
         breaks = inr (stray, [], record { by = omega arith; moment = omega arith; deed = omega arith }, sym (append-nil (line stray)), stray_breaks);

@@ -10,7 +10,6 @@ ghost use Rattle.lra_auditor.specs.inner.Totals.{has_failed_here, is_within_by, 
 ghost use Rattle.lra_auditor.specs.Verdicts.{ended_cancelled};
 
 use crate::changes::stays;
-use crate::lawful::{has_ended, has_failed, member_has_failed};
 use crate::rows::{ActionRow, MemberRow};
 use crate::state::{Rows, action_at};
 use crate::verdict::{FailedEnd, FailedEnds, Summary};
@@ -20,7 +19,7 @@ use std::alloc::Global;
 fn count_unended(actions: &[ActionRow]) -> u64
     ensures { result ≡ count_by (λ r. is_unended r.status) actions.now }
 {
-    actions.iter().filter(|row| !has_ended(row.status)).count() as u64
+    actions.iter().filter(|row| !row.status.has_ended()).count() as u64
 }
 
 fn count_closed(actions: &[ActionRow]) -> u64
@@ -55,7 +54,7 @@ fn parent_of(actions: &[ActionRow], number: u64) -> Option<u64>
 fn has_failed_here(row: &MemberRow) -> bool
     ensures { result ≡ has_failed_here row.now }
 {
-    stays(row) && member_has_failed(row.status)
+    stays(row) && row.status.has_failed()
 }
 
 /// The entry of a number, counted from 1.
@@ -155,7 +154,7 @@ fn failed_ends(
     let mut ends = Vec::new(alloc);
     for (place, row) in actions.iter().enumerate() {
         let number = place as u64 + 1;
-        if has_failed(row.status)
+        if row.status.has_failed()
             && let Some(member) = at(least, number)
         {
             ends.push(FailedEnd {

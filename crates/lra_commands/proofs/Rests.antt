@@ -8,7 +8,7 @@ use Rattle.lra_model.specs.declared.entry.Entry.{Entry}
 use Rattle.lra_model.specs.History.{History}
 use Rattle.lra_model.specs.Rules.{is_legal}
 use Rattle.lra_model.specs.Settling.{next_settling}
-use Rattle.lra_laws.proofs.Legal.{snoc_induction, legal_push}
+use Rattle.lra_laws.proofs.Legal.{legal_push, legal_begins}
 use Rattle.lra_laws.proofs.Writes.{MayWrite, may_go_on}
 use Rattle.lra_laws.proofs.Settled.{settling_allowed}
 use Rattle.lra_laws.proofs.Quiet.{no_next_is_quiet}
@@ -44,13 +44,6 @@ settling_rests v t (suc n) by m J w h = next (next_settling J) refl (λ K. settl
         ∙ rest (J ++ e ∷ []) (may_go_on v t J by m d w.legal (settling_allowed v t J by m d w g)) (omega arith)
 
 -- ---- calls
-
--- what a legal history begins with is legal
-legal_begins : (v : Version) (t : List ℕ → Bool) (J es : History) → is_legal v t (J ++ es) ≡ true → is_legal v t J ≡ true
-legal_begins v t J es = snoc_induction (λ fs. is_legal v t (J ++ fs) ≡ true → is_legal v t J ≡ true) (λ h. sym (ap (is_legal v t) (append-nil J)) ∙ h) more es
-  where
-    more : (fs : History) (e : Entry) → (is_legal v t (J ++ fs) ≡ true → is_legal v t J ≡ true) → is_legal v t (J ++ (fs ++ e ∷ [])) ≡ true → is_legal v t J ≡ true
-    more fs e rest h = rest (legal_push v t (J ++ fs) e (ap (is_legal v t) (append_assoc J fs (e ∷ [])) ∙ h)).0
 
 -- none comes next after an entry and those that settle the history after it
 with_settling_rests : (v : Version) (t : List ℕ → Bool) (J : History) (e : Entry) → is_legal v t (J ++ with_settling J e) ≡ true → next_settling (J ++ with_settling J e) ≡ None

@@ -29,7 +29,7 @@ use Rattle.lra_laws.proofs.GoodStatus.{completed_never_asked}
 use Rattle.lra_laws.proofs.GoodKept.{staying_member, staying_from, EndsAgain, EndsStand}
 use Rattle.lra_laws.proofs.GoodSpared.{close_active, same_status_true, ends_stand}
 
--- ---- an action was cancelled just where it is cancelling or has ended so
+-- ---- an action was cancelled exactly where it is cancelling or has ended so
 
 abbrev pub cancels : ActionStatus → Bool
 cancels action.Cancelling = true
@@ -37,7 +37,7 @@ cancels action.Cancelled = true
 cancels action.FailedToCancel = true
 cancels _ = false
 
--- the state that an action ends in is of the way that it went
+-- the status that an action ends in is of the way that it went
 ends_as_way : (J : History) (a : ℕ) (o : Option ActionStatus) → settles o J a ≡ true → cancels (ends_as o J a) ≡ option_map_or cancels o false
 ends_as_way J a (Some action.Closing) h = either (list_all (λ p. is_completed (member_status J p)) (staying J a) && children_are_well J a)
   where
@@ -102,7 +102,7 @@ cancelled_after v t J l by m d k a ih = by_deed d k
     by_deed (End b s) k = ended b s k (b == a) refl
     by_deed _ k = same
 
--- in a legal history, an action was cancelled just where its state says so
+-- in a legal history, an action was cancelled exactly where its status says so
 pub was_cancelled_lem : (v : Version) (t : List ℕ → Bool) (J : History) → is_legal v t J ≡ true → (a : ℕ) → was_cancelled J a ≡ action_is cancels J a
 unfolding was_cancelled action_status
 was_cancelled_lem v t = legal_induction v t (λ J. (a : ℕ) → was_cancelled J a ≡ action_is cancels J a) (λ a. refl)
@@ -183,7 +183,7 @@ FailedChild J a = (c : ℕ) × (is_among (children J a) c ≡ true) × (action_i
 
 -- where an action failed, a member of it that stays failed, or an action nested in it
 has_failed_by : (J : History) (a : ℕ) (s : ActionStatus) → has_failed s ≡ true → EndsAgain J a s → FailedMember J a ⊎ FailedChild J a
-has_failed_by J a s failed h = by_state s failed h
+has_failed_by J a s failed h = by_status s failed h
   where
     some_child : children_are_well J a ≡ false → FailedMember J a ⊎ FailedChild J a
     some_child g = inr (found_at (action_is has_failed J) (children J a) (not_false (list_any (action_is has_failed J) (children J a)) g))
@@ -216,14 +216,14 @@ has_failed_by J a s failed h = by_state s failed h
     left_out true x y g i e = absurd (true≢false (sym i ∙ ap has_failed (sym e) ∙ g))
     left_out false x y g i e = refl
 
-    by_state : (s : ActionStatus) → has_failed s ≡ true → EndsAgain J a s → FailedMember J a ⊎ FailedChild J a
-    by_state action.FailedToClose g i =
+    by_status : (s : ActionStatus) → has_failed s ≡ true → EndsAgain J a s → FailedMember J a ⊎ FailedChild J a
+    by_status action.FailedToClose g i =
         either is_done_completing is_completed not_completed (both (list_all (λ q. is_done_completing (member_status J q)) (staying J a)) (list_all (action_is has_ended J) (children J a)) i.settled).0
         (list_all (λ q. is_completed (member_status J q)) (staying J a)) refl (left_out (list_all (λ q. is_completed (member_status J q)) (staying J a) && children_are_well J a) action.Closed action.FailedToClose refl refl i.right)
-    by_state action.FailedToCancel g i =
+    by_status action.FailedToCancel g i =
         either is_done_compensating is_compensated not_compensated (both (list_all (λ q. is_done_compensating (member_status J q)) (staying J a)) (list_all (action_is has_finished_cancelling J) (children J a)) i.settled).0
         (list_all (λ q. is_compensated (member_status J q)) (staying J a)) refl (left_out (list_all (λ q. is_compensated (member_status J q)) (staying J a) && children_are_well J a) action.Cancelled action.FailedToCancel refl refl i.right)
-    by_state _ g i = absurd cc
+    by_status _ g i = absurd cc
 
 -- ---- up from an action to one above it that has ended
 

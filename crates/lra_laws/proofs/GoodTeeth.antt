@@ -119,7 +119,7 @@ pub kept_is_legal : legal_in_both kept ≡ (true, true)
 unfolding steps clerks actions members asks last_moment parent top action_status limit_in_force children members_of action_of addresses_of has_left stays was_asked ask_of replies decided member_status last_reply was_answered is_outstanding outstanding_ask staying is_settled right_end top_has_ended facts_of broken is_legal
 kept_is_legal = refl
 
--- what the good end of action 1 reads: its state and that of action 2, nested in it; whether member 1 stays below it; the member's state;
+-- what the good end of action 1 reads: its status and that of action 2, nested in it; whether member 1 stays below it; the member's status;
 -- whether it was asked to compensate; and whether an action between the two was cancelled
 pub record Reads : Type 0 where
   pub outer : Option ActionStatus

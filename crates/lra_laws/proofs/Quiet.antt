@@ -14,19 +14,10 @@ use Rattle.lra_model.specs.Facts.{ActionFacts, facts_of}
 use Rattle.lra_model.specs.Tests.{at_action, may_close_with_parent, may_cancel_with_parent, may_skip}
 use Rattle.lra_model.specs.Rules.{deed_rules, allows}
 use Rattle.lra_model.specs.Settling.{is_settling, IsQuiet, may_be_skipped, by_parent, next_settling}
+use Rattle.lra_laws.proofs.GoodLists.{find_nothing}
 use Rattle.lra_laws.proofs.Legal.{AllKept, allowed, entry_kept, close_kept, cancel_kept, skip_kept, end_kept, action_fact, member_fact}
 
 -- ---- lists that give nothing
-
--- where none is found, none among them passes
-find_nothing : (f : ℕ → Bool) (ns : List ℕ) (n : ℕ) → find f ns ≡ None → is_among ns n ≡ true → f n ≡ false
-find_nothing f [] n h k = absurd cc
-find_nothing f (x ∷ ns) n h k = either (f x) refl (x == n) refl h k (find_nothing f ns n)
-  where
-    either : (c : Bool) → f x ≡ c → (b : Bool) → (x == n) ≡ b → cond c (Some x) (find f ns) ≡ None → (b || is_among ns n) ≡ true → (find f ns ≡ None → is_among ns n ≡ true → f n ≡ false) → f n ≡ false
-    either true g b e i j rest = absurd cc
-    either false g true e i j rest = ap f (sym (eqb-true x n e)) ∙ g
-    either false g false e i j rest = rest i j
 
 -- where nothing is read, nothing is read of one among them
 read_nothing : {X : Type 0} (f : ℕ → Option X) (ns : List ℕ) (n : ℕ) → filter_map f ns ≡ [] → is_among ns n ≡ true → f n ≡ None

@@ -48,7 +48,7 @@ turns_left _ = 0
 abbrev turns_of : History → ℕ → ℕ
 turns_of J a = turns_left (unwrap_or (action_status J a) action.Active)
 
--- a member has one skip left, until its completion came to something
+-- a member has one skip left until its completion is decided
 abbrev skips_of : History → ℕ → ℕ
 skips_of J p = cond (is_some (decided J p direction.Completion)) 0 1
 
@@ -88,8 +88,8 @@ sum_less f g (x ∷ xs) n h k l = either (x == n) refl k (λ i. sum_less f g xs 
 
 -- ---- what an entry changes
 
--- what a direction came to is decisive
-decided_is_decisive : (J : History) (p : ℕ) (d : Direction) → option_map_or is_decisive (decided J p d) true ≡ true
+-- the outcome that decides a direction is decisive
+pub decided_is_decisive : (J : History) (p : ℕ) (d : Direction) → option_map_or is_decisive (decided J p d) true ≡ true
 unfolding decided
 decided_is_decisive J p d = found (filter_map heard_at (steps J))
   where
@@ -102,7 +102,7 @@ decided_is_decisive J p d = found (filter_map heard_at (steps J))
         either true e rest = (both ((h.member == p) && same_direction h.direction d) (is_decisive h.outcome) e).1
         either false e rest = rest
 
--- an Active member's completion came to nothing yet
+-- an Active member's completion isn't decided yet
 untouched_undecided : (J : History) (p : ℕ) → is_untouched (member_status J p) ≡ true → decided J p direction.Completion ≡ None
 unfolding member_status
 untouched_undecided J p h =
@@ -154,7 +154,7 @@ skip_taken J by m p h =
 turns_after : (J : History) (e : Entry) (a : ℕ) → turns_of (J ++ e ∷ []) a ≡ turns_left (unwrap_or (option_or (status_given a e.deed) (action_status J a)) action.Active)
 turns_after J e a = ap (λ (o : Option ActionStatus). turns_left (unwrap_or o action.Active)) (action_status_push J e a)
 
--- an entry turns an action to a state that leaves it less
+-- an entry turns an action to a status that leaves it less
 record IsTurn (J : History) (d : Deed) (b : ℕ) (s : ActionStatus) : Type 0 where
   pub there : is_among (actions J) b ≡ true
   pub turns : (a : ℕ) → status_given a d ≡ when (b == a) s

@@ -10,6 +10,8 @@ mod ids;
 #[cfg(test)]
 mod journal;
 #[cfg(test)]
+mod model;
+#[cfg(test)]
 mod ticket;
 #[cfg(test)]
 mod timers;
