@@ -1,0 +1,10 @@
+pub mod Report
+pub mod Faults
+pub mod Script
+pub mod ScriptReading
+pub mod Play
+pub mod Show
+pub mod Paging
+pub mod Upgrade
+pub mod Words
+pub mod Invoked
