@@ -22,7 +22,7 @@ use Rattle.lra_runs.specs.declared.script.VerbName.{VerbName}
 use Rattle.lra_runs.specs.declared.script.VerbName.TheVariants as name
 use Rattle.lra_runs.specs.declared.script.ScriptLine.{ScriptLine}
 use Rattle.lra_runs.specs.Script.{verb_words, script_line, HasNumbers, IsScriptLine}
-use Rattle.lra_runs.specs.ScriptReading.{verb_name, verb_names, start_at, fields_at, verb_at, script_line_at, script_line_of}
+use Rattle.lra_runs.specs.inner.ScriptReading.{verb_name, verb_names, start_at, fields_at, verb_at, script_line_at, script_line_of}
 
 -- the words of a line
 abbrev pub line_words : ScriptLine → Words

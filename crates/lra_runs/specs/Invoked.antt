@@ -1,5 +1,5 @@
 -- What an invocation of the program writes of its input, and its status.
-use Rattle.std.specs.Prelude.{◌≡◌, ℕ, List, [], codes, Option}
+use Rattle.std.specs.Prelude.{ℕ, List, codes, Option}
 use Rattle.lra_runs.specs.declared.words.Invocation.{Invocation}
 use Rattle.lra_runs.specs.declared.words.Invocation.TheVariants.{AuditInput, Audit, Show, Upgrade, Play}
 use Rattle.lra_runs.specs.Report.{ReportsAudit}

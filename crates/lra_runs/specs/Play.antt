@@ -1,5 +1,5 @@
 -- What the program prints of a script that it plays.
-use Rattle.std.specs.Prelude.{◌≡◌, ℕ, ◌+◌, ◌<◌, List, [], ◌∷◌, ◌++◌, length, map, codes, Option, Some, None, Result, Ok, Err, cond}
+use Rattle.std.specs.Prelude.{◌≡◌, ℕ, ◌+◌, ◌<◌, List, [], ◌∷◌, ◌++◌, length, map, codes, Option, Result, Ok, Err, cond}
 use Rattle.std.specs.Fmt.{decimal}
 use Rattle.std.specs.List.{flat_map, list_any}
 use Rattle.std.specs.Result.{is_err}
@@ -61,11 +61,6 @@ refusal_detail refusal.TooDeep = []
 refusal_detail refusal.NotAsked = []
 refusal_detail refusal.Stopped = []
 refusal_detail refusal.Memory = []
-
--- a detail with a space before it, if there is one
-abbrev pub detail_text : Option (List ℕ) → List ℕ
-detail_text None = []
-detail_text (Some text) = codes " " ++ text
 
 -- the line of an answer
 abbrev pub answer_line : Result Told Refusal → List ℕ

@@ -4,7 +4,8 @@ ghost use Rattle.std.specs.Prelude.{◌≡◌, ◌++◌, ◌∷◌, [], IfOk, Er
 ghost use Rattle.std.specs.Fmt.{decimal};
 ghost use Rattle.lra_runs.specs.Report.{joined, line_feed};
 ghost use Rattle.std.specs.Option.{option_copied};
-ghost use Rattle.lra_runs.specs.Play.{told_text, refusal_detail, detail_text, answer_line};
+ghost use Rattle.lra_runs.specs.Play.{told_text, refusal_detail, answer_line};
+ghost use Rattle.lra_runs.specs.inner.Details.{detail_text};
 
 use lra_core::{Memory, Refusal, Told};
 use std::alloc::Global;

@@ -2,7 +2,8 @@
 
 ghost use Rattle.std.specs.Prelude.{◌≡◌, IfOk, IfErr, IfSome, OnOk};
 ghost use Rattle.std.specs.Io.KnownBytes.{Appends};
-ghost use Rattle.lra_runs.specs.Faults.{IsOfOutput, NamesNoLine, IsMeasured, LeavesOutput};
+ghost use Rattle.lra_runs.specs.Faults.{NamesNoLine, IsMeasured, LeavesOutput};
+ghost use Rattle.lra_runs.specs.inner.Causes.{IsOfOutput};
 ghost use Rattle.lra_runs.specs.Report.{report_of, ReportsAudit};
 
 use crate::fault::RunFault;

@@ -2,8 +2,8 @@
 
 ghost use Rattle.std.specs.Prelude.{◌≡◌, ◌<◌, IfErr, OnOk};
 ghost use Rattle.std.specs.Io.KnownBytes.{Appends};
-ghost use Rattle.lra_runs.specs.Faults.{IsOfOutput};
-ghost use Rattle.lra_runs.specs.Paging.{IsPaged};
+ghost use Rattle.lra_runs.specs.inner.Causes.{IsOfOutput};
+ghost use Rattle.lra_runs.specs.inner.Paging.{IsPaged};
 
 use crate::fault::RunFault;
 use std::io::Write;

@@ -3,7 +3,7 @@
 ghost use Rattle.std.specs.Prelude.{◌≡◌, IfSome, Some};
 ghost use Rattle.lra_journal.specs.Reading.{next_of, named};
 ghost use Rattle.lra_runs.specs.Script.{script_line, IsScriptLine, command_of};
-ghost use Rattle.lra_runs.specs.ScriptReading.{verb_name, verb_names, verb_at, start_at, script_line_at, script_line_of};
+ghost use Rattle.lra_runs.specs.inner.ScriptReading.{verb_name, verb_names, verb_at, start_at, script_line_at, script_line_of};
 ghost use Rattle.lra_runs.specs.declared.script.ScriptLine.{ScriptLine};
 ghost use Rattle.lra_runs.specs.declared.script.VerbName.{VerbName};
 
@@ -79,7 +79,7 @@ fn verb_name(fields: Fields<'_>) -> Option<(VerbName, Fields<'_>)>
 }
 
 /// The fields of a start without a parent.
-#[tactic(auto, unfolding(crate::specs::ScriptReading::start_at))]
+#[tactic(auto, unfolding(crate::specs::inner::ScriptReading::start_at))]
 fn start(fields: Fields<'_>) -> Option<(Verb, Fields<'_>)>
     ensures { result ≡ start_at fields.entry }
 {
@@ -92,7 +92,7 @@ fn start(fields: Fields<'_>) -> Option<(Verb, Fields<'_>)>
 }
 
 /// A verb that a clerk gives: who enrols has no number yet, which is written 0.
-#[tactic(auto, unfolding(crate::specs::ScriptReading::verb_at, crate::specs::ScriptReading::fields_at))]
+#[tactic(auto, unfolding(crate::specs::inner::ScriptReading::verb_at, crate::specs::inner::ScriptReading::fields_at))]
 fn verb_in(by: u32, fields: Fields<'_>) -> Option<(Verb, Fields<'_>)>
     ensures { result ≡ verb_at by fields.entry }
 {
@@ -117,7 +117,7 @@ fn verb_in(by: u32, fields: Fields<'_>) -> Option<(Verb, Fields<'_>)>
     }
 }
 
-#[tactic(auto, unfolding(crate::specs::ScriptReading::script_line_at))]
+#[tactic(auto, unfolding(crate::specs::inner::ScriptReading::script_line_at))]
 fn script_line(fields: Fields<'_>) -> Option<(ScriptLine, Fields<'_>)>
     ensures { result ≡ script_line_at fields.entry }
 {
@@ -127,7 +127,7 @@ fn script_line(fields: Fields<'_>) -> Option<(ScriptLine, Fields<'_>)>
     Some((ScriptLine { by, moment, verb }, fields))
 }
 
-#[tactic(auto, unfolding(crate::specs::ScriptReading::script_line_of))]
+#[tactic(auto, unfolding(crate::specs::inner::ScriptReading::script_line_of))]
 fn script_line_in(bytes: &[u8]) -> Option<ScriptLine>
     ensures { result ≡ script_line_of bytes.now }
 {

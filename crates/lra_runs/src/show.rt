@@ -3,8 +3,9 @@
 ghost use Rattle.std.specs.Prelude.{◌≡◌, IfOk, IfErr, IfSome, OnOk, string_bytes};
 ghost use Rattle.std.specs.List.{flat_map};
 ghost use Rattle.std.specs.Io.KnownBytes.{Appends};
-ghost use Rattle.lra_runs.specs.Faults.{IsOfOutput, NamesNoLine, IsMeasured, LeavesOutput};
-ghost use Rattle.lra_runs.specs.Paging.{IsPaged};
+ghost use Rattle.lra_runs.specs.Faults.{NamesNoLine, IsMeasured, LeavesOutput};
+ghost use Rattle.lra_runs.specs.inner.Causes.{IsOfOutput};
+ghost use Rattle.lra_runs.specs.inner.Paging.{IsPaged};
 ghost use Rattle.lra_runs.specs.Show.{action_line, member_line, listing_text, account_text, account_status, ReportsListing};
 
 use crate::fault::RunFault;

@@ -1,5 +1,5 @@
 use Rattle.std.proofs.Common.{ap, ◌∙◌}
-use Rattle.lra_runs.specs.ScriptReading.{script_line_of}
+use Rattle.lra_runs.specs.inner.ScriptReading.{script_line_of}
 use Rattle.lra_runs.proofs.ScriptLines.{line_found, script_line_of-line}
 use Rattle.lra_runs.proofs.script.read_script_line.Goals as goal
 

@@ -1,6 +1,6 @@
 use Rattle.std.proofs.Common.{sym, ◌∙◌}
 use Rattle.lra_journal.proofs.Naming.{next_named_none}
-use Rattle.lra_runs.specs.ScriptReading.{verb_name, verb_names}
+use Rattle.lra_runs.specs.inner.ScriptReading.{verb_name, verb_names}
 use Rattle.lra_runs.proofs.script.verb_name.Goals as goal
 
 pub returns-in_err-from_name : goal.returns-in_err-from_name

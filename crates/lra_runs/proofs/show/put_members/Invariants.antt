@@ -1,6 +1,6 @@
 use Rattle.std.proofs.Common.{take}
 use Rattle.std.specs.List.{flat_map}
-use Rattle.lra_runs.specs.Paging.{IsPaged}
+use Rattle.lra_runs.specs.inner.Paging.{IsPaged}
 use Rattle.lra_runs.specs.Show.{member_line}
 use Rattle.lra_runs.proofs.show.put_members.Given as goal
 
