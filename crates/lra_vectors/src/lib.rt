@@ -12,6 +12,8 @@ mod journal;
 #[cfg(test)]
 mod model;
 #[cfg(test)]
+mod runs;
+#[cfg(test)]
 mod ticket;
 #[cfg(test)]
 mod timers;
