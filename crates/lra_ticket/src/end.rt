@@ -37,8 +37,11 @@ impl<V: Kept> TicketLock<V> {
         self.into_parts(pass).value.unwrap()
     }
 
-    /// Ends the lock as it is, and tells what it had: its two tickets, and the value where no one has it. What a holder then
-    /// still has can't be given back.
+    /// Ends the lock as it is, held or not, and tells what it had: its two tickets, and the value where no one holds it. What a
+    /// holder still has can't be given back then.
+    ///
+    /// One state meets the rule of the lock, with these, and with the view of this pass. Of the other passes it tells that the
+    /// rule holds of their views too, and not which they are; `meet` tells of any two.
     pub fn into_parts(self, pass: Pass<V>) -> Parts<V>
         requires { pass_id pass ≡ lock_id self }
         ensures { HasEnded V.origin V.history V.lawful (V.origin (first_value self)) (pass_view pass) result }
