@@ -1,5 +1,5 @@
 //! A reader that gives its bytes in pieces, and a writer that takes some bytes a call.
-use crate::Inbox;
+use lra_wire::Inbox;
 use std::alloc::{AllocError, Global};
 use std::io;
 use std::io::{Read, Write};
@@ -25,51 +25,28 @@ impl Read for Pieces<'_> {
     }
 }
 
-/// An inbox over bytes that come in pieces of this size, and then end.
+/// An inbox over bytes that come in pieces of this size. Then they end, or the reader fails.
 pub(super) fn in_pieces(
     alloc: Global,
-    bytes: &[u8],
+    rest: &[u8],
     size: usize,
+    fails: bool,
 ) -> Result<Inbox<Pieces<'_>>, AllocError> {
-    Inbox::new(
-        alloc,
-        Pieces {
-            rest: bytes,
-            size,
-            fails: false,
-        },
-    )
+    Inbox::new(alloc, Pieces { rest, size, fails })
 }
 
-/// The same with a fault in place of the end.
-pub(super) fn failing(
-    alloc: Global,
-    bytes: &[u8],
-    size: usize,
-) -> Result<Inbox<Pieces<'_>>, AllocError> {
-    Inbox::new(
-        alloc,
-        Pieces {
-            rest: bytes,
-            size,
-            fails: true,
-        },
-    )
-}
-
-/// Takes at most `size` bytes a call, and `room` in all, and then fails or takes none.
+/// Takes at most `size` bytes a call, and `room` in all, and then fails.
 #[derive(Drop)]
 pub(super) struct Sink {
     pub(super) taken: Vec<u8>,
     pub(super) size: usize,
     pub(super) room: usize,
-    pub(super) fails: bool,
 }
 
 impl Write for Sink {
     fn write(&mut self, buf: &[u8]) -> io::Result<usize> {
         let left = self.room.saturating_sub(self.taken.len());
-        if self.fails && left == 0 {
+        if left == 0 {
             return Err(io::ErrorKind::Other.into());
         }
         let count = self.size.min(left).min(buf.len());

@@ -1,4 +1,4 @@
-use crate::WireFault;
+use lra_wire::WireFault;
 use std::test::Fail;
 
 #[test]

@@ -9,7 +9,8 @@ use Rattle.lra_wire.specs.declared.fault.WireFault.{WireFault}
 use Rattle.lra_wire.specs.declared.fault.WireFault.TheVariants.{BadHead, Cut}
 use Rattle.lra_wire.specs.declared.inbox.Inbox.{Inbox}
 use Rattle.lra_wire.specs.Fields.{values_of}
-use Rattle.lra_wire.specs.Inbox.{kept_bytes, Grows, IsOutside}
+use Rattle.lra_wire.specs.Inbox.{kept_bytes, IsOutside}
+use Rattle.lra_wire.specs.inner.Growth.{Grows}
 use Rattle.lra_wire.specs.Request.{IsLawful, NeverLawful, EndsInHead}
 
 -- HTTP/1.0 asks for no Host, HTTP/1.1 for exactly one

@@ -14,7 +14,8 @@ use Rattle.lra_wire.specs.declared.inbox.Inbox.{Inbox}
 use Rattle.lra_wire.specs.declared.response.Head.{Head}
 use Rattle.lra_wire.specs.declared.response.ResponseRead.{ResponseRead}
 use Rattle.lra_wire.specs.Chunks.{Chunk, IsChunk, print_chunk, HasTrailer, HasLast, RefusesTrailer, RefusesContent, RefusesChunk}
-use Rattle.lra_wire.specs.Inbox.{kept_bytes, stream_of, Grows, IsOutside}
+use Rattle.lra_wire.specs.Inbox.{kept_bytes, stream_of, IsOutside, AsksAt}
+use Rattle.lra_wire.specs.inner.Growth.{Grows, Lacks}
 use Rattle.lra_wire.specs.Response.{HasResponse, NeverShort, fields_in, framing_of, IsBody, RefusesFramed, IsResponse, RefusesResponse}
 use Rattle.lra_wire.specs.Streams.{IfBothKnown}
 
@@ -54,6 +55,12 @@ FindsLine bytes (Ok (Some found)) = IsLineOf bytes found
 FindsLine bytes (Ok None) = HasNoChunkLine bytes × MayBecomeChunkLine bytes
 FindsLine bytes (Err fault) = (fault ≡ BadLength) × NeverHasChunkLine bytes
 
+-- the same of bytes that are looked at only where a line may end in them
+abbrev pub FindsNewLine : List ℕ → Result (Option (ℕ × ℕ)) WireFault → Type 0
+FindsNewLine bytes (Ok (Some found)) = IsLineOf bytes found
+FindsNewLine bytes (Ok None) = HasNoChunkLine bytes
+FindsNewLine bytes (Err fault) = (fault ≡ BadLength) × NeverHasChunkLine bytes
+
 -- the same after reading as far as is needed, or as far as a response may go
 abbrev pub ReadsLineAt : {R : Type 0} → (R → Option (List ℕ)) → ℕ → Inbox R → Inbox R → Result (ℕ × ℕ) WireFault → Type 0
 ReadsLineAt remaining start old new (Ok found) = Grows remaining old new × IsLineOf (drop start (kept_bytes new)) found
@@ -73,6 +80,12 @@ FindsTrailer bytes (Ok (Some len)) = IsTrailerOf bytes len
 FindsTrailer bytes (Ok None) = HasNoSection bytes × MayBecomeSection bytes
 FindsTrailer bytes (Err fault) = (fault ≡ BadLength) × SectionOverflows 64 bytes
 
+-- the same of bytes that are looked at only where a trailer may end in them
+abbrev pub FindsNewTrailer : List ℕ → Result (Option ℕ) WireFault → Type 0
+FindsNewTrailer bytes (Ok (Some len)) = IsTrailerOf bytes len
+FindsNewTrailer bytes (Ok None) = HasNoSection bytes
+FindsNewTrailer bytes (Err fault) = (fault ≡ BadLength) × SectionOverflows 64 bytes
+
 -- the same after reading as far as is needed, or as far as a response may go
 abbrev pub ReadsTrailerAt : {R : Type 0} → (R → Option (List ℕ)) → ℕ → Inbox R → Inbox R → Result ℕ WireFault → Type 0
 ReadsTrailerAt remaining start old new (Ok len) = Grows remaining old new × IsTrailerOf (drop start (kept_bytes new)) len
@@ -81,12 +94,12 @@ ReadsTrailerAt remaining start old new (Err fault) = IsOutside fault
     ⊎ (((fault ≡ TooLarge) × HasNoSection (drop start (kept_bytes new)) × (1048576 ≤ length (kept_bytes new)))
     ⊎ ((fault ≡ Cut) × IsAtEnd (remaining new.reader) × HasNoSection (drop start (kept_bytes new)) × MayBecomeSection (drop start (kept_bytes new))))))
 
--- the chunk at a place of the stream, whose content lies in the inbox
-pub record IsPieceAt (place : ℕ) (stream kept : List ℕ) (from to : ℕ) : Type 0 where
+-- the chunk at a place of the bytes, whose content lies between these places
+pub record IsPieceAt (place : ℕ) (bytes : List ℕ) (from to : ℕ) : Type 0 where
   pub chunk : Chunk
   pub valid : IsChunk chunk
-  pub content : chunk.content ≡ slice_range kept from to
-  pub front : drop place stream ≡ print_chunk chunk ++ drop (to + 2) stream
+  pub content : chunk.content ≡ slice_range bytes from to
+  pub front : drop place bytes ≡ print_chunk chunk ++ drop (to + 2) bytes
 
 -- the trailer at a place, up to where it ends
 abbrev pub ReadsLast : {R : Type 0} → (R → Option (List ℕ)) → ℕ → Inbox R → Inbox R → Result ℕ WireFault → Type 0
@@ -103,7 +116,7 @@ ReadsContent remaining place room size old new (Err fault) = IsOutside fault ⊎
 -- the next chunk, or the end of the body
 abbrev pub ReadsPiece : {R : Type 0} → (R → Option (List ℕ)) → ℕ → ℕ → Inbox R → Inbox R → Result Piece WireFault → Type 0
 ReadsPiece remaining place room old new (Ok (Content from to)) = Grows remaining old new × (place < from) × (from < to) × (to + 2 ≤ length (kept_bytes new)) × (to + 2 ≤ 1048576) × (to ≤ from + room)
-    × IfSome (stream_of remaining old) (λ stream. IsPieceAt place stream (kept_bytes new) from to)
+    × IsPieceAt place (kept_bytes new) from to
 ReadsPiece remaining place room old new (Ok (Last end)) = Grows remaining old new × (place ≤ end) × (end ≤ length (kept_bytes new)) × (end ≤ 1048576)
     × IfSome (stream_of remaining old) (λ stream. HasLast (drop place stream) (drop end stream))
 ReadsPiece remaining place room old new (Err fault) = IsOutside fault ⊎ IfSome (stream_of remaining old) (λ stream. RefusesChunk place room (drop place stream) fault)
@@ -119,6 +132,14 @@ pub record FindsBody {R : Type 0} (remaining : R → Option (List ℕ)) (framing
 -- why there is none
 abbrev pub LacksBody : {R : Type 0} → (R → Option (List ℕ)) → Framing → ℕ → Inbox R → WireFault → Type 0
 LacksBody remaining framing place old fault = IsOutside fault ⊎ IfSome (stream_of remaining old) (λ stream. RefusesFramed framing place (drop place stream) fault)
+
+-- more was asked for only where an open text stood behind a place
+abbrev pub AsksBehind : {R : Type 0} → (List ℕ → Type 0) → ℕ → Inbox R → Inbox R → Type 0
+AsksBehind Open start old new = AsksAt (Lacks Open start (kept_bytes old)) old new
+
+-- a head that isn't whole, and goes by the grammar so far
+abbrev pub IsOpenHead : List ℕ → Type 0
+IsOpenHead text = HasNoResponse text × MayBecomeResponse text
 
 -- reading to the end of the stream, or past the limit of a body
 abbrev pub ReadsToTheEnd : {R : Type 0} → (R → Option (List ℕ)) → ℕ → Inbox R → Inbox R → Result ℕ WireFault → Type 0
