@@ -44,14 +44,19 @@ ends_before bytes text rest n (front, ends) within is none = (drop m (take n byt
   where
     m : ℕ
     m = length text
+
     whole : bytes ≡ front ++ 10 ∷ rest
     whole = is ∙ ap (λ bs. bs ++ rest) ends ∙ append_assoc front (10 ∷ []) rest
+
     shown : n ≤ length front → list_any (λ b. b == 10) (drop n bytes) ≡ true
     shown h = ap (λ bs. list_any (λ b. b == 10) (drop n bs)) whole ∙ ap (list_any (λ b. b == 10)) (drop-append-le n front (10 ∷ rest) h) ∙ any_feed (drop n front) rest
+
     never : n ≤ length front → ⊥
     never h = let e : true ≡ false = sym (shown h) ∙ none in cc
+
     before : m ≤ length (take n bytes)
     before = omega (arith, never, ap length ends, length-append front (10 ∷ []), length-take n bytes)
+
     same : take m (take n bytes) ≡ text
     same = sym (take-append-le m (take n bytes) (drop n bytes) before) ∙ ap (take m) (take-append-drop n bytes ∙ is) ∙ take_at text rest m refl
 
@@ -144,6 +149,7 @@ searched_more remaining Open old mid new start seen searched none grows asks = r
   where
     text : List ℕ
     text = drop start (kept_bytes mid)
+
     front : take (length text) (drop start (kept_bytes new)) ≡ text
     front = ap (λ bs. take (length text) (drop start bs)) grows.kept
         ∙ ap (take (length text)) (drop-append-le start (kept_bytes mid) grows.more (omega (arith, searched.within)))
