@@ -1,11 +1,10 @@
 -- A search for an end in what comes, which looks only where a line feed came.
-use Rattle.std.proofs.Common.{◌≡◌, ℕ, ◌+◌, ◌-◌, ◌<◌, ◌≤◌, Bool, true, false, ◌||◌, ◌==◌, List, [], ◌∷◌, ◌++◌, length, take, drop, refl, sym, ap, subst, ◌∙◌, arith, append_assoc, Option, None, Ok, Err, inl, inr}
+use Rattle.std.proofs.Common.{◌≡◌, ℕ, ◌+◌, ◌≤◌, true, false, ◌==◌, List, [], ◌∷◌, ◌++◌, length, take, drop, refl, sym, ap, subst, ◌∙◌, arith, append_assoc, Option, None, Ok, Err, inl, inr}
 use Rattle.std.specs.Prelude.{slice_range}
 use Rattle.std.specs.List.{list_any, flat_map}
-use Rattle.std.proofs.lemmas.Bool.Decides.{nat_tests}
-use Rattle.std.proofs.lemmas.List.{take-append-drop, take-append-le, take_at, drop-append-le, length-append, length-take, length-drop, take_all}
+use Rattle.std.proofs.lemmas.List.{take-append-drop, take-append-le, take_at, drop-append-le, length-append, length-take, length-drop}
 use Rattle.httparse.specs.Ascii.{crlf_bytes}
-use Rattle.httparse.specs.Grammar.{ChunkLine, print_chunk_line, print_extension, HasNoChunkLine, Field, LineEnd, crlf, lf, print_end, print_field, print_section, HasNoSection, NeverHasChunkLine, MayBecomeChunkLine, MayBecomeSection}
+use Rattle.httparse.specs.Grammar.{ChunkLine, print_chunk_line, print_extension, HasNoChunkLine, Field, LineEnd, crlf, lf, print_field, print_section, HasNoSection, NeverHasChunkLine, MayBecomeChunkLine, MayBecomeSection}
 use Rattle.httparse.specs.Spans.{SectionOverflows}
 use Rattle.lra_wire.specs.declared.fault.WireFault.{WireFault}
 use Rattle.lra_wire.specs.declared.fault.WireFault.TheVariants.{Cut}
