@@ -12,7 +12,7 @@ use Rattle.lra_wire.specs.inner.Growth.{Grows, LacksBytes, Lacks}
 use Rattle.lra_wire.specs.inner.Steps.{IsLineOf, ReadsLineAt, ReadsLast, ReadsContent, IsPieceAt, AsksBehind}
 use Rattle.lra_wire.proofs.ChunkLemmas.{line_refused, line_there}
 use Rattle.lra_wire.proofs.InboxLemmas.{Grows_trans, asks_on, asks_weaker}
-use Rattle.lra_wire.proofs.StreamLemmas.{on_stream, some_weaker, some_both, grown, drop_more_bytes}
+use Rattle.lra_wire.proofs.StreamLemmas.{on_stream, some_weaker, some_both, grown}
 
 -- no chunk line
 pub piece_without_line : {R : Type 0} (remaining : R → Option (List ℕ)) (start room : ℕ) (old new : Inbox R) (fault : WireFault) → start ≤ length (kept_bytes old)

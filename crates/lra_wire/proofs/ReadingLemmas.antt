@@ -116,6 +116,7 @@ length_fault fields fault e = go (is_coded fields) (stated_of fields) e
     within : (b : Bool) (n : ℕ) → ◌≡◌ {A = Result ℕ WireFault} (cond b (Ok n) (Err TooLarge)) (Err fault) → (fault ≡ Chunked) ⊎ ((fault ≡ BadLength) ⊎ (fault ≡ TooLarge))
     within true n f = absurd (ok_is_no_err f)
     within false n f = inr (inr (sym (same_err f)))
+
     go : (b : Bool) (s : Stated) → ◌≡◌ {A = Result ℕ WireFault} (cond b (Err Chunked) (stated_body s)) (Err fault) → (fault ≡ Chunked) ⊎ ((fault ≡ BadLength) ⊎ (fault ≡ TooLarge))
     go true s f = inl (sym (same_err f))
     go false Nothing f = absurd (ok_is_no_err f)
@@ -131,6 +132,7 @@ size_refused {R} remaining old mid headers spans fault grows at stated =
   where
     is : body_length_of (fields_of at.head) ≡ Err fault
     is = ap body_length_of (sym at.places.fields) ∙ stated
+
     behind : (rest : List ℕ) → RefusesBody (kept_bytes mid ++ rest) fault
     behind rest = record {
       head = at.head;
@@ -138,6 +140,7 @@ size_refused {R} remaining old mid headers spans fault grows at stated =
       found = record { reads = ReadsRequest-append (kept_bytes mid) at.head (drop spans.len (kept_bytes mid)) rest at.places.reads; lawful = at.lawful };
       refused = is;
     }
+
     says : (bytes : List ℕ) → RefusesBody bytes fault → (fault ≡ Chunked) ⊎ ((fault ≡ BadLength) ⊎ (fault ≡ TooLarge)) → RefusesRequest bytes fault
     says bytes refused (inl e) = subst (RefusesRequest bytes) (sym e) (subst (RefusesBody bytes) e refused)
     says bytes refused (inr (inl e)) = subst (RefusesRequest bytes) (sym e) (subst (RefusesBody bytes) e refused)

@@ -1,11 +1,10 @@
 -- A search for an end in what comes, which looks only where a line feed came.
-use Rattle.std.proofs.Common.{◌≡◌, ℕ, ◌+◌, ◌-◌, ◌<◌, ◌≤◌, Bool, true, false, ◌||◌, ◌==◌, List, [], ◌∷◌, ◌++◌, length, take, drop, refl, sym, ap, subst, ◌∙◌, arith, append_assoc, Option, None, Ok, Err, inl, inr}
+use Rattle.std.proofs.Common.{◌≡◌, ℕ, ◌+◌, ◌≤◌, true, false, ◌==◌, List, [], ◌∷◌, ◌++◌, length, take, drop, refl, sym, ap, subst, ◌∙◌, arith, append_assoc, Option, None, Ok, Err, inl, inr}
 use Rattle.std.specs.Prelude.{slice_range}
 use Rattle.std.specs.List.{list_any, flat_map}
-use Rattle.std.proofs.lemmas.Bool.Decides.{nat_tests}
-use Rattle.std.proofs.lemmas.List.{take-append-drop, take-append-le, take_at, drop-append-le, length-append, length-take, length-drop, take_all}
+use Rattle.std.proofs.lemmas.List.{take-append-drop, take-append-le, take_at, drop-append-le, length-append, length-take, length-drop}
 use Rattle.httparse.specs.Ascii.{crlf_bytes}
-use Rattle.httparse.specs.Grammar.{ChunkLine, print_chunk_line, print_extension, HasNoChunkLine, Field, LineEnd, crlf, lf, print_end, print_field, print_section, HasNoSection, NeverHasChunkLine, MayBecomeChunkLine, MayBecomeSection}
+use Rattle.httparse.specs.Grammar.{ChunkLine, print_chunk_line, print_extension, HasNoChunkLine, Field, LineEnd, crlf, lf, print_field, print_section, HasNoSection, NeverHasChunkLine, MayBecomeChunkLine, MayBecomeSection}
 use Rattle.httparse.specs.Spans.{SectionOverflows}
 use Rattle.lra_wire.specs.declared.fault.WireFault.{WireFault}
 use Rattle.lra_wire.specs.declared.fault.WireFault.TheVariants.{Cut}
@@ -44,14 +43,19 @@ ends_before bytes text rest n (front, ends) within is none = (drop m (take n byt
   where
     m : ℕ
     m = length text
+
     whole : bytes ≡ front ++ 10 ∷ rest
     whole = is ∙ ap (λ bs. bs ++ rest) ends ∙ append_assoc front (10 ∷ []) rest
+
     shown : n ≤ length front → list_any (λ b. b == 10) (drop n bytes) ≡ true
     shown h = ap (λ bs. list_any (λ b. b == 10) (drop n bs)) whole ∙ ap (list_any (λ b. b == 10)) (drop-append-le n front (10 ∷ rest) h) ∙ any_feed (drop n front) rest
+
     never : n ≤ length front → ⊥
     never h = let e : true ≡ false = sym (shown h) ∙ none in cc
+
     before : m ≤ length (take n bytes)
     before = omega (arith, never, ap length ends, length-append front (10 ∷ []), length-take n bytes)
+
     same : take m (take n bytes) ≡ text
     same = sym (take-append-le m (take n bytes) (drop n bytes) before) ∙ ap (take m) (take-append-drop n bytes ∙ is) ∙ take_at text rest m refl
 
@@ -144,6 +148,7 @@ searched_more remaining Open old mid new start seen searched none grows asks = r
   where
     text : List ℕ
     text = drop start (kept_bytes mid)
+
     front : take (length text) (drop start (kept_bytes new)) ≡ text
     front = ap (λ bs. take (length text) (drop start bs)) grows.kept
         ∙ ap (take (length text)) (drop-append-le start (kept_bytes mid) grows.more (omega (arith, searched.within)))

@@ -139,7 +139,7 @@ fn next_line<R: Read + Drop>(inbox: &mut Inbox<R>, start: usize) -> Result<(usiz
 }
 
 /// The chunk line at the front of the bytes, of which the first `searched` are known to have none.
-/// A line ends in a line feed, so that each is looked at as often as one comes.
+/// A line ends in a line feed: without a new one nothing is parsed.
 fn new_line(bytes: &[u8], searched: usize) -> Result<Option<(usize, u64)>, WireFault>
     requires within { searched ≤ length bytes.now }
     requires none { HasNoChunkLine (take searched bytes.now) }
@@ -187,7 +187,7 @@ fn next_trailer<R: Read + Drop>(inbox: &mut Inbox<R>, start: usize) -> Result<us
 }
 
 /// The trailer at the front of the bytes, of which the first `searched` are known to have none.
-/// It ends in a line feed, and is refused after so many fields: it is looked at that often at most.
+/// It ends in a line feed: without a new one nothing is parsed.
 fn new_trailer(bytes: &[u8], searched: usize) -> Result<Option<usize>, WireFault>
     requires within { searched ≤ length bytes.now }
     requires none { HasNoSection (take searched bytes.now) }

@@ -96,7 +96,8 @@ fn next_request<R: Read + Drop>(
     Ok(Some(request))
 }
 
-/// Reads until there is a whole head, and writes where its fields are.
+/// Reads until there is a whole head, and writes where its fields are. What came is parsed anew
+/// with each piece: it is less than [`MAX_HEAD`] bytes until the last.
 fn next_head<R: Read + Drop>(
     inbox: &mut Inbox<R>,
     headers: &mut [HeaderSpan; MAX_FIELDS],

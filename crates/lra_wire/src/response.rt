@@ -97,7 +97,8 @@ fn is_interim(code: u16) -> bool
     100 <= code && code < 200
 }
 
-/// Reads until there is a whole head behind `start`.
+/// Reads until there is a whole head behind `start`. What came of it is parsed anew with each
+/// piece: it is less than [`MAX_HEAD`] bytes until the last.
 fn next_head<R: Read + Drop>(inbox: &mut Inbox<R>, start: usize) -> Result<Head, WireFault>
     requires { start ≤ length (kept_bytes inbox.old) }
     ensures reads { ReadsHeadAt R.remaining start inbox.old inbox.new result }

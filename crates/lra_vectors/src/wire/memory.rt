@@ -51,7 +51,10 @@ fn a_refused_growth_writes_nothing(rt: HostRuntime) -> Result<(), Fail> {
     };
     let written = write_request(rt.alloc(), &mut writer, &request);
     match &written {
-        Ok(()) => assert_eq!(rt; writer.taken.as_slice(), b"PUT /a HTTP/1.1\r\nHost: x\r\n\r\nok".as_slice()),
+        Ok(()) => assert_eq!(rt;
+            writer.taken.as_slice(),
+            b"PUT /a HTTP/1.1\r\nHost: x\r\n\r\nok".as_slice()
+        ),
         Err(fault) => {
             assert_eq!(rt; *fault, WireFault::Memory);
             assert!(rt; writer.taken.is_empty());

@@ -11,7 +11,11 @@ fn reads_requests_in_pieces_of_any_size_and_no_further(rt: HostRuntime) -> Resul
     for size in 1..TWO.len() + 1 {
         let mut inbox = in_pieces(rt.alloc(), TWO, size, true)?;
         let post = read_request(rt.alloc(), &mut inbox)?.ok_or("no POST")?;
-        assert_eq!(rt; post.target.as_str(), "/lra-coordinator", "in pieces of {size}");
+        assert_eq!(rt;
+            post.target.as_str(),
+            "/lra-coordinator",
+            "in pieces of {size}"
+        );
         assert_eq!(rt; post.body.as_slice(), b"{}".as_slice());
         assert!(rt; !post.close);
         let get = read_request(rt.alloc(), &mut inbox)?.ok_or("no GET")?;
@@ -39,9 +43,18 @@ fn refuses_requests(rt: HostRuntime) -> Result<(), Fail> {
         ("GET / HTTP/1.2\r\n", WireFault::BadHead),
         ("GET / HTTP/1.1\r\n\r\n", WireFault::BadHead),
         ("GET / HTTP/1.0\r\nExpect: x\r\n\r\n", WireFault::Chunked),
-        ("GET / HTTP/1.0\r\nContent-Length: +1\r\n\r\n1", WireFault::BadLength),
-        ("GET / HTTP/1.0\r\nContent-Length: 65537\r\n\r\n", WireFault::TooLarge),
-        ("GET / HTTP/1.0\r\nContent-Length: 2\r\n\r\n1", WireFault::Cut),
+        (
+            "GET / HTTP/1.0\r\nContent-Length: +1\r\n\r\n1",
+            WireFault::BadLength,
+        ),
+        (
+            "GET / HTTP/1.0\r\nContent-Length: 65537\r\n\r\n",
+            WireFault::TooLarge,
+        ),
+        (
+            "GET / HTTP/1.0\r\nContent-Length: 2\r\n\r\n1",
+            WireFault::Cut,
+        ),
     ];
     for (text, fault) in rows {
         for size in [1, 4096] {

@@ -35,11 +35,26 @@ fn a_stream_ends_a_body(rt: HostRuntime) -> Result<(), Fail> {
 fn refuses_responses(rt: HostRuntime) -> Result<(), Fail> {
     let rows: [(&str, WireFault); 6] = [
         ("HTTP/1.1 20 OK\r\n\r\n", WireFault::BadHead),
-        ("HTTP/1.1 200 OK\r\nTransfer-Encoding: gzip\r\n\r\n", WireFault::Chunked),
-        ("HTTP/1.1 200 OK\r\nTransfer-Encoding: chunked\r\n\r\nx\r\n", WireFault::BadLength),
-        ("HTTP/1.1 200 OK\r\nTransfer-Encoding: chunked\r\n\r\n1\r\nxy\n", WireFault::BadLength),
-        ("HTTP/1.1 200 OK\r\nTransfer-Encoding: chunked\r\n\r\n10001\r\n", WireFault::TooLarge),
-        ("HTTP/1.1 200 OK\r\nTransfer-Encoding: chunked\r\n\r\n1\r\nx\r\n", WireFault::Cut),
+        (
+            "HTTP/1.1 200 OK\r\nTransfer-Encoding: gzip\r\n\r\n",
+            WireFault::Chunked,
+        ),
+        (
+            "HTTP/1.1 200 OK\r\nTransfer-Encoding: chunked\r\n\r\nx\r\n",
+            WireFault::BadLength,
+        ),
+        (
+            "HTTP/1.1 200 OK\r\nTransfer-Encoding: chunked\r\n\r\n1\r\nxy\n",
+            WireFault::BadLength,
+        ),
+        (
+            "HTTP/1.1 200 OK\r\nTransfer-Encoding: chunked\r\n\r\n10001\r\n",
+            WireFault::TooLarge,
+        ),
+        (
+            "HTTP/1.1 200 OK\r\nTransfer-Encoding: chunked\r\n\r\n1\r\nx\r\n",
+            WireFault::Cut,
+        ),
     ];
     for (text, fault) in rows {
         for size in [1, 4096] {

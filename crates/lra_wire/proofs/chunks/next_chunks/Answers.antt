@@ -28,7 +28,7 @@ loop-body-preserved g c =
     (subst (λ (n : ℕ). ReadsPiece g.R.Read.remaining c.loop-body.at (65536 - n) c.loop-body.inbox c.next_piece.new.inbox (Ok (Content c.in-Content.from c.in-Content.to))) count piece) c.next_piece.ensures.asks)
 
 pub returns-in_err-from-clause-asks : goal.returns-in_err-from-clause-asks
-returns-in_err-from-clause-asks g c = 
+returns-in_err-from-clause-asks g c =
     joins_asks g.R.Read.remaining c.args.inbox.now c.loop-body.inbox c.next_piece.new.inbox c.args.start c.loop-body.at c.loop-body.body.items c.loop-body.invariant c.next_piece.ensures.asks
 
 pub returns-in_err-extend_from_slice-in-Content-clause-asks : goal.returns-in_err-extend_from_slice-in-Content-clause-asks

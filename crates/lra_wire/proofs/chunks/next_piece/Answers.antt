@@ -36,21 +36,21 @@ pub returns-in_err-line-clause-asks : goal.returns-in_err-line-clause-asks
 returns-in_err-line-clause-asks g c = asks_line c.args.start c.args.inbox.now c.next_line.new.inbox c.next_line.ensures.asks
 
 pub returns-in_err-next_last-clause-asks : goal.returns-in_err-next_last-clause-asks
-returns-in_err-next_last-clause-asks g c = 
+returns-in_err-next_last-clause-asks g c =
     asks_behind g.R.Read.remaining c.args.start (c.in_ok-line.line, c.in_ok-line.size) c.args.inbox.now c.next_line.new.inbox c.next_last.new.inbox c.requires.start c.in_ok-line.ensures.reads c.next_line.ensures.asks
     (asks_trailer (c.args.start + c.in_ok-line.line) c.in_ok-line.size c.next_line.new.inbox c.next_last.new.inbox c.if-size-eq0.true c.next_last.ensures.asks)
 
 pub returns-then-size-eq0-clause-asks : goal.returns-then-size-eq0-clause-asks
-returns-then-size-eq0-clause-asks g c = 
+returns-then-size-eq0-clause-asks g c =
     asks_behind g.R.Read.remaining c.args.start (c.in_ok-line.line, c.in_ok-line.size) c.args.inbox.now c.next_line.new.inbox c.next_last.new.inbox c.requires.start c.in_ok-line.ensures.reads c.next_line.ensures.asks
     (asks_trailer (c.args.start + c.in_ok-line.line) c.in_ok-line.size c.next_line.new.inbox c.next_last.new.inbox c.if-size-eq0.true c.next_last.ensures.asks)
 
 pub returns-in_err-to-clause-asks : goal.returns-in_err-to-clause-asks
-returns-in_err-to-clause-asks g c = 
+returns-in_err-to-clause-asks g c =
     asks_behind g.R.Read.remaining c.args.start (c.in_ok-line.line, c.in_ok-line.size) c.args.inbox.now c.next_line.new.inbox c.next_content.new.inbox c.requires.start c.in_ok-line.ensures.reads c.next_line.ensures.asks
     (asks_content (c.args.start + c.in_ok-line.line) c.in_ok-line.size c.next_line.new.inbox c.next_content.new.inbox (omega (arith, c.if-size-eq0.false)) c.next_content.ensures.asks)
 
 pub returns-clause-asks : goal.returns-clause-asks
-returns-clause-asks g c = 
+returns-clause-asks g c =
     asks_behind g.R.Read.remaining c.args.start (c.in_ok-line.line, c.in_ok-line.size) c.args.inbox.now c.next_line.new.inbox c.next_content.new.inbox c.requires.start c.in_ok-line.ensures.reads c.next_line.ensures.asks
     (asks_content (c.args.start + c.in_ok-line.line) c.in_ok-line.size c.next_line.new.inbox c.next_content.new.inbox (omega (arith, c.if-size-eq0.false)) c.next_content.ensures.asks)

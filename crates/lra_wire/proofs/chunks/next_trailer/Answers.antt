@@ -1,4 +1,4 @@
-use Rattle.std.proofs.Common.{ℕ, List, length, drop, Bool, Ok, subst, sym}
+use Rattle.std.proofs.Common.{ℕ, List, length, Bool, Ok, subst, sym}
 use Rattle.std.proofs.lemmas.Result.{err_from_is_err_and}
 use Rattle.httparse.specs.Grammar.{HasNoSection}
 use Rattle.lra_wire.specs.Inbox.{kept_bytes}

@@ -1,4 +1,4 @@
-use Rattle.std.proofs.Common.{◌≡◌, ℕ, List, [], Bool, Ok, subst, sym, ◌∙◌}
+use Rattle.std.proofs.Common.{Bool, Ok, subst}
 use Rattle.lra_wire.specs.Inbox.{kept_bytes}
 use Rattle.lra_wire.specs.inner.Growth.{Fills}
 use Rattle.lra_wire.specs.Request.{AwaitsRequest}
