@@ -138,7 +138,7 @@ top_is_there v t J l a h = ap (is_among (actions J)) (top_climbs J a) ∙ within
         above None e ih = g
         above (Some c) e ih = ih c (parent_there v t J l b c e).parent
 
--- ---- state and limit
+-- ---- status and limit
 
 pub status_kept : (J : History) (by m : ℕ) (d : Deed) (a : ℕ) → status_given a d ≡ None → action_status (more J by m d) a ≡ action_status J a
 status_kept J by m d a h = action_status_push J (entry by m d) a ∙ ap (λ (o : Option ActionStatus). option_or o (action_status J a)) h

@@ -69,7 +69,7 @@ count_none f (x ∷ xs) h = count_cons f x xs ∙ ap (λ (b : Bool). one b + cou
 not_zero : (n : ℕ) → false ≡ (1 + n == 0)
 not_zero n = sym (ne_eqb (1 + n) 0 (λ e. omega arith))
 
--- all pass just where the count of those that don't is 0
+-- all pass exactly where the count of those that don't is 0
 pub all_by_count : {X : Type 0} (f g : X → Bool) (xs : List X) → ((x : X) → g x ≡ not (f x)) → list_all f xs ≡ (count_by g xs == 0)
 all_by_count f g [] h = refl
 all_by_count f g (x ∷ xs) h = either (f x) refl (all_by_count f g xs h)

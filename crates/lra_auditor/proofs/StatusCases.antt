@@ -1,4 +1,4 @@
--- What a member's state becomes, case by case.
+-- What a member's status becomes, case by case.
 use Rattle.std.proofs.Common.{◌≡◌, Bool, true, false, Option, Some, None, refl, cond}
 use Rattle.std.specs.Prelude.{◌&&◌, ◌||◌}
 use Rattle.std.specs.Option.{option_map_or, option_or}

@@ -1,4 +1,4 @@
--- What an audit comes to, in the words of histories and of the journal's text.
+-- What an audit answers, in the words of histories and of the journal's text.
 use Rattle.std.specs.Prelude.{◌≡◌, ℕ, ◌+◌, ◌<◌, Bool, true, false, not, List, ◌++◌, length, Option, Some, option_map, unwrap_or, ◌⊎◌}
 use Rattle.std.specs.Option.{option_map_or}
 use Rattle.std.specs.List.{filter_map}
@@ -34,7 +34,7 @@ is_unended s = not (has_ended s)
 abbrev pub ended_cancelled : ActionStatus → Bool
 ended_cancelled s = same_status s action.Cancelled
 
--- what a history comes to
+-- the summary of a history: how many entries and actions it has, how many of these have ended and how, and the failed ends
 unfoldable pub summary : History → Summary
 summary J = record {
   entries = length J;

@@ -409,7 +409,7 @@ impl Rows {
         }
     }
 
-    /// Whether that is the status in which the action ends now.
+    /// Whether that is the status with which the action ends now.
     pub(crate) fn ends_as(&self, number: u64, status: ActionStatus) -> bool
         ensures { result ≡ tests.at_action (λ x. words.same_status status x.right_end) (facts_by self.now) number }
     {

@@ -1,4 +1,4 @@
-//! The auditor of a journal: whether its bytes are the text of a legal history, and what the history comes to.
+//! The auditor of a journal: whether its bytes are the text of a legal history, and what the history has in it.
 #![tactic(auto)]
 
 mod advance;

@@ -8,7 +8,7 @@ use crate::state::Rows;
 use lra_model::{ActionStatus, MemberStatus, Rule};
 use std::marker::Model;
 
-/// An action, its parent and the state that it is in.
+/// An action, its parent and its status.
 #[derive(Clone, Copy, Debug, PartialEq, Eq)]
 pub struct ListedAction {
     pub action: u64,
@@ -16,7 +16,7 @@ pub struct ListedAction {
     pub status: ActionStatus,
 }
 
-/// A member, its action and the state that it is in.
+/// A member, its action and its status.
 #[derive(Clone, Copy, Debug, PartialEq, Eq)]
 pub struct ListedMember {
     pub member: u64,
@@ -85,7 +85,7 @@ impl Listing {
     }
 }
 
-/// What a journal's account comes to.
+/// What is said of a journal: who takes part in its history, or what is at fault.
 #[derive(Debug, Drop)]
 pub enum Account {
     /// The history is legal.

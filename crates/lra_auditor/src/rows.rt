@@ -42,7 +42,7 @@ pub(crate) struct MemberRow {
     pub was_told: bool,
 }
 
-/// An action, as the rules see it, with how many of its staying members and of the actions nested in it are in which state.
+/// An action, as the rules see it, with how many of its staying members and of the actions nested in it have which status.
 #[derive(Clone, Copy, Debug)]
 pub(crate) struct ActionRow {
     pub parent: Option<u64>,

@@ -175,7 +175,7 @@ fn failed_by(alloc: Global, rows: &Rows) -> Result<FailedEnds, Memory>
     failed_ends(alloc, &rows.actions, &least)
 }
 
-/// What a history of so many entries comes to, by its rows.
+/// The summary of a history of so many entries, by its rows.
 pub(crate) fn summary(alloc: Global, rows: &Rows, entries: u64) -> Result<Summary, Memory>
     ensures { IfOk result (λ s. s ≡ summary_by entries rows.now) }
 {

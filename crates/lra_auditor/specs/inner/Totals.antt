@@ -38,7 +38,7 @@ failed_ends_from least n (r ∷ rows) = onto (option_map (λ p. record { action 
     onto None ends = ends
     onto (Some end) ends = end ∷ ends
 
--- what a state after n entries comes to
+-- the summary of a state after n entries
 abbrev pub summary_by : ℕ → State → Summary
 summary_by n s = record {
   entries = n;
