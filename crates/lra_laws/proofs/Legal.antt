@@ -375,17 +375,17 @@ pub member_there_push : (J : History) (e : Entry) (p : ℕ) → is_among (member
 member_there_push J e p h =
     ap (λ (ns : List ℕ). is_among ns p) (members_push J e) ∙ among_push (members J) (joined_by e.deed) p ∙ ap (λ (b : Bool). b || option_map_or (λ m. m == p) (joined_by e.deed) false) h
 
+some_when : {X : Type 0} (b : Bool) (x : X) → is_some (when b x) ≡ b
+some_when true x = refl
+some_when false x = refl
+
 -- an action has a Start exactly where it is there
 start_is_there : (a : ℕ) (J : History) → is_some (first (read_deeds (parent_given a) J)) ≡ is_among (actions J) a
 unfolding actions
 start_is_there a J = first_is_there (parent_given a) started_by a alike J
   where
-    gives : (b : Bool) (parent : Option ℕ) → is_some (when b parent) ≡ b
-    gives true parent = refl
-    gives false parent = refl
-
     alike : (d : Deed) → is_some (parent_given a d) ≡ option_map_or (λ m. m == a) (started_by d) false
-    alike (Start b parent limit) = gives (b == a) parent
+    alike (Start b parent limit) = some_when (b == a) parent
     alike _ = refl
 
 -- a member has a Join exactly where it is there
@@ -393,12 +393,8 @@ join_is_there : (p : ℕ) (J : History) → is_some (first (read_deeds (action_g
 unfolding members
 join_is_there p J = first_is_there (action_given p) joined_by p alike J
   where
-    gives : (b : Bool) (a : ℕ) → is_some (when b a) ≡ b
-    gives true a = refl
-    gives false a = refl
-
     alike : (d : Deed) → is_some (action_given p d) ≡ option_map_or (λ m. m == p) (joined_by d) false
-    alike (Join q a uris) = gives (q == p) a
+    alike (Join q a uris) = some_when (q == p) a
     alike _ = refl
 
 -- and has addresses then
@@ -406,12 +402,8 @@ addresses_are_there : (p : ℕ) (J : History) → is_some (first (read_deeds (ad
 unfolding members
 addresses_are_there p J = first_is_there (addresses_given p) joined_by p alike J
   where
-    gives : (b : Bool) (u : Addresses) → is_some (when b u) ≡ b
-    gives true u = refl
-    gives false u = refl
-
     alike : (d : Deed) → is_some (addresses_given p d) ≡ option_map_or (λ m. m == p) (joined_by d) false
-    alike (Join q a uris) = gives (q == p) uris
+    alike (Join q a uris) = some_when (q == p) uris
     alike _ = refl
 
 -- the first that is there stays
