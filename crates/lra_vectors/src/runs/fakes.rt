@@ -14,6 +14,11 @@ pub struct Shelf {
 }
 
 impl Sources for Shelf {
+    ghost use Rattle.std.specs.Prelude.{Some};
+
+    // Its text.
+    ghost standard = { λ shelf. Some shelf.input.now };
+
     type Input = &'static [u8];
 
     type File = &'static [u8];
