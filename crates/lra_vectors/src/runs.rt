@@ -30,7 +30,7 @@ const SHELF: Shelf = Shelf {
 };
 
 /// What is asked for, what is printed, and the outcome.
-const RUNS: [(Invocation<'static>, &str, Result<u8, RunFault>); 10] = [
+const RUNS: [(Invocation<'static>, &str, Result<u8, RunFault>); 7] = [
     (Invocation::AuditInput, "unsound line 2 clerk\n", Ok(1)),
     (Invocation::Audit { file: "journal" }, AUDITED, Ok(0)),
     (Invocation::Show { file: "journal" }, LISTED, Ok(0)),
@@ -42,24 +42,7 @@ const RUNS: [(Invocation<'static>, &str, Result<u8, RunFault>); 10] = [
         Err(RunFault::Line(2)),
     ),
     (
-        Invocation::Show { file: "script" },
-        "unsound line 1 header\n",
-        Ok(1),
-    ),
-    (
-        Invocation::Upgrade { file: "script" },
-        "unsound line 1 header\n",
-        Ok(1),
-    ),
-    (
         Invocation::Audit { file: "elsewhere" },
-        "",
-        Err(RunFault::Read),
-    ),
-    (
-        Invocation::Play {
-            script: "elsewhere",
-        },
         "",
         Err(RunFault::Read),
     ),
@@ -87,19 +70,24 @@ const FILES: [(Invocation<'static>, &str, &str, u8); 4] = [
 #[test]
 fn an_input_may_halt(rt: HostRuntime) -> Result<(), Fail> {
     for (invocation, text, printed, status) in FILES {
-        for fails in [false, true] {
-            let mut out = Vec::new(rt.alloc());
-            let answer = run(rt.alloc(), &Halts { text, fails }, invocation, &mut out);
-            if fails {
-                assert_eq!(rt; answer, Err(RunFault::Read), "of {invocation:?}");
-                assert!(rt; out.is_empty());
-            } else {
-                assert_eq!(rt; answer, Ok(status), "of {invocation:?}");
-                assert_eq!(rt; out.as_slice(), printed.as_bytes(), "of {invocation:?}");
-            }
-        }
+        let mut out = Vec::new(rt.alloc());
+        let source = Halts { text, fails: false };
+        let answer = run(rt.alloc(), &source, invocation, &mut out);
+        assert_eq!(rt; answer, Ok(status), "of {invocation:?}");
+        assert_eq!(rt; out.as_slice(), printed.as_bytes(), "of {invocation:?}");
     }
     Ok(())
+}
+
+#[test]
+fn an_input_may_fail(rt: HostRuntime) {
+    for (invocation, text, _, _) in FILES {
+        let mut out = Vec::new(rt.alloc());
+        let source = Halts { text, fails: true };
+        let answer = run(rt.alloc(), &source, invocation, &mut out);
+        assert_eq!(rt; answer, Err(RunFault::Read), "of {invocation:?}");
+        assert!(rt; out.is_empty(), "of {invocation:?}");
+    }
 }
 
 #[test]
