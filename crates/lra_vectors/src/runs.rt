@@ -6,37 +6,31 @@ use fakes::{Full, Halting, Halts, Shelf};
 use lra_runs::{Invocation, RunFault, Usage, error_line, input_name, read_words, run};
 use std::test::Fail;
 
-/// A nested action closes in failure, and so does the one around it.
-const FAILED: &str =
-    "lra-journal 1 7\n1 0 enrol\n1 0 start 1 * 0\n1 1 start 2 1 0\n1 2 join 1 2 http://n.test/u http://n.test/c * http://n.test/f http://n.test/a\n1 3 close 2 client\n1 4 ask 1 1 complete\n1 5 reply 1 failed\n1 5 end 2 FailedToClose\n1 6 close 1 client\n1 6 end 1 FailedToClose\n1 7 ask 2 1 forget\n1 8 reply 2 done\n1 9 ask 3 1 after\n";
+const JOURNAL: &str = "lra-journal 1 7\n1 0 enrol\n1 0 start 1 * 0\n1 5 start 2 1 0\n";
 
-const AUDITED: &str =
-    "sound entries 13 actions 2 unended 0 closed 0 cancelled 0 failed 2\nfailed 1 FailedToClose 1\nfailed 2 FailedToClose 1\n";
+const AUDITED: &str = "sound entries 3 actions 2 unended 2 closed 0 cancelled 0 failed 0\n";
 
-const LISTED: &str =
-    "action 1 * FailedToClose\naction 2 1 FailedToClose\nmember 1 2 FailedToComplete\n";
+const LISTED: &str = "action 1 * Active\naction 2 1 Active\n";
 
-const UPGRADED: &str =
-    "lra-journal 2 7\n1 0 enrol\n1 0 start 1 * 0\n1 1 start 2 1 0\n1 2 join 1 2 http://n.test/u http://n.test/c * http://n.test/f http://n.test/a\n1 3 close 2 client\n1 4 ask 1 1 complete\n1 5 reply 1 failed\n1 5 end 2 FailedToClose\n1 6 close 1 client\n1 6 end 1 FailedToClose\n1 7 ask 2 1 forget\n1 8 reply 2 done\n1 9 ask 3 1 after\n";
+const UPGRADED: &str = "lra-journal 2 7\n1 0 enrol\n1 0 start 1 * 0\n1 5 start 2 1 0\n";
 
-const SCRIPT: &str =
-    "0 0 enrol\n1 0 start * 9\n1 1 status 1\n1 5 close 1\n1 6 close 1\n1 7 close 2\n2 8 start * 0\n";
+const SCRIPT: &str = "0 0 enrol\n1 0 start * 9\n1 5 close 1\n1 7 status 2\n";
 
 const PLAYED: &str =
-    "+ lra-journal 1 7\nclerk 1\n+ 1 0 enrol\naction 1\n+ 1 0 start 1 * 9\nstatus Active\nnow Closed\n+ 1 5 close 1 client\n+ 1 5 end 1 Closed\nalready Closed\nrefused NoSuchAction\nrefused NoSuchClerk\n";
+    "+ lra-journal 1 7\nclerk 1\n+ 1 0 enrol\naction 1\n+ 1 0 start 1 * 9\nnow Closed\n+ 1 5 close 1 client\n+ 1 5 end 1 Closed\nrefused NoSuchAction\n";
 
 /// A script whose second line is none.
 const BAD: &str = "0 0 enrol\n1 0 enrol\n1 0 start * 0\n";
 
 const SHELF: Shelf = Shelf {
     input: "lra-journal 1 7\n1 0 start 1 * 0\n",
-    journal: FAILED,
+    journal: JOURNAL,
     script: SCRIPT,
     bad: BAD,
 };
 
 /// What is asked for, what is printed, and the outcome.
-const RUNS: [(Invocation<'static>, &str, Result<u8, RunFault>); 10] = [
+const RUNS: [(Invocation<'static>, &str, Result<u8, RunFault>); 7] = [
     (Invocation::AuditInput, "unsound line 2 clerk\n", Ok(1)),
     (Invocation::Audit { file: "journal" }, AUDITED, Ok(0)),
     (Invocation::Show { file: "journal" }, LISTED, Ok(0)),
@@ -48,24 +42,7 @@ const RUNS: [(Invocation<'static>, &str, Result<u8, RunFault>); 10] = [
         Err(RunFault::Line(2)),
     ),
     (
-        Invocation::Show { file: "script" },
-        "unsound line 1 header\n",
-        Ok(1),
-    ),
-    (
-        Invocation::Upgrade { file: "script" },
-        "unsound line 1 header\n",
-        Ok(1),
-    ),
-    (
         Invocation::Audit { file: "elsewhere" },
-        "",
-        Err(RunFault::Read),
-    ),
-    (
-        Invocation::Play {
-            script: "elsewhere",
-        },
         "",
         Err(RunFault::Read),
     ),
@@ -84,28 +61,33 @@ fn invocations_are_carried_out(rt: HostRuntime) -> Result<(), Fail> {
 
 /// What is asked for of a file, what is read there, what is printed, and the status.
 const FILES: [(Invocation<'static>, &str, &str, u8); 4] = [
-    (Invocation::Audit { file: "it" }, FAILED, AUDITED, 0),
-    (Invocation::Show { file: "it" }, FAILED, LISTED, 0),
-    (Invocation::Upgrade { file: "it" }, FAILED, UPGRADED, 0),
+    (Invocation::Audit { file: "it" }, JOURNAL, AUDITED, 0),
+    (Invocation::Show { file: "it" }, JOURNAL, LISTED, 0),
+    (Invocation::Upgrade { file: "it" }, JOURNAL, UPGRADED, 0),
     (Invocation::Play { script: "it" }, SCRIPT, PLAYED, 1),
 ];
 
 #[test]
 fn an_input_may_halt(rt: HostRuntime) -> Result<(), Fail> {
     for (invocation, text, printed, status) in FILES {
-        for fails in [false, true] {
-            let mut out = Vec::new(rt.alloc());
-            let answer = run(rt.alloc(), &Halts { text, fails }, invocation, &mut out);
-            if fails {
-                assert_eq!(rt; answer, Err(RunFault::Read), "of {invocation:?}");
-                assert!(rt; out.is_empty());
-            } else {
-                assert_eq!(rt; answer, Ok(status), "of {invocation:?}");
-                assert_eq!(rt; out.as_slice(), printed.as_bytes(), "of {invocation:?}");
-            }
-        }
+        let mut out = Vec::new(rt.alloc());
+        let source = Halts { text, fails: false };
+        let answer = run(rt.alloc(), &source, invocation, &mut out);
+        assert_eq!(rt; answer, Ok(status), "of {invocation:?}");
+        assert_eq!(rt; out.as_slice(), printed.as_bytes(), "of {invocation:?}");
     }
     Ok(())
+}
+
+#[test]
+fn an_input_may_fail(rt: HostRuntime) {
+    for (invocation, text, _, _) in FILES {
+        let mut out = Vec::new(rt.alloc());
+        let source = Halts { text, fails: true };
+        let answer = run(rt.alloc(), &source, invocation, &mut out);
+        assert_eq!(rt; answer, Err(RunFault::Read), "of {invocation:?}");
+        assert!(rt; out.is_empty(), "of {invocation:?}");
+    }
 }
 
 #[test]

@@ -14,6 +14,11 @@ pub struct Shelf {
 }
 
 impl Sources for Shelf {
+    ghost use Rattle.std.specs.Prelude.{Some};
+
+    // Its text.
+    ghost standard = { λ shelf. Some shelf.input.now };
+
     type Input = &'static [u8];
 
     type File = &'static [u8];
@@ -71,15 +76,11 @@ impl Read for Halting {
         if self.is_interrupted {
             return Err(io::Error::from(ErrorKind::Interrupted));
         }
-        match self.left {
-            [first, others @ ..] if !buf.is_empty() => {
-                buf[0] = *first;
-                self.left = others;
-                Ok(1)
-            }
-            _ if self.fails => Err(io::Error::from(ErrorKind::Other)),
-            _ => Ok(0),
+        if self.fails && self.left.is_empty() {
+            return Err(io::Error::from(ErrorKind::Other));
         }
+        let room = buf.len().min(1);
+        self.left.read(&mut buf[..room])
     }
 }
 
