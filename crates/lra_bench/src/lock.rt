@@ -35,7 +35,12 @@ fn lock_and_unlock<R: Wait>(rt: &R, lock: &Mutex<Vec<Entry>>, times: u64) {
 }
 
 // As many passes as there are threads.
-fn passes(alloc: Global, lock: &EntryLock, mut pass: EntryPass, threads: u64) -> Result<Vec<EntryPass>, Memory>
+fn passes(
+    alloc: Global,
+    lock: &EntryLock,
+    mut pass: EntryPass,
+    threads: u64,
+) -> Result<Vec<EntryPass>, Memory>
     requires { pass_id pass ≡ lock_id lock.now }
     ensures { IfOk result (λ all. All (λ p. pass_id p ≡ lock_id lock.now) all.items) }
 {

@@ -81,7 +81,13 @@ fn enrol(
 }
 
 // One block under the lock, after a wait. Where memory is refused, it asks once more.
-fn append<R: Wait>(rt: &R, lock: &EntryLock, pass: EntryPass, number: u32, moment: u64) -> Option<EntryPass>
+fn append<R: Wait>(
+    rt: &R,
+    lock: &EntryLock,
+    pass: EntryPass,
+    number: u32,
+    moment: u64,
+) -> Option<EntryPass>
     requires lock { pass_id pass ≡ lock_id lock.now }
     requires number { ((pass_view pass).number ≡ number) × (number ≢ 0) }
     ensures { IfSome result (λ p. (pass_id p ≡ lock_id lock.now) × ((pass_view p).number ≡ number)) }
@@ -125,7 +131,13 @@ fn first_block<R: Wait>(rt: &R, lock: &EntryLock, pass: EntryPass, number: u32) 
 }
 
 // Enrols under a number, and adds this many blocks. Even numbers try before they wait.
-fn clerk<R: Wait>(rt: &R, lock: &EntryLock, pass: EntryPass, number: u32, blocks: u64) -> Option<EntryPass>
+fn clerk<R: Wait>(
+    rt: &R,
+    lock: &EntryLock,
+    pass: EntryPass,
+    number: u32,
+    blocks: u64,
+) -> Option<EntryPass>
     requires lock { pass_id pass ≡ lock_id lock.now }
     requires number { ((pass_view pass).number ≡ 0) × (number ≢ 0) }
     ensures { IfSome result (λ p. pass_id p ≡ lock_id lock.now) }
