@@ -52,7 +52,8 @@ pub fn read_response<R: Read + Drop>(
     ensures ok { OnOk result (IsFalse (is_spent inbox.new)) }
     ensures err { OnErr result (IsTrue (is_spent inbox.new)) }
 
-    // Where the bytes that came spell a response, no more is asked for: only where the stream ends it.
+    // Where the bytes that came spell a response, no more is asked for, unless its body ends with the
+    // stream.
     ensures rests { AsksAt AwaitsResponse inbox.old inbox.new }
 {
     if inbox.spent {
