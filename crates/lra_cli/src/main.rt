@@ -1,4 +1,4 @@
-//! `lra`: audits a journal of long running actions, lists what it comes to, and upgrades it; and plays scripts of commands.
+//! `lra`: audits a journal of long running actions, lists its actions and members, and upgrades it; and plays scripts of commands.
 #![tactic(auto)]
 
 use lra_runs::{RunFault, Sources, error_line, input_name, read_words, run};

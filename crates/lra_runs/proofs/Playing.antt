@@ -119,7 +119,7 @@ pub none_at : (rest front others : List ℕ) → IsLine front → rest ≡ front
 none_at rest front others is parts none = λ l more has same.
     none l has (line_front front others (join_with_byte 32 (line_words l)) more is (body_lacks l has) (sym parts ∙ same))
 
--- ---- the state between two lines
+-- ---- between two lines
 
 -- lines were read and played, what they print was written, and the rest is to come
 pub record IsPlayed (script : List ℕ) (before now : Option (List ℕ)) (c : Shape) (is_refused : Bool) (number : ℕ) (rest : List ℕ) : Type 0 where

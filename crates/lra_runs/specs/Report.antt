@@ -20,7 +20,7 @@ joined (text ∷ texts) = text ++ joined texts
 abbrev pub line_feed : List ℕ
 line_feed = 10 ∷ []
 
--- a line for an action that ended in failure: its number, its state and its least failed member
+-- a line for an action that ended in failure: its number, its status and its least failed member
 abbrev pub failed_line : FailedEnd → List ℕ
 failed_line f = joined (codes "failed " ∷ decimal f.action ∷ codes " " ∷ action_status_name f.status ∷ codes " " ∷ decimal f.member ∷ line_feed ∷ [])
 

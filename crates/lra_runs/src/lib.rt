@@ -1,5 +1,5 @@
-//! The runs of the program `lra`, over any reader and writer: to audit a journal, to list what it comes to, to upgrade it,
-//! and to play a script of commands; and what the words of a command line ask for.
+//! The runs of the program `lra`, over any reader and writer: to audit a journal, to list its actions and members, to upgrade
+//! it, and to play a script of commands; and what the words of a command line ask for.
 #![tactic(auto)]
 
 mod answers;

@@ -11,7 +11,7 @@ pub enum Invocation<'a> {
     AuditInput,
     /// Audit a file.
     Audit { file: &'a str },
-    /// List what a file's journal comes to.
+    /// List the actions and members of a file's journal.
     Show { file: &'a str },
     /// Upgrade a file's journal to version 2.
     Upgrade { file: &'a str },
