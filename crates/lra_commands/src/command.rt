@@ -8,57 +8,31 @@ pub enum Command<'a, E> {
     /// To have a number as a clerk.
     Enrol,
     /// To start an action. A limit is in milliseconds, and 0 is none.
-    Start {
-        parent: Option<u64>,
-        limit: u64,
-    },
+    Start { parent: Option<u64>, limit: u64 },
     /// To let a member join an action.
-    Join {
-        action: u64,
-        uris: &'a Uris,
-    },
+    Join { action: u64, uris: &'a Uris },
     /// To let a member leave its action.
-    Leave {
-        action: u64,
-        member: u64,
-    },
+    Leave { action: u64, member: u64 },
     /// To close an action.
-    Close {
-        action: u64,
-    },
+    Close { action: u64 },
     /// To cancel an action.
-    Cancel {
-        action: u64,
-    },
+    Cancel { action: u64 },
     /// To cancel an action whose limit has passed.
     Tick,
     /// To have something that a member is to be asked.
     NextAsk,
     /// To take down what came of an ask.
-    Record {
-        errand: &'a E,
-        outcome: Outcome,
-    },
+    Record { errand: &'a E, outcome: Outcome },
     /// To take down what a member tells of itself.
-    Report {
-        member: u64,
-        ending: Ending,
-    },
+    Report { member: u64, ending: Ending },
     /// To make every outstanding ask void.
     Restart,
     /// To set an action's limit anew, in milliseconds from now.
-    Renew {
-        action: u64,
-        limit: u64,
-    },
+    Renew { action: u64, limit: u64 },
     /// To know an action's status.
-    Status {
-        action: u64,
-    },
+    Status { action: u64 },
     /// To know a member's status.
-    MemberStatus {
-        member: u64,
-    },
+    MemberStatus { member: u64 },
 }
 
 /// What the coordinator answers where it doesn't refuse.

@@ -5,6 +5,9 @@ use Rattle.lra_model.specs.declared.status.ActionStatus.TheVariants as action
 use Rattle.lra_model.specs.declared.version.Version.{Version}
 use Rattle.lra_model.specs.History.{History, members}
 use Rattle.lra_model.specs.Actions.{parent, children, action_status}
+use Rattle.lra_ids.specs.Addresses.{is_base}
+use Rattle.lra_commands.specs.Terms.{AreKeepable}
+use Rattle.lra_commands.specs.Runs.{IsLawful}
 use Rattle.lra_commands.specs.declared.command.Command.TheVariants.{Enrol, Start, Close, Status}
 use Rattle.lra_commands.specs.Calls.{Command}
 use Rattle.lra_commands.specs.declared.limits.Limits.{Limits}
@@ -22,6 +25,12 @@ pub record Shape : Type 0 where
 -- what its answers depend on, beside its history
 abbrev pub terms_of : Shape → Terms
 terms_of c = record { version = c.version; limits = c.limits }
+
+-- what holds of every coordinator: its base is one, its limits can be kept, and its history is legal in its version and passes none of them
+pub record IsCoordinator (c : Shape) : Type 0 where
+  pub base : is_base c.base ≡ true
+  pub limits : AreKeepable c.limits
+  pub history : IsLawful (terms_of c) c.history
 
 -- a coordinator with the same history and made with the same, whatever it has room for
 pub record IsSame (before after : Shape) : Type 0 where

@@ -18,4 +18,3 @@ pub use lra_commands::{
 };
 pub use lra_ids::{Address, Instance};
 pub use lra_model::{Memory, Version};
-
