@@ -16,7 +16,7 @@ use Rattle.lra_model.specs.Rules.{broken, is_legal}
 use Rattle.lra_model.specs.Tallies.{count_actions, least_failed, failed_actions}
 use Rattle.lra_laws.proofs.Worked.{at}
 use Rattle.lra_journal.specs.Line.{line, text}
-use Rattle.lra_journal.proofs.Apart.{body_of, title_of, not_nil}
+use Rattle.lra_journal.proofs.Apart.{body_of, header_body, not_nil}
 use Rattle.lra_ids.specs.Addresses.{is_address}
 use Rattle.lra_auditor.specs.declared.verdict.Summary.{Summary}
 use Rattle.lra_auditor.specs.declared.verdict.Verdict.{Verdict}
@@ -56,7 +56,7 @@ closed_sound x h = rw (sym closed_summary) (legal_text_sound One 7 closed x (ome
 
 -- no bytes have no header
 pub no_bytes : (x : Verdict) → IsVerdict [] x → x ≡ Unsound 1 rule.Header
-no_bytes x h = one_verdict [] x (Unsound 1 rule.Header) h (inl (refl, refl, λ v i rest small same. not_nil (title_of v i) rest 10 (sym same)))
+no_bytes x h = one_verdict [] x (Unsound 1 rule.Header) h (inl (refl, refl, λ v i rest small same. not_nil (header_body v i) rest 10 (sym same)))
 
 -- a clerk that isn't enrolled does something
 abbrev stray : Entry
