@@ -1,5 +1,5 @@
 -- What a call is answered, and the history after it.
-use Rattle.std.specs.Prelude.{◌≡◌, ◌≢◌, ℕ, List, [], ◌++◌, length, Result, Ok, Err, is_some, cond}
+use Rattle.std.specs.Prelude.{◌≢◌, ℕ, List, [], ◌++◌, length, Result, Ok, Err, is_some, cond}
 use Rattle.std.specs.Option.{option_map_or}
 use Rattle.lra_model.specs.declared.entry.Entry.{Entry}
 use Rattle.lra_model.specs.History.{History, clerks, actions, members, asks}

@@ -1,5 +1,5 @@
 -- Commands that clerks give, and when.
-use Rattle.std.specs.Prelude.{◌≡◌, ℕ, ◌<◌, ◌^◌, max, Bool, true, false, ◌&&◌, List, Option, None}
+use Rattle.std.specs.Prelude.{◌≡◌, ℕ, ◌<◌, ◌^◌, max, Bool, true, ◌&&◌, List, Option}
 use Rattle.std.specs.Option.{option_map_or}
 use Rattle.std.specs.Str.{is_utf8}
 use Rattle.lra_model.specs.Addresses.{Addresses}
@@ -7,7 +7,7 @@ use Rattle.lra_model.specs.Words.{outcome_suits}
 use Rattle.lra_model.specs.History.{History, last_moment}
 use Rattle.lra_commands.specs.declared.command.Command.{Command as CommandOf}
 use Rattle.lra_commands.specs.Errands.{Asking}
-use Rattle.lra_commands.specs.declared.command.Command.TheVariants.{Enrol, Start, Join, Close, Status, Record}
+use Rattle.lra_commands.specs.declared.command.Command.TheVariants.{Join, Record}
 
 -- a command: its errand is seen as what it says
 abbrev pub Command : Type 0
