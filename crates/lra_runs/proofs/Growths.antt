@@ -16,16 +16,17 @@ use Rattle.lra_model.specs.Ends.{is_settled, right_end}
 use Rattle.lra_model.specs.History.{History, first, last, actions, members}
 use Rattle.lra_model.specs.Settling.{may_be_skipped, by_parent, next_settling}
 use Rattle.lra_journal.specs.Line.{HasAddressWords}
-use Rattle.lra_core.specs.declared.command.Command.{Command}
-use Rattle.lra_core.specs.declared.command.Command.TheVariants as command
-use Rattle.lra_core.specs.declared.command.Told.{Told}
-use Rattle.lra_core.specs.declared.refusal.Refusal.{Refusal}
-use Rattle.lra_core.specs.Terms.{Terms}
-use Rattle.lra_core.specs.Calls.{Call, moment_of, is_taken}
-use Rattle.lra_core.specs.Deeds.{is_open, own_deed, entry_of}
-use Rattle.lra_core.specs.Blocks.{settling_within, most_settling, with_settling, block}
-use Rattle.lra_core.specs.Refusals.{refused}
-use Rattle.lra_core.specs.Answers.{told_of, answer, growth}
+use Rattle.lra_commands.specs.Calls.{Command}
+use Rattle.lra_commands.specs.declared.command.Command.TheVariants as command
+use Rattle.lra_commands.specs.declared.command.Told.{Told}
+use Rattle.lra_commands.specs.declared.refusal.Refusal.{Refusal}
+use Rattle.lra_commands.specs.declared.limits.Terms.{Terms}
+use Rattle.lra_commands.specs.Calls.{Call, moment_of}
+use Rattle.lra_core.specs.Shape.{is_taken}
+use Rattle.lra_commands.specs.Deeds.{is_open, own_deed, entry_of}
+use Rattle.lra_commands.specs.Blocks.{settling_within, most_settling, with_settling, block}
+use Rattle.lra_commands.specs.Refusals.{refused}
+use Rattle.lra_commands.specs.Answers.{told_of, answer, growth}
 
 -- ---- by its answer
 

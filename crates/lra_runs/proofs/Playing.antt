@@ -15,14 +15,14 @@ use Rattle.lra_journal.specs.Lines.{IsLine}
 use Rattle.lra_journal.proofs.Splitting.{Lacks}
 use Rattle.lra_journal.proofs.Plain.{in_line, lacks_from, joined_in_line}
 use Rattle.lra_journal.proofs.Texts.{feed_in, line_front, one_more}
-use Rattle.lra_core.specs.declared.command.Command.{Command}
-use Rattle.lra_core.specs.declared.command.Told.{Told}
-use Rattle.lra_core.specs.declared.refusal.Refusal.{Refusal}
-use Rattle.lra_core.specs.Terms.{Terms}
-use Rattle.lra_core.specs.Calls.{Call}
-use Rattle.lra_core.specs.Blocks.{block}
-use Rattle.lra_core.specs.Answers.{answer, growth, after_call}
-use Rattle.lra_core.specs.Runs.{after_calls, answers}
+use Rattle.lra_commands.specs.Calls.{Command}
+use Rattle.lra_commands.specs.declared.command.Told.{Told}
+use Rattle.lra_commands.specs.declared.refusal.Refusal.{Refusal}
+use Rattle.lra_commands.specs.declared.limits.Terms.{Terms}
+use Rattle.lra_commands.specs.Calls.{Call}
+use Rattle.lra_commands.specs.Blocks.{block}
+use Rattle.lra_commands.specs.Answers.{answer, growth, after_call}
+use Rattle.lra_commands.specs.Runs.{after_calls, answers}
 use Rattle.lra_core.specs.Prepares.{Written, IsBlockOf}
 use Rattle.lra_core.specs.Shape.{Shape, terms_of, IsSame, IsGrown}
 use Rattle.lra_runs.specs.declared.script.ScriptLine.{ScriptLine}

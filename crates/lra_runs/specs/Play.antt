@@ -9,14 +9,15 @@ use Rattle.lra_model.specs.declared.version.Version.TheVariants.{One}
 use Rattle.lra_model.specs.Names.{action_status_name, member_status_name}
 use Rattle.lra_model.specs.History.{History}
 use Rattle.lra_journal.specs.Line.{line, header}
-use Rattle.lra_core.specs.declared.command.Told.{Told}
-use Rattle.lra_core.specs.declared.command.Told.TheVariants as told
-use Rattle.lra_core.specs.declared.refusal.Refusal.{Refusal}
-use Rattle.lra_core.specs.declared.refusal.Refusal.TheVariants as refusal
-use Rattle.lra_core.specs.Names.{refusal_name, resource_name}
-use Rattle.lra_core.specs.Terms.{Terms, usual}
-use Rattle.lra_core.specs.Answers.{answer, growth, after_call}
-use Rattle.lra_core.specs.Runs.{answers}
+use Rattle.lra_commands.specs.declared.command.Told.{Told}
+use Rattle.lra_commands.specs.declared.command.Told.TheVariants as told
+use Rattle.lra_commands.specs.declared.refusal.Refusal.{Refusal}
+use Rattle.lra_commands.specs.declared.refusal.Refusal.TheVariants as refusal
+use Rattle.lra_commands.specs.Names.{refusal_name, resource_name}
+use Rattle.lra_commands.specs.declared.limits.Terms.{Terms}
+use Rattle.lra_commands.specs.Terms.{usual}
+use Rattle.lra_commands.specs.Answers.{answer, growth, after_call}
+use Rattle.lra_commands.specs.Runs.{answers}
 use Rattle.lra_runs.specs.declared.script.ScriptLine.{ScriptLine}
 use Rattle.lra_runs.specs.Report.{joined, line_feed}
 use Rattle.lra_runs.specs.Script.{call_of, Begins, BeginsWithNone}

@@ -3,9 +3,9 @@ use Rattle.std.specs.Prelude.{◌≡◌, ℕ, ◌<◌, ◌^◌, List, [], ◌∷
 use Rattle.std.specs.Fmt.{decimal}
 use Rattle.std.specs.List.{flat_map}
 use Rattle.lra_journal.specs.Line.{line_of}
-use Rattle.lra_core.specs.declared.command.Command.{Command}
-use Rattle.lra_core.specs.declared.command.Command.TheVariants as command
-use Rattle.lra_core.specs.Calls.{Call}
+use Rattle.lra_commands.specs.Calls.{Command}
+use Rattle.lra_commands.specs.declared.command.Command.TheVariants as command
+use Rattle.lra_commands.specs.Calls.{Call}
 use Rattle.lra_runs.specs.declared.script.Verb.{Verb}
 use Rattle.lra_runs.specs.declared.script.Verb.TheVariants as verb
 use Rattle.lra_runs.specs.declared.script.ScriptLine.{ScriptLine}

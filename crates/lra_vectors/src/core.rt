@@ -1,7 +1,7 @@
 //! Commands given to a coordinator one after another, and what they are answered.
 
 ghost use Rattle.std.specs.Prelude.{◌≡◌};
-ghost use Rattle.lra_core.specs.Terms.{AreKeepable};
+ghost use Rattle.lra_commands.specs.Terms.{AreKeepable};
 
 use lra_auditor::{Verdict, check};
 use lra_core::{

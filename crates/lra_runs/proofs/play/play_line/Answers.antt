@@ -4,7 +4,7 @@ use Rattle.std.specs.Io.KnownBytes.{Appends}
 use Rattle.std.specs.Result.{is_err}
 use Rattle.std.proofs.lemmas.List.{append-nil}
 use Rattle.lra_model.specs.declared.entry.Entry.{Entry}
-use Rattle.lra_core.specs.Answers.{answer, after_call}
+use Rattle.lra_commands.specs.Answers.{answer, after_call}
 use Rattle.lra_core.specs.Shape.{terms_of}
 use Rattle.lra_runs.specs.Script.{call_of}
 use Rattle.lra_runs.specs.Play.{player, answer_line}
