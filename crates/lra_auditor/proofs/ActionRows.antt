@@ -21,7 +21,8 @@ use Rattle.lra_laws.proofs.Legal.{Allowed, legal_more, numbered_fresh, actions_n
 use Rattle.lra_auditor.specs.declared.rows.Limit.{Limit}
 use Rattle.lra_auditor.specs.declared.rows.MemberRow.{MemberRow}
 use Rattle.lra_auditor.specs.declared.rows.ActionRow.{ActionRow}
-use Rattle.lra_auditor.specs.Rows.{row_limit, member_row, action_row, count_staying, count_children, counts_as, is_left_to_complete, is_left_to_compensate, is_uncompleted, is_uncompensated, is_unended, is_uncancelled, recount, one, with_member, with_new_member, with_child, change_row, new_member}
+use Rattle.lra_auditor.specs.inner.Rows.{row_limit, member_row, action_row, count_staying, count_children, counts_as, is_left_to_complete, is_left_to_compensate, is_uncompleted, is_uncompensated, is_uncancelled, recount, one, with_member, with_new_member, with_child, change_row, new_member}
+use Rattle.lra_auditor.specs.Verdicts.{is_unended}
 use Rattle.lra_auditor.proofs.RowLists.{eqb_self, among_apart, map_within, count_within, count_push, counted_anew, rows_changed}
 use Rattle.lra_auditor.proofs.Told.{entry, more}
 use Rattle.lra_auditor.proofs.MemberWords.{concerns, quiet_row}
@@ -215,7 +216,7 @@ actions_joined v t J by m p c u l k number there =
 
 -- ---- an entry that turns an action
 
--- an action that is there has a state
+-- each action has a status
 has_status : (v : Version) (t : List ℕ → Bool) (J : History) → is_legal v t J ≡ true → (a : ℕ) → is_among (actions J) a ≡ true → action_status J a ≡ Some (unwrap_or (action_status J a) action.Active)
 has_status v t J l a h = known (action_status J a) (status_is_there v t J l a ∙ h)
   where
@@ -223,7 +224,7 @@ has_status v t J l a h = known (action_status J a) (status_is_there v t J l a �
     known (Some s) g = refl
     known None g = absurd cc
 
--- an entry that makes a state of an action, and does nothing else
+-- an entry that changes the status of an action, and does nothing else
 pub record Turns (J : History) (by m : ℕ) (d : Deed) (c : ℕ) (now : ActionStatus) : Type 0 where
   pub no_join : joined_by d ≡ None
   pub no_start : started_by d ≡ None
@@ -285,7 +286,7 @@ turned_row v t J by m d c now l k x a h b e = by_test (c == a) refl b e
         (parent_stays J (entry by m d) a h) (top_stays v t J (entry by m d) l a h) (status false f) limit
         (staying is_left_to_complete) (staying is_left_to_compensate) (staying is_uncompleted) (staying is_uncompensated) (same is_unended g) (same is_uncancelled g) (same has_failed g)
 
--- its state changes, and its parent counts anew
+-- its status changes, and its parent counts anew
 pub actions_turned : (v : Version) (t : List ℕ → Bool) (J : History) (by m : ℕ) (d : Deed) (c : ℕ) (now : ActionStatus) → is_legal v t J ≡ true → Allowed v t J (entry by m d) → Turns J by m d c now
     → map (action_row (more J by m d)) (actions (more J by m d))
     ≡ option_map_or (λ b. change_row (with_child (unwrap_or (action_status J c) action.Active) now) b (change_row (λ (r : ActionRow). record r { status = now }) c (map (action_row J) (actions J)))) (parent J c) (change_row (λ (r : ActionRow). record r { status = now }) c (map (action_row J) (actions J)))

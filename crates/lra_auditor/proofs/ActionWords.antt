@@ -1,5 +1,5 @@
 -- The words of an action after one more entry, and its counts as counts over rows.
-use Rattle.std.proofs.Common.{◌≡◌, ℕ, zero, suc, ◌+◌, ◌<◌, ◌≤◌, Bool, true, false, List, [], ◌∷◌, ◌++◌, length, Option, Some, None, refl, sym, ap, ◌∙◌, cond, arith, append-nil}
+use Rattle.std.proofs.Common.{◌≡◌, ℕ, zero, suc, ◌+◌, Bool, true, false, List, [], ◌∷◌, ◌++◌, length, Option, Some, None, refl, sym, ap, ◌∙◌, cond, append-nil}
 use Rattle.std.specs.Prelude.{◌==◌, ◌&&◌, not, is_some, unwrap_or, option_to_list, filter, count_by}
 use Rattle.std.specs.Option.{option_map_or, option_or}
 use Rattle.std.proofs.lemmas.List.Elements.{filter-append}
@@ -11,15 +11,17 @@ use Rattle.lra_model.specs.declared.entry.Entry.{Entry}
 use Rattle.lra_model.specs.declared.version.Version.{Version}
 use Rattle.lra_model.specs.Words.{when, has_gone}
 use Rattle.lra_model.specs.History.{History, actions, started_by, members, joined_by, is_among}
-use Rattle.lra_model.specs.Actions.{Limit, parent_given, parent, top_within, top, status_given, action_status, limit_given, limit_in_force, child_given, children, member_given, members_of}
+use Rattle.lra_model.specs.Actions.{Limit, parent_given, parent, top, status_given, action_status, limit_given, limit_in_force, child_given, children, member_given, members_of}
 use Rattle.lra_model.specs.Members.{action_given, action_of, addresses_of, has_left, stays, member_status}
 use Rattle.lra_model.specs.Ends.{staying, action_is}
 use Rattle.lra_model.specs.Rules.{is_legal}
+use Rattle.lra_laws.proofs.Climbs.{top_within, top_climbs}
 use Rattle.lra_laws.proofs.Push.{actions_push, action_status_push, limit_push, children_push, members_push, members_of_push}
+use Rattle.lra_laws.proofs.GoodLists.{filter_same}
 use Rattle.lra_laws.proofs.Legal.{legal_induction, Allowed, numbered_fresh, actions_numbered, members_numbered, started_number, joined_number, parent_stays, parent_of_new, parent_there, action_of_stays, action_of_new}
 use Rattle.lra_auditor.specs.declared.rows.MemberRow.{MemberRow}
-use Rattle.lra_auditor.specs.Rows.{member_row, count_staying, count_children, counts_as}
-use Rattle.lra_auditor.proofs.RowLists.{eqb_self, filter_within, count_filter, count_within}
+use Rattle.lra_auditor.specs.inner.Rows.{member_row, count_staying, count_children, counts_as}
+use Rattle.lra_auditor.proofs.RowLists.{eqb_self, count_filter, count_within}
 use Rattle.lra_auditor.proofs.Told.{entry, more}
 use Rattle.lra_auditor.proofs.MemberWords.{status_is}
 use Rattle.lra_auditor.proofs.StatusCases.{gone_is_left}
@@ -39,7 +41,7 @@ members_by v t = legal_induction v t (λ J. (a : ℕ) → members_of J a ≡ fil
         ∙ sym (ap (filter (λ q. action_of (J ++ e ∷ []) q == a)) (members_push J e) ∙ filter-append (λ q. action_of (J ++ e ∷ []) q == a) (members J) (option_to_list (joined_by e.deed)))
       where
         same : filter (λ q. action_of J q == a) (members J) ≡ filter (λ q. action_of (J ++ e ∷ []) q == a) (members J)
-        same = filter_within (λ q. action_of J q == a) (λ q. action_of (J ++ e ∷ []) q == a) (members J) (λ q h. ap (λ (b : ℕ). b == a) (sym (action_of_stays J e q h)))
+        same = filter_same (λ q. action_of J q == a) (λ q. action_of (J ++ e ∷ []) q == a) (members J) (λ q h. ap (λ (b : ℕ). b == a) (sym (action_of_stays J e q h)))
 
         new : (d : Deed) → ((p : ℕ) → joined_by d ≡ Some p → p ≡ length (members J) + 1) → ((p : ℕ) → is_among (members J) p ≡ false → action_of (J ++ e ∷ []) p ≡ unwrap_or (action_given p d) 0)
             → option_to_list (member_given a d) ≡ filter (λ q. action_of (J ++ e ∷ []) q == a) (option_to_list (joined_by d))
@@ -88,7 +90,7 @@ children_by v t = legal_induction v t (λ J. (a : ℕ) → children J a ≡ filt
         ∙ sym (ap (filter (λ c. is_parent a (parent (J ++ e ∷ []) c))) (actions_push J e) ∙ filter-append (λ c. is_parent a (parent (J ++ e ∷ []) c)) (actions J) (option_to_list (started_by e.deed)))
       where
         same : filter (λ c. is_parent a (parent J c)) (actions J) ≡ filter (λ c. is_parent a (parent (J ++ e ∷ []) c)) (actions J)
-        same = filter_within (λ c. is_parent a (parent J c)) (λ c. is_parent a (parent (J ++ e ∷ []) c)) (actions J) (λ c h. ap (is_parent a) (sym (parent_stays J e c h)))
+        same = filter_same (λ c. is_parent a (parent J c)) (λ c. is_parent a (parent (J ++ e ∷ []) c)) (actions J) (λ c h. ap (is_parent a) (sym (parent_stays J e c h)))
 
         new : (d : Deed) → ((c : ℕ) → started_by d ≡ Some c → c ≡ length (actions J) + 1) → ((c : ℕ) → is_among (actions J) c ≡ false → parent (J ++ e ∷ []) c ≡ unwrap_or (parent_given c d) None)
             → option_to_list (child_given a d) ≡ filter (λ c. is_parent a (parent (J ++ e ∷ []) c)) (option_to_list (started_by d))
@@ -112,7 +114,7 @@ children_count v t J l test a = ap (count_by (action_is test J)) (children_by v 
 
 -- ---- the outermost action
 
--- it stays, whatever the fuel
+-- it stays
 top_within_stays : (v : Version) (t : List ℕ → Bool) (J : History) (e : Entry) → is_legal v t J ≡ true → (n a : ℕ) → is_among (actions J) a ≡ true → top_within n (J ++ e ∷ []) a ≡ top_within n J a
 top_within_stays v t J e l zero a h = refl
 top_within_stays v t J e l (suc n) a h = ap (λ (o : Option ℕ). option_map_or (top_within n (J ++ e ∷ [])) o a) (parent_stays J e a h) ∙ above (parent J a) refl (λ b k. top_within_stays v t J e l n b k)
@@ -122,46 +124,11 @@ top_within_stays v t J e l (suc n) a h = ap (λ (o : Option ℕ). option_map_or 
     above (Some b) k ih = ih b (parent_there v t J l a b k).parent
 
 pub top_stays : (v : Version) (t : List ℕ → Bool) (J : History) (e : Entry) → is_legal v t J ≡ true → (a : ℕ) → is_among (actions J) a ≡ true → top (J ++ e ∷ []) a ≡ top J a
-unfolding top
-top_stays v t J e l a h = top_within_stays v t J e l a a h
-
--- more fuel than the number changes nothing
-fuel_enough : (v : Version) (t : List ℕ → Bool) (J : History) → is_legal v t J ≡ true → (n k a : ℕ) → a ≤ n → a ≤ k → top_within n J a ≡ top_within k J a
-fuel_enough v t J l zero zero a h g = refl
-fuel_enough v t J l zero (suc k) a h g = ends (parent J a) refl
-  where
-    ends : (o : Option ℕ) → parent J a ≡ o → a ≡ option_map_or (top_within k J) o a
-    ends None e = refl
-    ends (Some b) e = absurd (let x = (parent_there v t J l a b e).less in omega arith)
-fuel_enough v t J l (suc n) zero a h g = ends (parent J a) refl
-  where
-    ends : (o : Option ℕ) → parent J a ≡ o → option_map_or (top_within n J) o a ≡ a
-    ends None e = refl
-    ends (Some b) e = absurd (let x = (parent_there v t J l a b e).less in omega arith)
-fuel_enough v t J l (suc n) (suc k) a h g = above (parent J a) refl (λ b x. fuel_enough v t J l n k b (omega arith) (omega arith))
-  where
-    above : (o : Option ℕ) → parent J a ≡ o → ((b : ℕ) → b < a → top_within n J b ≡ top_within k J b) → option_map_or (top_within n J) o a ≡ option_map_or (top_within k J) o a
-    above None e ih = refl
-    above (Some b) e ih = ih b (parent_there v t J l a b e).less
-
--- the outermost action above one is that above its parent
-pub top_by_parent : (v : Version) (t : List ℕ → Bool) (J : History) → is_legal v t J ≡ true → (a : ℕ) → top J a ≡ option_map_or (top J) (parent J a) a
-unfolding top
-top_by_parent v t J l zero = ends (parent J 0) refl
-  where
-    ends : (o : Option ℕ) → parent J 0 ≡ o → 0 ≡ option_map_or (λ (b : ℕ). top_within b J b) o 0
-    ends None e = refl
-    ends (Some b) e = absurd (let x = (parent_there v t J l 0 b e).less in omega arith)
-top_by_parent v t J l (suc n) = above (parent J (suc n)) refl
-  where
-    above : (o : Option ℕ) → parent J (suc n) ≡ o → option_map_or (top_within n J) o (suc n) ≡ option_map_or (λ (b : ℕ). top_within b J b) o (suc n)
-    above None e = refl
-    above (Some b) e = let x = (parent_there v t J l (suc n) b e).less in fuel_enough v t J l n b b (omega arith) (omega arith)
+top_stays v t J e l a h = top_climbs (J ++ e ∷ []) a ∙ top_within_stays v t J e l a a h ∙ sym (top_climbs J a)
 
 -- the outermost action above one that is there is there
 pub top_is_there : (v : Version) (t : List ℕ → Bool) (J : History) → is_legal v t J ≡ true → (a : ℕ) → is_among (actions J) a ≡ true → is_among (actions J) (top J a) ≡ true
-unfolding top
-top_is_there v t J l a h = within a a h
+top_is_there v t J l a h = ap (is_among (actions J)) (top_climbs J a) ∙ within a a h
   where
     within : (n b : ℕ) → is_among (actions J) b ≡ true → is_among (actions J) (top_within n J b) ≡ true
     within zero b g = g
@@ -171,7 +138,7 @@ top_is_there v t J l a h = within a a h
         above None e ih = g
         above (Some c) e ih = ih c (parent_there v t J l b c e).parent
 
--- ---- state and limit
+-- ---- status and limit
 
 pub status_kept : (J : History) (by m : ℕ) (d : Deed) (a : ℕ) → status_given a d ≡ None → action_status (more J by m d) a ≡ action_status J a
 status_kept J by m d a h = action_status_push J (entry by m d) a ∙ ap (λ (o : Option ActionStatus). option_or o (action_status J a)) h

@@ -22,14 +22,15 @@ use Rattle.lra_laws.proofs.Legal.{IsNumbered, numbered_among, numbered_there, ac
 use Rattle.lra_auditor.specs.declared.rows.Standing.{Standing}
 use Rattle.lra_auditor.specs.declared.rows.MemberRow.{MemberRow}
 use Rattle.lra_auditor.specs.declared.rows.ActionRow.{ActionRow}
-use Rattle.lra_auditor.specs.Rows.{standing, void_asks, count_staying, count_children, is_uncompensated, action_row, member_row, state_of, row_at, settled_by, right_end_by, action_by, member_by, is_standing, stands_as, member_asked, facts_by}
+use Rattle.lra_auditor.specs.inner.Rows.{standing, void_asks, count_staying, count_children, is_uncompensated, action_row, member_row, state_of, settled_by, right_end_by, action_by, member_by, is_standing, stands_as, member_asked, facts_by}
+use Rattle.lra_auditor.specs.Listed.{row_at}
 use Rattle.lra_auditor.proofs.RowLists.{eqb_self, eqb_flip, all_by_count, all_by_count_within, none_by_count, row_there, row_absent}
 use Rattle.lra_auditor.proofs.AskWords.{AsksListed, AsksStand, asks_listed, asks_stand, stands_for, stands_yet, asked_of, is_asked_by}
 use Rattle.lra_auditor.proofs.ActionWords.{top_is_there}
 
 -- ---- an action
 
--- a nested action is there, and has a state
+-- a nested action has a status
 nested_there : (v : Version) (t : List ℕ → Bool) (J : History) → is_legal v t J ≡ true → (a c : ℕ) → is_among (children J a) c ≡ true → is_some (action_status J c) ≡ true
 nested_there v t J l a c h = status_is_there v t J l c ∙ known (parent J c) refl (sym (children_lem v t J l a c) ∙ h)
   where

@@ -6,12 +6,13 @@ use Rattle.std.proofs.lemmas.Option.{same_Some, none-some}
 use Rattle.std.proofs.lemmas.Bool.{lt-ltb, cases_eq, eqb-true, eq-eqb, ne_eqb}
 use Rattle.lra_auditor.specs.declared.rows.MemberRow.{MemberRow}
 use Rattle.lra_auditor.specs.declared.rows.Standing.{Standing}
-use Rattle.lra_auditor.specs.Rows.{State, row_at, change_row, stands_as, place_of, member_asked, change_member, with_member, with_reply, with_reply_to}
+use Rattle.lra_auditor.specs.inner.Rows.{State, change_row, stands_as, place_of, member_asked, change_member, with_member, with_reply, with_reply_to}
+use Rattle.lra_auditor.specs.Listed.{row_at}
 use Rattle.lra_model.specs.declared.status.ActionStatus.{ActionStatus}
 use Rattle.lra_model.specs.declared.asks.Outcome.{Outcome}
 use Rattle.lra_auditor.specs.declared.rows.ActionRow.{ActionRow}
-use Rattle.lra_auditor.specs.Changes.{with_row, CanCount, AllCanCount}
-use Rattle.lra_auditor.specs.Holders.{Holds, IsIndex}
+use Rattle.lra_auditor.specs.inner.Changes.{with_row, CanCount, AllCanCount}
+use Rattle.lra_auditor.specs.inner.Holders.{Holds, IsIndex}
 
 abbrev after : ℕ → ℕ
 after zero = zero
@@ -276,14 +277,6 @@ IsIndex-pushed asks rows r f ok unasked = record {
     still : (m q : ℕ) (o : Option MemberRow) → row_at rows q ≡ o → Holds rows m q → Holds (rows ++ r ∷ []) m q
     still m q None e h = absurd (let g : false ≡ true = (rw e at h) in cc)
     still m q (Some x) e h = rw (row_at-push_there rows r x q e) (rw e at h)
-
--- an index that says the same
-pub IsIndex-same : (asks : ℕ) (rows : List MemberRow) (f g : ℕ → Option ℕ) → IsIndex asks rows f → ((q : ℕ) → g q ≡ f q) → IsIndex asks rows g
-IsIndex-same asks rows f g ok same = record {
-  found = λ m q e. ok.found m q (sym (same m) ∙ e);
-  all = λ m q h. same m ∙ ok.all m q h;
-  made = λ m q e. ok.made m q (sym (same m) ∙ e);
-}
 
 -- rows that can count, and one among them that is replaced by another that can
 pub AllCanCount-with_row : (rows : List ActionRow) (a : ℕ) (r now : ActionRow) → AllCanCount rows → row_at rows a ≡ Some r → CanCount now → AllCanCount (with_row a now rows)

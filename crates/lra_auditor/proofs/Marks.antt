@@ -11,9 +11,10 @@ use Rattle.lra_model.specs.Words.{has_failed}
 use Rattle.lra_auditor.specs.declared.rows.ActionRow.{ActionRow}
 use Rattle.lra_auditor.specs.declared.rows.MemberRow.{MemberRow}
 use Rattle.lra_auditor.specs.declared.verdict.FailedEnd.{FailedEnd}
-use Rattle.lra_auditor.specs.Rows.{State, row_at, change_row}
-use Rattle.lra_auditor.specs.Changes.{with_row}
-use Rattle.lra_auditor.specs.Totals.{is_within_by, has_failed_here, number_of_first, least_failed_by, failed_ends_from}
+use Rattle.lra_auditor.specs.inner.Rows.{State, change_row}
+use Rattle.lra_auditor.specs.Listed.{row_at}
+use Rattle.lra_auditor.specs.inner.Changes.{with_row}
+use Rattle.lra_auditor.specs.inner.Totals.{is_within_by, has_failed_here, number_of_first, least_failed_by, failed_ends_from}
 use Rattle.lra_auditor.proofs.Index.{change_row-there, change_row-absent, row_at-with_row_same, row_at-with_row_other}
 
 -- a place with the member where the test holds and none is there yet

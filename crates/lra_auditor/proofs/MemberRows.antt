@@ -20,9 +20,10 @@ use Rattle.lra_model.specs.Members.{no_addresses, action_of, addresses_of, has_l
 use Rattle.lra_model.specs.Rules.{is_legal}
 use Rattle.lra_laws.proofs.Push.{members_push}
 use Rattle.lra_laws.proofs.Legal.{legal_induction, Allowed, IsNumbered, numbered_among, members_numbered, numbered_fresh, member_there_push, joined_there, action_of_new, addresses_of_new}
+use Rattle.lra_laws.proofs.Tested.{both}
 use Rattle.lra_auditor.specs.declared.rows.Standing.{Standing}
 use Rattle.lra_auditor.specs.declared.rows.MemberRow.{MemberRow}
-use Rattle.lra_auditor.specs.Rows.{standing, void_asks, presence, member_row, change_row, new_member, place_of, stands_as}
+use Rattle.lra_auditor.specs.inner.Rows.{standing, void_asks, presence, member_row, change_row, new_member, place_of, stands_as}
 use Rattle.lra_auditor.proofs.RowLists.{among_apart, eqb_self, eqb_flip, map_within, rows_changed, rows_more}
 use Rattle.lra_auditor.proofs.Told.{entry, more, ReplyTold, Told, told}
 use Rattle.lra_auditor.proofs.MemberWords.{concerns, status_same, quiet_row, left_quiet, asked_quiet, decided_quiet, reply_after, answer_kept, stand_after}
@@ -101,12 +102,8 @@ rows_joined v t J by m p a u l e =
 
 -- what stands with it is the ask that is answered
 pub replied_stands : (J : History) (n : ℕ) (x : Asked) → ReplyTold J n x → AsksStand J → standing J x.member ≡ Some (record { number = n; kind = x.kind; direction = x.direction })
-replied_stands J n x told ih = decide (standing J x.member) refl (and_right (nat_lt (void_asks J) n) (stands_for (standing J x.member) n) (sym (ih.outstanding n ∙ ap (stands_yet J n) told.asked) ∙ told.outstanding))
+replied_stands J n x told ih = decide (standing J x.member) refl (both (nat_lt (void_asks J) n) (stands_for (standing J x.member) n) (sym (ih.outstanding n ∙ ap (stands_yet J n) told.asked) ∙ told.outstanding)).1
   where
-    and_right : (a b : Bool) → (a && b) ≡ true → b ≡ true
-    and_right true b h = h
-    and_right false b h = absurd cc
-
     decide : (o : Option Standing) → standing J x.member ≡ o → stands_for o n ≡ true → o ≡ Some (record { number = n; kind = x.kind; direction = x.direction })
     decide None e h = absurd cc
     decide (Some s) e h =

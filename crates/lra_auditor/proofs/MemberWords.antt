@@ -19,9 +19,10 @@ use Rattle.lra_model.specs.Addresses as texts
 use Rattle.lra_model.specs.Words.{when, same_kind, same_direction, is_done, is_decisive}
 use Rattle.lra_model.specs.History.{History, Step, steps, first, last, read_deeds}
 use Rattle.lra_model.specs.Members.{action_given, action_of, no_addresses, addresses_given, addresses_of, is_leave_of, has_left, is_ask_for, was_asked, ask_direction, status_direction, Asked, ask_of, Replied, replied_at, Heard, heard_at, decides, decided, by_decision, member_status, last_reply, was_answered}
-use Rattle.lra_laws.proofs.Push.{or_none, step, steps_push, last_read_push, action_of_push, addresses_of_push, has_left_push, was_asked_push, decided_push, last_reply_push, was_answered_push}
+use Rattle.lra_laws.proofs.GoodStatus.{status_by}
+use Rattle.lra_laws.proofs.Push.{or_none, unwrap_either, step, steps_push, last_read_push, action_of_push, addresses_of_push, has_left_push, was_asked_push, decided_push, last_reply_push, was_answered_push}
 use Rattle.lra_auditor.specs.declared.rows.Standing.{Standing}
-use Rattle.lra_auditor.specs.Rows.{standing_at, standing, void_at, void_asks, presence, member_row}
+use Rattle.lra_auditor.specs.inner.Rows.{standing_at, standing, void_at, void_asks, presence, member_row}
 use Rattle.lra_auditor.proofs.Told.{entry, more}
 
 pub standing_push : (J : History) (e : Entry) (p : ℕ) → standing (J ++ e ∷ []) p ≡ unwrap_or (standing_at p (step J e)) (standing J p)
@@ -29,22 +30,14 @@ unfolding standing
 standing_push J e p =
     ap (λ (ss : List Step). unwrap_or (last (filter_map (standing_at p) ss)) None) (steps_push J e)
     ∙ ap (λ (o : Option (Option Standing)). unwrap_or o None) (last_read_push (standing_at p) (steps J) (step J e))
-    ∙ either (standing_at p (step J e)) (last (filter_map (standing_at p) (steps J)))
-  where
-    either : (o q : Option (Option Standing)) → unwrap_or (option_or o q) None ≡ unwrap_or o (unwrap_or q None)
-    either None q = refl
-    either (Some x) q = refl
+    ∙ unwrap_either (standing_at p (step J e)) (last (filter_map (standing_at p) (steps J))) None
 
 pub void_push : (J : History) (e : Entry) → void_asks (J ++ e ∷ []) ≡ unwrap_or (void_at (step J e)) (void_asks J)
 unfolding void_asks
 void_push J e =
     ap (λ (ss : List Step). unwrap_or (last (filter_map void_at ss)) 0) (steps_push J e)
     ∙ ap (λ (o : Option ℕ). unwrap_or o 0) (last_read_push void_at (steps J) (step J e))
-    ∙ either (void_at (step J e)) (last (filter_map void_at (steps J)))
-  where
-    either : (o q : Option ℕ) → unwrap_or (option_or o q) 0 ≡ unwrap_or o (unwrap_or q 0)
-    either None q = refl
-    either (Some x) q = refl
+    ∙ unwrap_either (void_at (step J e)) (last (filter_map void_at (steps J))) 0
 
 -- ---- the words of a member, as one
 
@@ -59,15 +52,7 @@ pub record SameWords (J K : History) (p : ℕ) : Type 0 where
   pub standing : standing K p ≡ standing J p
   pub answered : (kind : AskKind) → was_answered K p kind ≡ was_answered J p kind
 
--- the state of a member, by what bears on it
-abbrev pub status_by : Bool → Option Outcome → Bool → Option Outcome → Bool → MemberStatus
-status_by left compensation compensating completion completing =
-    cond left member.Left
-    (by_decision compensation member.Compensated member.FailedToCompensate
-    (cond compensating member.Compensating
-    (by_decision completion member.Completed member.FailedToComplete
-    (cond completing member.Completing member.Active))))
-
+-- the status of a member, by what bears on it
 pub status_is : (J : History) (p : ℕ) → member_status J p ≡ status_by (has_left J p) (decided J p direction.Compensation) (was_asked J p ask.Compensate) (decided J p direction.Completion) (was_asked J p ask.Complete)
 unfolding member_status
 status_is J p = refl

@@ -16,13 +16,13 @@ use Rattle.lra_model.specs.Rules.{broken, is_legal}
 use Rattle.lra_model.specs.Tallies.{count_actions, least_failed, failed_actions}
 use Rattle.lra_laws.proofs.Worked.{at}
 use Rattle.lra_journal.specs.Line.{line, text}
-use Rattle.lra_journal.proofs.Apart.{body_of, title_of, not_nil}
+use Rattle.lra_journal.proofs.Apart.{body_of, header_body, not_nil}
 use Rattle.lra_ids.specs.Addresses.{is_address}
+use Rattle.lra_laws.proofs.Legal.{legal_empty}
 use Rattle.lra_auditor.specs.declared.verdict.Summary.{Summary}
 use Rattle.lra_auditor.specs.declared.verdict.Verdict.{Verdict}
 use Rattle.lra_auditor.specs.declared.verdict.Verdict.TheVariants.{Sound, Unsound}
 use Rattle.lra_auditor.specs.Verdicts.{IsVerdict, summary}
-use Rattle.lra_auditor.proofs.Faults.{is_legal-empty}
 use Rattle.lra_auditor.proofs.Feeds.{text-push}
 use Rattle.lra_auditor.proofs.LegalTexts.{legal_has_text}
 use Rattle.lra_auditor.proofs.OneVerdict.{one_verdict, legal_text_sound}
@@ -37,7 +37,7 @@ summary_empty = refl
 
 -- a header alone is sound
 pub header_alone : (v : Version) (i : ℕ) (x : Verdict) → i < 2 ^ 60 → IsVerdict (text v i []) x → x ≡ Sound nothing
-header_alone v i x small h = rw (sym summary_empty) (legal_text_sound v i [] x small (is_legal-empty v is_address) h)
+header_alone v i x small h = rw (sym summary_empty) (legal_text_sound v i [] x small (legal_empty v is_address) h)
 
 -- an action that is started and closed
 abbrev closed : History
@@ -56,7 +56,7 @@ closed_sound x h = rw (sym closed_summary) (legal_text_sound One 7 closed x (ome
 
 -- no bytes have no header
 pub no_bytes : (x : Verdict) → IsVerdict [] x → x ≡ Unsound 1 rule.Header
-no_bytes x h = one_verdict [] x (Unsound 1 rule.Header) h (inl (refl, refl, λ v i rest small same. not_nil (title_of v i) rest 10 (sym same)))
+no_bytes x h = one_verdict [] x (Unsound 1 rule.Header) h (inl (refl, refl, λ v i rest small same. not_nil (header_body v i) rest 10 (sym same)))
 
 -- a clerk that isn't enrolled does something
 abbrev stray : Entry
@@ -76,7 +76,7 @@ stray_unsound x h =
       line stray,
       record {
         place = refl;
-        front = record { spelled = legal_has_text One 7 [] (omega arith) (is_legal-empty One is_address); legal = is_legal-empty One is_address; whole = refl };
+        front = record { spelled = legal_has_text One 7 [] (omega arith) (legal_empty One is_address); legal = legal_empty One is_address; whole = refl };
         whole = text-push One 7 [] stray;
         goes_on = omega (arith, length-append (body_of stray) (10 ∷ []));
         breaks = inr (stray, [], record { by = omega arith; moment = omega arith; deed = omega arith }, sym (append-nil (line stray)), stray_breaks);

@@ -8,8 +8,10 @@ use Rattle.std.specs.List.{list_all, list_any, range_with_len}
 use Rattle.std.proofs.lemmas.List.Sums.{sum_by-cons, sum_by_push}
 use Rattle.lra_model.specs.History.{is_among}
 use Rattle.std.proofs.lemmas.List.{map_push}
+use Rattle.lra_laws.proofs.GoodLists.{among_here, among_there}
 use Rattle.lra_laws.proofs.Legal.{IsNumbered, numbered_among, numbered_there}
-use Rattle.lra_auditor.specs.Rows.{row_at, change_row, recount, one}
+use Rattle.lra_auditor.specs.Listed.{row_at}
+use Rattle.lra_auditor.specs.inner.Rows.{change_row, recount, one}
 
 -- ---- tests
 
@@ -21,12 +23,6 @@ pub eqb_flip : (a b : ℕ) → (a == b) ≡ false → (b == a) ≡ false
 eqb_flip a b h = ne_eqb b a (λ e. eqb-false a b h (sym e))
 
 -- ---- what is among numbers
-
-pub among_here : (n : ℕ) (ns : List ℕ) → is_among (n ∷ ns) n ≡ true
-among_here n ns = ap (λ (b : Bool). b || is_among ns n) (eqb_self n)
-
-pub among_there : (n : ℕ) (ns : List ℕ) (m : ℕ) → is_among ns m ≡ true → is_among (n ∷ ns) m ≡ true
-among_there n ns m h = ap (λ (b : Bool). (n == m) || b) h ∙ or-true (n == m)
 
 -- one that is among them and one that isn't differ
 pub among_apart : (ns : List ℕ) (q p : ℕ) → is_among ns q ≡ true → is_among ns p ≡ false → (p == q) ≡ false
@@ -41,13 +37,6 @@ map_within f g [] h = refl
 map_within f g (n ∷ ns) h = two (h n (among_here n ns)) (map_within f g ns (λ m k. h m (among_there n ns m k)))
   where
     two : f n ≡ g n → map f ns ≡ map g ns → f n ∷ map f ns ≡ g n ∷ map g ns
-    two e k = cc
-
-pub filter_within : (f g : ℕ → Bool) (ns : List ℕ) → ((n : ℕ) → is_among ns n ≡ true → f n ≡ g n) → filter f ns ≡ filter g ns
-filter_within f g [] h = refl
-filter_within f g (n ∷ ns) h = two (h n (among_here n ns)) (filter_within f g ns (λ m k. h m (among_there n ns m k)))
-  where
-    two : f n ≡ g n → filter f ns ≡ filter g ns → cond (f n) (n ∷ filter f ns) (filter f ns) ≡ cond (g n) (n ∷ filter g ns) (filter g ns)
     two e k = cc
 
 -- ---- counts
@@ -80,7 +69,7 @@ count_none f (x ∷ xs) h = count_cons f x xs ∙ ap (λ (b : Bool). one b + cou
 not_zero : (n : ℕ) → false ≡ (1 + n == 0)
 not_zero n = sym (ne_eqb (1 + n) 0 (λ e. omega arith))
 
--- all pass just where the count of those that don't is 0
+-- all pass exactly where the count of those that don't is 0
 pub all_by_count : {X : Type 0} (f g : X → Bool) (xs : List X) → ((x : X) → g x ≡ not (f x)) → list_all f xs ≡ (count_by g xs == 0)
 all_by_count f g [] h = refl
 all_by_count f g (x ∷ xs) h = either (f x) refl (all_by_count f g xs h)

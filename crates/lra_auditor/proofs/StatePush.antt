@@ -18,7 +18,8 @@ use Rattle.lra_laws.proofs.Legal.{Allowed, actions_numbered, members_numbered}
 use Rattle.lra_auditor.specs.declared.rows.Standing.{Standing}
 use Rattle.lra_auditor.specs.declared.rows.MemberRow.{MemberRow}
 use Rattle.lra_auditor.specs.declared.rows.ActionRow.{ActionRow}
-use Rattle.lra_auditor.specs.Rows.{State, standing, with_reply_to, void_at, void_asks, member_row, action_row, state_of, with_member, with_child, change_row, row_at, change_member, change_status, with_ask, with_reply, with_report, after_deed}
+use Rattle.lra_auditor.specs.inner.Rows.{State, standing, with_reply_to, void_at, void_asks, member_row, action_row, state_of, with_member, with_child, change_row, change_member, change_status, with_ask, with_reply, with_report, after_deed}
+use Rattle.lra_auditor.specs.Listed.{row_at}
 use Rattle.lra_auditor.proofs.RowLists.{eqb_self, row_there}
 use Rattle.lra_auditor.proofs.Told.{entry, more, ReplyTold, Told, told}
 use Rattle.lra_auditor.proofs.MemberWords.{concerns, void_push}

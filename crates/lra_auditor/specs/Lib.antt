@@ -1,12 +1,6 @@
-pub mod Rows
-pub mod Holders
-pub mod Changes
-pub mod Start
-pub mod Presence
 pub mod Verdicts
-pub mod Course
-pub mod Totals
+pub mod OneVerdict
 pub mod Listed
 pub mod Listings
 pub mod Feeding
-pub mod OneVerdict
+pub mod inner

@@ -12,11 +12,11 @@ use Rattle.lra_auditor.specs.declared.listing.Account.TheVariants.{Sound, Unsoun
 use Rattle.lra_auditor.specs.Listed.{Listed}
 use Rattle.lra_auditor.specs.Verdicts.{IsTextOf, IsFault}
 
--- an action, the action that it is nested in, and its state; an action of a legal history has one
+-- an action, the action that it is nested in, and its status; an action of a legal history has one
 abbrev pub listed_action : History → ℕ → ListedAction
 listed_action J a = record { action = a; parent = parent J a; status = unwrap_or (action_status J a) action.Active }
 
--- a member, its action and its state
+-- a member, its action and its status
 abbrev pub listed_member : History → ℕ → ListedMember
 listed_member J p = record { member = p; action = action_of J p; status = member_status J p }
 

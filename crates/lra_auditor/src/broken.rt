@@ -6,7 +6,7 @@ ghost use Rattle.lra_model.specs.declared.entry.Deed.TheVariants as deeds;
 ghost use Rattle.lra_model.specs.Rules as rules;
 ghost use Rattle.lra_journal.specs.Borrowed.{entry_seen, deed_seen};
 ghost use Rattle.lra_ids.specs.Addresses.{is_address};
-ghost use Rattle.lra_auditor.specs.Rows.{State, facts_by};
+ghost use Rattle.lra_auditor.specs.inner.Rows.{State, facts_by};
 
 use crate::lawful::{addresses_fit, has_deed, is_moment, is_next};
 use crate::state::Rows;
@@ -151,7 +151,7 @@ impl Rows {
     }
 
     /// The first rule that an entry breaks after the history.
-    pub fn broken(
+    pub(crate) fn broken(
         &self,
         alloc: Global,
         version: Version,

@@ -9,131 +9,21 @@ ghost use Rattle.lra_model.specs.Tests as tests;
 ghost use Rattle.lra_model.specs.Rules as rules;
 ghost use Rattle.lra_journal.specs.Borrowed.{deed_seen};
 ghost use Rattle.lra_ids.specs.Addresses.{is_address};
-ghost use Rattle.lra_auditor.specs.Presence.{presence_facts};
-ghost use Rattle.lra_auditor.specs.Rows.{State, row_at, action_by, member_by, facts_by, settled_by, right_end_by, is_standing};
+ghost use Rattle.lra_auditor.specs.inner.Presence.{presence_facts};
+ghost use Rattle.lra_auditor.specs.inner.Rows.{State, action_by, member_by, facts_by, settled_by, right_end_by, is_standing};
+ghost use Rattle.lra_auditor.specs.Listed.{row_at};
 
 use crate::rows::{ActionRow, Limit, MemberRow, Presence, Standing};
 use crate::state::Rows;
 use lra_ids::is_address_text;
 use lra_journal::{DeedRef, UrisRef};
-use lra_model::{ActionStatus, AskKind, Cause, MemberStatus, Memory, Outcome, Version, suits};
+use lra_model::{ActionStatus, AskKind, Cause, Memory, Outcome, Version, suits};
 use std::alloc::Global;
-
-/// Whether an action has ended.
-pub(crate) fn has_ended(status: ActionStatus) -> bool
-    ensures { result ≡ words.has_ended status }
-{
-    match status {
-        ActionStatus::Closed
-        | ActionStatus::FailedToClose
-        | ActionStatus::Cancelled
-        | ActionStatus::FailedToCancel => true,
-        _ => false,
-    }
-}
-
-/// Whether an action has ended in failure.
-pub(crate) fn has_failed(status: ActionStatus) -> bool
-    ensures { result ≡ words.has_failed status }
-{
-    matches!(
-        status,
-        ActionStatus::FailedToClose | ActionStatus::FailedToCancel
-    )
-}
-
-fn is_active(status: ActionStatus) -> bool
-    ensures { result ≡ words.is_active status }
-{
-    matches!(status, ActionStatus::Active)
-}
-
-fn is_closing(status: ActionStatus) -> bool
-    ensures { result ≡ words.is_closing status }
-{
-    matches!(status, ActionStatus::Closing)
-}
-
-fn is_cancelling(status: ActionStatus) -> bool
-    ensures { result ≡ words.is_cancelling status }
-{
-    matches!(status, ActionStatus::Cancelling)
-}
-
-fn is_cancellable(status: ActionStatus) -> bool
-    ensures { result ≡ words.is_cancellable status }
-{
-    matches!(
-        status,
-        ActionStatus::Active | ActionStatus::Closed | ActionStatus::FailedToClose
-    )
-}
-
-fn same_status(one: ActionStatus, other: ActionStatus) -> bool
-    ensures { result ≡ words.same_status one other }
-{
-    match one {
-        ActionStatus::Active => matches!(other, ActionStatus::Active),
-        ActionStatus::Closing => matches!(other, ActionStatus::Closing),
-        ActionStatus::Closed => matches!(other, ActionStatus::Closed),
-        ActionStatus::FailedToClose => matches!(other, ActionStatus::FailedToClose),
-        ActionStatus::Cancelling => matches!(other, ActionStatus::Cancelling),
-        ActionStatus::Cancelled => matches!(other, ActionStatus::Cancelled),
-        ActionStatus::FailedToCancel => matches!(other, ActionStatus::FailedToCancel),
-    }
-}
-
-/// Whether a member has failed, either way.
-pub(crate) fn member_has_failed(status: MemberStatus) -> bool
-    ensures { result ≡ words.member_has_failed status }
-{
-    matches!(
-        status,
-        MemberStatus::FailedToComplete | MemberStatus::FailedToCompensate
-    )
-}
-
-fn is_untouched(status: MemberStatus) -> bool
-    ensures { result ≡ words.is_untouched status }
-{
-    matches!(status, MemberStatus::Active)
-}
-
-pub(crate) fn is_completing(status: MemberStatus) -> bool
-    ensures { result ≡ words.is_completing status }
-{
-    matches!(status, MemberStatus::Completing)
-}
-
-pub(crate) fn is_completed(status: MemberStatus) -> bool
-    ensures { result ≡ words.is_completed status }
-{
-    matches!(status, MemberStatus::Completed)
-}
-
-pub(crate) fn is_compensating(status: MemberStatus) -> bool
-    ensures { result ≡ words.is_compensating status }
-{
-    matches!(status, MemberStatus::Compensating)
-}
-
-/// Whether a member has left.
-pub(crate) fn has_gone(status: MemberStatus) -> bool
-    ensures { result ≡ words.has_gone status }
-{
-    matches!(status, MemberStatus::Left)
-}
 
 fn was_accepted(reply: Option<Outcome>) -> bool
     ensures { result ≡ tests.was_accepted reply }
 {
     matches!(reply, Some(Outcome::Accepted))
-}
-
-fn is_decisive(outcome: Outcome) -> bool
-    ensures { result ≡ words.is_decisive outcome }
-{
-    matches!(outcome, Outcome::Done | Outcome::Failed)
 }
 
 fn is_settled(row: &ActionRow) -> bool
@@ -274,7 +164,7 @@ impl Rows {
         ensures { result ≡ tests.status_is words.is_active (facts_by self.now) number }
     {
         match self.action(number) {
-            Some(row) => is_active(row.status),
+            Some(row) => row.status.is_active(),
             None => false,
         }
     }
@@ -283,7 +173,7 @@ impl Rows {
         ensures { result ≡ tests.status_is words.is_closing (facts_by self.now) number }
     {
         match self.action(number) {
-            Some(row) => is_closing(row.status),
+            Some(row) => row.status.is_closing(),
             None => false,
         }
     }
@@ -292,7 +182,7 @@ impl Rows {
         ensures { result ≡ tests.status_is words.is_cancelling (facts_by self.now) number }
     {
         match self.action(number) {
-            Some(row) => is_cancelling(row.status),
+            Some(row) => row.status.is_cancelling(),
             None => false,
         }
     }
@@ -307,7 +197,7 @@ impl Rows {
         ensures { result ≡ rules.is_here (facts_by self.now) number }
     {
         match self.member(number) {
-            Some(row) => !has_gone(row.status),
+            Some(row) => !row.status.has_gone(),
             None => false,
         }
     }
@@ -357,8 +247,8 @@ impl Rows {
             return false;
         };
         match cause {
-            Cause::Client => is_active(row.status),
-            Cause::Parent => is_active(row.status) && self.parent_is_closing(&row),
+            Cause::Client => row.status.is_active(),
+            Cause::Parent => row.status.is_active() && self.parent_is_closing(&row),
             Cause::Limit => false,
         }
     }
@@ -368,7 +258,7 @@ impl Rows {
     {
         match version {
             Version::One => false,
-            Version::Two => matches!(row.status, ActionStatus::Closed)
+            Version::Two => row.status.is_closed()
                 && self.parent_is_active(row),
         }
     }
@@ -387,9 +277,9 @@ impl Rows {
             return false;
         };
         match cause {
-            Cause::Client => is_active(row.status) || self.may_take_back(version, &row),
-            Cause::Parent => is_cancellable(row.status) && self.parent_is_cancelling(&row),
-            Cause::Limit => is_active(row.status) && limit_has_passed(moment, row.limit),
+            Cause::Client => row.status.is_active() || self.may_take_back(version, &row),
+            Cause::Parent => row.status.is_cancellable() && self.parent_is_cancelling(&row),
+            Cause::Limit => row.status.is_active() && limit_has_passed(moment, row.limit),
         }
     }
 
@@ -400,7 +290,7 @@ impl Rows {
         match self.member(number) {
             Some(row) => {
                 self.is_closing_action(row.action)
-                    && is_untouched(row.status)
+                    && row.status.is_untouched()
                     && !row.addresses.complete
                     && row.addresses.compensate
             }
@@ -412,7 +302,7 @@ impl Rows {
         ensures { result ≡ (action_by self.now row.now).top_has_ended }
     {
         match self.action(row.top) {
-            Some(top) => has_ended(top.status),
+            Some(top) => top.status.has_ended(),
             None => false,
         }
     }
@@ -424,8 +314,8 @@ impl Rows {
             return false;
         };
         self.top_has_ended(&action)
-            && (member_has_failed(row.status)
-                || (is_completed(row.status) && action.parent.is_some()))
+            && (row.status.has_failed()
+                || (row.status.is_completed() && action.parent.is_some()))
             && !row.has_forgotten
     }
 
@@ -444,17 +334,17 @@ impl Rows {
         match kind {
             AskKind::Complete => {
                 self.is_closing_action(row.action)
-                    && (is_untouched(row.status) || is_completing(row.status))
+                    && (row.status.is_untouched() || row.status.is_completing())
             }
             AskKind::Compensate => {
                 self.is_cancelling_action(row.action)
-                    && (is_untouched(row.status)
-                        || is_completed(row.status)
-                        || is_compensating(row.status))
+                    && (row.status.is_untouched()
+                        || row.status.is_completed()
+                        || row.status.is_compensating())
             }
             AskKind::Status => {
-                (is_completing(row.status) && was_accepted(row.completion))
-                    || (is_compensating(row.status) && was_accepted(row.compensation))
+                (row.status.is_completing() && was_accepted(row.completion))
+                    || (row.status.is_compensating() && was_accepted(row.compensation))
             }
             AskKind::Forget => self.is_time_for_forget(row),
             AskKind::After => self.is_time_for_after(row),
@@ -503,7 +393,7 @@ impl Rows {
     {
         match self.member(number) {
             Some(row) => {
-                (is_completing(row.status) || is_compensating(row.status)) && is_decisive(outcome)
+                (row.status.is_completing() || row.status.is_compensating()) && outcome.is_decisive()
             }
             None => false,
         }
@@ -519,12 +409,12 @@ impl Rows {
         }
     }
 
-    /// Whether that is the state in which the action ends now.
+    /// Whether that is the status with which the action ends now.
     pub(crate) fn ends_as(&self, number: u64, status: ActionStatus) -> bool
         ensures { result ≡ tests.at_action (λ x. words.same_status status x.right_end) (facts_by self.now) number }
     {
         match self.action(number) {
-            Some(row) => same_status(status, right_end(&row)),
+            Some(row) => status.is_same(right_end(&row)),
             None => false,
         }
     }

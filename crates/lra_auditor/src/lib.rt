@@ -1,4 +1,4 @@
-//! The auditor of a journal: whether its bytes are the text of a legal history, and what the history comes to.
+//! The auditor of a journal: whether its bytes are the text of a legal history, and what the history has in it.
 #![tactic(auto)]
 
 mod advance;
@@ -21,9 +21,4 @@ pub use entries::check;
 pub use laws::{bytes_have_one_verdict, legal_texts_are_sound};
 pub use listing::{Account, ListedAction, ListedMember, Listing};
 pub use lra_model::{Memory, Rule, Version};
-pub use rows::{ActionRow, Limit, MemberRow, Presence, Standing};
-pub use state::Rows;
 pub use verdict::{FailedEnd, FailedEnds, Summary, Verdict};
-
-#[cfg(test)]
-mod tests;

@@ -1,14 +1,14 @@
 //! An account of a journal: each action and each member of its history.
 
 ghost use Rattle.std.specs.Prelude.{◌≡◌, length};
-ghost use Rattle.lra_auditor.specs.Rows.{row_at};
-ghost use Rattle.lra_auditor.specs.Listed.{listed_by};
+ghost use Rattle.lra_auditor.specs.Listed.{row_at};
+ghost use Rattle.lra_auditor.specs.inner.Listings.{listed_by};
 
 use crate::state::Rows;
 use lra_model::{ActionStatus, MemberStatus, Rule};
 use std::marker::Model;
 
-/// An action, its parent and the state that it is in.
+/// An action, its parent and its status.
 #[derive(Clone, Copy, Debug, PartialEq, Eq)]
 pub struct ListedAction {
     pub action: u64,
@@ -16,7 +16,7 @@ pub struct ListedAction {
     pub status: ActionStatus,
 }
 
-/// A member, its action and the state that it is in.
+/// A member, its action and its status.
 #[derive(Clone, Copy, Debug, PartialEq, Eq)]
 pub struct ListedMember {
     pub member: u64,
@@ -31,7 +31,8 @@ pub struct Listing {
 }
 
 impl Model for Listing {
-    ghost use Rattle.lra_auditor.specs.Listed.{Listed, listed_by};
+    ghost use Rattle.lra_auditor.specs.Listed.{Listed};
+    ghost use Rattle.lra_auditor.specs.inner.Listings.{listed_by};
 
     ghost Value = { Listed };
 
@@ -84,7 +85,7 @@ impl Listing {
     }
 }
 
-/// What a journal's account comes to.
+/// What is said of a journal: who takes part in its history, or what is at fault.
 #[derive(Debug, Drop)]
 pub enum Account {
     /// The history is legal.

@@ -4,14 +4,14 @@ use lra_model::{ActionStatus, AskKind, Direction, MemberStatus, Outcome};
 
 /// A limit in milliseconds, where 0 is none, and the moment that it counts from.
 #[derive(Clone, Copy, Debug)]
-pub struct Limit {
+pub(crate) struct Limit {
     pub length: u64,
     pub since: u64,
 }
 
 /// Which addresses a member has.
 #[derive(Clone, Copy, Debug)]
-pub struct Presence {
+pub(crate) struct Presence {
     pub compensate: bool,
     pub complete: bool,
     pub status: bool,
@@ -21,7 +21,7 @@ pub struct Presence {
 
 /// An ask that its member hasn't answered; a restart may have made it void.
 #[derive(Clone, Copy, Debug)]
-pub struct Standing {
+pub(crate) struct Standing {
     pub number: u64,
     pub kind: AskKind,
     pub direction: Direction,
@@ -29,7 +29,7 @@ pub struct Standing {
 
 /// A member, as the rules see it.
 #[derive(Clone, Copy, Debug)]
-pub struct MemberRow {
+pub(crate) struct MemberRow {
     pub action: u64,
     pub addresses: Presence,
     pub status: MemberStatus,
@@ -42,9 +42,9 @@ pub struct MemberRow {
     pub was_told: bool,
 }
 
-/// An action, as the rules see it, with how many of its staying members and of the actions nested in it are in which state.
+/// An action, as the rules see it, with how many of its staying members and of the actions nested in it have which status.
 #[derive(Clone, Copy, Debug)]
-pub struct ActionRow {
+pub(crate) struct ActionRow {
     pub parent: Option<u64>,
     pub top: u64,
     pub status: ActionStatus,

@@ -2,7 +2,8 @@
 
 ghost use Rattle.std.specs.Prelude.{◌≡◌, ◌-◌, ◌<◌, SomeIff, Some, None, []};
 ghost use Rattle.std.specs.Option.{option_and_then};
-ghost use Rattle.lra_auditor.specs.Rows.{State, row_at, member_asked, new_top};
+ghost use Rattle.lra_auditor.specs.inner.Rows.{State, member_asked, new_top};
+ghost use Rattle.lra_auditor.specs.Listed.{row_at};
 
 use crate::rows::{ActionRow, MemberRow};
 use std::alloc::Global;
@@ -11,7 +12,7 @@ use std::marker::Model;
 
 /// What the auditor keeps of a history.
 #[derive(Debug, Drop)]
-pub struct Rows {
+pub(crate) struct Rows {
     /// The moment of the last entry.
     pub(crate) moment: u64,
     /// How many clerks are enrolled.
@@ -29,8 +30,8 @@ pub struct Rows {
 impl Model for Rows {
     ghost use Rattle.std.specs.Prelude.{nat_eq};
     ghost use Rattle.std.specs.HashMap.{get};
-    ghost use Rattle.lra_auditor.specs.Rows.{State};
-    ghost use Rattle.lra_auditor.specs.Holders.{IsIndex};
+    ghost use Rattle.lra_auditor.specs.inner.Rows.{State};
+    ghost use Rattle.lra_auditor.specs.inner.Holders.{IsIndex};
 
     ghost Value = { State };
 
@@ -63,10 +64,10 @@ pub(crate) fn member_at(rows: &[MemberRow], number: u64) -> Option<MemberRow>
 }
 
 impl Rows {
-    ghost use Rattle.lra_auditor.specs.Start.{no_entries};
+    ghost use Rattle.lra_auditor.specs.inner.Start.{no_entries};
 
     /// The state before the first entry.
-    pub fn new(alloc: Global) -> Rows
+    pub(crate) fn new(alloc: Global) -> Rows
         ensures { result ≡ no_entries }
     {
         Rows {

@@ -3,12 +3,13 @@
 ghost use Rattle.std.specs.Prelude.{◌≡◌, ◌<◌, ◌≤◌, ℕ, IfOk, Some, None, true, false, cond, count_by, nat_lt, option_map, unwrap_or};
 ghost use Rattle.std.specs.Option.{option_map_or, option_or};
 ghost use Rattle.lra_model.specs.Words as words;
-ghost use Rattle.lra_auditor.specs.Rows.{State, is_unended, row_at, change_row};
-ghost use Rattle.lra_auditor.specs.Totals.{has_failed_here, is_within_by, least_failed_by, failed_ends_from, summary_by};
+ghost use Rattle.lra_auditor.specs.inner.Rows.{State, change_row};
+ghost use Rattle.lra_auditor.specs.Verdicts.{is_unended};
+ghost use Rattle.lra_auditor.specs.Listed.{row_at};
+ghost use Rattle.lra_auditor.specs.inner.Totals.{has_failed_here, is_within_by, least_failed_by, failed_ends_from, summary_by};
 ghost use Rattle.lra_auditor.specs.Verdicts.{ended_cancelled};
 
 use crate::changes::stays;
-use crate::lawful::{has_ended, has_failed, member_has_failed};
 use crate::rows::{ActionRow, MemberRow};
 use crate::state::{Rows, action_at};
 use crate::verdict::{FailedEnd, FailedEnds, Summary};
@@ -18,7 +19,7 @@ use std::alloc::Global;
 fn count_unended(actions: &[ActionRow]) -> u64
     ensures { result ≡ count_by (λ r. is_unended r.status) actions.now }
 {
-    actions.iter().filter(|row| !has_ended(row.status)).count() as u64
+    actions.iter().filter(|row| !row.status.has_ended()).count() as u64
 }
 
 fn count_closed(actions: &[ActionRow]) -> u64
@@ -53,7 +54,7 @@ fn parent_of(actions: &[ActionRow], number: u64) -> Option<u64>
 fn has_failed_here(row: &MemberRow) -> bool
     ensures { result ≡ has_failed_here row.now }
 {
-    stays(row) && member_has_failed(row.status)
+    stays(row) && row.status.has_failed()
 }
 
 /// The entry of a number, counted from 1.
@@ -153,7 +154,7 @@ fn failed_ends(
     let mut ends = Vec::new(alloc);
     for (place, row) in actions.iter().enumerate() {
         let number = place as u64 + 1;
-        if has_failed(row.status)
+        if row.status.has_failed()
             && let Some(member) = at(least, number)
         {
             ends.push(FailedEnd {
@@ -174,7 +175,7 @@ fn failed_by(alloc: Global, rows: &Rows) -> Result<FailedEnds, Memory>
     failed_ends(alloc, &rows.actions, &least)
 }
 
-/// What a history of so many entries comes to, by its rows.
+/// The summary of a history of so many entries, by its rows.
 pub(crate) fn summary(alloc: Global, rows: &Rows, entries: u64) -> Result<Summary, Memory>
     ensures { IfOk result (λ s. s ≡ summary_by entries rows.now) }
 {

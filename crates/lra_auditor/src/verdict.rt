@@ -1,11 +1,11 @@
-//! What an audit comes to.
+//! What an audit answers.
 
 ghost use Rattle.std.specs.Prelude.{◌≡◌};
 
 use lra_model::{ActionStatus, Rule};
 use std::marker::Model;
 
-/// An action that ended in failure: the state that it ended in, and the least numbered of the members that failed and
+/// An action that ended in failure: the status that it ended with, and the least numbered of the members that failed and
 /// stay in it or in an action below it.
 #[derive(Clone, Copy, Debug, PartialEq, Eq)]
 pub struct FailedEnd {
@@ -31,7 +31,7 @@ impl Model for FailedEnds {
 
 impl FailedEnds {
     /// The ends of a list.
-    pub fn from_vec(ends: Vec<FailedEnd>) -> FailedEnds
+    pub(crate) fn from_vec(ends: Vec<FailedEnd>) -> FailedEnds
         ensures { result ≡ ends.items }
     {
         FailedEnds { ends }
@@ -52,7 +52,7 @@ impl FailedEnds {
     }
 }
 
-/// What a legal history comes to.
+/// The summary of a legal history.
 #[derive(Debug, Drop)]
 pub struct Summary {
     pub entries: u64,
@@ -66,7 +66,7 @@ pub struct Summary {
     pub failed: FailedEnds,
 }
 
-/// What an audit comes to.
+/// What an audit answers.
 #[derive(Debug, Drop)]
 pub enum Verdict {
     /// The history is legal.

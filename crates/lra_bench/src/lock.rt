@@ -3,7 +3,7 @@ ghost use Rattle.std.specs.Prelude.{◌≡◌, All, IfOk};
 ghost use Rattle.lra_ticket.specs.Locks.{lock_id, pass_id};
 
 use lra_model::{Entry, Memory};
-use lra_ticket::{Pass, TicketLock};
+use lra_ticket::example::{EntryLock, EntryPass};
 use std::alloc::Global;
 use std::io::Print;
 use std::sync::{Mutex, Wait};
@@ -14,12 +14,8 @@ use std::{io, thread};
 /// The handovers of one measurement, by all threads together.
 const HANDOVERS: u64 = 1_000_000;
 
-type Lock = TicketLock<Vec<Entry>>;
-
-type Ticket = Pass<Vec<Entry>>;
-
 // Takes the lock and gives it back, this many times. It ends early where no ticket is left.
-fn hand_over<R: Wait>(rt: &R, lock: &Lock, mut pass: Ticket, times: u64) -> Ticket
+fn hand_over<R: Wait>(rt: &R, lock: &EntryLock, mut pass: EntryPass, times: u64) -> EntryPass
     requires { pass_id pass ≡ lock_id lock.now }
 {
     for _ in 0..times {
@@ -39,7 +35,12 @@ fn lock_and_unlock<R: Wait>(rt: &R, lock: &Mutex<Vec<Entry>>, times: u64) {
 }
 
 // As many passes as there are threads.
-fn passes(alloc: Global, lock: &Lock, mut pass: Ticket, threads: u64) -> Result<Vec<Ticket>, Memory>
+fn passes(
+    alloc: Global,
+    lock: &EntryLock,
+    mut pass: EntryPass,
+    threads: u64,
+) -> Result<Vec<EntryPass>, Memory>
     requires { pass_id pass ≡ lock_id lock.now }
     ensures { IfOk result (λ all. All (λ p. pass_id p ≡ lock_id lock.now) all.items) }
 {
@@ -57,7 +58,7 @@ fn through_tickets<R: Threads + Wait + Clock + Sync>(
     alloc: Global,
     threads: u64,
 ) -> io::Result<Duration> {
-    let (lock, pass) = Lock::new(alloc, Vec::new(alloc))?;
+    let (lock, pass) = EntryLock::new(alloc, Vec::new(alloc))?;
     let jobs = passes(alloc, &lock, pass, threads)?;
     let shared = &lock;
     let times = HANDOVERS / threads.max(1);
@@ -65,7 +66,7 @@ fn through_tickets<R: Threads + Wait + Clock + Sync>(
     thread::map_vec(
         rt,
         jobs,
-        &|pass: Ticket| -> ()
+        &|pass: EntryPass| -> ()
             requires { pass_id pass ≡ lock_id shared.now }
         {
             hand_over(rt, shared, pass, times);

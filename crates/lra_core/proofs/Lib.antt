@@ -1,11 +1,5 @@
 pub mod Committing
 pub mod Judging
-pub mod Keeps
-pub mod KeepsAddresses
-pub mod KeepsGrounds
-pub mod KeepsLate
-pub mod KeepsOwn
 pub mod Plain
-pub mod Rests
+pub mod Sounds
 pub mod Walks
-pub mod Worked

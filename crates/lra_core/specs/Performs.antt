@@ -1,9 +1,9 @@
--- What a command comes to once it is given, and its block written at once.
+-- What a command does where its block is written at once.
 use Rattle.std.specs.Prelude.{◌≡◌, Result, Ok, MatchResult}
-use Rattle.lra_core.specs.declared.command.Told.{Told}
-use Rattle.lra_core.specs.declared.refusal.Refusal.{Refusal}
-use Rattle.lra_core.specs.Calls.{Call}
-use Rattle.lra_core.specs.Answers.{answer, after_call}
+use Rattle.lra_commands.specs.declared.command.Told.{Told}
+use Rattle.lra_commands.specs.declared.refusal.Refusal.{Refusal}
+use Rattle.lra_commands.specs.Calls.{Call}
+use Rattle.lra_commands.specs.Answers.{answer, after_call}
 use Rattle.lra_core.specs.Prepares.{IsRefusal}
 use Rattle.lra_core.specs.Shape.{Shape, terms_of, IsSame, IsGrown}
 
@@ -17,6 +17,6 @@ pub record IsRefused (before : Shape) (c : Call) (after : Shape) (r : Refusal) :
   pub refusal : IsRefusal (terms_of before) before.history c r
   pub same : IsSame before after
 
--- what comes of a call that is made
+-- a call that is made: it is done, or it isn't
 abbrev pub Performs : Shape → Call → Shape → Result Told Refusal → Type 0
 Performs before c after result = MatchResult result (IsDone before c after) (IsRefused before c after)

@@ -5,8 +5,13 @@ use Rattle.lra_model.specs.declared.status.ActionStatus.TheVariants as action
 use Rattle.lra_model.specs.declared.version.Version.{Version}
 use Rattle.lra_model.specs.History.{History, members}
 use Rattle.lra_model.specs.Actions.{parent, children, action_status}
-use Rattle.lra_core.specs.declared.limits.Limits.{Limits}
-use Rattle.lra_core.specs.Terms.{Terms}
+use Rattle.lra_ids.specs.Addresses.{is_base}
+use Rattle.lra_commands.specs.Terms.{AreKeepable}
+use Rattle.lra_commands.specs.Runs.{IsLawful}
+use Rattle.lra_commands.specs.declared.command.Command.TheVariants.{Enrol, Start, Close, Status}
+use Rattle.lra_commands.specs.Calls.{Command}
+use Rattle.lra_commands.specs.declared.limits.Limits.{Limits}
+use Rattle.lra_commands.specs.declared.limits.Terms.{Terms}
 
 -- a coordinator: what it was made with, its history, and how many entries it has room for
 pub record Shape : Type 0 where
@@ -21,6 +26,12 @@ pub record Shape : Type 0 where
 abbrev pub terms_of : Shape → Terms
 terms_of c = record { version = c.version; limits = c.limits }
 
+-- what holds of every coordinator: its base is one, its limits can be kept, and its history is legal in its version and passes none of them
+pub record IsCoordinator (c : Shape) : Type 0 where
+  pub base : is_base c.base ≡ true
+  pub limits : AreKeepable c.limits
+  pub history : IsLawful (terms_of c) c.history
+
 -- a coordinator with the same history and made with the same, whatever it has room for
 pub record IsSame (before after : Shape) : Type 0 where
   pub version : after.version ≡ before.version
@@ -33,16 +44,24 @@ pub record IsSame (before after : Shape) : Type 0 where
 abbrev pub IsGrown : Shape → Shape → History → Type 0
 IsGrown before after K = IsSame (record before { history = K }) after
 
--- a state that an action without members and nested actions is in between two commands, or has no action
-abbrev pub is_plain_state : Option ActionStatus → Bool
-is_plain_state None = true
-is_plain_state (Some action.Active) = true
-is_plain_state (Some action.Closed) = true
-is_plain_state _ = false
+-- the commands that a coordinator takes so far
+abbrev pub is_taken : Command → Bool
+is_taken Enrol = true
+is_taken (Start None limit) = true
+is_taken (Close action) = true
+is_taken (Status action) = true
+is_taken _ = false
+
+-- a status that an action without members and nested actions is in between two commands, or has no action
+abbrev pub is_plain_status : Option ActionStatus → Bool
+is_plain_status None = true
+is_plain_status (Some action.Active) = true
+is_plain_status (Some action.Closed) = true
+is_plain_status _ = false
 
 -- a history of what is taken so far: actions without members and nested actions, each Active or Closed
 pub record IsPlain (J : History) : Type 0 where
   pub members : members J ≡ []
   pub parents : (a : ℕ) → parent J a ≡ None
   pub children : (a : ℕ) → children J a ≡ []
-  pub states : (a : ℕ) → is_plain_state (action_status J a) ≡ true
+  pub statuses : (a : ℕ) → is_plain_status (action_status J a) ≡ true

@@ -1,7 +1,10 @@
-//! What a member is to be asked.
+//! What a member is to be asked, and the commands of which one takes down what came of it.
 
 use lra_model::{ActionStatus, AskKind, Direction};
 use std::marker::Model;
+
+/// What a clerk asks of the coordinator.
+pub type Command<'a> = lra_commands::Command<'a, Errand>;
 
 /// One request to a member. The coordinator alone makes errands, and each has to be spent: recorded, or discarded.
 #[derive(Debug)]
@@ -21,7 +24,7 @@ pub struct Errand {
 impl Model for Errand {
     ghost use Rattle.std.specs.Prelude.{string_bytes};
     ghost use Rattle.lra_model.specs.Addresses.{text_of};
-    ghost use Rattle.lra_core.specs.Errands.{Asking};
+    ghost use Rattle.lra_commands.specs.Errands.{Asking};
 
     ghost Value = { Asking };
 

@@ -1,20 +1,10 @@
-//! Laws of coordinators: public functions that do nothing, whose contracts say what holds whatever commands are given.
+//! A law of coordinators: a public function that does nothing, whose contract says what holds whatever commands are given.
 
-ghost use Rattle.lra_core.specs.Runs.{CallsKeepHistories, CallsLeaveQuiet, CallsMakeHistories};
+ghost use Rattle.lra_core.specs.Texts.{CallsMakeSoundTexts};
 
-/// Whatever commands are given to a coordinator, by any clerks, at any moments and in any order, refused ones among
-/// them, its history stays legal in the version of its journal, and within its limits.
-pub fn commands_keep_histories()
-    ensures { CallsKeepHistories }
-{}
-
-/// Whatever commands are given to a new coordinator, its history is legal, and within its limits.
-pub fn commands_make_histories()
-    ensures { CallsMakeHistories }
-{}
-
-/// After a command that isn't refused and that writes, nothing is left to settle: its block has room for all that
-/// follows by itself, however much that is.
-pub fn calls_leave_quiet_histories()
-    ensures { CallsLeaveQuiet }
+/// Whatever commands are given to a new coordinator, by any clerks, at any moments and in any order, refused ones among
+/// them: the text of its history has the verdict Sound, with the history's summary, and no other. So `audit` never
+/// refuses it, in either version of the journal.
+pub fn commands_make_sound_texts()
+    ensures { CallsMakeSoundTexts }
 {}

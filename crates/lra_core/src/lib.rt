@@ -2,24 +2,19 @@
 #![tactic(auto)]
 
 mod block;
-mod command;
 mod coordinator;
 mod errand;
 mod laws;
 mod ledger;
-mod limits;
-mod refusal;
 mod walk;
 
 pub use block::{Block, Committed, Prepared};
-pub use command::{Command, Told};
 pub use coordinator::Coordinator;
-pub use errand::Errand;
-pub use laws::{calls_leave_quiet_histories, commands_keep_histories, commands_make_histories};
-pub use limits::Limits;
+pub use errand::{Command, Errand};
+pub use laws::commands_make_sound_texts;
+pub use lra_commands::{
+    Limits, Refusal, Resource, Told, calls_leave_quiet_histories, commands_keep_histories,
+    commands_make_histories,
+};
 pub use lra_ids::{Address, Instance};
 pub use lra_model::{Memory, Version};
-pub use refusal::{Refusal, Resource};
-
-#[cfg(test)]
-mod tests;

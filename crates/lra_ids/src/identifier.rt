@@ -41,7 +41,7 @@ fn write_id<'b>(instance: u64, n: u64, buffer: &'b mut [u8]) -> &'b str
     id_of(instance, n).hyphenated().encode_lower(buffer)
 }
 
-// The URI of a part of the coordinator, in one growth.
+// The URI of a part of the coordinator.
 fn spell(
     alloc: Global,
     instance: Instance,
@@ -106,7 +106,7 @@ fn read(text: &str, instance: Instance, base: &Address, part: &str) -> Option<u6
     read_bytes(after_prefix(below, part)?, instance)
 }
 
-/// The URI of action `n` of a coordinator: its base, `lra-coordinator/` and the UUID, in one growth.
+/// The URI of action `n` of a coordinator: its base, `lra-coordinator/` and the UUID.
 pub fn spell_action(
     alloc: Global,
     instance: Instance,
@@ -121,7 +121,7 @@ pub fn spell_action(
     spell(alloc, instance, n, base, ACTIONS)
 }
 
-/// The recovery URI of member `n` of a coordinator: its base, `lra-recovery/` and the UUID, in one growth.
+/// The recovery URI of member `n` of a coordinator: its base, `lra-recovery/` and the UUID.
 pub fn spell_recovery(
     alloc: Global,
     instance: Instance,

@@ -6,8 +6,6 @@ mod addresses;
 mod fault;
 mod identifier;
 mod reading;
-#[cfg(test)]
-mod tests;
 
 pub use addresses::Address;
 pub use fault::UriFault;

@@ -213,7 +213,7 @@ actions_joined v t J by m p c u l k number there =
 
 -- ---- an entry that turns an action
 
--- an action that is there has a state
+-- each action has a status
 has_status : (v : Version) (t : List ℕ → Bool) (J : History) → is_legal v t J ≡ true → (a : ℕ) → is_among (actions J) a ≡ true → action_status J a ≡ Some (unwrap_or (action_status J a) action.Active)
 has_status v t J l a h = known (action_status J a) (status_is_there v t J l a ∙ h)
   where
@@ -221,7 +221,7 @@ has_status v t J l a h = known (action_status J a) (status_is_there v t J l a �
     known (Some s) g = refl
     known None g = absurd cc
 
--- an entry that makes a state of an action, and does nothing else
+-- an entry that changes the status of an action, and does nothing else
 pub record Turns (J : History) (by m : ℕ) (d : Deed) (c : ℕ) (now : ActionStatus) : Type 0 where
   pub no_join : joined_by d ≡ None
   pub no_start : started_by d ≡ None
@@ -283,7 +283,7 @@ turned_row v t J by m d c now l k x a h b e = by_test (c == a) refl b e
         (parent_stays J (entry by m d) a h) (top_stays v t J (entry by m d) l a h) (status false f) limit
         (staying is_left_to_complete) (staying is_left_to_compensate) (staying is_uncompleted) (staying is_uncompensated) (same is_unended g) (same is_uncancelled g) (same has_failed g)
 
--- its state changes, and its parent counts anew
+-- its status changes, and its parent counts anew
 pub actions_turned : (v : Version) (t : List ℕ → Bool) (J : History) (by m : ℕ) (d : Deed) (c : ℕ) (now : ActionStatus) → is_legal v t J ≡ true → Allowed v t J (entry by m d) → Turns J by m d c now
     → map (action_row (more J by m d)) (actions (more J by m d))
     ≡ option_map_or (λ b. change_row (with_child (unwrap_or (action_status J c) action.Active) now) b (change_row (λ (r : ActionRow). record r { status = now }) c (map (action_row J) (actions J)))) (parent J c) (change_row (λ (r : ActionRow). record r { status = now }) c (map (action_row J) (actions J)))

@@ -16,9 +16,10 @@ use Rattle.lra_model.specs.Members.{action_given, action_of, addresses_of, has_l
 use Rattle.lra_model.specs.Ends.{staying, action_is}
 use Rattle.lra_model.specs.Rules.{is_legal}
 use Rattle.lra_laws.proofs.Push.{actions_push, action_status_push, limit_push, children_push, members_push, members_of_push}
+use Rattle.lra_laws.proofs.GoodLists.{filter_same}
 use Rattle.lra_laws.proofs.Legal.{legal_induction, Allowed, numbered_fresh, actions_numbered, members_numbered, started_number, joined_number, parent_stays, parent_of_new, action_of_stays, action_of_new}
 use Rattle.lra_laws.specs.Rows.{MemberRow, member_row, count_staying, count_children, counts_as}
-use Rattle.lra_laws.proofs.RowLists.{eqb_self, filter_within, count_filter, count_within}
+use Rattle.lra_laws.proofs.RowLists.{eqb_self, count_filter, count_within}
 use Rattle.lra_laws.proofs.Told.{entry, more}
 use Rattle.lra_laws.proofs.MemberWords.{status_is}
 use Rattle.lra_laws.proofs.StatusCases.{gone_is_left}
@@ -38,7 +39,7 @@ members_by v t = legal_induction v t (λ J. (a : ℕ) → members_of J a ≡ fil
         ∙ sym (ap (filter (λ q. action_of (J ++ e ∷ []) q == a)) (members_push J e) ∙ filter-append (λ q. action_of (J ++ e ∷ []) q == a) (members J) (option_to_list (joined_by e.deed)))
       where
         same : filter (λ q. action_of J q == a) (members J) ≡ filter (λ q. action_of (J ++ e ∷ []) q == a) (members J)
-        same = filter_within (λ q. action_of J q == a) (λ q. action_of (J ++ e ∷ []) q == a) (members J) (λ q h. ap (λ (b : ℕ). b == a) (sym (action_of_stays J e q h)))
+        same = filter_same (λ q. action_of J q == a) (λ q. action_of (J ++ e ∷ []) q == a) (members J) (λ q h. ap (λ (b : ℕ). b == a) (sym (action_of_stays J e q h)))
 
         new : (d : Deed) → ((p : ℕ) → joined_by d ≡ Some p → p ≡ length (members J) + 1) → ((p : ℕ) → is_among (members J) p ≡ false → action_of (J ++ e ∷ []) p ≡ unwrap_or (action_given p d) 0)
             → option_to_list (member_given a d) ≡ filter (λ q. action_of (J ++ e ∷ []) q == a) (option_to_list (joined_by d))
@@ -87,7 +88,7 @@ children_by v t = legal_induction v t (λ J. (a : ℕ) → children J a ≡ filt
         ∙ sym (ap (filter (λ c. is_parent a (parent (J ++ e ∷ []) c))) (actions_push J e) ∙ filter-append (λ c. is_parent a (parent (J ++ e ∷ []) c)) (actions J) (option_to_list (started_by e.deed)))
       where
         same : filter (λ c. is_parent a (parent J c)) (actions J) ≡ filter (λ c. is_parent a (parent (J ++ e ∷ []) c)) (actions J)
-        same = filter_within (λ c. is_parent a (parent J c)) (λ c. is_parent a (parent (J ++ e ∷ []) c)) (actions J) (λ c h. ap (is_parent a) (sym (parent_stays J e c h)))
+        same = filter_same (λ c. is_parent a (parent J c)) (λ c. is_parent a (parent (J ++ e ∷ []) c)) (actions J) (λ c h. ap (is_parent a) (sym (parent_stays J e c h)))
 
         new : (d : Deed) → ((c : ℕ) → started_by d ≡ Some c → c ≡ length (actions J) + 1) → ((c : ℕ) → is_among (actions J) c ≡ false → parent (J ++ e ∷ []) c ≡ unwrap_or (parent_given c d) None)
             → option_to_list (child_given a d) ≡ filter (λ c. is_parent a (parent (J ++ e ∷ []) c)) (option_to_list (started_by d))
@@ -109,7 +110,7 @@ pub children_count : (v : Version) (t : List ℕ → Bool) (J : History) → is_
 unfolding count_children
 children_count v t J l test a = ap (count_by (action_is test J)) (children_by v t J l a) ∙ count_filter (λ c. is_parent a (parent J c)) (action_is test J) (actions J)
 
--- ---- state and limit
+-- ---- status and limit
 
 pub status_kept : (J : History) (by m : ℕ) (d : Deed) (a : ℕ) → status_given a d ≡ None → action_status (more J by m d) a ≡ action_status J a
 status_kept J by m d a h = action_status_push J (entry by m d) a ∙ ap (λ (o : Option ActionStatus). option_or o (action_status J a)) h

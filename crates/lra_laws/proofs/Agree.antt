@@ -26,7 +26,7 @@ use Rattle.lra_laws.proofs.Tops.{top_is_there}
 
 -- ---- an action
 
--- a nested action is there, and has a state
+-- a nested action has a status
 nested_there : (v : Version) (t : List ℕ → Bool) (J : History) → is_legal v t J ≡ true → (a c : ℕ) → is_among (children J a) c ≡ true → is_some (action_status J c) ≡ true
 nested_there v t J l a c h = status_is_there v t J l c ∙ known (parent J c) refl (sym (children_lem v t J l a c) ∙ h)
   where

@@ -20,8 +20,10 @@ use Rattle.lra_model.specs.Members.{is_ask_for, was_asked, ask_direction, Asked,
 use Rattle.lra_model.specs.Rules.{is_legal}
 use Rattle.lra_laws.proofs.Push.{or_none, step, ask_of_push, asks_push, asks_to_push, is_outstanding_push, was_asked_push}
 use Rattle.lra_laws.proofs.Legal.{legal_induction, among_push, member_there_push}
+use Rattle.lra_laws.proofs.GoodLists.{among_here, among_there, find_nothing}
+use Rattle.lra_laws.proofs.Tested.{both, none_from_absent}
 use Rattle.lra_laws.specs.Rows.{Standing, standing_at, standing, void_at, void_asks}
-use Rattle.lra_laws.proofs.RowLists.{eqb_self, among_here, among_there}
+use Rattle.lra_laws.proofs.RowLists.{eqb_self}
 use Rattle.lra_laws.proofs.Told.{entry, more, AskTold, ReplyTold, Told, told}
 use Rattle.lra_laws.proofs.MemberWords.{stand_after, stand_quiet, void_push}
 use Rattle.lra_laws.proofs.MemberDeeds.{Went, ask_went, asked_after, stand_asked, stand_replied}
@@ -169,16 +171,6 @@ stand_empty : AsksStand []
 unfolding ask_of steps standing void_asks is_outstanding asks
 stand_empty = record { stands = λ p s h. absurd cc; void_below = omega arith; outstanding = λ n. refl }
 
--- what none of some is
-none_of : (f : ℕ → Bool) (ns : List ℕ) (n : ℕ) → is_some (find f ns) ≡ false → is_among ns n ≡ true → f n ≡ false
-none_of f [] n h k = absurd cc
-none_of f (m ∷ ns) n h k = either (f m) refl h (m == n) refl k (none_of f ns n)
-  where
-    either : (b : Bool) → f m ≡ b → is_some (cond b (Some m) (find f ns)) ≡ false → (c : Bool) → (m == n) ≡ c → (c || is_among ns n) ≡ true → (is_some (find f ns) ≡ false → is_among ns n ≡ true → f n ≡ false) → f n ≡ false
-    either true e h c g k rest = absurd cc
-    either false e h true g k rest = ap f (sym (eqb-true m n g)) ∙ e
-    either false e h false g k rest = rest h k
-
 pub void_kept : (J : History) (by m : ℕ) (d : Deed) → void_at (step J (entry by m d)) ≡ None → void_asks (more J by m d) ≡ void_asks J
 void_kept J by m d h = void_push J (entry by m d) ∙ ap (λ (o : Option ℕ). unwrap_or o (void_asks J)) h
 
@@ -230,7 +222,7 @@ stand_ask J by m k p kind told list ih = record {
         of_member : (b : Bool) → (p == y.member) ≡ b → is_outstanding J n ≡ (nat_lt (void_asks (more J by m (Ask k p kind))) n && stands_for (standing (more J by m (Ask k p kind)) y.member) n)
         of_member true f =
             let same : p ≡ y.member = eqb-true p y.member f in
-            none_of (is_outstanding J) (read_deeds (ask_given p) J) n told.unasked (ap (λ (q : ℕ). is_among (read_deeds (ask_given q) J) n) same ∙ list.listed n y e)
+            find_nothing (is_outstanding J) (read_deeds (ask_given p) J) n (none_from_absent (find (is_outstanding J) (read_deeds (ask_given p) J)) told.unasked) (ap (λ (q : ℕ). is_among (read_deeds (ask_given q) J) n) same ∙ list.listed n y e)
             ∙ sym (ap (λ (q : ℕ). nat_lt (void_asks (more J by m (Ask k p kind))) n && stands_for (standing (more J by m (Ask k p kind)) q) n) (sym same)
             ∙ ap (λ (s : Option Standing). nat_lt (void_asks (more J by m (Ask k p kind))) n && stands_for s n) (stand_asked J by m k p kind)
             ∙ ap (λ (b : Bool). nat_lt (void_asks (more J by m (Ask k p kind))) n && b) g ∙ and-false (nat_lt (void_asks (more J by m (Ask k p kind))) n))
@@ -255,11 +247,7 @@ stand_reply J by m k o x told ih = record {
 
     -- the ask that is answered is the one that stands
     here : stands_for (standing J x.member) k ≡ true
-    here = and_right (nat_lt (void_asks J) k) (stands_for (standing J x.member) k) (sym (ih.outstanding k ∙ ap (stands_yet J k) told.asked) ∙ told.outstanding)
-      where
-        and_right : (a b : Bool) → (a && b) ≡ true → b ≡ true
-        and_right true b h = h
-        and_right false b h = absurd cc
+    here = (both (nat_lt (void_asks J) k) (stands_for (standing J x.member) k) (sym (ih.outstanding k ∙ ap (stands_yet J k) told.asked) ∙ told.outstanding)).1
 
     apart : (s : Option Standing) (n : ℕ) → stands_for s k ≡ true → (k == n) ≡ false → stands_for s n ≡ false
     apart None n h g = refl
@@ -314,9 +302,10 @@ asks_stand v t = legal_induction v t AsksStand stand_empty (λ J e l k h. stand_
 
 -- ---- what the rules read of it
 
-find_nothing : (f : ℕ → Bool) (ns : List ℕ) → ((n : ℕ) → is_among ns n ≡ true → f n ≡ false) → find f ns ≡ None
-find_nothing f [] h = refl
-find_nothing f (n ∷ ns) h = ap (λ (b : Bool). cond b (Some n) (find f ns)) (h n (among_here n ns)) ∙ find_nothing f ns (λ m k. h m (among_there n ns m k))
+-- where none passes, none is found
+find_none : (f : ℕ → Bool) (ns : List ℕ) → ((n : ℕ) → is_among ns n ≡ true → f n ≡ false) → find f ns ≡ None
+find_none f [] h = refl
+find_none f (n ∷ ns) h = ap (λ (b : Bool). cond b (Some n) (find f ns)) (h n (among_here n ns)) ∙ find_none f ns (λ m k. h m (among_there n ns m k))
 
 -- the one number that passes is found
 find_only : (f : ℕ → Bool) (ns : List ℕ) (n : ℕ) → is_among ns n ≡ true → f n ≡ true → ((m : ℕ) → is_among ns m ≡ true → f m ≡ true → m ≡ n) → find f ns ≡ Some n
@@ -342,7 +331,7 @@ outstanding_by J p list ih = decide (standing J p) refl
         found (Some y) e g = ih.outstanding n ∙ ap (stands_yet J n) e ∙ ap (λ (q : ℕ). nat_lt (void_asks J) n && stands_for (standing J q) n) (eqb-true y.member p g)
 
     decide : (o : Option Standing) → standing J p ≡ o → find (is_outstanding J) (read_deeds (ask_given p) J) ≡ option_map_or (λ (x : Standing). when (nat_lt (void_asks J) x.number) x.number) o None
-    decide None e = find_nothing (is_outstanding J) (read_deeds (ask_given p) J) (λ n h. only n h ∙ ap (λ (s : Option Standing). nat_lt (void_asks J) n && stands_for s n) e ∙ and-false (nat_lt (void_asks J) n))
+    decide None e = find_none (is_outstanding J) (read_deeds (ask_given p) J) (λ n h. only n h ∙ ap (λ (s : Option Standing). nat_lt (void_asks J) n && stands_for s n) e ∙ and-false (nat_lt (void_asks J) n))
     decide (Some s) e = live (nat_lt (void_asks J) s.number) refl
       where
         here : is_among (read_deeds (ask_given p) J) s.number ≡ true
@@ -360,7 +349,7 @@ outstanding_by J p list ih = decide (standing J p) refl
         live true g =
             find_only (is_outstanding J) (read_deeds (ask_given p) J) s.number here (stands s.number here ∙ (λ i. g i && eqb_self s.number i))
             (λ n h k. that n (nat_lt (void_asks J) n) (s.number == n) refl (sym (stands n h) ∙ k))
-        live false g = find_nothing (is_outstanding J) (read_deeds (ask_given p) J) (λ n h. stands n h ∙ void n (s.number == n) refl)
+        live false g = find_none (is_outstanding J) (read_deeds (ask_given p) J) (λ n h. stands n h ∙ void n (s.number == n) refl)
           where
             void : (n : ℕ) (c : Bool) → (s.number == n) ≡ c → (nat_lt (void_asks J) n && c) ≡ false
             void n true f = ap (λ (x : ℕ). nat_lt (void_asks J) x && true) (sym (eqb-true s.number n f)) ∙ ap (λ (b : Bool). b && true) g

@@ -104,7 +104,7 @@ ends_as_same J e a u _ = ap₂ (λ (b c : Bool). cond (b && c) action.Cancelled 
 
 -- ---- ends that stay
 
--- the state in which an action was before it ended so
+-- the status in which an action was before it ended so
 abbrev pub before_end : ActionStatus → ActionStatus
 before_end action.Closed = action.Closing
 before_end action.FailedToClose = action.Closing

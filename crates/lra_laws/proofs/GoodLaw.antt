@@ -14,12 +14,13 @@ use Rattle.lra_model.specs.declared.entry.Deed.{Deed}
 use Rattle.lra_model.specs.declared.entry.Deed.TheVariants.{Start, Close, Cancel, End}
 use Rattle.lra_model.specs.Words.{when, is_active, has_ended, has_failed, has_finished_cancelling, member_has_failed, same_status, is_completed, is_compensated, is_done_completing, is_done_compensating}
 use Rattle.lra_model.specs.History.{History, actions, members, is_among}
-use Rattle.lra_model.specs.Actions.{parent, is_within, is_under, status_given, action_status, children, members_of, is_cancel_of, was_cancelled}
+use Rattle.lra_model.specs.Actions.{parent, status_given, action_status, children, members_of, is_cancel_of, was_cancelled, was_cancelled_below}
 use Rattle.lra_model.specs.Members.{action_of, stays, member_status}
 use Rattle.lra_model.specs.Ends.{staying, action_is, settles, is_settled, children_are_well, ends_as, right_end}
 use Rattle.lra_model.specs.Facts.{ActionFacts, facts_of}
 use Rattle.lra_model.specs.Rules.{is_legal}
-use Rattle.lra_model.specs.GoodEnds.{cancelled_within, was_cancelled_below, StaysUnder, IsCompletedForGood, HasGoodEnd, LegalHistoriesHaveGoodEnds}
+use Rattle.lra_laws.proofs.Climbs.{is_within, under_climbs, cancelled_within, below_climbs}
+use Rattle.lra_model.specs.GoodEnds.{StaysUnder, IsCompletedForGood, HasGoodEnd, LegalHistoriesHaveGoodEnds}
 use Rattle.lra_laws.proofs.Push.{action_status_push, was_cancelled_push}
 use Rattle.lra_laws.proofs.Tested.{both}
 use Rattle.lra_laws.proofs.Legal.{Allowed, entry_kept, close_kept, end_kept, action_fact, started_number, actions_numbered, numbered_among, numbered_fresh, state_is_lem, status_is_there, parent_there, child_of, child_from, member_action, member_from, legal_induction}
@@ -28,7 +29,7 @@ use Rattle.lra_laws.proofs.GoodStatus.{completed_never_asked}
 use Rattle.lra_laws.proofs.GoodKept.{staying_member, staying_from, EndsAgain, EndsStand}
 use Rattle.lra_laws.proofs.GoodSpared.{close_active, same_status_true, ends_stand}
 
--- ---- an action was cancelled just where it is cancelling or has ended so
+-- ---- an action was cancelled exactly where it is cancelling or has ended so
 
 abbrev pub cancels : ActionStatus → Bool
 cancels action.Cancelling = true
@@ -36,7 +37,7 @@ cancels action.Cancelled = true
 cancels action.FailedToCancel = true
 cancels _ = false
 
--- the state that an action ends in is of the way that it went
+-- the status that an action ends in is of the way that it went
 ends_as_way : (J : History) (a : ℕ) (o : Option ActionStatus) → settles o J a ≡ true → cancels (ends_as o J a) ≡ option_map_or cancels o false
 ends_as_way J a (Some action.Closing) h = either (list_all (λ p. is_completed (member_status J p)) (staying J a) && children_are_well J a)
   where
@@ -101,7 +102,7 @@ cancelled_after v t J l by m d k a ih = by_deed d k
     by_deed (End b s) k = ended b s k (b == a) refl
     by_deed _ k = same
 
--- in a legal history, an action was cancelled just where its state says so
+-- in a legal history, an action was cancelled exactly where its status says so
 pub was_cancelled_lem : (v : Version) (t : List ℕ → Bool) (J : History) → is_legal v t J ≡ true → (a : ℕ) → was_cancelled J a ≡ action_is cancels J a
 unfolding was_cancelled action_status
 was_cancelled_lem v t = legal_induction v t (λ J. (a : ℕ) → was_cancelled J a ≡ action_is cancels J a) (λ a. refl)
@@ -182,7 +183,7 @@ FailedChild J a = (c : ℕ) × (is_among (children J a) c ≡ true) × (action_i
 
 -- where an action failed, a member of it that stays failed, or an action nested in it
 has_failed_by : (J : History) (a : ℕ) (s : ActionStatus) → has_failed s ≡ true → EndsAgain J a s → FailedMember J a ⊎ FailedChild J a
-has_failed_by J a s failed h = by_state s failed h
+has_failed_by J a s failed h = by_status s failed h
   where
     some_child : children_are_well J a ≡ false → FailedMember J a ⊎ FailedChild J a
     some_child g = inr (found_at (action_is has_failed J) (children J a) (not_false (list_any (action_is has_failed J) (children J a)) g))
@@ -215,14 +216,14 @@ has_failed_by J a s failed h = by_state s failed h
     left_out true x y g i e = absurd (true≢false (sym i ∙ ap has_failed (sym e) ∙ g))
     left_out false x y g i e = refl
 
-    by_state : (s : ActionStatus) → has_failed s ≡ true → EndsAgain J a s → FailedMember J a ⊎ FailedChild J a
-    by_state action.FailedToClose g i =
+    by_status : (s : ActionStatus) → has_failed s ≡ true → EndsAgain J a s → FailedMember J a ⊎ FailedChild J a
+    by_status action.FailedToClose g i =
         either is_done_completing is_completed not_completed (both (list_all (λ q. is_done_completing (member_status J q)) (staying J a)) (list_all (action_is has_ended J) (children J a)) i.settled).0
         (list_all (λ q. is_completed (member_status J q)) (staying J a)) refl (left_out (list_all (λ q. is_completed (member_status J q)) (staying J a) && children_are_well J a) action.Closed action.FailedToClose refl refl i.right)
-    by_state action.FailedToCancel g i =
+    by_status action.FailedToCancel g i =
         either is_done_compensating is_compensated not_compensated (both (list_all (λ q. is_done_compensating (member_status J q)) (staying J a)) (list_all (action_is has_finished_cancelling J) (children J a)) i.settled).0
         (list_all (λ q. is_compensated (member_status J q)) (staying J a)) refl (left_out (list_all (λ q. is_compensated (member_status J q)) (staying J a) && children_are_well J a) action.Cancelled action.FailedToCancel refl refl i.right)
-    by_state _ g i = absurd cc
+    by_status _ g i = absurd cc
 
 -- ---- up from an action to one above it that has ended
 
@@ -268,7 +269,7 @@ failed_by J k a h = one (action_status J a) refl h
 
 -- the walk up from below an action that Closed
 below_closed : (J : History) → Law J → (t : ℕ) → action_status J t ≡ Some action.Closed → (n a : ℕ) → is_within n J t a ≡ true → Below J n t a
-below_closed J k t closed zero a h = inl (ap (action_status J) (eqb-true a t h) ∙ closed, refl)
+below_closed J k t closed zero a h = inl (ap (action_status J) (eqb-true a t h) ∙ closed, ap (λ (x : Bool). cond x false (was_cancelled J a)) h)
 below_closed J k t closed (suc n) a h = either (a == t) refl (parent J a) refl h (below_closed J k t closed n)
   where
     -- the way up from a, step by step
@@ -342,11 +343,11 @@ FailedUnder J t = (p : ℕ) × StaysUnder J t p × (member_has_failed (member_st
 
 -- a member of an action that stays and has failed is one in it or below it
 failed_in : (J : History) → Law J → (t : ℕ) → FailedMember J t → FailedUnder J t
-unfolding FailedUnder is_under
+unfolding FailedUnder
 failed_in J k t r =
     let its = staying_member J t r.0 r.1 in
     let there = k.member_action t r.0 its.0 in
-    (r.0, (there.0, its.1, ap (is_within (action_of J r.0) J t) there.1 ∙ itself (action_of J r.0)), r.2)
+    (r.0, (there.0, its.1, under_climbs J t (action_of J r.0) ∙ ap (is_within (action_of J r.0) J t) there.1 ∙ itself (action_of J r.0)), r.2)
   where
     itself : (n : ℕ) → is_within n J t t ≡ true
     itself zero = eq-eqb t t refl
@@ -354,8 +355,10 @@ failed_in J k t r =
 
 -- a member that failed below a nested action failed below the outer one
 failed_above : (J : History) → Law J → (t c : ℕ) → parent J c ≡ Some t → FailedUnder J c → FailedUnder J t
-unfolding FailedUnder is_under
-failed_above J k t c h r = (r.0, (r.1.0, r.1.1, under_parent J k.less t c h (action_of J r.0) (action_of J r.0) (le_refl (action_of J r.0)) r.1.2), r.2)
+unfolding FailedUnder
+failed_above J k t c h r =
+    let within = under_parent J k.less t c h (action_of J r.0) (action_of J r.0) (le_refl (action_of J r.0)) (sym (under_climbs J c (action_of J r.0)) ∙ r.1.2) in
+    (r.0, (r.1.0, r.1.1, under_climbs J t (action_of J r.0) ∙ within), r.2)
 
 -- below an action that failed a member failed: in it, or below an action nested in it that failed
 failed_under : (J : History) → Law J → (n t : ℕ) → length (actions J) ≤ t + n → action_is has_failed J t ≡ true → FailedUnder J t
@@ -380,19 +383,17 @@ failed_under J k (suc n) t far h = either (failed_by J k t h) (failed_under J k 
 -- a member in or below an action that is closed has completed, or has been compensated with a cancellation on the way
 good_closed : (J : History) → Law J → (t : ℕ) → action_status J t ≡ Some action.Closed → (p : ℕ) → StaysUnder J t p
     → ((member_status J p ≡ member.Completed) × (was_cancelled_below J t (action_of J p) ≡ false)) ⊎ ((member_status J p ≡ member.Compensated) × (was_cancelled_below J t (action_of J p) ≡ true))
-unfolding is_under was_cancelled_below
-good_closed J k t closed p s = either (below_closed J k t closed (action_of J p) (action_of J p) s.2)
+good_closed J k t closed p s = either (below_closed J k t closed (action_of J p) (action_of J p) (sym (under_climbs J t (action_of J p)) ∙ s.2))
   where
     either : Below J (action_of J p) t (action_of J p)
-        → ((member_status J p ≡ member.Completed) × (cancelled_within (action_of J p) J t (action_of J p) ≡ false)) ⊎ ((member_status J p ≡ member.Compensated) × (cancelled_within (action_of J p) J t (action_of J p) ≡ true))
-    either (inl r) = inl ((has_closed J (action_of J p) (k.ends (action_of J p) action.Closed r.0 refl)).members p (stays_in J k p s.0 s.1), r.1)
-    either (inr r) = inr ((has_cancelled J (action_of J p) (k.ends (action_of J p) action.Cancelled r.0 refl)).members p (stays_in J k p s.0 s.1), r.1)
+        → ((member_status J p ≡ member.Completed) × (was_cancelled_below J t (action_of J p) ≡ false)) ⊎ ((member_status J p ≡ member.Compensated) × (was_cancelled_below J t (action_of J p) ≡ true))
+    either (inl r) = inl ((has_closed J (action_of J p) (k.ends (action_of J p) action.Closed r.0 refl)).members p (stays_in J k p s.0 s.1), below_climbs J t (action_of J p) ∙ r.1)
+    either (inr r) = inr ((has_cancelled J (action_of J p) (k.ends (action_of J p) action.Cancelled r.0 refl)).members p (stays_in J k p s.0 s.1), below_climbs J t (action_of J p) ∙ r.1)
 
 -- a member in or below an action that is cancelled has been compensated
 good_cancelled : (J : History) → Law J → (t : ℕ) → action_status J t ≡ Some action.Cancelled → (p : ℕ) → StaysUnder J t p → member_status J p ≡ member.Compensated
-unfolding is_under
 good_cancelled J k t cancelled p s =
-    let r = below_cancelled J k t cancelled (action_of J p) (action_of J p) s.2 in
+    let r = below_cancelled J k t cancelled (action_of J p) (action_of J p) (sym (under_climbs J t (action_of J p)) ∙ s.2) in
     (has_cancelled J (action_of J p) (k.ends (action_of J p) action.Cancelled r refl)).members p (stays_in J k p s.0 s.1)
 
 -- an action that ended and didn't fail is Closed or Cancelled

@@ -1,33 +1,30 @@
 -- Tests of all or some of a list of numbers, by what is among them.
-use Rattle.std.proofs.Common.{◌≡◌, ℕ, Bool, true, false, List, [], ◌∷◌, refl, sym, ap, ◌∙◌, cond, eqb-true, eq-eqb}
+use Rattle.std.proofs.Common.{◌≡◌, ℕ, Bool, true, false, List, [], ◌∷◌, Some, None, refl, sym, ap, ◌∙◌, cond, eqb-true, eq-eqb}
 use Rattle.std.specs.Prelude.{◌==◌, ◌&&◌, ◌||◌, filter}
-use Rattle.std.specs.List.{list_all, list_any}
-use Rattle.std.proofs.Math.Bool.{and-false}
+use Rattle.std.specs.List.{list_all, list_any, find}
+use Rattle.std.proofs.Math.Bool.{and-false, or-true}
 use Rattle.lra_model.specs.History.{is_among}
 
 -- the first is among them
-among_first : (x : ℕ) (xs : List ℕ) → is_among (x ∷ xs) x ≡ true
-among_first x xs = ap (λ (b : Bool). b || is_among xs x) (eq-eqb x x refl)
+pub among_here : (n : ℕ) (ns : List ℕ) → is_among (n ∷ ns) n ≡ true
+among_here n ns = ap (λ (b : Bool). b || is_among ns n) (eq-eqb n n refl)
 
-among_rest : (x n : ℕ) (xs : List ℕ) → is_among xs n ≡ true → is_among (x ∷ xs) n ≡ true
-among_rest x n xs h = either (x == n)
-  where
-    either : (b : Bool) → (b || is_among xs n) ≡ true
-    either true = refl
-    either false = h
+-- what is among the rest is among them
+pub among_there : (n : ℕ) (ns : List ℕ) (m : ℕ) → is_among ns m ≡ true → is_among (n ∷ ns) m ≡ true
+among_there n ns m h = ap (λ (b : Bool). (n == m) || b) h ∙ or-true (n == m)
 
 -- tests that agree on what is among them agree on all and on some of them
 pub list_all_same : (f g : ℕ → Bool) (xs : List ℕ) → ((n : ℕ) → is_among xs n ≡ true → f n ≡ g n) → list_all f xs ≡ list_all g xs
 list_all_same f g [] h = refl
-list_all_same f g (x ∷ xs) h = ap (λ (b : Bool). b && list_all f xs) (h x (among_first x xs)) ∙ ap (λ (b : Bool). g x && b) (list_all_same f g xs (λ n k. h n (among_rest x n xs k)))
+list_all_same f g (x ∷ xs) h = ap (λ (b : Bool). b && list_all f xs) (h x (among_here x xs)) ∙ ap (λ (b : Bool). g x && b) (list_all_same f g xs (λ n k. h n (among_there x xs n k)))
 
 pub list_any_same : (f g : ℕ → Bool) (xs : List ℕ) → ((n : ℕ) → is_among xs n ≡ true → f n ≡ g n) → list_any f xs ≡ list_any g xs
 list_any_same f g [] h = refl
-list_any_same f g (x ∷ xs) h = ap (λ (b : Bool). b || list_any f xs) (h x (among_first x xs)) ∙ ap (λ (b : Bool). g x || b) (list_any_same f g xs (λ n k. h n (among_rest x n xs k)))
+list_any_same f g (x ∷ xs) h = ap (λ (b : Bool). b || list_any f xs) (h x (among_here x xs)) ∙ ap (λ (b : Bool). g x || b) (list_any_same f g xs (λ n k. h n (among_there x xs n k)))
 
 pub filter_same : (f g : ℕ → Bool) (xs : List ℕ) → ((n : ℕ) → is_among xs n ≡ true → f n ≡ g n) → filter f xs ≡ filter g xs
 filter_same f g [] h = refl
-filter_same f g (x ∷ xs) h = ap (λ (b : Bool). cond b (x ∷ filter f xs) (filter f xs)) (h x (among_first x xs)) ∙ ap (λ (ys : List ℕ). cond (g x) (x ∷ ys) ys) (filter_same f g xs (λ n k. h n (among_rest x n xs k)))
+filter_same f g (x ∷ xs) h = ap (λ (b : Bool). cond b (x ∷ filter f xs) (filter f xs)) (h x (among_here x xs)) ∙ ap (λ (ys : List ℕ). cond (g x) (x ∷ ys) ys) (filter_same f g xs (λ n k. h n (among_there x xs n k)))
 
 -- what passes for all passes for one among them
 pub passes_at : (f : ℕ → Bool) (xs : List ℕ) (n : ℕ) → list_all f xs ≡ true → is_among xs n ≡ true → f n ≡ true
@@ -45,8 +42,8 @@ fails_at f [] h = absurd cc
 fails_at f (x ∷ xs) h = either (f x) refl h (fails_at f xs)
   where
     either : (b : Bool) → f x ≡ b → (b && list_all f xs) ≡ false → (list_all f xs ≡ false → (n : ℕ) × (is_among xs n ≡ true) × (f n ≡ false)) → (n : ℕ) × (is_among (x ∷ xs) n ≡ true) × (f n ≡ false)
-    either false g i rest = (x, among_first x xs, g)
-    either true g i rest = let r = rest i in (r.0, among_rest x r.0 xs r.1, r.2)
+    either false g i rest = (x, among_here x xs, g)
+    either true g i rest = let r = rest i in (r.0, among_there x xs r.0 r.1, r.2)
 
 -- where some pass, one among them does
 pub found_at : (f : ℕ → Bool) (xs : List ℕ) → list_any f xs ≡ true → (n : ℕ) × (is_among xs n ≡ true) × (f n ≡ true)
@@ -54,8 +51,8 @@ found_at f [] h = absurd cc
 found_at f (x ∷ xs) h = either (f x) refl h (found_at f xs)
   where
     either : (b : Bool) → f x ≡ b → (b || list_any f xs) ≡ true → (list_any f xs ≡ true → (n : ℕ) × (is_among xs n ≡ true) × (f n ≡ true)) → (n : ℕ) × (is_among (x ∷ xs) n ≡ true) × (f n ≡ true)
-    either true g i rest = (x, among_first x xs, g)
-    either false g i rest = let r = rest i in (r.0, among_rest x r.0 xs r.1, r.2)
+    either true g i rest = (x, among_here x xs, g)
+    either false g i rest = let r = rest i in (r.0, among_there x xs r.0 r.1, r.2)
 
 -- where none passes, one among them doesn't
 pub none_at : (f : ℕ → Bool) (xs : List ℕ) (n : ℕ) → list_any f xs ≡ false → is_among xs n ≡ true → f n ≡ false
@@ -77,3 +74,13 @@ among_filter f (x ∷ xs) n = either (x == n) refl (f x) refl (among_filter f xs
     either false e true g i = ap (λ (b : Bool). b || is_among (filter f xs) n) e ∙ i
     either true e false g i = let fails = ap f (sym (eqb-true x n e)) ∙ g in i ∙ ap (λ (b : Bool). is_among xs n && b) fails ∙ and-false (is_among xs n) ∙ sym fails
     either false e false g i = i
+
+-- where none is found, none among them passes
+pub find_nothing : (f : ℕ → Bool) (ns : List ℕ) (n : ℕ) → find f ns ≡ None → is_among ns n ≡ true → f n ≡ false
+find_nothing f [] n h k = absurd cc
+find_nothing f (x ∷ ns) n h k = either (f x) refl (x == n) refl h k (find_nothing f ns n)
+  where
+    either : (c : Bool) → f x ≡ c → (b : Bool) → (x == n) ≡ b → cond c (Some x) (find f ns) ≡ None → (b || is_among ns n) ≡ true → (find f ns ≡ None → is_among ns n ≡ true → f n ≡ false) → f n ≡ false
+    either true g b e i j rest = absurd cc
+    either false g true e i j rest = ap f (sym (eqb-true x n e)) ∙ g
+    either false g false e i j rest = rest i j

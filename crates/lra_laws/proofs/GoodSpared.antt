@@ -27,9 +27,9 @@ use Rattle.lra_laws.proofs.Tested.{both}
 use Rattle.lra_laws.proofs.Legal.{Allowed, AllKept, entry_kept, start_kept, join_kept, leave_kept, close_kept, cancel_kept, ask_kept, end_kept, action_fact, member_fact, at_action_from, started_number, actions_numbered, numbered_among, state_is_lem, parent_there, child_of, member_action, legal_induction}
 use Rattle.lra_laws.proofs.GoodKept.{Spares, untouched, before_end, EndsAgain, EndsStand, ends_again_after, ends_again_now, settles_decided, settles_ended}
 
--- ---- states
+-- ---- statuses
 
--- states that are tested to be one are one
+-- statuses that are tested to be one are one
 pub same_status_true : (x y : ActionStatus) → same_status x y ≡ true → x ≡ y
 same_status_true action.Active action.Active h = refl
 same_status_true action.Closing action.Closing h = refl
@@ -40,7 +40,7 @@ same_status_true action.Cancelled action.Cancelled h = refl
 same_status_true action.FailedToCancel action.FailedToCancel h = refl
 same_status_true _ _ h = absurd cc
 
--- an action isn't in two states that exclude one another
+-- an action isn't in two statuses that exclude one another
 pub not_in_both : (f g : ActionStatus → Bool) → ((s : ActionStatus) → f s ≡ true → g s ≡ true → ⊥) → (J : History) (a : ℕ) → action_is f J a ≡ true → action_is g J a ≡ true → ⊥
 not_in_both f g apart J a = one (action_status J a)
   where
@@ -57,11 +57,11 @@ cancelling_not_ended : (s : ActionStatus) → is_cancelling s ≡ true → has_e
 cancelling_not_ended action.Cancelling h k = absurd cc
 cancelling_not_ended _ h k = absurd cc
 
--- the test of a state that is known
+-- the test of a status that is known
 pub action_is_from : (test : ActionStatus → Bool) (J : History) (a : ℕ) (s : ActionStatus) → action_status J a ≡ Some s → test s ≡ true → action_is test J a ≡ true
 action_is_from test J a s h k = ap (λ (o : Option ActionStatus). option_map_or test o false) h ∙ k
 
--- ---- what a kept rule says of states
+-- ---- what a kept rule says of statuses
 
 -- an action that may be closed is Active
 pub close_active : (f : Facts) (a : ℕ) (c : Cause) → at_action (may_close c f) f a ≡ true → status_is is_active f a ≡ true
@@ -108,7 +108,7 @@ spares_ended v t J l by m d k a ended below = record { no_child = no_child d rul
     rules : AllKept (deed_rules v t (facts_of J) m d)
     rules = (entry_kept v t (facts_of J) (record { by = by; moment = m; deed = d }) k.unbroken).deed
 
-    -- a test of a state by the facts that holds of an action which has ended
+    -- a test of a status by the facts that holds of an action which has ended
     not_here : (test : ActionStatus → Bool) → ((s : ActionStatus) → test s ≡ true → has_ended s ≡ true → ⊥) → (b c : ℕ) → b ≡ c → action_is has_ended J c ≡ true → status_is test (facts_of J) b ≡ true → ⊥
     not_here test apart b c e h g = not_in_both test has_ended apart J c (ap (action_is test J) (sym e) ∙ sym (state_is_lem v t J l test b) ∙ g) h
 

@@ -93,9 +93,9 @@ not_heard J by m (Skip q) p h = by_member (q == p)
     by_member false = refl
 not_heard J by m _ p h = refl
 
--- ---- the state of a member
+-- ---- the status of a member
 
--- a state that stays: completed, compensated or failed
+-- a status that stays: completed, compensated or failed
 abbrev pub is_decided : MemberStatus → Bool
 is_decided member.Completed = true
 is_decided member.FailedToComplete = true
@@ -103,9 +103,9 @@ is_decided member.Compensated = true
 is_decided member.FailedToCompensate = true
 is_decided _ = false
 
--- the state of a member, by the words that it is read from
-abbrev state_by : Bool → Option Outcome → Bool → Option Outcome → Bool → MemberStatus
-state_by left compensation asked completion begun =
+-- the status of a member, by the words that it is read from
+abbrev pub status_by : Bool → Option Outcome → Bool → Option Outcome → Bool → MemberStatus
+status_by left compensation asked completion begun =
     cond left member.Left
     (by_decision compensation member.Compensated member.FailedToCompensate
     (cond asked member.Compensating
@@ -124,26 +124,26 @@ by_completion (Some outcome.Silent) c' false q' h = absurd cc
 by_completion None c' true q' h = absurd cc
 by_completion None c' false q' h = absurd cc
 
-state_kept : (l : Bool) (d d' : Option Outcome) (a : Bool) (c c' : Option Outcome) (q q' : Bool) → is_decided (state_by l d a c q) ≡ true → (a ≡ false → d' ≡ None) → state_by l (option_or d d') a (option_or c c') q' ≡ state_by l d a c q
-state_kept true d d' a c c' q q' h g = absurd cc
-state_kept false (Some outcome.Done) d' a c c' q q' h g = refl
-state_kept false (Some outcome.Failed) d' a c c' q q' h g = refl
-state_kept false (Some outcome.Accepted) d' true c c' q q' h g = absurd cc
-state_kept false (Some outcome.Accepted) d' false c c' q q' h g = by_completion c c' q q' h
-state_kept false (Some outcome.Silent) d' true c c' q q' h g = absurd cc
-state_kept false (Some outcome.Silent) d' false c c' q q' h g = by_completion c c' q q' h
-state_kept false None d' true c c' q q' h g = absurd cc
-state_kept false None d' false c c' q q' h g = ap (λ (o : Option Outcome). state_by false o false (option_or c c') q') (g refl) ∙ by_completion c c' q q' h
+status_kept : (l : Bool) (d d' : Option Outcome) (a : Bool) (c c' : Option Outcome) (q q' : Bool) → is_decided (status_by l d a c q) ≡ true → (a ≡ false → d' ≡ None) → status_by l (option_or d d') a (option_or c c') q' ≡ status_by l d a c q
+status_kept true d d' a c c' q q' h g = absurd cc
+status_kept false (Some outcome.Done) d' a c c' q q' h g = refl
+status_kept false (Some outcome.Failed) d' a c c' q q' h g = refl
+status_kept false (Some outcome.Accepted) d' true c c' q q' h g = absurd cc
+status_kept false (Some outcome.Accepted) d' false c c' q q' h g = by_completion c c' q q' h
+status_kept false (Some outcome.Silent) d' true c c' q q' h g = absurd cc
+status_kept false (Some outcome.Silent) d' false c c' q q' h g = by_completion c c' q q' h
+status_kept false None d' true c c' q q' h g = absurd cc
+status_kept false None d' false c c' q q' h g = ap (λ (o : Option Outcome). status_by false o false (option_or c c') q') (g refl) ∙ by_completion c c' q q' h
 
--- a state that is decided stays, where the member doesn't leave and isn't asked to compensate
+-- a status that is decided stays, where the member doesn't leave and isn't asked to compensate
 pub member_status_kept : (J : History) (e : Entry) (p : ℕ) → is_decided (member_status J p) ≡ true → is_leave_of p e.deed ≡ false → is_ask_for p ask.Compensate e.deed ≡ false → member_status (J ++ e ∷ []) p ≡ member_status J p
 unfolding member_status
 member_status_kept J e p h no_leave no_ask =
-    ap (λ (b : Bool). state_by b (decided K p direction.Compensation) (was_asked K p ask.Compensate) (decided K p direction.Completion) (was_asked K p ask.Complete)) (has_left_push J e p ∙ ap (λ (b : Bool). has_left J p || b) no_leave ∙ or-false (has_left J p))
-    ∙ ap (λ (b : Bool). state_by (has_left J p) (decided K p direction.Compensation) b (decided K p direction.Completion) (was_asked K p ask.Complete)) (was_asked_push J e p ask.Compensate ∙ ap (λ (b : Bool). was_asked J p ask.Compensate || b) no_ask ∙ or-false (was_asked J p ask.Compensate))
-    ∙ ap (λ (o : Option Outcome). state_by (has_left J p) o (was_asked J p ask.Compensate) (decided K p direction.Completion) (was_asked K p ask.Complete)) (decided_push J e p direction.Compensation)
-    ∙ ap (λ (o : Option Outcome). state_by (has_left J p) (option_or (decided J p direction.Compensation) (new direction.Compensation)) (was_asked J p ask.Compensate) o (was_asked K p ask.Complete)) (decided_push J e p direction.Completion)
-    ∙ state_kept (has_left J p) (decided J p direction.Compensation) (new direction.Compensation) (was_asked J p ask.Compensate) (decided J p direction.Completion) (new direction.Completion) (was_asked J p ask.Complete) (was_asked K p ask.Complete) h
+    ap (λ (b : Bool). status_by b (decided K p direction.Compensation) (was_asked K p ask.Compensate) (decided K p direction.Completion) (was_asked K p ask.Complete)) (has_left_push J e p ∙ ap (λ (b : Bool). has_left J p || b) no_leave ∙ or-false (has_left J p))
+    ∙ ap (λ (b : Bool). status_by (has_left J p) (decided K p direction.Compensation) b (decided K p direction.Completion) (was_asked K p ask.Complete)) (was_asked_push J e p ask.Compensate ∙ ap (λ (b : Bool). was_asked J p ask.Compensate || b) no_ask ∙ or-false (was_asked J p ask.Compensate))
+    ∙ ap (λ (o : Option Outcome). status_by (has_left J p) o (was_asked J p ask.Compensate) (decided K p direction.Completion) (was_asked K p ask.Complete)) (decided_push J e p direction.Compensation)
+    ∙ ap (λ (o : Option Outcome). status_by (has_left J p) (option_or (decided J p direction.Compensation) (new direction.Compensation)) (was_asked J p ask.Compensate) o (was_asked K p ask.Complete)) (decided_push J e p direction.Completion)
+    ∙ status_kept (has_left J p) (decided J p direction.Compensation) (new direction.Compensation) (was_asked J p ask.Compensate) (decided J p direction.Completion) (new direction.Completion) (was_asked J p ask.Complete) (was_asked K p ask.Complete) h
     (not_heard J e.by e.moment e.deed p)
   where
     K : History
@@ -157,7 +157,7 @@ pub completed_never_asked : (J : History) (p : ℕ) → member_status J p ≡ me
 unfolding member_status
 completed_never_asked J p h = by_words (has_left J p) (decided J p direction.Compensation) (was_asked J p ask.Compensate) (decided J p direction.Completion) (was_asked J p ask.Complete) h
   where
-    by_words : (l : Bool) (d : Option Outcome) (a : Bool) (c : Option Outcome) (q : Bool) → state_by l d a c q ≡ member.Completed → a ≡ false
+    by_words : (l : Bool) (d : Option Outcome) (a : Bool) (c : Option Outcome) (q : Bool) → status_by l d a c q ≡ member.Completed → a ≡ false
     by_words l d false c q g = refl
     by_words true d true c q g = absurd cc
     by_words false (Some outcome.Done) true c q g = absurd cc

@@ -13,12 +13,12 @@ use Rattle.lra_model.specs.declared.version.Version.TheVariants.{One, Two}
 use Rattle.lra_model.specs.declared.entry.Deed.TheVariants.{Enrol, Start, Join, Close, Cancel, Ask, Reply, End}
 use Rattle.lra_model.specs.Words.{member_has_failed}
 use Rattle.lra_model.specs.History.{History, steps, clerks, actions, members, asks, is_among, last_moment}
-use Rattle.lra_model.specs.Actions.{parent, top, is_under, action_status, limit_in_force, children, members_of, was_cancelled}
+use Rattle.lra_model.specs.Actions.{parent, top, is_under, action_status, limit_in_force, children, members_of, was_cancelled, was_cancelled_below}
 use Rattle.lra_model.specs.Members.{action_of, addresses_of, has_left, stays, was_asked, ask_of, replies, decided, member_status, last_reply, was_answered, is_outstanding, outstanding_ask}
 use Rattle.lra_model.specs.Ends.{staying, is_settled, right_end, top_has_ended}
 use Rattle.lra_model.specs.Facts.{facts_of}
 use Rattle.lra_model.specs.Rules.{broken, is_legal}
-use Rattle.lra_model.specs.GoodEnds.{was_cancelled_below, StaysUnder, IsCompletedForGood, GoodEnds}
+use Rattle.lra_model.specs.GoodEnds.{StaysUnder, IsCompletedForGood, GoodEnds}
 use Rattle.lra_laws.proofs.Worked.{is_http, at, u, c, uris, nest, undone, failing, cancelled_below, taken_back}
 use Rattle.lra_laws.proofs.GoodLaw.{good_ends}
 
@@ -119,7 +119,7 @@ pub kept_is_legal : legal_in_both kept ≡ (true, true)
 unfolding steps clerks actions members asks last_moment parent top action_status limit_in_force children members_of action_of addresses_of has_left stays was_asked ask_of replies decided member_status last_reply was_answered is_outstanding outstanding_ask staying is_settled right_end top_has_ended facts_of broken is_legal
 kept_is_legal = refl
 
--- what the good end of action 1 reads: its state and that of action 2, nested in it; whether member 1 stays below it; the member's state;
+-- what the good end of action 1 reads: its status and that of action 2, nested in it; whether member 1 stays below it; the member's status;
 -- whether it was asked to compensate; and whether an action between the two was cancelled
 pub record Reads : Type 0 where
   pub outer : Option ActionStatus

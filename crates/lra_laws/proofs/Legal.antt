@@ -50,7 +50,7 @@ pub record Allowed (v : Version) (t : List ℕ → Bool) (J : History) (e : Entr
   pub ranged : in_range e ≡ true
   pub unbroken : first_broken (rules_on v t (facts_of J) e) ≡ None
 
--- it may come just where allows says so
+-- it may come exactly where allows says so
 pub allowed : (v : Version) (t : List ℕ → Bool) (J : History) (e : Entry) → allows v t J e ≡ true → Allowed v t J e
 unfolding broken
 allowed v t J e h =
@@ -84,6 +84,13 @@ legal_induction v t P base more J = snoc_induction (λ K. is_legal v t K ≡ tru
   where
     step_on : (K : History) (e : Entry) → (is_legal v t K ≡ true → P K) → is_legal v t (K ++ e ∷ []) ≡ true → P (K ++ e ∷ [])
     step_on K e h l = let k = legal_push v t K e l in more K e k.0 k.1 (h k.0)
+
+-- what a legal history begins with is legal
+pub legal_begins : (v : Version) (t : List ℕ → Bool) (J es : History) → is_legal v t (J ++ es) ≡ true → is_legal v t J ≡ true
+legal_begins v t J es = snoc_induction (λ fs. is_legal v t (J ++ fs) ≡ true → is_legal v t J ≡ true) (λ h. sym (ap (is_legal v t) (append-nil J)) ∙ h) more es
+  where
+    more : (fs : History) (e : Entry) → (is_legal v t (J ++ fs) ≡ true → is_legal v t J ≡ true) → is_legal v t (J ++ (fs ++ e ∷ [])) ≡ true → is_legal v t J ≡ true
+    more fs e rest h = rest (legal_push v t (J ++ fs) e (ap (is_legal v t) (append_assoc J fs (e ∷ [])) ∙ h)).0
 
 -- ---- the rules that an entry keeps, by its deed
 
@@ -239,7 +246,7 @@ pub among_push : (ns : List ℕ) (o : Option ℕ) (n : ℕ) → is_among (ns ++ 
 among_push ns None n = ap (λ (ms : List ℕ). is_among ms n) (append-nil ns) ∙ sym (or-false (is_among ns n))
 among_push ns (Some x) n = any_push (λ m. m == n) ns x
 
--- a word that the deeds of a number give is there just where the number is among those that the deeds give
+-- a word that the deeds of a number give is there exactly where the number is among those that the deeds give
 first_is_there : {X : Type 0} (f : Deed → Option X) (g : Deed → Option ℕ) (n : ℕ) → ((d : Deed) → is_some (f d) ≡ option_map_or (λ m. m == n) (g d) false)
     → (J : History) → is_some (first (read_deeds f J)) ≡ is_among (read_deeds g J) n
 first_is_there f g n alike [] = refl
@@ -368,30 +375,26 @@ pub member_there_push : (J : History) (e : Entry) (p : ℕ) → is_among (member
 member_there_push J e p h =
     ap (λ (ns : List ℕ). is_among ns p) (members_push J e) ∙ among_push (members J) (joined_by e.deed) p ∙ ap (λ (b : Bool). b || option_map_or (λ m. m == p) (joined_by e.deed) false) h
 
--- an action has a Start just where it is there
+some_when : {X : Type 0} (b : Bool) (x : X) → is_some (when b x) ≡ b
+some_when true x = refl
+some_when false x = refl
+
+-- an action has a Start exactly where it is there
 start_is_there : (a : ℕ) (J : History) → is_some (first (read_deeds (parent_given a) J)) ≡ is_among (actions J) a
 unfolding actions
 start_is_there a J = first_is_there (parent_given a) started_by a alike J
   where
-    gives : (b : Bool) (parent : Option ℕ) → is_some (when b parent) ≡ b
-    gives true parent = refl
-    gives false parent = refl
-
     alike : (d : Deed) → is_some (parent_given a d) ≡ option_map_or (λ m. m == a) (started_by d) false
-    alike (Start b parent limit) = gives (b == a) parent
+    alike (Start b parent limit) = some_when (b == a) parent
     alike _ = refl
 
--- a member has a Join just where it is there
+-- a member has a Join exactly where it is there
 join_is_there : (p : ℕ) (J : History) → is_some (first (read_deeds (action_given p) J)) ≡ is_among (members J) p
 unfolding members
 join_is_there p J = first_is_there (action_given p) joined_by p alike J
   where
-    gives : (b : Bool) (a : ℕ) → is_some (when b a) ≡ b
-    gives true a = refl
-    gives false a = refl
-
     alike : (d : Deed) → is_some (action_given p d) ≡ option_map_or (λ m. m == p) (joined_by d) false
-    alike (Join q a uris) = gives (q == p) a
+    alike (Join q a uris) = some_when (q == p) a
     alike _ = refl
 
 -- and has addresses then
@@ -399,12 +402,8 @@ addresses_are_there : (p : ℕ) (J : History) → is_some (first (read_deeds (ad
 unfolding members
 addresses_are_there p J = first_is_there (addresses_given p) joined_by p alike J
   where
-    gives : (b : Bool) (u : Addresses) → is_some (when b u) ≡ b
-    gives true u = refl
-    gives false u = refl
-
     alike : (d : Deed) → is_some (addresses_given p d) ≡ option_map_or (λ m. m == p) (joined_by d) false
-    alike (Join q a uris) = gives (q == p) uris
+    alike (Join q a uris) = some_when (q == p) uris
     alike _ = refl
 
 -- the first that is there stays
@@ -481,7 +480,7 @@ turned_is_there v t J by m d k a s h = by_deed d k
     by_deed (End b x) k = turned b x (action_fact (λ (y : ActionFacts). true) J b (end_kept v t (facts_of J) m b x (rules (End b x) k)).there).0
     by_deed _ k = h ∙ sym (or-false (is_among (actions J) a))
 
--- an action has a state just where it is there
+-- an action has a status exactly where it is there
 pub status_is_there : (v : Version) (t : List ℕ → Bool) (J : History) → is_legal v t J ≡ true → (a : ℕ) → is_some (action_status J a) ≡ is_among (actions J) a
 unfolding action_status actions
 status_is_there v t = legal_induction v t (λ J. (a : ℕ) → is_some (action_status J a) ≡ is_among (actions J) a) (λ a. refl)
@@ -490,7 +489,7 @@ status_is_there v t = legal_induction v t (λ J. (a : ℕ) → is_some (action_s
     ∙ turned_is_there v t J e.by e.moment e.deed k a (action_status J a) (h a)
     ∙ sym (ap (λ (ns : List ℕ). is_among ns a) (actions_push J e) ∙ among_push (actions J) (started_by e.deed) a))
 
--- in a legal history, the test of a state by the facts is that of the history
+-- in a legal history, the test of a status by the facts is that of the history
 pub state_is_lem : (v : Version) (t : List ℕ → Bool) (J : History) → is_legal v t J ≡ true → (test : ActionStatus → Bool) (a : ℕ) → status_is test (facts_of J) a ≡ action_is test J a
 unfolding facts_of
 state_is_lem v t J l test a = both_ways (is_among (actions J) a) (action_status J a) (status_is_there v t J l a)

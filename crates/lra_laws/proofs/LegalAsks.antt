@@ -40,7 +40,7 @@ outstanding_there J n = snoc_induction (λ K. is_outstanding K n ≡ true → is
     push : (K : History) (e : Entry) → (is_outstanding K n ≡ true → is_among (asks K) n ≡ true) → is_outstanding (K ++ e ∷ []) n ≡ true → is_among (asks (K ++ e ∷ [])) n ≡ true
     push K e ih h = ap (λ (ns : List ℕ). is_among ns n) (asks_push K e) ∙ among_push (asks K) (asked_by e.deed) n ∙ after K e.deed ih (sym (is_outstanding_push K e n) ∙ h)
 
--- an ask can be looked up just where it is there
+-- an ask can be looked up exactly where it is there
 pub ask_of_there : (J : History) (n : ℕ) → is_some (ask_of J n) ≡ is_among (asks J) n
 unfolding ask_of asks steps
 ask_of_there J n = snoc_induction (λ K. is_some (ask_of K n) ≡ is_among (asks K) n) refl push J

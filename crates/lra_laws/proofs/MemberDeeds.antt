@@ -18,28 +18,17 @@ use Rattle.lra_model.specs.Addresses.{presence_of}
 use Rattle.lra_model.specs.Words.{when, same_kind, same_direction, is_untouched, is_completing, is_compensating, is_done, is_decisive}
 use Rattle.lra_model.specs.History.{History, steps}
 use Rattle.lra_model.specs.Members.{action_given, addresses_given, is_leave_of, has_left, is_ask_for, was_asked, status_direction, ask_direction, Asked, ask_of, replied_at, Heard, heard_at, decides, decided, member_status, last_reply}
+use Rattle.lra_laws.proofs.GoodStatus.{status_by}
 use Rattle.lra_laws.proofs.Push.{step, has_left_push, was_asked_push, decided_push}
+use Rattle.lra_laws.proofs.Rests.{decided_is_decisive}
 use Rattle.lra_laws.proofs.Tested.{both}
 use Rattle.lra_laws.specs.Rows.{Standing, MemberRow, standing_at, standing, member_row, decided_as, way_of, way_asked, asked_as, with_ask, with_reply, with_reply_to, with_report}
 use Rattle.lra_laws.proofs.RowLists.{eqb_self}
 use Rattle.lra_laws.proofs.Told.{entry, more, ask_fits}
-use Rattle.lra_laws.proofs.MemberWords.{status_by, status_is, action_kept, addresses_kept, left_quiet, asked_quiet, decided_quiet, reply_after, answer_after, answer_kept, stand_after, heard_of, replied_of, answered_of}
-use Rattle.lra_laws.proofs.StatusCases.{is_word, asked_to_complete, asked_to_compensate, skipped, goes_on, word_of, decided_anew}
+use Rattle.lra_laws.proofs.MemberWords.{status_is, action_kept, addresses_kept, left_quiet, asked_quiet, decided_quiet, reply_after, answer_after, answer_kept, stand_after, heard_of, replied_of, answered_of}
+use Rattle.lra_laws.proofs.StatusCases.{asked_to_complete, asked_to_compensate, skipped, goes_on, word_of, decided_anew}
 
--- what a direction came to is decisive
-pub decided_word : (J : History) (p : ℕ) (d : Direction) → is_word (decided J p d) ≡ true
-unfolding decided
-decided_word J p d = found (filter_map heard_at (steps J))
-  where
-    found : (hs : List Heard) → is_word (option_map (λ (h : Heard). h.outcome) (find (decides p d) hs)) ≡ true
-    found [] = refl
-    found (h ∷ hs) = either (decides p d h) refl (found hs)
-      where
-        either : (b : Bool) → decides p d h ≡ b → is_word (option_map (λ (x : Heard). x.outcome) (find (decides p d) hs)) ≡ true → is_word (option_map (λ (x : Heard). x.outcome) (cond b (Some h) (find (decides p d) hs))) ≡ true
-        either true e rest = (both ((h.member == p) && same_direction h.direction d) (is_decisive h.outcome) e).1
-        either false e rest = rest
-
--- a member's state after an entry, by what bears on it
+-- a member's status after an entry, by what bears on it
 pub status_after : (J : History) (by m : ℕ) (d : Deed) (p : ℕ) (l gc gd : Bool) (c e : Option Outcome) → has_left (more J by m d) p ≡ l → decided (more J by m d) p direction.Compensation ≡ c → was_asked (more J by m d) p ask.Compensate ≡ gc
     → decided (more J by m d) p direction.Completion ≡ e → was_asked (more J by m d) p ask.Complete ≡ gd → member_status (more J by m d) p ≡ status_by l c gc e gd
 status_after J by m d p l gc gd c e hl hc hgc he hgd = status_is (more J by m d) p ∙ (λ i. status_by (hl i) (hc i) (hgc i) (he i) (hgd i))
@@ -81,7 +70,7 @@ skip_row J by m p h = state_row J by m (Skip p) p member.Completed refl refl ref
     (asked_quiet J by m (Skip p) p ask.Compensate refl)
     (decided_after J by m (Skip p) p direction.Completion (Some outcome.Done) (heard_self p direction.Completion (record { member = p; direction = direction.Completion; outcome = outcome.Done }) (eqb_self p)))
     (asked_quiet J by m (Skip p) p ask.Complete refl)
-    ∙ skipped (has_left J p) (decided J p direction.Compensation) (was_asked J p ask.Compensate) (decided J p direction.Completion) (was_asked J p ask.Complete) (ap is_untouched (sym (status_is J p)) ∙ h) (decided_word J p direction.Completion))
+    ∙ skipped (has_left J p) (decided J p direction.Compensation) (was_asked J p ask.Compensate) (decided J p direction.Completion) (was_asked J p ask.Complete) (ap is_untouched (sym (status_is J p)) ∙ h) (decided_is_decisive J p direction.Completion))
 
 -- what a member's asks say of the way of a word
 abbrev pub Went : History → ℕ → Direction → Type 0
@@ -97,7 +86,7 @@ word_status J by m d p way o went l c e heard =
     (asked_quiet J by m d p ask.Compensate c)
     (decided_after J by m d p direction.Completion (word_of way direction.Completion o) (heard direction.Completion))
     (asked_quiet J by m d p ask.Complete e)
-    ∙ decided_anew way o (has_left J p) (decided J p direction.Compensation) (was_asked J p ask.Compensate) (decided J p direction.Completion) (was_asked J p ask.Complete) went.0 went.1 (decided_word J p direction.Compensation) (decided_word J p direction.Completion)
+    ∙ decided_anew way o (has_left J p) (decided J p direction.Compensation) (was_asked J p ask.Compensate) (decided J p direction.Completion) (was_asked J p ask.Complete) went.0 went.1 (decided_is_decisive J p direction.Compensation) (decided_is_decisive J p direction.Completion)
     ∙ ap (decided_as way o) (sym (status_is J p))
 
 -- one that goes on was asked to, in the direction in which it goes

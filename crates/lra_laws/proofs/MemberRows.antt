@@ -21,6 +21,7 @@ use Rattle.lra_model.specs.Members.{no_addresses, action_of, addresses_of, has_l
 use Rattle.lra_model.specs.Rules.{is_legal}
 use Rattle.lra_laws.proofs.Push.{members_push}
 use Rattle.lra_laws.proofs.Legal.{legal_induction, Allowed, IsNumbered, numbered_among, members_numbered, numbered_fresh, member_there_push, joined_there, action_of_new, addresses_of_new}
+use Rattle.lra_laws.proofs.Tested.{both}
 use Rattle.lra_laws.specs.Rows.{Standing, MemberRow, standing, void_asks, member_row, change_row, new_member, place_of, stands_as}
 use Rattle.lra_laws.proofs.RowLists.{among_apart, eqb_self, eqb_flip, map_within, rows_changed, rows_more}
 use Rattle.lra_laws.proofs.Told.{entry, more, ReplyTold, Told, told}
@@ -100,12 +101,8 @@ rows_joined v t J by m p a u l e =
 
 -- what stands with it is the ask that is answered
 pub replied_stands : (J : History) (n : ℕ) (x : Asked) → ReplyTold J n x → AsksStand J → standing J x.member ≡ Some (record { number = n; kind = x.kind; direction = x.direction })
-replied_stands J n x told ih = decide (standing J x.member) refl (and_right (nat_lt (void_asks J) n) (stands_for (standing J x.member) n) (sym (ih.outstanding n ∙ ap (stands_yet J n) told.asked) ∙ told.outstanding))
+replied_stands J n x told ih = decide (standing J x.member) refl (both (nat_lt (void_asks J) n) (stands_for (standing J x.member) n) (sym (ih.outstanding n ∙ ap (stands_yet J n) told.asked) ∙ told.outstanding)).1
   where
-    and_right : (a b : Bool) → (a && b) ≡ true → b ≡ true
-    and_right true b h = h
-    and_right false b h = absurd cc
-
     decide : (o : Option Standing) → standing J x.member ≡ o → stands_for o n ≡ true → o ≡ Some (record { number = n; kind = x.kind; direction = x.direction })
     decide None e h = absurd cc
     decide (Some s) e h =

@@ -7,15 +7,15 @@ use Rattle.lra_model.specs.declared.entry.Deed.TheVariants.{Start, Join}
 use Rattle.lra_model.specs.declared.version.Version.{Version}
 use Rattle.lra_model.specs.Words.{when}
 use Rattle.lra_model.specs.History.{History, actions, started_by, members, is_among}
-use Rattle.lra_model.specs.Actions.{parent, child_given, children, member_given, members_of}
-use Rattle.lra_model.specs.Depths.{depth}
+use Rattle.lra_model.specs.Actions.{parent, child_given, children, member_given, members_of, depth}
 use Rattle.lra_model.specs.Members.{action_of}
 use Rattle.lra_model.specs.Rules.{is_legal}
 use Rattle.lra_laws.specs.Rows.{change_row}
 use Rattle.lra_laws.specs.Sheets.{Nest, nest_of, with_child_number, with_member_number, new_depth, new_nest, nests_after}
 use Rattle.lra_laws.proofs.Push.{actions_push, children_push, members_of_push}
+use Rattle.lra_laws.proofs.GoodLists.{filter_same}
 use Rattle.lra_laws.proofs.Legal.{Allowed, legal_more, numbered_fresh, actions_numbered, parent_of_new, parent_there, action_of_there}
-use Rattle.lra_laws.proofs.RowLists.{eqb_self, eqb_flip, among_apart, map_within, filter_within, row_there, rows_changed, rows_more}
+use Rattle.lra_laws.proofs.RowLists.{eqb_self, eqb_flip, among_apart, map_within, row_there, rows_changed, rows_more}
 use Rattle.lra_laws.proofs.Told.{entry, more, StartTold, Told}
 use Rattle.lra_laws.proofs.ActionWords.{members_by, children_by, is_parent, actions_stay}
 use Rattle.lra_laws.proofs.Tops.{depth_stays, depth_by_parent}
@@ -54,7 +54,7 @@ nests_joined v t J by m d p c l no_start no_child member there =
     })
 
 filter_none : (f : ℕ → Bool) (ns : List ℕ) → ((n : ℕ) → is_among ns n ≡ true → f n ≡ false) → filter f ns ≡ []
-filter_none f ns h = filter_within f (λ n. false) ns h ∙ none ns
+filter_none f ns h = filter_same f (λ n. false) ns h ∙ none ns
   where
     none : (ns : List ℕ) → filter (λ n. false) ns ≡ []
     none [] = refl

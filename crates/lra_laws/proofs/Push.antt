@@ -24,6 +24,11 @@ pub or_none : {X : Type 0} (o : Option X) → option_or o None ≡ o
 or_none None = refl
 or_none (Some x) = refl
 
+-- one of two, or else a third
+pub unwrap_either : {X : Type 0} (o p : Option X) (x : X) → unwrap_or (option_or o p) x ≡ unwrap_or o (unwrap_or p x)
+unwrap_either None p x = refl
+unwrap_either (Some y) p x = refl
+
 pub last_or_push : {X : Type 0} (o : Option X) (xs : List X) (y : X) → last_or o (xs ++ y ∷ []) ≡ Some y
 last_or_push o [] y = refl
 last_or_push o (x ∷ xs) y = last_or_push (Some x) xs y
@@ -110,11 +115,7 @@ parent_push J e a = ap (λ (o : Option (Option ℕ)). unwrap_or o None) (first_r
 
 pub limit_push : (J : History) (e : Entry) (a : ℕ) → limit_in_force (J ++ e ∷ []) a ≡ unwrap_or (limit_given a e) (limit_in_force J a)
 unfolding limit_in_force
-limit_push J e a = ap (λ (o : Option Limit). unwrap_or o (record { length_of = 0; since = 0 })) (last_read_push (limit_given a) J e) ∙ either (limit_given a e) (last (filter_map (limit_given a) J))
-  where
-    either : (o p : Option Limit) → unwrap_or (option_or o p) (record { length_of = 0; since = 0 }) ≡ unwrap_or o (unwrap_or p (record { length_of = 0; since = 0 }))
-    either None p = refl
-    either (Some x) p = refl
+limit_push J e a = ap (λ (o : Option Limit). unwrap_or o (record { length_of = 0; since = 0 })) (last_read_push (limit_given a) J e) ∙ unwrap_either (limit_given a e) (last (filter_map (limit_given a) J)) (record { length_of = 0; since = 0 })
 
 pub children_push : (J : History) (e : Entry) (a : ℕ) → children (J ++ e ∷ []) a ≡ children J a ++ option_to_list (child_given a e.deed)
 unfolding children
@@ -205,11 +206,7 @@ was_answered_push J e p kind = ap (list_any test) (replies_push J e) ∙ at_end 
 
 pub is_outstanding_push : (J : History) (e : Entry) (n : ℕ) → is_outstanding (J ++ e ∷ []) n ≡ unwrap_or (standing_given n e.deed) (is_outstanding J n)
 unfolding is_outstanding
-is_outstanding_push J e n = ap (λ (o : Option Bool). unwrap_or o false) (last_read_push (λ (x : Entry). standing_given n x.deed) J e) ∙ either (standing_given n e.deed) (last (read_deeds (standing_given n) J))
-  where
-    either : (o p : Option Bool) → unwrap_or (option_or o p) false ≡ unwrap_or o (unwrap_or p false)
-    either None p = refl
-    either (Some x) p = refl
+is_outstanding_push J e n = ap (λ (o : Option Bool). unwrap_or o false) (last_read_push (λ (x : Entry). standing_given n x.deed) J e) ∙ unwrap_either (standing_given n e.deed) (last (read_deeds (standing_given n) J)) false
 
 -- the asks of a member
 pub asks_to_push : (J : History) (e : Entry) (p : ℕ) → read_deeds (ask_given p) (J ++ e ∷ []) ≡ read_deeds (ask_given p) J ++ option_to_list (ask_given p e.deed)

@@ -5,29 +5,19 @@ use Rattle.std.specs.Prelude.{◌==◌, ◌||◌, option_map}
 use Rattle.std.specs.Option.{option_or}
 use Rattle.std.specs.List.{filter_map, cons_option, last_or, find}
 use Rattle.lra_model.specs.declared.version.Version.{Version}
-use Rattle.lra_model.specs.declared.version.Version.TheVariants as version
 use Rattle.lra_model.specs.declared.asks.Cause.TheVariants as cause
 use Rattle.lra_model.specs.declared.entry.Deed.{Deed}
 use Rattle.lra_model.specs.declared.entry.Deed.TheVariants.{Close, Cancel, Skip, End}
 use Rattle.lra_model.specs.History.{History, first, last, actions, members, is_among, last_moment}
 use Rattle.lra_model.specs.Ends.{is_settled, right_end}
 use Rattle.lra_model.specs.Facts.{ActionFacts, facts_of}
-use Rattle.lra_model.specs.Tests.{at_action, may_close, may_cancel, may_skip}
+use Rattle.lra_model.specs.Tests.{at_action, may_close_with_parent, may_cancel_with_parent, may_skip}
 use Rattle.lra_model.specs.Rules.{deed_rules, allows}
 use Rattle.lra_model.specs.Settling.{is_settling, IsQuiet, may_be_skipped, by_parent, next_settling}
+use Rattle.lra_laws.proofs.GoodLists.{find_nothing}
 use Rattle.lra_laws.proofs.Legal.{AllKept, allowed, entry_kept, close_kept, cancel_kept, skip_kept, end_kept, action_fact, member_fact}
 
 -- ---- lists that give nothing
-
--- where none is found, none among them passes
-find_nothing : (f : ℕ → Bool) (ns : List ℕ) (n : ℕ) → find f ns ≡ None → is_among ns n ≡ true → f n ≡ false
-find_nothing f [] n h k = absurd cc
-find_nothing f (x ∷ ns) n h k = either (f x) refl (x == n) refl h k (find_nothing f ns n)
-  where
-    either : (c : Bool) → f x ≡ c → (b : Bool) → (x == n) ≡ b → cond c (Some x) (find f ns) ≡ None → (b || is_among ns n) ≡ true → (find f ns ≡ None → is_among ns n ≡ true → f n ≡ false) → f n ≡ false
-    either true g b e i j rest = absurd cc
-    either false g true e i j rest = ap f (sym (eqb-true x n e)) ∙ g
-    either false g false e i j rest = rest i j
 
 -- where nothing is read, nothing is read of one among them
 read_nothing : {X : Type 0} (f : ℕ → Option X) (ns : List ℕ) (n : ℕ) → filter_map f ns ≡ [] → is_among ns n ≡ true → f n ≡ None
@@ -101,11 +91,11 @@ no_next_is_quiet v t J h by d g = false_from_ne_true (allows v t J (record { by 
     refuted : (d : Deed) → is_settling d ≡ true → AllKept (deed_rules v t (facts_of J) (last_moment J) d) → ⊥
     refuted (Close a cause.Parent) s k =
         let may = (close_kept v t (facts_of J) (last_moment J) a cause.Parent k).may in
-        let i = neither_way (at_action (may_close cause.Parent (facts_of J)) (facts_of J) a) (at_action (may_cancel version.One 0 cause.Parent (facts_of J)) (facts_of J) a) a (none.parents a (action_fact (may_close cause.Parent (facts_of J)) J a may).0) in
+        let i = neither_way (at_action (may_close_with_parent (facts_of J)) (facts_of J) a) (at_action (may_cancel_with_parent (facts_of J)) (facts_of J) a) a (none.parents a (action_fact (may_close_with_parent (facts_of J)) J a may).0) in
         let b = i.0 in cc
     refuted (Cancel a cause.Parent) s k =
-        let may : at_action (may_cancel version.One 0 cause.Parent (facts_of J)) (facts_of J) a ≡ true = (cancel_kept v t (facts_of J) (last_moment J) a cause.Parent k).may in
-        let i = neither_way (at_action (may_close cause.Parent (facts_of J)) (facts_of J) a) (at_action (may_cancel version.One 0 cause.Parent (facts_of J)) (facts_of J) a) a (none.parents a (action_fact (may_cancel version.One 0 cause.Parent (facts_of J)) J a may).0) in
+        let may : at_action (may_cancel_with_parent (facts_of J)) (facts_of J) a ≡ true = (cancel_kept v t (facts_of J) (last_moment J) a cause.Parent k).may in
+        let i = neither_way (at_action (may_close_with_parent (facts_of J)) (facts_of J) a) (at_action (may_cancel_with_parent (facts_of J)) (facts_of J) a) a (none.parents a (action_fact (may_cancel_with_parent (facts_of J)) J a may).0) in
         let b = i.1 in cc
     refuted (Skip p) s k =
         let may = (skip_kept v t (facts_of J) (last_moment J) p k).may in

@@ -7,7 +7,6 @@ use Rattle.std.specs.Prelude.{◌==◌, ◌&&◌, ◌||◌, not, is_some, unwrap
 use Rattle.std.specs.Option.{option_or, option_map_or}
 use Rattle.std.specs.List.{filter_map, cons_option, find, sum_by}
 use Rattle.lra_model.specs.declared.version.Version.{Version}
-use Rattle.lra_model.specs.declared.version.Version.TheVariants as version
 use Rattle.lra_model.specs.declared.status.ActionStatus.{ActionStatus}
 use Rattle.lra_model.specs.declared.status.ActionStatus.TheVariants as action
 use Rattle.lra_model.specs.declared.status.MemberStatus.TheVariants as member
@@ -26,7 +25,7 @@ use Rattle.lra_model.specs.Actions.{status_given, action_status}
 use Rattle.lra_model.specs.Members.{has_left, was_asked, Heard, heard_at, decides, decided, by_decision, member_status}
 use Rattle.lra_model.specs.Ends.{settles, is_settled, ends_as, right_end}
 use Rattle.lra_model.specs.Facts.{ActionFacts, MemberFacts, action_facts, member_facts, facts_of}
-use Rattle.lra_model.specs.Tests.{at_action, status_is, parent_is, may_close, may_cancel, may_skip}
+use Rattle.lra_model.specs.Tests.{at_action, status_is, parent_is, may_close_with_parent, may_cancel_with_parent, may_skip}
 use Rattle.lra_model.specs.Rules.{deed_rules}
 use Rattle.lra_model.specs.Settling.{is_settling, may_be_skipped, by_parent, next_settling}
 use Rattle.lra_laws.proofs.Push.{step, actions_push, members_push, action_status_push, decided_push}
@@ -49,7 +48,7 @@ turns_left _ = 0
 abbrev turns_of : History → ℕ → ℕ
 turns_of J a = turns_left (unwrap_or (action_status J a) action.Active)
 
--- a member has one skip left, until its completion came to something
+-- a member has one skip left until its completion is decided
 abbrev skips_of : History → ℕ → ℕ
 skips_of J p = cond (is_some (decided J p direction.Completion)) 0 1
 
@@ -89,8 +88,8 @@ sum_less f g (x ∷ xs) n h k l = either (x == n) refl k (λ i. sum_less f g xs 
 
 -- ---- what an entry changes
 
--- what a direction came to is decisive
-decided_is_decisive : (J : History) (p : ℕ) (d : Direction) → option_map_or is_decisive (decided J p d) true ≡ true
+-- the outcome that decides a direction is decisive
+pub decided_is_decisive : (J : History) (p : ℕ) (d : Direction) → option_map_or is_decisive (decided J p d) true ≡ true
 unfolding decided
 decided_is_decisive J p d = found (filter_map heard_at (steps J))
   where
@@ -103,7 +102,7 @@ decided_is_decisive J p d = found (filter_map heard_at (steps J))
         either true e rest = (both ((h.member == p) && same_direction h.direction d) (is_decisive h.outcome) e).1
         either false e rest = rest
 
--- an Active member's completion came to nothing yet
+-- an Active member's completion isn't decided yet
 untouched_undecided : (J : History) (p : ℕ) → is_untouched (member_status J p) ≡ true → decided J p direction.Completion ≡ None
 unfolding member_status
 untouched_undecided J p h =
@@ -155,7 +154,7 @@ skip_taken J by m p h =
 turns_after : (J : History) (e : Entry) (a : ℕ) → turns_of (J ++ e ∷ []) a ≡ turns_left (unwrap_or (option_or (status_given a e.deed) (action_status J a)) action.Active)
 turns_after J e a = ap (λ (o : Option ActionStatus). turns_left (unwrap_or o action.Active)) (action_status_push J e a)
 
--- an entry turns an action to a state that leaves it less
+-- an entry turns an action to a status that leaves it less
 record IsTurn (J : History) (d : Deed) (b : ℕ) (s : ActionStatus) : Type 0 where
   pub there : is_among (actions J) b ≡ true
   pub turns : (a : ℕ) → status_given a d ≡ when (b == a) s
@@ -244,12 +243,12 @@ settling_lessens v t J by m d k h = by_deed d h (entry_kept v t (facts_of J) (re
 
     by_deed : (d : Deed) → is_settling d ≡ true → AllKept (deed_rules v t (facts_of J) m d) → left_to_settle (J ++ record { by = by; moment = m; deed = d } ∷ []) < left_to_settle J
     by_deed (Close a cause.Parent) s r =
-        let f = action_fact (may_close cause.Parent (facts_of J)) J a (close_kept v t (facts_of J) m a cause.Parent r).may in
+        let f = action_fact (may_close_with_parent (facts_of J)) J a (close_kept v t (facts_of J) m a cause.Parent r).may in
         let x : ActionFacts = action_facts J a in
         turn_lessens J by m (Close a cause.Parent) a action.Closing refl refl
         (record { there = f.0; turns = λ b. refl; less = from_active x.status (both (is_active x.status) (parent_is is_closing (facts_of J) x) f.1).0 })
     by_deed (Cancel a cause.Parent) s r =
-        let f = action_fact (may_cancel v m cause.Parent (facts_of J)) J a (cancel_kept v t (facts_of J) m a cause.Parent r).may in
+        let f = action_fact (may_cancel_with_parent (facts_of J)) J a (cancel_kept v t (facts_of J) m a cause.Parent r).may in
         let x : ActionFacts = action_facts J a in
         turn_lessens J by m (Cancel a cause.Parent) a action.Cancelling refl refl
         (record { there = f.0; turns = λ b. refl; less = from_cancellable x.status (both (is_cancellable x.status) (parent_is is_cancelling (facts_of J) x) f.1).0 })
@@ -288,7 +287,7 @@ next_settles J d h =
 
     parents : (ns : List ℕ) → option_map_or is_settling (first (filter_map (by_parent J) ns)) true ≡ true
     parents [] = refl
-    parents (a ∷ ns) = one (at_action (may_close cause.Parent (facts_of J)) (facts_of J) a) (at_action (may_cancel version.One 0 cause.Parent (facts_of J)) (facts_of J) a) (parents ns)
+    parents (a ∷ ns) = one (at_action (may_close_with_parent (facts_of J)) (facts_of J) a) (at_action (may_cancel_with_parent (facts_of J)) (facts_of J) a) (parents ns)
       where
         one : (close cancel : Bool) → option_map_or is_settling (first (filter_map (by_parent J) ns)) true ≡ true
             → option_map_or is_settling (first (cons_option (cond close (Some (Close a cause.Parent)) (cond cancel (Some (Cancel a cause.Parent)) None)) (filter_map (by_parent J) ns))) true ≡ true

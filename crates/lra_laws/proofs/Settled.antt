@@ -4,7 +4,6 @@ use Rattle.std.specs.Prelude.{◌&&◌, not, is_some, option_map}
 use Rattle.std.specs.Option.{option_or}
 use Rattle.std.specs.List.{filter_map, cons_option, find, last_or}
 use Rattle.lra_model.specs.declared.version.Version.{Version}
-use Rattle.lra_model.specs.declared.version.Version.TheVariants as version
 use Rattle.lra_model.specs.declared.status.ActionStatus.{ActionStatus}
 use Rattle.lra_model.specs.declared.status.ActionStatus.TheVariants as action
 use Rattle.lra_model.specs.declared.status.MemberStatus.{MemberStatus}
@@ -17,7 +16,7 @@ use Rattle.lra_model.specs.History.{History, actions, members, is_among, first, 
 use Rattle.lra_model.specs.Actions.{action_status}
 use Rattle.lra_model.specs.Ends.{settles, is_settled, right_end}
 use Rattle.lra_model.specs.Facts.{ActionFacts, MemberFacts, member_facts, facts_of}
-use Rattle.lra_model.specs.Tests.{at_action, status_is, may_close, may_cancel, may_skip}
+use Rattle.lra_model.specs.Tests.{at_action, status_is, may_close_with_parent, may_cancel_with_parent, may_skip}
 use Rattle.lra_model.specs.Settling.{may_be_skipped, by_parent, next_settling}
 use Rattle.lra_laws.proofs.Tested.{both}
 use Rattle.lra_laws.proofs.Legal.{Allowed, action_fact, member_fact, at_action_from, at_member_from, status_is_there}
@@ -69,20 +68,20 @@ skip_allowed v t J by m p k h =
         here_by x.status (both (status_is is_closing (facts_of J) x.action) (is_untouched x.status) b.0).1
 
 parent_allowed : (v : Version) (t : List ℕ → Bool) (J : History) (by m a : ℕ) (d : Deed) → MayWrite v t J by m → by_parent J a ≡ Some d → Allowed v t J (record { by = by; moment = m; deed = d })
-parent_allowed v t J by m a d k h = by_tests (at_action (may_close cause.Parent (facts_of J)) (facts_of J) a) refl (at_action (may_cancel version.One 0 cause.Parent (facts_of J)) (facts_of J) a) refl h
+parent_allowed v t J by m a d k h = by_tests (at_action (may_close_with_parent (facts_of J)) (facts_of J) a) refl (at_action (may_cancel_with_parent (facts_of J)) (facts_of J) a) refl h
   where
     same_deed : (x : Deed) → x ≡ d → Allowed v t J (record { by = by; moment = m; deed = x }) → Allowed v t J (record { by = by; moment = m; deed = d })
     same_deed x e = subst (λ (y : Deed). Allowed v t J (record { by = by; moment = m; deed = y })) e
 
-    by_tests : (x : Bool) → at_action (may_close cause.Parent (facts_of J)) (facts_of J) a ≡ x → (y : Bool) → at_action (may_cancel version.One 0 cause.Parent (facts_of J)) (facts_of J) a ≡ y
+    by_tests : (x : Bool) → at_action (may_close_with_parent (facts_of J)) (facts_of J) a ≡ x → (y : Bool) → at_action (may_cancel_with_parent (facts_of J)) (facts_of J) a ≡ y
         → cond x (Some (Close a cause.Parent)) (cond y (Some (Cancel a cause.Parent)) None) ≡ Some d → Allowed v t J (record { by = by; moment = m; deed = d })
     by_tests true g y i j =
-        let there = (action_fact (may_close cause.Parent (facts_of J)) J a g).0 in
+        let there = (action_fact (may_close_with_parent (facts_of J)) J a g).0 in
         same_deed (Close a cause.Parent) (cc)
         (may_write v t J by m (Close a cause.Parent) k refl (action_in_range v t J k.legal a there) (known_deed v (Close a cause.Parent) refl)
         (at_action_from (λ (x : ActionFacts). true) J a there refl, (g, tt)))
     by_tests false g true i j =
-        let there = (action_fact (may_cancel version.One 0 cause.Parent (facts_of J)) J a i).0 in
+        let there = (action_fact (may_cancel_with_parent (facts_of J)) J a i).0 in
         same_deed (Cancel a cause.Parent) (cc)
         (may_write v t J by m (Cancel a cause.Parent) k refl (action_in_range v t J k.legal a there) (known_deed v (Cancel a cause.Parent) refl)
         (at_action_from (λ (x : ActionFacts). true) J a there refl, (i, tt)))

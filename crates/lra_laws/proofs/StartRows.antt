@@ -14,12 +14,13 @@ use Rattle.lra_model.specs.Actions.{parent, top, action_status, limit_in_force}
 use Rattle.lra_model.specs.Members.{action_of}
 use Rattle.lra_model.specs.Ends.{action_is}
 use Rattle.lra_model.specs.Rules.{is_legal}
+use Rattle.lra_laws.proofs.GoodWalks.{top_lem}
 use Rattle.lra_laws.proofs.Push.{actions_push, action_status_push, limit_push}
 use Rattle.lra_laws.proofs.Legal.{Allowed, legal_more, numbered_fresh, actions_numbered, parent_stays, parent_of_new, parent_there, action_of_there}
 use Rattle.lra_laws.specs.Rows.{ActionRow, member_row, action_row, state_of, count_staying, count_children, counts_as, is_left_to_complete, is_left_to_compensate, is_uncompleted, is_uncompensated, is_unended, is_uncancelled, one, with_new_child, change_row, new_action, new_top}
 use Rattle.lra_laws.proofs.RowLists.{eqb_self, eqb_flip, among_apart, map_within, count_within, count_none, count_push, rows_changed, rows_more, row_there}
 use Rattle.lra_laws.proofs.Told.{entry, more, StartTold}
-use Rattle.lra_laws.proofs.Tops.{top_stays, top_by_parent}
+use Rattle.lra_laws.proofs.Tops.{top_stays}
 use Rattle.lra_laws.proofs.ActionWords.{counts_in, staying_count, is_parent, children_count, status_kept, limit_kept}
 use Rattle.lra_laws.proofs.ActionRows.{row_is, staying_still}
 
@@ -92,7 +93,7 @@ started_row : (v : Version) (t : List ℕ → Bool) (J : History) (by m c : ℕ)
     → action_row (more J by m (Start c above limit)) c ≡ new_action c above (new_top (state_of J) c above) limit m
 started_row v t J by m c above limit l k told =
     row_is (more J by m (Start c above limit)) c (new_action c above (new_top (state_of J) c above) limit m)
-    up (top_by_parent v t (more J by m (Start c above limit)) later c ∙ ap (λ (o : Option ℕ). option_map_or (top (more J by m (Start c above limit))) o c) up ∙ of_parent above told.parent_there)
+    up (top_lem v t (more J by m (Start c above limit)) later c ∙ ap (λ (o : Option ℕ). option_map_or (top (more J by m (Start c above limit))) o c) up ∙ of_parent above told.parent_there)
     (ap (λ (o : Option ActionStatus). unwrap_or o action.Active) (action_status_push J (entry by m (Start c above limit)) c ∙ ap (λ (b : Bool). option_or (when b action.Active) (action_status J c)) (eqb_self c)))
     ((limit_push J (entry by m (Start c above limit)) c ∙ ap (λ (b : Bool). unwrap_or (when b new_limit) (limit_in_force J c)) (eqb_self c)))
     (staying is_left_to_complete) (staying is_left_to_compensate) (staying is_uncompleted) (staying is_uncompensated)

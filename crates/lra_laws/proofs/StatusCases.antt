@@ -1,4 +1,4 @@
--- What a member's state becomes, case by case.
+-- What a member's status becomes, case by case.
 use Rattle.std.proofs.Common.{◌≡◌, Bool, true, false, Option, Some, None, refl, cond}
 use Rattle.std.specs.Prelude.{◌&&◌, ◌||◌}
 use Rattle.std.specs.Option.{option_map_or, option_or}
@@ -9,9 +9,9 @@ use Rattle.lra_model.specs.declared.asks.Direction.TheVariants as direction
 use Rattle.lra_model.specs.declared.asks.Outcome.{Outcome}
 use Rattle.lra_model.specs.declared.asks.Outcome.TheVariants as outcome
 use Rattle.lra_model.specs.Words.{when, is_untouched, is_completing, is_compensating, is_decisive, has_gone, same_direction}
+use Rattle.lra_laws.proofs.GoodStatus.{status_by}
 use Rattle.lra_laws.specs.Rows.{decided_as, way_of}
 use Rattle.lra_laws.proofs.Told.{ask_fits}
-use Rattle.lra_laws.proofs.MemberWords.{status_by}
 
 -- what a direction came to is decisive
 abbrev pub is_word : Option Outcome → Bool

@@ -1,6 +1,6 @@
 -- Facts from tests that hold.
 use Rattle.std.proofs.Common.{◌≡◌, Bool, true, false, List, [], ◌∷◌, Option, Some, None, refl}
-use Rattle.std.specs.Prelude.{◌&&◌, ◌||◌, is_none}
+use Rattle.std.specs.Prelude.{◌&&◌, ◌||◌, is_none, is_some}
 use Rattle.std.specs.List.{list_all}
 use Rattle.lra_model.specs.declared.rule.Rule.{Rule}
 use Rattle.lra_model.specs.Rules.{Ruling, first_broken}
@@ -24,6 +24,11 @@ or_left false b h = absurd cc
 pub none_from_test : {X : Type 0} (o : Option X) → is_none o ≡ true → o ≡ None
 none_from_test None h = refl
 none_from_test (Some x) h = absurd cc
+
+-- nothing, by the test that there is something
+pub none_from_absent : {X : Type 0} (o : Option X) → is_some o ≡ false → o ≡ None
+none_from_absent None h = refl
+none_from_absent (Some x) h = absurd cc
 
 -- what passes a test passes a weaker one
 pub list_all-weaker : {X : Type 0} (p q : X → Bool) → ((x : X) → p x ≡ true → q x ≡ true) → (xs : List X) → list_all p xs ≡ true → list_all q xs ≡ true

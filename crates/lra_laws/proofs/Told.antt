@@ -28,7 +28,7 @@ entry by m d = record { by = by; moment = m; deed = d }
 abbrev pub more : History → ℕ → ℕ → Deed → History
 more J by m d = J ++ entry by m d ∷ []
 
--- the state of a member that may be asked this
+-- the status of a member that may be asked this
 abbrev pub ask_fits : AskKind → MemberStatus → Bool
 ask_fits ask.Complete s = is_untouched s || is_completing s
 ask_fits ask.Compensate s = is_untouched s || (is_completed s || is_compensating s)

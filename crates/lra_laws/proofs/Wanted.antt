@@ -25,13 +25,13 @@ use Rattle.lra_laws.proofs.Push.{step, was_asked_push, ask_of_push, last_reply_p
 use Rattle.lra_laws.proofs.Tested.{both, and_intro, or_left}
 use Rattle.lra_laws.proofs.Legal.{Allowed, legal_induction, AskKept, ask_kept, entry_kept, member_fact, at_member_from}
 
--- ---- the state of a member, by the words that it is read from
+-- ---- the status of a member, by the words that it is read from
 
 -- whether a member was asked to complete or to compensate
 abbrev was_begun : History → ℕ → Bool
 was_begun J p = was_asked J p ask.Complete || was_asked J p ask.Compensate
 
--- a state that fails a test
+-- a status that fails a test
 abbrev Fails : (MemberStatus → Bool) → MemberStatus → Type 0
 Fails test s = test s ≡ false
 
@@ -46,14 +46,14 @@ decision_fails test (Some outcome.Failed) x y z h k l = k
 decision_fails test (Some outcome.Accepted) x y z h k l = l
 decision_fails test (Some outcome.Silent) x y z h k l = l
 
--- the state of a member, from completion on, and from compensation on
+-- the status of a member, from completion on, and from compensation on
 abbrev from_completion : Option Outcome → Bool → MemberStatus
 from_completion c q = by_decision c member.Completed member.FailedToComplete (cond q member.Completing member.Active)
 
 abbrev from_compensation : Option Outcome → Bool → Option Outcome → Bool → MemberStatus
 from_compensation d a c q = by_decision d member.Compensated member.FailedToCompensate (cond a member.Compensating (from_completion c q))
 
--- a member that hasn't left is in another state than Left
+-- a member that hasn't left is in another status than Left
 pub not_gone : (J : History) (p : ℕ) → has_left J p ≡ false → has_gone (member_status J p) ≡ false
 unfolding member_status
 not_gone J p h =
@@ -63,7 +63,7 @@ not_gone J p h =
     (decision_fails has_gone (decided J p direction.Completion) _ _ _ refl refl
     (cond_fails has_gone (was_asked J p ask.Complete) _ _ refl refl)))
 
--- a test that no decided state passes, and what each state that may pass it says of whether the member was begun
+-- a test that no decided status passes, and what each status that may pass it says of whether the member was begun
 record Tells (test : MemberStatus → Bool) (begun : Bool) : Type 0 where
   left : Fails test member.Left
   compensated : Fails test member.Compensated
@@ -74,7 +74,7 @@ record Tells (test : MemberStatus → Bool) (begun : Bool) : Type 0 where
   completing : test member.Completing ≡ true → begun ≡ true
   active : test member.Active ≡ true → begun ≡ false
 
--- it says so of every member in a state that passes
+-- it says so of every member in a status that passes
 told_begun : (test : MemberStatus → Bool) (x : Bool) → Tells test x → (l : Bool) (d : Option Outcome) (a : Bool) (c : Option Outcome) (q : Bool) → test (cond l member.Left (from_compensation d a c q)) ≡ true → (q || a) ≡ x
 told_begun test x tells l d a c q h = by_left l h
   where

@@ -40,38 +40,38 @@ u = Some (codes "http://n.test/u")
 abbrev pub c : Option (List ℕ)
 c = Some (codes "http://n.test/c")
 
-abbrev s : Option (List ℕ)
+abbrev pub s : Option (List ℕ)
 s = Some (codes "http://n.test/s")
 
-abbrev f : Option (List ℕ)
+abbrev pub f : Option (List ℕ)
 f = Some (codes "http://n.test/f")
 
-abbrev a : Option (List ℕ)
+abbrev pub a : Option (List ℕ)
 a = Some (codes "http://n.test/a")
 
 abbrev pub uris : Option (List ℕ) → Option (List ℕ) → Option (List ℕ) → Option (List ℕ) → Option (List ℕ) → Addresses
 uris compensate complete status forget after = record { compensate = compensate; complete = complete; status = status; forget = forget; after = after }
 
 -- an action is started and closed
-abbrev closed_empty : History
+abbrev pub closed_empty : History
 closed_empty = at 0 Enrol ∷ at 0 (Start 1 None 0) ∷ at 5 (Close 1 cause.Client) ∷ at 5 (End 1 action.Closed) ∷ []
 
 -- two members are asked to complete; one says done, the other goes on by itself
-abbrev two_members : History
+abbrev pub two_members : History
 two_members =
     at 0 Enrol ∷ at 10 (Start 1 None 0) ∷ at 11 (Join 1 1 (uris u c s None None)) ∷ at 12 (Join 2 1 (uris u c None None None)) ∷ at 20 (Close 1 cause.Client)
     ∷ at 21 (Ask 1 1 ask.Complete) ∷ at 22 (Ask 2 2 ask.Complete) ∷ at 23 (Reply 2 outcome.Done) ∷ at 24 (Reply 1 outcome.Accepted) ∷ []
 
 -- the other reports that it completed
-abbrev reported : History
+abbrev pub reported : History
 reported = two_members ++ at 30 (Report 1 outcome.Done) ∷ at 30 (End 1 action.Closed) ∷ []
 
 -- it is asked for its status and reports meanwhile; what it replies afterwards changes nothing
-abbrev late_reply : History
+abbrev pub late_reply : History
 late_reply = two_members ++ at 124 (Ask 3 1 ask.Status) ∷ at 130 (Report 1 outcome.Done) ∷ at 130 (End 1 action.Closed) ∷ at 132 (Reply 3 outcome.Failed) ∷ []
 
 -- the only member leaves
-abbrev left_alone : History
+abbrev pub left_alone : History
 left_alone = at 0 Enrol ∷ at 0 (Start 1 None 0) ∷ at 1 (Join 1 1 (uris u c None None None)) ∷ at 2 (Leave 1) ∷ at 4 (Close 1 cause.Client) ∷ at 4 (End 1 action.Closed) ∷ []
 
 -- an action in another, with a member
@@ -86,7 +86,7 @@ undone =
     ∷ at 10 (Reply 3 outcome.Silent) ∷ at 110 (Ask 4 1 ask.After) ∷ at 111 (Reply 4 outcome.Done) ∷ []
 
 -- the outer action is cancelled while the nested one is closing
-abbrev cancelled_meanwhile : History
+abbrev pub cancelled_meanwhile : History
 cancelled_meanwhile =
     nest ++ at 3 (Close 2 cause.Client) ∷ at 4 (Ask 1 1 ask.Complete) ∷ at 5 (Cancel 1 cause.Client) ∷ at 6 (Reply 1 outcome.Done) ∷ at 6 (End 2 action.Closed) ∷ at 6 (Cancel 2 cause.Parent) ∷ []
 
@@ -102,25 +102,25 @@ cancelled_below =
     nest ++ at 3 (Cancel 2 cause.Client) ∷ at 4 (Ask 1 1 ask.Compensate) ∷ at 5 (Reply 1 outcome.Done) ∷ at 5 (End 2 action.Cancelled) ∷ at 6 (Close 1 cause.Client) ∷ at 6 (End 1 action.Closed) ∷ []
 
 -- a limit passes, and another is as long as can be
-abbrev limited : History
+abbrev pub limited : History
 limited =
     at 1000 Enrol ∷ at 1000 (Start 1 None 100) ∷ at 1100 (Cancel 1 cause.Limit) ∷ at 1100 (End 1 action.Cancelled) ∷ at 1100 (Start 2 None 18446744073709550515) ∷ []
 
 -- a member that is never asked to complete
-abbrev skipped : History
+abbrev pub skipped : History
 skipped = at 0 Enrol ∷ at 0 (Start 1 None 0) ∷ at 1 (Join 1 1 (uris u None None None None)) ∷ at 2 (Close 1 cause.Client) ∷ at 2 (Skip 1) ∷ at 2 (End 1 action.Closed) ∷ []
 
 -- asks that a restart made void are made anew
-abbrev restarted : History
+abbrev pub restarted : History
 restarted =
     at 0 Enrol ∷ at 0 (Start 1 None 0) ∷ at 1 (Join 1 1 (uris u c None None None)) ∷ at 2 (Close 1 cause.Client) ∷ at 3 (Ask 1 1 ask.Complete) ∷ at 4 Restart ∷ at 6 (Ask 2 1 ask.Complete) ∷ []
 
 -- a limit is renewed, and passes
-abbrev renewed : History
+abbrev pub renewed : History
 renewed = at 0 Enrol ∷ at 0 (Start 1 None 100) ∷ at 90 (Renew 1 100) ∷ at 190 (Cancel 1 cause.Limit) ∷ at 190 (End 1 action.Cancelled) ∷ []
 
 -- it is cancelled before it has passed
-abbrev renewed_too_soon : History
+abbrev pub renewed_too_soon : History
 renewed_too_soon = at 0 Enrol ∷ at 0 (Start 1 None 100) ∷ at 90 (Renew 1 100) ∷ at 100 (Cancel 1 cause.Limit) ∷ []
 
 -- a nested action that has closed is taken back by its client, and the outer one closes
@@ -129,14 +129,14 @@ taken_back =
     nest ++ at 3 (Close 2 cause.Client) ∷ at 4 (Ask 1 1 ask.Complete) ∷ at 5 (Reply 1 outcome.Done) ∷ at 5 (End 2 action.Closed) ∷ at 6 (Cancel 2 cause.Client)
     ∷ at 7 (Ask 2 1 ask.Compensate) ∷ at 8 (Reply 2 outcome.Done) ∷ at 8 (End 2 action.Cancelled) ∷ at 9 (Close 1 cause.Client) ∷ at 9 (End 1 action.Closed) ∷ []
 
-abbrev fault : ℕ → Rule → Option Fault
+abbrev pub fault : ℕ → Rule → Option Fault
 fault line r = Some (record { line = line; rule = r })
 
 -- the first faults in both versions
-abbrev faults : List History → List (Option Fault × Option Fault)
+abbrev pub faults : List History → List (Option Fault × Option Fault)
 faults Js = map (λ J. (first_fault One is_http J, first_fault Two is_http J)) Js
 
-abbrev is_sound_in_both : History → Bool × Bool
+abbrev pub is_sound_in_both : History → Bool × Bool
 is_sound_in_both J = (is_legal One is_http J, is_legal Two is_http J)
 
 -- what is legal in version 1 is legal in version 2
@@ -151,28 +151,28 @@ unfolding steps clerks actions members asks last_moment parent top action_status
 no_faults = refl
 
 -- histories that break a rule, each by its last entry
-abbrev not_enrolled : History
+abbrev pub not_enrolled : History
 not_enrolled = at 0 (Start 1 None 0) ∷ []
 
-abbrev backwards : History
+abbrev pub backwards : History
 backwards = at 5 Enrol ∷ at 4 (Start 1 None 0) ∷ []
 
-abbrev second_first : History
+abbrev pub second_first : History
 second_first = at 0 Enrol ∷ at 0 (Start 2 None 0) ∷ []
 
-abbrev nested_is_closing : History
+abbrev pub nested_is_closing : History
 nested_is_closing = at 0 Enrol ∷ at 0 (Start 1 None 0) ∷ at 0 (Start 2 (Some 1) 0) ∷ at 1 (Close 2 cause.Client) ∷ at 2 (Close 1 cause.Client) ∷ at 2 (End 1 action.Closed) ∷ []
 
-abbrev wrong_end : History
+abbrev pub wrong_end : History
 wrong_end = at 0 Enrol ∷ at 0 (Start 1 None 0) ∷ at 5 (Close 1 cause.Client) ∷ at 5 (End 1 action.FailedToClose) ∷ []
 
-abbrev no_parent : History
+abbrev pub no_parent : History
 no_parent = at 0 Enrol ∷ at 0 (Start 1 None 0) ∷ at 0 (Close 1 cause.Parent) ∷ []
 
-abbrev limit_too_far : History
+abbrev pub limit_too_far : History
 limit_too_far = at 1 Enrol ∷ at 1 (Start 1 None 18446744073709551615) ∷ []
 
-abbrev limit_far : History
+abbrev pub limit_far : History
 limit_far = at 0 Enrol ∷ at 0 (Start 1 None 18446744073709551615) ∷ []
 
 -- the first line at fault, and the first rule that it breaks
@@ -189,10 +189,10 @@ pub of_version_two : faults (renewed ∷ renewed_too_soon ∷ taken_back ∷ [])
 unfolding steps clerks actions members asks last_moment parent top action_status limit_in_force children members_of action_of addresses_of has_left stays was_asked ask_of replies decided member_status last_reply was_answered is_outstanding outstanding_ask staying is_settled right_end top_has_ended facts_of broken first_fault
 of_version_two = refl
 
--- the states in the end: of the failing nest; of the member whose late reply changes nothing; of the one that was taken back
-pub states : map (action_status failing) (1 ∷ 2 ∷ []) ++ map (action_status taken_back) (1 ∷ 2 ∷ []) ≡ Some action.FailedToClose ∷ Some action.FailedToClose ∷ Some action.Closed ∷ Some action.Cancelled ∷ []
+-- the statuses in the end: of the failing nest; of the member whose late reply changes nothing; of the one that was taken back
+pub statuses : map (action_status failing) (1 ∷ 2 ∷ []) ++ map (action_status taken_back) (1 ∷ 2 ∷ []) ≡ Some action.FailedToClose ∷ Some action.FailedToClose ∷ Some action.Closed ∷ Some action.Cancelled ∷ []
 unfolding action_status
-states = refl
+statuses = refl
 
 pub member_states : member_status failing 1 ∷ member_status late_reply 1 ∷ member_status taken_back 1 ∷ member_status left_alone 1 ∷ []
     ≡ member.FailedToComplete ∷ member.Completed ∷ member.Compensated ∷ member.Left ∷ []
@@ -206,7 +206,7 @@ pub record Tally : Type 0 where
   pub cancelled : ℕ
   pub failed : List (ℕ × Option ActionStatus × Option ℕ)
 
-abbrev tally : History → Tally
+abbrev pub tally : History → Tally
 tally J = record {
   unended = count_actions (λ x. not (has_ended x)) J;
   closed = count_actions is_closed J;

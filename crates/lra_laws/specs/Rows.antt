@@ -91,11 +91,11 @@ void_at s = of_deed s.entry.deed
 unfoldable pub void_asks : History → ℕ
 void_asks J = unwrap_or (last (filter_map void_at (steps J))) 0
 
--- how many staying members of an action are in a state that passes the test
+-- how many staying members of an action have a status that passes the test
 unfoldable pub count_staying : (MemberStatus → Bool) → History → ℕ → ℕ
 count_staying test J a = count_by (λ p. test (member_status J p)) (staying J a)
 
--- how many actions nested directly in an action are in a state that passes the test
+-- how many actions nested directly in an action have a status that passes the test
 unfoldable pub count_children : (ActionStatus → Bool) → History → ℕ → ℕ
 count_children test J a = count_by (action_is test J) (children J a)
 
@@ -179,7 +179,7 @@ settled_by r = by_status r.status
     by_status action.Cancelling = (r.compensating == 0) && (r.uncancelled == 0)
     by_status _ = false
 
--- the state that an action ends in, by its counts
+-- the status that an action ends with, by its counts
 abbrev pub right_end_by : ActionRow → ActionStatus
 right_end_by r = by_status r.status
   where
@@ -246,7 +246,7 @@ one b = cond b 1 0
 abbrev pub recount : Bool → Bool → ℕ → ℕ
 recount before now n = (n + one now) - one before
 
--- whether a member stays in its action, in a state that passes the test
+-- whether a member stays in its action, with a status that passes the test
 abbrev pub counts_as : (MemberStatus → Bool) → MemberRow → Bool
 counts_as test r = r.addresses.compensate && not (has_gone r.status) && test r.status
 
@@ -268,7 +268,7 @@ with_new_member now r = record r {
   uncompensated = r.uncompensated + one (counts_as is_uncompensated now);
 }
 
--- an action, one of whose nested actions changes its state
+-- an action, one of whose nested actions changes its status
 abbrev pub with_child : ActionStatus → ActionStatus → ActionRow → ActionRow
 with_child before now r = record r {
   unended = recount (is_unended before) (is_unended now) r.unended;
@@ -290,7 +290,7 @@ abbrev pub change_member : (MemberRow → MemberRow) → ℕ → State → State
 change_member f p s =
     option_map_or (λ (r : MemberRow). record s { members = change_row f p s.members; actions = change_row (with_member r (f r)) r.action s.actions }) (row_at s.members p) s
 
--- an action's state is changed, and its parent counts anew
+-- an action's status is changed, and its parent counts anew
 abbrev pub change_status : ActionStatus → ℕ → State → State
 change_status now a s =
     option_map_or (λ (r : ActionRow). record s { actions = option_map_or (λ b. change_row (with_child r.status now) b (changed a now s)) r.parent (changed a now s) }) (row_at s.actions a) s
@@ -310,7 +310,7 @@ decided_as _ _ s = s
 abbrev pub way_of : MemberStatus → Direction
 way_of s = cond (is_compensating s) direction.Compensation direction.Completion
 
--- which way an ask goes, by the state of its member
+-- which way an ask goes, by the status of its member
 abbrev pub way_asked : AskKind → MemberStatus → Direction
 way_asked ask.Complete s = direction.Completion
 way_asked ask.Compensate s = direction.Compensation
@@ -318,7 +318,7 @@ way_asked ask.Status s = way_of s
 way_asked ask.Forget s = direction.Neither
 way_asked ask.After s = direction.Neither
 
--- what an ask makes of the state of its member
+-- what an ask makes of the status of its member
 abbrev pub asked_as : AskKind → MemberStatus → MemberStatus
 asked_as ask.Complete s = member.Completing
 asked_as ask.Compensate s = member.Compensating
@@ -327,6 +327,12 @@ asked_as _ s = s
 -- a member that is asked
 abbrev pub with_ask : ℕ → AskKind → MemberRow → MemberRow
 with_ask n kind r = record r { status = asked_as kind r.status; asked = Some (record { number = n; kind = kind; direction = way_asked kind r.status }) }
+
+-- one of three by the way that a reply goes
+abbrev pub by_way : Direction → Option Outcome → Option Outcome → Option Outcome → Option Outcome
+by_way direction.Completion completion compensation neither = completion
+by_way direction.Compensation completion compensation neither = compensation
+by_way direction.Neither completion compensation neither = neither
 
 -- a member that answers the ask that stands
 abbrev pub with_reply_to : Standing → Outcome → MemberRow → MemberRow
@@ -338,11 +344,6 @@ with_reply_to x o r = record r {
   has_forgotten = r.has_forgotten || (same_kind x.kind ask.Forget && is_done o);
   was_told = r.was_told || (same_kind x.kind ask.After && is_done o);
 }
-  where
-    by_way : Direction → Option Outcome → Option Outcome → Option Outcome → Option Outcome
-    by_way direction.Completion completion compensation neither = completion
-    by_way direction.Compensation completion compensation neither = compensation
-    by_way direction.Neither completion compensation neither = neither
 
 -- a member that answers
 abbrev pub with_reply : Outcome → MemberRow → MemberRow

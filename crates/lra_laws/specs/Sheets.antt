@@ -12,8 +12,7 @@ use Rattle.lra_model.specs.declared.entry.Entry.{Entry}
 use Rattle.lra_model.specs.Addresses.{Addresses}
 use Rattle.lra_model.specs.Words.{is_undecided}
 use Rattle.lra_model.specs.History.{History, steps, actions, members}
-use Rattle.lra_model.specs.Actions.{children, members_of}
-use Rattle.lra_model.specs.Depths.{depth}
+use Rattle.lra_model.specs.Actions.{children, members_of, depth}
 use Rattle.lra_model.specs.Members.{Asked, asked_at, addresses_of}
 use Rattle.lra_model.specs.Wants.{stage_of, repeat_count, last_repeat}
 use Rattle.lra_model.specs.Rules.{is_legal, allows}

@@ -12,7 +12,7 @@ pub fn version_two_keeps_legal_histories()
 
 /// In every legal history of either version, each action that closed has every staying member in it or below it completed
 /// and never asked to compensate, unless a cancellation nested in it compensated it; each that was cancelled has every
-/// one compensated; and a failed end stands just where a staying member failed.
+/// one compensated; and an end is a failed one exactly where a staying member failed.
 pub fn legal_histories_have_good_ends()
     ensures { LegalHistoriesHaveGoodEnds }
 {}

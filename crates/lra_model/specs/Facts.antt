@@ -1,4 +1,4 @@
--- What the rules ask of a history, each word of it read from the whole.
+-- What the rules ask of a history. Each of these words is read from the whole history.
 use Rattle.std.specs.Prelude.{ℕ, Bool, Option, Some, None, is_some, length, option_map, cond, unwrap_or}
 use Rattle.lra_model.specs.declared.status.ActionStatus.{ActionStatus}
 use Rattle.lra_model.specs.declared.status.ActionStatus.TheVariants as action
@@ -13,7 +13,7 @@ use Rattle.lra_model.specs.Actions.{Limit, parent, action_status, limit_in_force
 use Rattle.lra_model.specs.Members.{Asked, action_of, addresses_of, member_status, last_reply, was_answered, is_outstanding, outstanding_ask, ask_of}
 use Rattle.lra_model.specs.Ends.{is_settled, right_end, top_has_ended}
 
--- of an action that is there
+-- what the rules ask of an action (this project's choice)
 pub record ActionFacts : Type 0 where
   pub parent : Option ℕ
   pub status : ActionStatus
@@ -22,7 +22,8 @@ pub record ActionFacts : Type 0 where
   pub right_end : ActionStatus
   pub top_has_ended : Bool
 
--- of a member that is there
+-- what the rules ask of a member: which addresses it has, its last replies both ways, whether an ask of it is outstanding, and which notices
+-- it has answered well (this project's choice)
 pub record MemberFacts : Type 0 where
   pub action : ℕ
   pub addresses : Presence
@@ -33,7 +34,8 @@ pub record MemberFacts : Type 0 where
   pub has_forgotten : Bool
   pub was_told : Bool
 
--- of a history
+-- what the rules ask of a history: its last moment, how many clerks, actions, members and asks it has, which clerks are enrolled, the facts
+-- of each action and member, and the kind of each outstanding ask (this project's choice)
 pub record Facts : Type 0 where
   pub moment : ℕ
   pub clerks : ℕ
@@ -45,7 +47,7 @@ pub record Facts : Type 0 where
   pub member : ℕ → Option MemberFacts
   pub outstanding : ℕ → Option AskKind
 
--- what the rules ask of an action
+-- the facts of an action that a history has
 abbrev pub action_facts : History → ℕ → ActionFacts
 action_facts J a = record {
   parent = parent J a;
@@ -56,7 +58,7 @@ action_facts J a = record {
   top_has_ended = top_has_ended J a;
 }
 
--- what the rules ask of a member: which addresses it has, the last replies both ways, whether an ask of it is outstanding, and which notices it has answered well
+-- the facts of a member that a history has
 abbrev pub member_facts : History → ℕ → MemberFacts
 member_facts J p = record {
   action = action_of J p;
@@ -69,7 +71,7 @@ member_facts J p = record {
   was_told = was_answered J p ask.After;
 }
 
--- all that the rules ask of a history
+-- the facts of a history
 unfoldable pub facts_of : History → Facts
 facts_of J = record {
   moment = last_moment J;

@@ -13,4 +13,3 @@ pub mod Wants
 pub mod GoodEnds
 pub mod Tallies
 pub mod Upgrade
-pub mod Depths

@@ -1,4 +1,4 @@
--- Of a member: its action, its addresses, what it was asked, what it answered, and its state.
+-- What a history says of a member: its action, its addresses, what it was asked, what it answered, and its status.
 use Rattle.std.specs.Prelude.{ℕ, ◌==◌, Bool, true, false, ◌&&◌, not, List, Option, Some, None, unwrap_or, option_map, is_some, cond}
 use Rattle.std.specs.List.{filter_map, find, list_any}
 use Rattle.lra_model.specs.declared.status.MemberStatus.{MemberStatus}
@@ -16,55 +16,56 @@ use Rattle.lra_model.specs.Addresses.{Addresses}
 use Rattle.lra_model.specs.Words.{when, is_decisive, is_done, same_kind, same_direction}
 use Rattle.lra_model.specs.History.{History, Step, steps, first, last, read_deeds}
 
--- the action that a deed lets a member join
+-- the action that a deed lets a member join (this project's journal)
 abbrev pub action_given : ℕ → Deed → Option ℕ
 action_given p (Join q a uris) = when (q == p) a
 action_given p _ = None
 
--- the action that a member joined; 0, which no action is, where it isn't there
+-- the action that a member joined, or 0, which no action bears, where there is no such member (MicroProfile LRA 2.0, joining an LRA)
 unfoldable pub action_of : History → ℕ → ℕ
 action_of J p = unwrap_or (first (read_deeds (action_given p) J)) 0
 
--- no address at all
+-- addresses of which there is none
 abbrev pub no_addresses : Addresses
 no_addresses = record { compensate = None; complete = None; status = None; forget = None; after = None }
 
--- the addresses that a deed lets a member join with
+-- the addresses that a deed lets a member join with (this project's journal)
 abbrev pub addresses_given : ℕ → Deed → Option Addresses
 addresses_given p (Join q a uris) = when (q == p) uris
 addresses_given p _ = None
 
--- the addresses that a member joined with
+-- the addresses that a member joined with, which never change (MicroProfile LRA 2.0, joining an LRA)
 unfoldable pub addresses_of : History → ℕ → Addresses
 addresses_of J p = unwrap_or (first (read_deeds (addresses_given p) J)) no_addresses
 
--- whether a deed is that a member leaves
+-- whether a deed is that a member leaves (this project's journal)
 abbrev pub is_leave_of : ℕ → Deed → Bool
 is_leave_of p (Leave q) = q == p
 is_leave_of p _ = false
 
--- whether a member has left
+-- whether a member has left its action (MicroProfile LRA 2.0, leaving an LRA)
 unfoldable pub has_left : History → ℕ → Bool
 has_left J p = list_any (λ (e : Entry). is_leave_of p e.deed) J
 
--- whether a member stays: it can be compensated, and has not left. A listener, with an after address alone, doesn't count
+-- whether a member stays: it can be compensated and has not left, so that a listener, with an after address alone, never does (MicroProfile
+-- LRA 2.0, participants and listeners)
 unfoldable pub stays : History → ℕ → Bool
 stays J p = is_some (addresses_of J p).compensate && not (has_left J p)
 
--- whether a deed asks a member for that
+-- whether a deed asks a member for a kind (this project's journal)
 abbrev pub is_ask_for : ℕ → AskKind → Deed → Bool
 is_ask_for p kind (Ask n q asked) = (q == p) && same_kind asked kind
 is_ask_for p kind _ = false
 
--- whether a member was ever asked for that
+-- whether a member was ever asked for a kind (this project's choice)
 unfoldable pub was_asked : History → ℕ → AskKind → Bool
 was_asked J p kind = list_any (λ (e : Entry). is_ask_for p kind e.deed) J
 
--- which way a status ask or a report goes: to compensation once the member was asked to compensate
+-- the direction of a status ask and of a report: compensation once the member was asked to compensate, completion before (this project's choice)
 abbrev pub status_direction : History → ℕ → Direction
 status_direction J p = cond (was_asked J p ask.Compensate) direction.Compensation direction.Completion
 
--- which way an ask goes, by what stands before it; forget and after notices go neither way
+-- the direction of an ask, by what stands before it: forget and after notices go neither way (this project's choice)
 abbrev pub ask_direction : History → ℕ → AskKind → Direction
 ask_direction J p ask.Complete = direction.Completion
 ask_direction J p ask.Compensate = direction.Compensation
@@ -72,14 +73,14 @@ ask_direction J p ask.Status = status_direction J p
 ask_direction J p ask.Forget = direction.Neither
 ask_direction J p ask.After = direction.Neither
 
--- an ask that was made
+-- an ask that was made (this project's choice)
 pub record Asked : Type 0 where
   pub number : ℕ
   pub member : ℕ
   pub kind : AskKind
   pub direction : Direction
 
--- the ask that a step makes
+-- the ask that a step makes (this project's journal)
 abbrev pub asked_at : Step → Option Asked
 asked_at s = of_deed s.entry.deed
   where
@@ -87,17 +88,17 @@ asked_at s = of_deed s.entry.deed
     of_deed (Ask n p kind) = Some (record { number = n; member = p; kind = kind; direction = ask_direction s.past p kind })
     of_deed _ = None
 
--- the ask of a number
+-- the ask of a number, where it was made (this project's choice)
 unfoldable pub ask_of : History → ℕ → Option Asked
 ask_of J n = find (λ (a : Asked). a.number == n) (filter_map asked_at (steps J))
 
--- what came of an ask
+-- what came of an ask, and when (this project's choice)
 pub record Replied : Type 0 where
   pub to : Asked
   pub outcome : Outcome
   pub moment : ℕ
 
--- the reply that a step gives, with its ask
+-- the reply that a step gives, with the ask that it answers (this project's journal)
 abbrev pub replied_at : Step → Option Replied
 replied_at s = of_deed s.entry.deed
   where
@@ -105,17 +106,18 @@ replied_at s = of_deed s.entry.deed
     of_deed (Reply n o) = option_map (λ (a : Asked). record { to = a; outcome = o; moment = s.entry.moment }) (ask_of s.past n)
     of_deed _ = None
 
--- the replies, in order
+-- the replies of a history, in their order (this project's choice)
 unfoldable pub replies : History → List Replied
 replies J = filter_map replied_at (steps J)
 
--- what was heard of a member's way
+-- what was heard of a member in a direction (this project's choice)
 pub record Heard : Type 0 where
   pub member : ℕ
   pub direction : Direction
   pub outcome : Outcome
 
--- a reply goes the way of its ask, a report that of the member, and a skip counts as Done in completion
+-- What a step lets hear: a reply in the direction of its ask, a report in that of the member, and a skip as Done in completion (this
+-- project's choice).
 abbrev pub heard_at : Step → Option Heard
 heard_at s = of_deed s.entry.deed
   where
@@ -125,22 +127,23 @@ heard_at s = of_deed s.entry.deed
     of_deed (Skip p) = Some (record { member = p; direction = direction.Completion; outcome = outcome.Done })
     of_deed _ = None
 
--- whether a word is decisive for a direction of a member
+-- whether what was heard decides a direction of a member (this project's choice)
 abbrev pub decides : ℕ → Direction → Heard → Bool
 decides p d h = (h.member == p) && same_direction h.direction d && is_decisive h.outcome
 
--- what a direction of a member came to: the first decisive word counts, and later ones change nothing
+-- the outcome that decides a direction of a member: the first decisive one heard, which later ones don't change (this project's choice)
 unfoldable pub decided : History → ℕ → Direction → Option Outcome
 decided J p d = option_map (λ (h : Heard). h.outcome) (find (decides p d) (filter_map heard_at (steps J)))
 
--- by what a direction came to: done, failed, or neither yet
+-- one of three values, by the outcome that decides a direction: Done, Failed, or none yet (this project's notation)
 abbrev pub by_decision : {X : Type 0} → Option Outcome → X → X → X → X
 by_decision (Some outcome.Done) done failed open_yet = done
 by_decision (Some outcome.Failed) done failed open_yet = failed
 by_decision _ done failed open_yet = open_yet
 
--- the state of a member, the first that fits: that it left, what compensation came to, that it was asked to compensate, what completion
--- came to, that it was asked to complete; else Active (MicroProfile LRA 2.0, Participant states; Left is this project's choice)
+-- The status of a member, the first that fits: Left; Compensated or FailedToCompensate where compensation is decided; Compensating where it
+-- was asked to compensate; Completed or FailedToComplete where completion is decided; Completing where it was asked to complete; else Active
+-- (MicroProfile LRA 2.0, ParticipantStatus; Left is this project's choice).
 unfoldable pub member_status : History → ℕ → MemberStatus
 member_status J p =
     cond (has_left J p) member.Left
@@ -149,30 +152,30 @@ member_status J p =
     (by_decision (decided J p direction.Completion) member.Completed member.FailedToComplete
     (cond (was_asked J p ask.Complete) member.Completing member.Active))))
 
--- the last reply that a member gave in a direction
+-- the last reply of a member in a direction (this project's choice)
 unfoldable pub last_reply : History → ℕ → Direction → Option Outcome
 last_reply J p d = last (filter_map (λ (r : Replied). when ((r.to.member == p) && same_direction r.to.direction d) r.outcome) (replies J))
 
--- whether a member has answered well to a kind of ask
+-- whether a member has answered an ask of a kind with Done (this project's choice)
 unfoldable pub was_answered : History → ℕ → AskKind → Bool
 was_answered J p kind = list_any (λ (r : Replied). (r.to.member == p) && same_kind r.to.kind kind && is_done r.outcome) (replies J)
 
--- whether an ask is outstanding by what a deed does to it
+-- whether an ask is outstanding after a deed that bears on it (this project's journal)
 abbrev pub standing_given : ℕ → Deed → Option Bool
 standing_given n (Ask m p kind) = when (m == n) true
 standing_given n (Reply m o) = when (m == n) false
 standing_given n Restart = Some false
 standing_given n _ = None
 
--- whether an ask is outstanding: it was made, and neither its reply nor a restart stands after it
+-- whether an ask is outstanding: it was made, and neither its reply nor a restart stands after it (this project's choice)
 unfoldable pub is_outstanding : History → ℕ → Bool
 is_outstanding J n = unwrap_or (last (read_deeds (standing_given n) J)) false
 
--- the ask that a deed makes of a member
+-- the number of the ask that a deed makes of a member (this project's journal)
 abbrev pub ask_given : ℕ → Deed → Option ℕ
 ask_given p (Ask n q kind) = when (q == p) n
 ask_given p _ = None
 
--- the ask of a member that is outstanding
+-- the number of the ask of a member that is outstanding, where there is one (this project's choice)
 unfoldable pub outstanding_ask : History → ℕ → Option ℕ
 outstanding_ask J p = find (is_outstanding J) (read_deeds (ask_given p) J)

@@ -14,33 +14,35 @@ use Rattle.lra_model.specs.History.{History, Step, steps, first}
 use Rattle.lra_model.specs.Facts.{ActionFacts, MemberFacts, Facts, facts_of}
 use Rattle.lra_model.specs.Tests.{at_action, at_member, status_is, each_parent, is_moment, may_close, may_cancel, addresses_fit, may_skip, may_ask, may_reply, may_report}
 
--- a rule, and whether it is kept
+-- a rule, and whether it is kept (this project's choice)
 abbrev pub Ruling : Type 0
 Ruling = Rule × Bool
 
--- whether a version of the journal has the deed: version 1 knows no Renew
+-- whether a version of the journal has a deed: version 1 has no Renew (this project's choice)
 abbrev pub has_deed : Version → Deed → Bool
 has_deed version.One (Renew a limit) = false
 has_deed _ _ = true
 
--- one that enrols has the next number; who does anything else is enrolled
+-- whether an entry's clerk may write it: a clerk that enrols has the next number, and one that does anything else is enrolled (this project's
+-- choice)
 abbrev pub clerk_fits : Facts → ℕ → Deed → Bool
 clerk_fits f by Enrol = by == f.clerks + 1
 clerk_fits f by _ = f.is_clerk by
 
--- the action is there
+-- whether there is such an action
 abbrev pub is_action : Facts → ℕ → Bool
 is_action = at_action (λ (a : ActionFacts). true)
 
--- the member is there
+-- whether there is such a member
 abbrev pub is_member : Facts → ℕ → Bool
 is_member = at_member (λ (p : MemberFacts). true)
 
--- the member is there and has not left
+-- whether there is such a member and it has not left
 abbrev pub is_here : Facts → ℕ → Bool
 is_here = at_member (λ (p : MemberFacts). not (has_gone p.status))
 
--- the rules that bear on a deed, in the order of their codes
+-- the rules that bear on a deed, in the order in which they are looked at (MicroProfile LRA 2.0 as each test says; the order is this
+-- project's choice)
 abbrev pub deed_rules : Version → (List ℕ → Bool) → Facts → ℕ → Deed → List Ruling
 deed_rules v t f m Enrol = []
 deed_rules v t f m (Start a parent limit) =
@@ -67,24 +69,24 @@ deed_rules v t f m Restart = []
 deed_rules v t f m (Renew a limit) =
     (rule.Action, is_action f a) ∷ (rule.Active, status_is is_active f a) ∷ (rule.Limit, is_moment (m + limit)) ∷ []
 
--- all rules that bear on an entry, in the order of their codes; t is the test of an address's text
+-- all rules that bear on an entry, in the order in which they are looked at; t is the test of an address's text (this project's choice)
 abbrev pub rules_on : Version → (List ℕ → Bool) → Facts → Entry → List Ruling
 rules_on v t f e = (rule.Grammar, has_deed v e.deed) ∷ (rule.Clerk, clerk_fits f e.by e.deed) ∷ (rule.Moment, nat_le f.moment e.moment) ∷ deed_rules v t f e.moment e.deed
 
--- the first rule that isn't kept
+-- the first rule that isn't kept, where one isn't
 abbrev pub first_broken : List Ruling → Option Rule
 first_broken [] = None
 first_broken ((r, kept) ∷ rest) = if kept then first_broken rest else Some r
 
--- the first rule that an entry breaks after a history
+-- the first rule that an entry breaks where it comes after a history (this project's choice)
 unfoldable pub broken : Version → (List ℕ → Bool) → History → Entry → Option Rule
 broken v t J e = first_broken (rules_on v t (facts_of J) e)
 
--- a number of the journal
+-- whether a number is one that the journal has: below 2^64 (this project's choice)
 abbrev pub is_number : ℕ → Bool
 is_number n = nat_lt n (2 ^ 64)
 
--- the numbers of a deed are such as the journal has
+-- whether the numbers of a deed are such as the journal has (this project's choice)
 abbrev pub numbers_fit : Deed → Bool
 numbers_fit Enrol = true
 numbers_fit (Start a parent limit) = is_number a && option_map_or is_number parent true && is_number limit
@@ -100,27 +102,27 @@ numbers_fit (End a status) = is_number a
 numbers_fit Restart = true
 numbers_fit (Renew a limit) = is_number a && is_number limit
 
--- the numbers of an entry are such as the journal has: a clerk's below 2^32, the others below 2^64
+-- whether the numbers of an entry are such as the journal has: a clerk's below 2^32, the others below 2^64 (this project's choice)
 abbrev pub in_range : Entry → Bool
 in_range e = nat_lt e.by (2 ^ 32) && is_number e.moment && numbers_fit e.deed
 
--- whether an entry may come after a history
+-- whether an entry may come after a history (this project's choice)
 abbrev pub allows : Version → (List ℕ → Bool) → History → Entry → Bool
 allows v t J e = in_range e && is_none (broken v t J e)
 
--- whether each entry of a history may come after those before it
+-- whether each entry of a history may come after those before it (this project's choice)
 unfoldable pub is_legal : Version → (List ℕ → Bool) → History → Bool
 is_legal v t J = list_all (λ (s : Step). allows v t s.past s.entry) (steps J)
 
--- where a journal is at fault: its line, counted from 1, and the first rule that the line breaks
+-- where a journal is at fault: its line, counted from 1, and the first rule that the line breaks (this project's choice)
 pub record Fault : Type 0 where
   pub line : ℕ
   pub rule : Rule
 
--- the fault that a step is, if it breaks a rule; the first entry is on line 2
+-- the fault that a step is, where it breaks a rule; the first entry stands on line 2 (this project's choice)
 abbrev pub fault_at : Version → (List ℕ → Bool) → Step → Option Fault
 fault_at v t s = option_map (λ (r : Rule). record { line = length s.past + 2; rule = r }) (broken v t s.past s.entry)
 
--- the first fault of a history's entries; the first of them is on line 2, below the header
+-- the first fault of a history's entries; the first of them stands on line 2, below the header (this project's choice)
 unfoldable pub first_fault : Version → (List ℕ → Bool) → History → Option Fault
 first_fault v t J = first (filter_map (fault_at v t) (steps J))

@@ -4,16 +4,15 @@ use Rattle.std.specs.Option.{option_or}
 use Rattle.std.specs.List.{filter_map, find}
 use Rattle.lra_model.specs.declared.asks.Cause.TheVariants as cause
 use Rattle.lra_model.specs.declared.version.Version.{Version}
-use Rattle.lra_model.specs.declared.version.Version.TheVariants as version
 use Rattle.lra_model.specs.declared.entry.Deed.{Deed}
 use Rattle.lra_model.specs.declared.entry.Deed.TheVariants.{Close, Cancel, Skip, End}
 use Rattle.lra_model.specs.History.{History, first, last, actions, members, last_moment}
 use Rattle.lra_model.specs.Ends.{is_settled, right_end}
 use Rattle.lra_model.specs.Facts.{facts_of}
-use Rattle.lra_model.specs.Tests.{at_action, at_member, may_close, may_cancel, may_skip}
+use Rattle.lra_model.specs.Tests.{at_action, at_member, may_close_with_parent, may_cancel_with_parent, may_skip}
 use Rattle.lra_model.specs.Rules.{allows}
 
--- a deed that a coordinator does of itself: a skip, what a parent does to an action nested in it, an end
+-- whether a coordinator does a deed of itself: a skip, what a parent does to an action nested in it, or an end (this project's choice)
 abbrev pub is_settling : Deed → Bool
 is_settling (Close a cause.Parent) = true
 is_settling (Cancel a cause.Parent) = true
@@ -21,22 +20,22 @@ is_settling (Skip p) = true
 is_settling (End a status) = true
 is_settling _ = false
 
--- nothing is left to settle: no clerk may do such a deed at the last moment
+-- nothing is left to settle: no clerk may do such a deed at the last moment (this project's choice)
 abbrev pub IsQuiet : Version → (List ℕ → Bool) → History → Type 0
 IsQuiet v t J = (by : ℕ) (d : Deed) → is_settling d ≡ true → allows v t J (record { by = by; moment = last_moment J; deed = d }) ≡ false
 
--- whether a member may be completed without being asked
+-- whether a member may be completed without being asked (MicroProfile LRA 2.0: a participant may have no complete callback)
 abbrev pub may_be_skipped : History → ℕ → Bool
 may_be_skipped J p = at_member (may_skip (facts_of J)) (facts_of J) p
 
--- what its parent does to an action
+-- what its parent does to an action, where it does anything: closes it, or cancels it (MicroProfile LRA 2.0, nested LRAs)
 abbrev pub by_parent : History → ℕ → Option Deed
 by_parent J a =
-    cond (at_action (may_close cause.Parent (facts_of J)) (facts_of J) a) (Some (Close a cause.Parent))
-    (cond (at_action (may_cancel version.One 0 cause.Parent (facts_of J)) (facts_of J) a) (Some (Cancel a cause.Parent)) None)
+    cond (at_action (may_close_with_parent (facts_of J)) (facts_of J) a) (Some (Close a cause.Parent))
+    (cond (at_action (may_cancel_with_parent (facts_of J)) (facts_of J) a) (Some (Cancel a cause.Parent)) None)
 
--- The deed that a coordinator does next, if any: the skip of the least member that may be skipped; else what its parent does to the least
--- action to which it may; else the end of the greatest action that may end (this project's choice).
+-- The deed that a coordinator does next of itself, where there is one: the skip of the least member that may be skipped; else what its
+-- parent does to the least action to which it does anything; else the end of the greatest action that may end (this project's choice).
 unfoldable pub next_settling : History → Option Deed
 next_settling J =
     option_or (option_map Skip (find (may_be_skipped J) (members J)))

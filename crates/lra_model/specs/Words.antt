@@ -1,4 +1,4 @@
--- Tests of states, kinds, outcomes and directions.
+-- Tests of statuses, kinds, outcomes and directions.
 use Rattle.std.specs.Prelude.{Bool, true, false, ◌||◌, Option, Some, None}
 use Rattle.lra_model.specs.declared.status.ActionStatus.{ActionStatus}
 use Rattle.lra_model.specs.declared.status.ActionStatus.TheVariants as action
@@ -11,32 +11,32 @@ use Rattle.lra_model.specs.declared.asks.Direction.TheVariants as direction
 use Rattle.lra_model.specs.declared.asks.Outcome.{Outcome}
 use Rattle.lra_model.specs.declared.asks.Outcome.TheVariants as outcome
 
--- the value where the test holds (this project's notation)
+-- a value where a test holds, and nothing else (this project's notation)
 abbrev pub when : {X : Type 0} → Bool → X → Option X
 when true x = Some x
 when false x = None
 
--- an action that may still be closed or cancelled (MicroProfile LRA 2.0, LRAStatus)
+-- whether an action may still be closed or cancelled by its client: Active (MicroProfile LRA 2.0, LRAStatus)
 abbrev pub is_active : ActionStatus → Bool
 is_active action.Active = true
 is_active _ = false
 
--- an action whose members are being completed (MicroProfile LRA 2.0, LRAStatus)
+-- whether an action's members are being completed: Closing (MicroProfile LRA 2.0, LRAStatus)
 abbrev pub is_closing : ActionStatus → Bool
 is_closing action.Closing = true
 is_closing _ = false
 
--- an action whose members are being compensated (MicroProfile LRA 2.0, LRAStatus)
+-- whether an action's members are being compensated: Cancelling (MicroProfile LRA 2.0, LRAStatus)
 abbrev pub is_cancelling : ActionStatus → Bool
 is_cancelling action.Cancelling = true
 is_cancelling _ = false
 
--- an action that has closed (MicroProfile LRA 2.0, LRAStatus)
+-- whether an action has closed well: Closed, and not FailedToClose (MicroProfile LRA 2.0, LRAStatus)
 abbrev pub is_closed : ActionStatus → Bool
 is_closed action.Closed = true
 is_closed _ = false
 
--- an action in an end state (MicroProfile LRA 2.0, LRAStatus)
+-- whether an action has ended, well or in failure: Closed, FailedToClose, Cancelled or FailedToCancel (MicroProfile LRA 2.0, LRAStatus)
 abbrev pub has_ended : ActionStatus → Bool
 has_ended action.Closed = true
 has_ended action.FailedToClose = true
@@ -44,26 +44,27 @@ has_ended action.Cancelled = true
 has_ended action.FailedToCancel = true
 has_ended _ = false
 
--- an action in a failed end state (MicroProfile LRA 2.0, LRAStatus)
+-- whether an action has ended in failure: FailedToClose or FailedToCancel (MicroProfile LRA 2.0, LRAStatus)
 abbrev pub has_failed : ActionStatus → Bool
 has_failed action.FailedToClose = true
 has_failed action.FailedToCancel = true
 has_failed _ = false
 
--- an action that was cancelled and has ended, well or in failure (MicroProfile LRA 2.0, LRAStatus)
+-- whether an action has ended after it was cancelled, well or in failure: Cancelled or FailedToCancel (MicroProfile LRA 2.0, LRAStatus)
 abbrev pub has_finished_cancelling : ActionStatus → Bool
 has_finished_cancelling action.Cancelled = true
 has_finished_cancelling action.FailedToCancel = true
 has_finished_cancelling _ = false
 
--- an action that its Cancelling parent cancels: one that is Active or that has closed (this project's choice on FailedToClose)
+-- whether a Cancelling parent cancels an action: one that is Active, Closed or FailedToClose (MicroProfile LRA 2.0, nested LRAs; FailedToClose is
+-- this project's choice)
 abbrev pub is_cancellable : ActionStatus → Bool
 is_cancellable action.Active = true
 is_cancellable action.Closed = true
 is_cancellable action.FailedToClose = true
 is_cancellable _ = false
 
--- whether two states are one
+-- whether two statuses are one
 abbrev pub same_status : ActionStatus → ActionStatus → Bool
 same_status action.Active action.Active = true
 same_status action.Closing action.Closing = true
@@ -74,72 +75,72 @@ same_status action.Cancelled action.Cancelled = true
 same_status action.FailedToCancel action.FailedToCancel = true
 same_status _ _ = false
 
--- a member that was asked nothing yet (MicroProfile LRA 2.0, ParticipantStatus)
+-- whether a member was asked nothing yet: Active (MicroProfile LRA 2.0, ParticipantStatus)
 abbrev pub is_untouched : MemberStatus → Bool
 is_untouched member.Active = true
 is_untouched _ = false
 
--- a member that is completing
+-- whether a member is completing (MicroProfile LRA 2.0, ParticipantStatus)
 abbrev pub is_completing : MemberStatus → Bool
 is_completing member.Completing = true
 is_completing _ = false
 
--- a member that has completed
+-- whether a member has completed (MicroProfile LRA 2.0, ParticipantStatus)
 abbrev pub is_completed : MemberStatus → Bool
 is_completed member.Completed = true
 is_completed _ = false
 
--- a member that is compensating
+-- whether a member is compensating (MicroProfile LRA 2.0, ParticipantStatus)
 abbrev pub is_compensating : MemberStatus → Bool
 is_compensating member.Compensating = true
 is_compensating _ = false
 
--- a member that has compensated
+-- whether a member has compensated (MicroProfile LRA 2.0, ParticipantStatus)
 abbrev pub is_compensated : MemberStatus → Bool
 is_compensated member.Compensated = true
 is_compensated _ = false
 
--- a member that failed, either way (MicroProfile LRA 2.0, ParticipantStatus)
+-- whether a member has failed, either way: FailedToComplete or FailedToCompensate (MicroProfile LRA 2.0, ParticipantStatus)
 abbrev pub member_has_failed : MemberStatus → Bool
 member_has_failed member.FailedToComplete = true
 member_has_failed member.FailedToCompensate = true
 member_has_failed _ = false
 
--- a member that has left its action (this project's choice: the standard has no such state)
+-- whether a member has left its action (this project's choice: the standard has no such status)
 abbrev pub has_gone : MemberStatus → Bool
 has_gone member.Left = true
 has_gone _ = false
 
--- a member that a Closing action needn't wait for
+-- whether a Closing action needn't wait for a member: Completed or FailedToComplete (MicroProfile LRA 2.0, LRAStatus)
 abbrev pub is_done_completing : MemberStatus → Bool
 is_done_completing member.Completed = true
 is_done_completing member.FailedToComplete = true
 is_done_completing _ = false
 
--- a member that a Cancelling action needn't wait for
+-- whether a Cancelling action needn't wait for a member: Compensated or failed (MicroProfile LRA 2.0, LRAStatus)
 abbrev pub is_done_compensating : MemberStatus → Bool
 is_done_compensating member.Compensated = true
 is_done_compensating member.FailedToCompensate = true
 is_done_compensating member.FailedToComplete = true
 is_done_compensating _ = false
 
--- an outcome that settles a direction
+-- whether an outcome settles a direction: Done or Failed (this project's choice)
 abbrev pub is_decisive : Outcome → Bool
 is_decisive outcome.Done = true
 is_decisive outcome.Failed = true
 is_decisive _ = false
 
--- the answer until which a forget or an after notice is repeated
+-- whether an outcome is Done: a forget or an after notice is repeated until it is (MicroProfile LRA 2.0, AfterLRA and forget)
 abbrev pub is_done : Outcome → Bool
 is_done outcome.Done = true
 is_done _ = false
 
--- the answer of a member that goes on by itself (MicroProfile LRA 2.0: 202 Accepted)
+-- whether an outcome is Accepted: the member goes on by itself (MicroProfile LRA 2.0: 202 Accepted)
 abbrev pub is_accepted : Outcome → Bool
 is_accepted outcome.Accepted = true
 is_accepted _ = false
 
--- an answer after which the member is asked again
+-- whether a member is asked again after an outcome: Accepted or Silent (this project's choice)
 abbrev pub is_undecided : Outcome → Bool
 is_undecided outcome.Accepted = true
 is_undecided outcome.Silent = true
@@ -161,12 +162,12 @@ same_direction direction.Compensation direction.Compensation = true
 same_direction direction.Neither direction.Neither = true
 same_direction _ _ = false
 
--- the answer of a member that gave none
+-- whether an outcome is Silent: the member gave no answer (this project's choice)
 abbrev pub is_silent : Outcome → Bool
 is_silent outcome.Silent = true
 is_silent _ = false
 
--- which outcomes an ask of a kind may have: forget and after notices are answered well or not at all (this project's choice)
+-- whether an ask of a kind may have an outcome: forget and after notices are answered with Done or not at all (this project's choice)
 abbrev pub outcome_suits : AskKind → Outcome → Bool
 outcome_suits ask.Forget o = is_done o || is_silent o
 outcome_suits ask.After o = is_done o || is_silent o

@@ -100,6 +100,7 @@ impl Direction {
 
 impl Outcome {
     ghost use Rattle.lra_model.specs.Names.{outcome_name};
+    ghost use Rattle.lra_model.specs.Words.{is_decisive};
 
     /// Its word in a journal.
     pub const fn name(self) -> &'static str
@@ -125,6 +126,13 @@ impl Outcome {
             b"silent" => Some(Outcome::Silent),
             _ => None,
         }
+    }
+
+    /// Whether it settles a direction.
+    pub const fn is_decisive(self) -> bool
+        ensures { result ≡ is_decisive self }
+    {
+        matches!(self, Outcome::Done | Outcome::Failed)
     }
 }
 

@@ -14,6 +14,3 @@ pub use rule::Rule;
 pub use status::{ActionStatus, Ending, MemberStatus};
 pub use std::alloc::AllocError as Memory;
 pub use version::{Instance, Version};
-
-#[cfg(test)]
-mod tests;

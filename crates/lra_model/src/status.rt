@@ -1,8 +1,8 @@
-//! The states of actions and of members.
+//! The statuses of actions and of members.
 
 ghost use Rattle.std.specs.Prelude.{◌≡◌, IfSome, Some};
 
-/// The state of an action (MicroProfile LRA 2.0, "LRA states").
+/// The status of an action (MicroProfile LRA 2.0, LRAStatus).
 #[derive(Clone, Copy, Debug, PartialEq, Eq)]
 pub enum ActionStatus {
     Active,
@@ -14,7 +14,7 @@ pub enum ActionStatus {
     FailedToCancel,
 }
 
-/// The state of a member (MicroProfile LRA 2.0, "Participant states"; `Left` is this project's own).
+/// The status of a member (MicroProfile LRA 2.0, ParticipantStatus; `Left` is this project's own).
 #[derive(Clone, Copy, Debug, PartialEq, Eq)]
 pub enum MemberStatus {
     Active,
@@ -38,6 +38,7 @@ pub enum Ending {
 
 impl ActionStatus {
     ghost use Rattle.lra_model.specs.Names.{action_status_name};
+    ghost use Rattle.lra_model.specs.Words as words;
 
     /// Its word in a journal.
     pub const fn name(self) -> &'static str
@@ -54,7 +55,7 @@ impl ActionStatus {
         }
     }
 
-    /// The state of this name, if there is one.
+    /// The status of this name, if there is one.
     pub fn from_name(text: &[u8]) -> Option<Self>
         ensures found { IfSome result (λ status. text.now ≡ action_status_name status) }
         ensures only { (status : ActionStatus) → text.now ≡ action_status_name status → result ≡ Some status }
@@ -70,10 +71,87 @@ impl ActionStatus {
             _ => None,
         }
     }
+
+    /// Whether it may still be closed or cancelled by its client.
+    pub const fn is_active(self) -> bool
+        ensures { result ≡ words.is_active self }
+    {
+        matches!(self, ActionStatus::Active)
+    }
+
+    /// Whether its members are being completed.
+    pub const fn is_closing(self) -> bool
+        ensures { result ≡ words.is_closing self }
+    {
+        matches!(self, ActionStatus::Closing)
+    }
+
+    /// Whether its members are being compensated.
+    pub const fn is_cancelling(self) -> bool
+        ensures { result ≡ words.is_cancelling self }
+    {
+        matches!(self, ActionStatus::Cancelling)
+    }
+
+    /// Whether it closed well.
+    pub const fn is_closed(self) -> bool
+        ensures { result ≡ words.is_closed self }
+    {
+        matches!(self, ActionStatus::Closed)
+    }
+
+    /// Whether it has ended, well or in failure.
+    pub const fn has_ended(self) -> bool
+        ensures { result ≡ words.has_ended self }
+    {
+        match self {
+            ActionStatus::Closed
+            | ActionStatus::FailedToClose
+            | ActionStatus::Cancelled
+            | ActionStatus::FailedToCancel => true,
+            _ => false,
+        }
+    }
+
+    /// Whether it has ended in failure.
+    pub const fn has_failed(self) -> bool
+        ensures { result ≡ words.has_failed self }
+    {
+        matches!(
+            self,
+            ActionStatus::FailedToClose | ActionStatus::FailedToCancel
+        )
+    }
+
+    /// Whether a Cancelling parent cancels it.
+    pub const fn is_cancellable(self) -> bool
+        ensures { result ≡ words.is_cancellable self }
+    {
+        matches!(
+            self,
+            ActionStatus::Active | ActionStatus::Closed | ActionStatus::FailedToClose
+        )
+    }
+
+    /// Whether it is that status.
+    pub const fn is_same(self, other: ActionStatus) -> bool
+        ensures { result ≡ words.same_status self other }
+    {
+        match self {
+            ActionStatus::Active => matches!(other, ActionStatus::Active),
+            ActionStatus::Closing => matches!(other, ActionStatus::Closing),
+            ActionStatus::Closed => matches!(other, ActionStatus::Closed),
+            ActionStatus::FailedToClose => matches!(other, ActionStatus::FailedToClose),
+            ActionStatus::Cancelling => matches!(other, ActionStatus::Cancelling),
+            ActionStatus::Cancelled => matches!(other, ActionStatus::Cancelled),
+            ActionStatus::FailedToCancel => matches!(other, ActionStatus::FailedToCancel),
+        }
+    }
 }
 
 impl MemberStatus {
     ghost use Rattle.lra_model.specs.Names.{member_status_name};
+    ghost use Rattle.lra_model.specs.Words as words;
 
     /// Its word in a journal.
     pub const fn name(self) -> &'static str
@@ -91,7 +169,7 @@ impl MemberStatus {
         }
     }
 
-    /// The state of this name, if there is one.
+    /// The status of this name, if there is one.
     pub fn from_name(text: &[u8]) -> Option<Self>
         ensures found { IfSome result (λ status. text.now ≡ member_status_name status) }
         ensures only { (status : MemberStatus) → text.now ≡ member_status_name status → result ≡ Some status }
@@ -107,6 +185,48 @@ impl MemberStatus {
             b"Left" => Some(MemberStatus::Left),
             _ => None,
         }
+    }
+
+    /// Whether it was asked nothing yet.
+    pub const fn is_untouched(self) -> bool
+        ensures { result ≡ words.is_untouched self }
+    {
+        matches!(self, MemberStatus::Active)
+    }
+
+    pub const fn is_completing(self) -> bool
+        ensures { result ≡ words.is_completing self }
+    {
+        matches!(self, MemberStatus::Completing)
+    }
+
+    pub const fn is_completed(self) -> bool
+        ensures { result ≡ words.is_completed self }
+    {
+        matches!(self, MemberStatus::Completed)
+    }
+
+    pub const fn is_compensating(self) -> bool
+        ensures { result ≡ words.is_compensating self }
+    {
+        matches!(self, MemberStatus::Compensating)
+    }
+
+    /// Whether it has failed, either way.
+    pub const fn has_failed(self) -> bool
+        ensures { result ≡ words.member_has_failed self }
+    {
+        matches!(
+            self,
+            MemberStatus::FailedToComplete | MemberStatus::FailedToCompensate
+        )
+    }
+
+    /// Whether it has left its action.
+    pub const fn has_gone(self) -> bool
+        ensures { result ≡ words.has_gone self }
+    {
+        matches!(self, MemberStatus::Left)
     }
 }
 

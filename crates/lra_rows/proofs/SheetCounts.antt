@@ -13,10 +13,9 @@ use Rattle.lra_model.specs.declared.entry.Deed.{Deed}
 use Rattle.lra_model.specs.declared.entry.Deed.TheVariants.{Enrol, Ask}
 use Rattle.lra_model.specs.Words.{when, has_failed, same_kind, is_undecided}
 use Rattle.lra_model.specs.History.{History, steps_after, steps, clerks, actions, started_by, members, joined_by, asks, is_among, last_moment}
-use Rattle.lra_model.specs.Depths.{depth_within, depth}
 use Rattle.lra_model.specs.Members.{Replied, replied_at, replies}
 use Rattle.lra_model.specs.Wants.{stage_of, repeats, repeat_count}
-use Rattle.lra_model.specs.Actions.{parent}
+use Rattle.lra_model.specs.Actions.{parent, lineage_within, depth}
 use Rattle.lra_model.specs.Ends.{action_is}
 use Rattle.lra_model.specs.Rules.{is_legal}
 use Rattle.lra_laws.specs.Sheets.{Sheet, nest_of, contact_of, asks_made, sheet_of, StandsFor, Follows}
@@ -102,17 +101,17 @@ repeats-le J p stage =
     let b = read-le replied_at (steps_after [] J) in
     let c = steps-length [] J in omega arith
 
-depth_within-le : (n : ℕ) (J : History) (a : ℕ) → depth_within n J a ≤ suc n
-depth_within-le zero J a = omega arith
-depth_within-le (suc n) J a = above (parent J a) (λ b. depth_within-le n J b)
+lineage_within-le : (n : ℕ) (J : History) (a : ℕ) → length (lineage_within n J a) ≤ suc n
+lineage_within-le zero J a = omega arith
+lineage_within-le (suc n) J a = above (parent J a) (λ b. lineage_within-le n J b)
   where
-    above : (o : Option ℕ) → ((b : ℕ) → depth_within n J b ≤ suc n) → option_map_or (λ b. suc (depth_within n J b)) o 1 ≤ suc (suc n)
+    above : (o : Option ℕ) → ((b : ℕ) → length (lineage_within n J b) ≤ suc n) → length (a ∷ option_map_or (lineage_within n J) o []) ≤ suc (suc n)
     above None h = omega arith
     above (Some b) h = let k = h b in omega arith
 
 depth-le : (v : Version) (t : List ℕ → Bool) (J : History) → is_legal v t J ≡ true → (a : ℕ) → is_among (actions J) a ≡ true → depth J a ≤ length J + 1
 unfolding depth
-depth-le v t J l a h = let k = depth_within-le a J a in let g = numbered_among (actions J) (actions_numbered v t J l) a h in let m = actions-le J in omega (arith, g.1)
+depth-le v t J l a h = let k = lineage_within-le a J a in let g = numbered_among (actions J) (actions_numbered v t J l) a h in let m = actions-le J in omega (arith, g.1)
 
 -- a bound of each row that is there
 rows_bounded : {R : Type 0} (P : R → Type 0) (g : ℕ → R) (ns : List ℕ) → IsNumbered ns → ((n : ℕ) → is_among ns n ≡ true → P (g n)) → (n : ℕ) → IfSome (row_at (map g ns) n) P

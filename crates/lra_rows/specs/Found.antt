@@ -6,8 +6,7 @@ use Rattle.lra_model.specs.declared.status.ActionStatus.TheVariants as action
 use Rattle.lra_model.specs.declared.asks.Direction.TheVariants as direction
 use Rattle.lra_model.specs.Addresses.{Addresses}
 use Rattle.lra_model.specs.History.{History, actions, members, is_among}
-use Rattle.lra_model.specs.Actions.{parent, action_status, limit_in_force}
-use Rattle.lra_model.specs.Depths.{depth}
+use Rattle.lra_model.specs.Actions.{parent, action_status, limit_in_force, depth}
 use Rattle.lra_model.specs.Members.{Asked, ask_of, action_of, addresses_of, member_status, last_reply, ask_direction, is_outstanding, outstanding_ask}
 use Rattle.lra_model.specs.Wants.{wants, stage_of, repeat_count, last_repeat}
 use Rattle.lra_rows.specs.declared.found.ActionRow.{ActionRow}

@@ -10,17 +10,18 @@ use mathlib.Core.Option as maybe
 use native.Mathlib.Decide.{ℕ_discrete}
 use lib.ListN.{get_elem?}
 use prog.Atomic.{either}
-use Rattle.atomic_table.specs.Table.{State, step, rest, Act, keeps, takes, gives, Valid, carried_after, stepped, Allows, Splits, Joins, Final, Seen}
+use Rattle.atomic_table.specs.Table.{State, step, rest, Act, keeps, takes, gives, Valid, carried_after, stepped, Allows, Splits, Joins}
 use Rattle.atomic_table.proofs.Lists.{at_set, set_else, set_again, at_snoc, exchanged}
 use Rattle.lra_model.specs.declared.entry.Entry.{Entry}
 use Rattle.lra_ticket.specs.declared.view.Place.{Place}
 use Rattle.lra_ticket.specs.declared.view.Place.TheVariants.{Idle, Looked, Waiting, Holding, Peeked, Missed, Paired, Spent}
+use Rattle.lra_ticket.specs.declared.lock.Parts.{Parts}
 use Rattle.lra_ticket.specs.declared.view.View.{View}
 use Rattle.lra_ticket.specs.History.{entries_by, block_after, longer, number_after, MayAdd}
-use Rattle.lra_ticket.specs.Views.{is_resting, has_ticket, holds_lock, Sight, sight, sights_at, sights, bearers, view, spent_view, moved, newcomer, peeking, taking, given, paired, second, second_at, joined}
+use Rattle.lra_ticket.specs.Views.{is_resting, has_ticket, holds_lock, Sight, sight, sights_at, sights, bearers, view, moved, newcomer, taking, given}
+use Rattle.lra_ticket.specs.inner.Steps.{spent_view, peeking, paired, second, second_at, joined, Hand, Takes, watched, grabbed, gave, looked, drew, peeked, met}
+use Rattle.lra_ticket.specs.Locks.{last_ticket, HasEnded, Suits}
 use Rattle.lra_ticket.specs.Rule.{IsPlaced, Fits, Stands, IsHome, IsOut, IsOrderly, IsInLine}
-use Rattle.lra_ticket.specs.Locks.{last_ticket}
-use Rattle.lra_ticket.specs.Steps.{Suits, Hand, Takes, watched, grabbed, gave, looked, drew, peeked, met}
 use Rattle.lra_ticket.proofs.Counts.{sum_by-at, term_le, terms_le, some_term, no_terms, set-swap}
 use Rattle.lra_ticket.proofs.Histories.{whole, prefix_refl, prefix_trans, in_line, entries_by-between, entries_by-none, number_after-kept, number_after-none, entries_by-given, entries_by-others, nil_cases, nil_left, nil_right, longer_cases}
 
@@ -149,7 +150,7 @@ module _ {X O : Type 0} (origin : X → O) (history : X → List Entry) (lawful 
     next = next';
     serving = serving';
     log = log';
-    words = is;
+    atomic_words = is;
     served = order;
     small = fits;
     slot = slot;
@@ -182,7 +183,7 @@ module _ {X O : Type 0} (origin : X → O) (history : X → List Entry) (lawful 
   Loads s i id w = Rule record { words = set s.words i (get_or s.words i 0); homes = s.homes; views = set s.views id w }
 
   word_again : (s : St) (r : Rule s) (i : ℕ) → set s.words i (get_or s.words i 0) ≡ s.words
-  word_again s r i = subst (λ (ws : List ℕ). set ws i (get_or ws i 0) ≡ ws) (sym r.words) (go i)
+  word_again s r i = subst (λ (ws : List ℕ). set ws i (get_or ws i 0) ≡ ws) (sym r.atomic_words) (go i)
     where
       go : (i : ℕ) → set (r.next ∷ r.serving ∷ []) i (get_or (r.next ∷ r.serving ∷ []) i 0) ≡ r.next ∷ r.serving ∷ []
       go zero = refl
@@ -194,7 +195,7 @@ module _ {X O : Type 0} (origin : X → O) (history : X → List Entry) (lawful 
       → ((t : ℕ) → has_ticket t p ≡ 0) → IsPlaced r.next r.serving r.log v.seen p → Loads s i id (record v { tries = tries; place = p })
   loads s r i id v tries p at rested rests no-ticket placed = let w : View O = record v { tries = tries; place = p } in let h = r.each id v at in let a = rests_alone (own v) v.place rested in let b = rests_alone (own v) p rests in
       subst (λ (ws : List ℕ). Rule record { words = ws; homes = s.homes; views = set s.views id w }) (sym (word_again s r i))
-      (leaves s r id v w s.words r.next at r.words (omega arith) r.small (rests_free p rests ∙ sym (rests_free v.place rested))
+      (leaves s r id v w s.words r.next at r.atomic_words (omega arith) r.small (rests_free p rests ∙ sym (rests_free v.place rested))
       record { placed = placed; fits = subst (AllByRecursion (Fits o r.log)) (a ∙ sym b) h.fits }
       (λ t. let one = r.one_ticket t in let none = no-ticket t in omega arith) (λ n. let same = ap (bearers n) (b ∙ sym a) in omega arith))
 
@@ -202,11 +203,11 @@ module _ {X O : Type 0} (origin : X → O) (history : X → List Entry) (lawful 
   unmoved s r i id v at = subst (λ (x : List ℕ × List (View O)). Rule record { words = x.0; homes = s.homes; views = x.1 }) (λ k. (sym (word_again s r i) k, sym (set_again s.views id v at) k)) r
 
   pub looks : (slots id : ℕ) (m : M) → is_resting m.0.place ≡ true → Allows Rule slots id m 0 (λ n. n) (looked (step slots 0 0 0 none) m)
-  looks slots id m rested s r deep at fits = let n : ℕ = get_or s.words 0 0 in let is : n ≡ r.next = ap (λ (ws : List ℕ). get_or ws 0 0) r.words in
+  looks slots id m rested s r deep at fits = let n : ℕ = get_or s.words 0 0 in let is : n ≡ r.next = ap (λ (ws : List ℕ). get_or ws 0 0) r.atomic_words in
       (moved m.0 (Looked n), keeps, tt, loads s r 0 id m.0 m.0.tries (Looked n) at rested refl (λ t. refl) (omega arith), refl)
 
   pub peeks : (slots id : ℕ) (m : M) → is_resting m.0.place ≡ true → Allows Rule slots id m 1 (λ n. n) (peeked (step slots 1 0 0 none) m)
-  peeks slots id m rested s r deep at fits = let n : ℕ = get_or s.words 1 0 in let is : n ≡ r.serving = ap (λ (ws : List ℕ). get_or ws 1 0) r.words in
+  peeks slots id m rested s r deep at fits = let n : ℕ = get_or s.words 1 0 in let is : n ≡ r.serving = ap (λ (ws : List ℕ). get_or ws 1 0) r.atomic_words in
       (peeking m.0 n, keeps, tt, loads s r 1 id m.0 (m.0.tries + 1) (Peeked n) at rested refl (λ t. refl) (omega arith), refl)
 
   -- no view has a ticket that was not drawn
@@ -218,7 +219,7 @@ module _ {X O : Type 0} (origin : X → O) (history : X → List Entry) (lawful 
   fresh_ticket s r t is u = dite (ℕ_discrete t u) (λ e. let none = undrawn s r u (omega arith) in let one = ap one_if (eq-eqb t u e) in omega arith) (λ n. let one = r.one_ticket u in let none = ap one_if (ne_eqb t u n) in omega arith)
 
   pub draws : (slots id : ℕ) (m : M) (t : ℕ) → m.0.place ≡ Looked t → t + 1 < 2 ^ 64 → Allows Rule slots id m 0 (λ n. either (eqb n t) (t + 1) n) (drew (step slots 0 t (t + 1) none) m)
-  draws slots id m t looked-at small s r deep at fits = let n : ℕ = get_or s.words 0 0 in let is : n ≡ r.next = ap (λ (ws : List ℕ). get_or ws 0 0) r.words in
+  draws slots id m t looked-at small s r deep at fits = let n : ℕ = get_or s.words 0 0 in let is : n ≡ r.next = ap (λ (ws : List ℕ). get_or ws 0 0) r.atomic_words in
       let h = r.each id m.0 at in let v = m.0 in let alone : sights v ≡ own v ∷ [] = ap (sights_at (own v)) looked-at in
       let G : ℕ → Type 0 = λ x. (w : View O) × (a : Act (Option X)) × Valid s.homes m.1 a × Rule (stepped s 0 x id m.1 w a) × drew (step slots 0 t (t + 1) none) m n (w, carried_after m.1 a) in
       exchanged n t (t + 1) G
@@ -226,7 +227,7 @@ module _ {X O : Type 0} (origin : X → O) (history : X → List Entry) (lawful 
         moved v (Waiting t),
         keeps,
         tt,
-        leaves s r id v (moved v (Waiting t)) (set s.words 0 (t + 1)) (t + 1) at (ap (λ (ws : List ℕ). set ws 0 (t + 1)) r.words) (omega arith) small (sym free)
+        leaves s r id v (moved v (Waiting t)) (set s.words 0 (t + 1)) (t + 1) at (ap (λ (ws : List ℕ). set ws 0 (t + 1)) r.atomic_words) (omega arith) small (sym free)
             record { placed = (omega arith, omega arith); fits = subst (AllByRecursion (Fits o r.log)) alone h.fits }
             (λ u. let bound = drawn u in omega arith) (λ k. let same = ap (bearers k) alone in omega arith),
         ((λ _. refl), λ miss. absurd (miss hit)),
@@ -280,7 +281,7 @@ module _ {X O : Type 0} (origin : X → O) (history : X → List Entry) (lawful 
       (λ (h : IsOut s). let held = h.held in let t = some_term holders s.views (omega arith) in let j = t.0 in let u = t.1 in let k = holder_has r.next r.serving r.log u.seen u.place (r.each j u t.2).placed t.3 in let k₁ = k.1 in absurd (omega arith)) r.slot
 
   pub watches : (slots id : ℕ) (m : M) (t : ℕ) → m.0.place ≡ Waiting t → Allows Rule slots id m 1 (λ n. n) (watched origin history lawful (step slots 1 0 0 none) m)
-  watches slots id m t waiting s r deep at fits = let n : ℕ = get_or s.words 1 0 in let is : n ≡ r.serving = ap (λ (ws : List ℕ). get_or ws 1 0) r.words in let v = m.0 in
+  watches slots id m t waiting s r deep at fits = let n : ℕ = get_or s.words 1 0 in let is : n ≡ r.serving = ap (λ (ws : List ℕ). get_or ws 1 0) r.atomic_words in let v = m.0 in
       let alone : sights v ≡ own v ∷ [] = ap (sights_at (own v)) waiting in let placed = subst (IsPlaced r.next r.serving r.log v.seen) waiting (r.each id v at).placed in let ticketed = λ (u : ℕ). ap (has_ticket u) waiting in
       let ticket-of : (u : ℕ) → m.0.place ≡ Waiting u → t ≡ u = λ u e. (let same : Waiting t ≡ Waiting u = sym waiting ∙ e in cc) in
       dite (ℕ_discrete n t)
@@ -289,13 +290,13 @@ module _ {X O : Type 0} (origin : X → O) (history : X → List Entry) (lawful 
         takes 0 (Some x),
         ap (λ (hs : Homes). get_elem? hs 0) h.stored,
         subst (λ (ws : List ℕ). Rule record { words = ws; homes = set s.homes 0 none; views = set s.views id (taking v t (history x)) }) (sym (word_again s r 1))
-            (handed s r h id v t r.next s.words at alone turn placed.1 (omega arith) r.small r.words (ap holds_lock waiting) (λ u. let one = r.one_ticket u in let mine = ticketed u in omega arith)),
+            (handed s r h id v t r.next s.words at alone turn placed.1 (omega arith) r.small r.atomic_words (ap holds_lock waiting) (λ u. let one = r.one_ticket u in let mine = ticketed u in omega arith)),
         λ u e. ((λ _. subst (λ (k : ℕ). Takes origin history lawful k m (taking v t (history x), (0, Some x) ∷ m.1)) (ticket-of u e) (x, suits s r h id v at alone, refl)), λ ne. absurd (ne (served ∙ ticket-of u e))),
       ))
       (λ unserved. (v, keeps, tt, unmoved s r 1 id v at, λ u e. ((λ hit. absurd (unserved (hit ∙ sym (ticket-of u e)))), λ _. refl)))
 
   pub grabs : (slots id : ℕ) (m : M) (t : ℕ) → m.0.place ≡ Peeked t → t + 1 < 2 ^ 64 → Allows Rule slots id m 0 (λ n. either (eqb n t) (t + 1) n) (grabbed origin history lawful (step slots 0 t (t + 1) none) m)
-  grabs slots id m t peeked-at small s r deep at fits = let n : ℕ = get_or s.words 0 0 in let is : n ≡ r.next = ap (λ (ws : List ℕ). get_or ws 0 0) r.words in
+  grabs slots id m t peeked-at small s r deep at fits = let n : ℕ = get_or s.words 0 0 in let is : n ≡ r.next = ap (λ (ws : List ℕ). get_or ws 0 0) r.atomic_words in
       let v = m.0 in let alone : sights v ≡ own v ∷ [] = ap (sights_at (own v)) peeked-at in let low : t ≤ r.serving = subst (IsPlaced r.next r.serving r.log v.seen) peeked-at (r.each id v at).placed in
       let below = r.served in let free = ap holds_lock peeked-at in let unticketed = λ (u : ℕ). ap (has_ticket u) peeked-at in
       let G : ℕ → Type 0 = λ y. (w : View O) × (a : Act (Option X)) × Valid s.homes m.1 a × Rule (stepped s 0 y id m.1 w a) × grabbed origin history lawful (step slots 0 t (t + 1) none) m n (w, carried_after m.1 a) in
@@ -304,7 +305,7 @@ module _ {X O : Type 0} (origin : X → O) (history : X → List Entry) (lawful 
         taking v t (history x),
         takes 0 (Some x),
         ap (λ (hs : Homes). get_elem? hs 0) h.stored,
-        handed s r h id v t (t + 1) (set s.words 0 (t + 1)) at alone turn (omega arith) (omega arith) small (ap (λ (ws : List ℕ). set ws 0 (t + 1)) r.words) free (λ u. let bound = drawn u in let none-yet = unticketed u in omega arith),
+        handed s r h id v t (t + 1) (set s.words 0 (t + 1)) at alone turn (omega arith) (omega arith) small (ap (λ (ws : List ℕ). set ws 0 (t + 1)) r.atomic_words) free (λ u. let bound = drawn u in let none-yet = unticketed u in omega arith),
         ((λ _. (x, suits s r h id v at alone, refl)), λ miss. absurd (miss hit)),
       ))
       (λ miss. (
@@ -365,7 +366,7 @@ module _ {X O : Type 0} (origin : X → O) (history : X → List Entry) (lawful 
         tt,
         subst (λ (c : List (ℕ × Option X)). Rule (stepped s 1 (t + 1) id c w gives)) (sym carried)
             (steps s r id v w (set s.words 1 (t + 1)) (set s.homes 0 (some (Some x))) r.next (r.serving + 1) (history x) at
-            (ap (λ (ws : List ℕ). set ws 1 (t + 1)) r.words ∙ ap (λ (i : ℕ). r.next ∷ (i + 1) ∷ []) turn) (omega arith) r.small (law x ok)
+            (ap (λ (ws : List ℕ). set ws 1 (t + 1)) r.atomic_words ∙ ap (λ (i : ℕ). r.next ∷ (i + 1) ∷ []) turn) (omega arith) r.small (law x ok)
             (inl record { value = x; stored = ap (λ (hs : Homes). set hs 0 (some (Some x))) is-out.empty; lawful_now = ok; same_origin = from-here ∙ fit.same_origin; has_log = refl; free = omega arith })
             record {
               placed = tt;
@@ -404,7 +405,7 @@ module _ {X O : Type 0} (origin : X → O) (history : X → List Entry) (lawful 
     next = r.next;
     serving = r.serving;
     log = r.log;
-    words = r.words;
+    atomic_words = r.atomic_words;
     served = r.served;
     small = r.small;
     slot = ⊎_elim (λ (h : IsHome origin history lawful o r.log s). inl record { value = h.value; stored = h.stored; lawful_now = h.lawful_now; same_origin = h.same_origin; has_log = h.has_log; free = let none-held = h.free in let more = sum_by_push holders s.views w in omega arith })
@@ -425,7 +426,7 @@ module _ {X O : Type 0} (origin : X → O) (history : X → List Entry) (lawful 
   -- a seat at rest is spent
   spends : (s : St) (r : Rule s) (id : ℕ) (v : View O) (blank : O) → get_elem? s.views id ≡ some v → is_resting v.place ≡ true
       → Rule record { words = s.words; homes = s.homes; views = set s.views id (spent_view blank) }
-  spends s r id v blank at rested = leaves s r id v (spent_view blank) s.words r.next at r.words (omega arith) r.small (sym (rests_free v.place rested)) record { placed = tt; fits = tt }
+  spends s r id v blank at rested = leaves s r id v (spent_view blank) s.words r.next at r.atomic_words (omega arith) r.small (sym (rests_free v.place rested)) record { placed = tt; fits = tt }
       (λ t. let one = r.one_ticket t in omega arith) (λ n. omega arith)
 
   -- where another seat is spent before
@@ -447,7 +448,7 @@ module _ {X O : Type 0} (origin : X → O) (history : X → List Entry) (lawful 
       (λ p. fit) in
       let alone = rests_alone (own (joined v w)) v.place rested in let was-alone = rests_alone (own v) v.place rested in let stand = r.each id v at in
       spends record { words = s.words; homes = s.homes; views = set s.views id (joined v w) }
-      (leaves s r id v (joined v w) s.words r.next at r.words (omega arith) r.small refl
+      (leaves s r id v (joined v w) s.words r.next at r.atomic_words (omega arith) r.small refl
       record { placed = reseen r.next r.serving r.log v.seen (longer v.seen w.seen) v.place rested stand.placed; fits = subst (AllByRecursion (Fits o r.log)) (sym alone) (merged, tt) }
       (λ t. let one = r.one_ticket t in omega arith) (λ n. let same = ap (bearers n) alone in let was = ap (bearers n) was-alone in omega arith))
       other w blank there rested-too
@@ -460,7 +461,7 @@ module _ {X O : Type 0} (origin : X → O) (history : X → List Entry) (lawful 
       let views' : List (View O) = set s.views other (spent_view blank) in let s' : St = record { words = s.words; homes = s.homes; views = views' } in
       let at' : get_elem? views' id ≡ some v = set_else s.views other id (spent_view blank) (λ e. apart (sym e)) ∙ at in let r' = spends s r other w blank there' rested-too in
       subst (λ (vs : List (View O)). Rule record { words = s.words; homes = s.homes; views = vs }) (set-swap s.views other id (spent_view blank) (paired v w) apart)
-      (steps s' r' id v (paired v w) s.words s.homes r.next r.serving r.log at' r.words r.served r.small r.from_one (same_slot s' r' id v (paired v w) s.words at' (sym (rests_free v.place rested)))
+      (steps s' r' id v (paired v w) s.words s.homes r.next r.serving r.log at' r.atomic_words r.served r.small r.from_one (same_slot s' r' id v (paired v w) s.words at' (sym (rests_free v.place rested)))
       record {
         placed = tt;
         fits = (
@@ -488,10 +489,12 @@ module _ {X O : Type 0} (origin : X → O) (history : X → List Entry) (lawful 
     unmoved s r 0 id m.0 at,
     (
       refl,
-      λ k h e. let f = subst (λ (p : Place). AllByRecursion (Fits o r.log) (sights_at (own m.0) p)) e (r.each id m.0 at).fits in let fit = f.0 in let kept = f.1.0 in (
-        in_line m.0.seen h r.log fit.begins kept.begins,
-        λ p. entries_by-between m.0.number m.0.seen h r.log p kept.begins fit.all_seen ∙ sym fit.own,
-      ),
+      λ k h e. let f = subst (λ (p : Place). AllByRecursion (Fits o r.log) (sights_at (own m.0) p)) e (r.each id m.0 at).fits in let fit = f.0 in let kept = f.1.0 in record {
+        in_line = in_line m.0.seen h r.log fit.begins kept.begins;
+        complete = λ p. entries_by-between m.0.number m.0.seen h r.log p kept.begins fit.all_seen ∙ sym fit.own;
+        apart = λ some-number same. let two = ap (λ (p : Place). bearers m.0.number (sights_at (own m.0) p)) e in let first = ap one_if (eq-eqb m.0.number m.0.number refl) in let second = ap one_if (eq-eqb k m.0.number (sym same)) in
+            let here = term_le (numbers m.0.number) s.views id m.0 at in let one = r.one_number m.0.number some-number in omega arith;
+      },
     ),
   )
 
@@ -500,16 +503,17 @@ module _ {X O : Type 0} (origin : X → O) (history : X → List Entry) (lawful 
   parts id v k h paired-at s r at = let f = subst (λ (p : Place). AllByRecursion (Fits o r.log) (sights_at (own v) p)) paired-at (r.each id v at).fits in let fit = f.0 in let kept = f.1.0 in
       let v' = moved v Idle in let w : View O = view k v.origin h (entries_by k h) 0 Idle in let two : (n : ℕ) → numbers n v ≡ one_if (eqb v.number n) + (one_if (eqb k n) + 0) = λ n. ap (λ (p : Place). bearers n (sights_at (own v) p)) paired-at in
       let s' : St = record { words = s.words; homes = s.homes; views = set s.views id v' } in
-      let r' : Rule s' = leaves s r id v v' s.words r.next at r.words (omega arith) r.small (sym (ap holds_lock paired-at)) record { placed = tt; fits = (fit, tt) }
+      let r' : Rule s' = leaves s r id v v' s.words r.next at r.atomic_words (omega arith) r.small (sym (ap holds_lock paired-at)) record { placed = tt; fits = (fit, tt) }
       (λ t. let one = r.one_ticket t in omega arith) (λ n. let both = two n in omega arith) in
       subst (λ (x : View O). Rule record { words = s.words; homes = s.homes; views = set s.views id v' ++ x ∷ [] }) (sym (ap (second_at v) paired-at))
       (adds s' r' w record { placed = tt; fits = (kept, tt) } refl (λ t. refl) (λ n some-n. let one = r.one_number n some-n in let both = two n in let moved-by = sum_by-at (numbers n) s.views id v v' at in omega arith))
 
   -- the value of a lock that serves the ticket which is never drawn
-  pub ends : (id : ℕ) (v : View O) (words : List ℕ) (slots : List (Option X)) → v.place ≡ Peeked last_ticket → Final (Seen Rule id v) words slots → (x : X) × (get_elem? slots 0 ≡ some (Some x)) × Suits origin history lawful v x
-  ends id v words slots peeked-at end = let s = end.0 in let r : Rule s = end.1.0 in let at = end.1.1 in let low : last_ticket ≤ r.serving = subst (IsPlaced r.next r.serving r.log v.seen) peeked-at (r.each id v at).placed in
+  pub ends : (v : View O) (parts : Parts X) → v.place ≡ Peeked last_ticket → HasEnded origin history lawful o v parts → (x : X) × (parts.value ≡ Some x) × Suits origin history lawful v x
+  ends v parts peeked-at end = let s = end.state in let r = end.orderly in let id = end.known.0 in let at = end.known.1 in let low : last_ticket ≤ r.serving = subst (IsPlaced r.next r.serving r.log v.seen) peeked-at (r.each id v at).placed in
       let below = r.served in let small = r.small in let h = home_at_rest s r (omega arith) in
-      (h.value, end.4 0 (Some h.value) (ap (λ (hs : Homes). get_elem? hs 0) h.stored), suits s r h id v at (ap (sights_at (own v)) peeked-at))
+      let same : parts.value ≡ Some h.value = ⊎_elim (λ (e : s.homes ≡ some parts.value ∷ []). let f = h.stored in cc) (λ (out : IsOut s). let one = out.held in let none-held = h.free in absurd (omega arith)) end.slot in
+      (h.value, same, suits s r h id v at (ap (sights_at (own v)) peeked-at))
 
   fits_at : (log : List Entry) (xs : List (Sight O)) (k : ℕ) (x : Sight O) → AllByRecursion (Fits o log) xs → slice_get xs k ≡ Some x → Fits o log x
   fits_at log [] k x h e = absurd (cc)

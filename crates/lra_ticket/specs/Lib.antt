@@ -1,5 +1,6 @@
 pub mod History
 pub mod Views
 pub mod Rule
-pub mod Steps
 pub mod Locks
+pub mod Example
+pub mod inner

@@ -1,79 +1,84 @@
 -- What clauses read of a lock and of its tokens, and what its calls say of them.
-use Rattle.std.specs.Prelude.{◌≡◌, ◌≢◌, ℕ, ◌+◌, ◌-◌, ◌^◌, ◌<◌, List, [], ◌∷◌, ◌++◌}
+use Rattle.std.specs.Prelude.{◌≡◌, ◌≢◌, ◌⊎◌, ℕ, ◌+◌, ◌-◌, ◌^◌, ◌<◌, List, [], ◌∷◌, Option}
 use mathlib.Core.List.{IsPrefix}
+use mathlib.Core.Option.{some}
+use lib.ListN.{get_elem?}
+use Rattle.atomic_table.specs.Table.{State}
 use Rattle.atomic_table.specs.Seated.{TableId}
 use Rattle.lra_model.specs.declared.entry.Entry.{Entry}
 use Rattle.lra_ticket.specs.declared.kept.Kept.{Ghosts}
 use Rattle.lra_ticket.specs.declared.lock.TicketLock.{TicketLock}
 use Rattle.lra_ticket.specs.declared.lock.Pass.{Pass}
-use Rattle.lra_ticket.specs.declared.lock.Queued.{Queued}
 use Rattle.lra_ticket.specs.declared.lock.Held.{Held}
-use Rattle.lra_ticket.specs.declared.entries.AddFault.{AddFault}
-use Rattle.lra_ticket.specs.declared.entries.AddFault.TheVariants as add
+use Rattle.lra_ticket.specs.declared.lock.Parts.{Parts}
 use Rattle.lra_ticket.specs.declared.lock.TryFault.{TryFault}
 use Rattle.lra_ticket.specs.declared.lock.TryFault.TheVariants.{Busy, Worn}
-use Rattle.lra_ticket.specs.declared.view.Place.TheVariants.{Idle, Looked, Peeked, Missed}
+use Rattle.lra_ticket.specs.declared.view.Place.TheVariants.{Peeked, Missed}
 use Rattle.lra_ticket.specs.declared.view.View.{View}
 use Rattle.lra_ticket.specs.History.{entries_by}
+use Rattle.lra_ticket.specs.Rule.{IsOrderly, IsOut, IsInLine}
 use Rattle.lra_ticket.specs.Views.{moved, taking}
 
 -- the last number of a word, which is never drawn as a ticket
 abbrev pub last_ticket : ℕ
 last_ticket = 2 ^ 64 - 1
 
-module _ {X O : Type 0} where
-  -- which lock it is
-  abbrev pub lock_id : TicketLock X O → TableId
-  lock_id lock = lock.table.shared.table_id
+-- which lock it is
+abbrev pub lock_id : {X O : Type 0} → TicketLock X O → TableId
+lock_id lock = lock.table.shared.table_id
 
-  -- the value that it began with
-  abbrev pub first_value : TicketLock X O → X
-  first_value lock = lock.table.shared.key.first.value
+-- the value that it began with
+abbrev pub first_value : {X O : Type 0} → TicketLock X O → X
+first_value lock = lock.table.shared.key.first.value
 
-module _ {X O : Type 0} {g : Ghosts X O} where
-  abbrev pub pass_id : Pass X O g → TableId
-  pass_id pass = pass.seat.table_id
+-- which lock a pass is of
+abbrev pub pass_id : {X O : Type 0} {g : Ghosts X O} → Pass X O g → TableId
+pass_id pass = pass.seat.table_id
 
-  abbrev pub queued_id : Queued X O g → TableId
-  queued_id queued = queued.seat.table_id
+-- which lock is held
+abbrev pub held_id : {X O : Type 0} {g : Ghosts X O} → Held X O g → TableId
+held_id held = held.seat.table_id
 
-  abbrev pub held_id : Held X O g → TableId
-  held_id held = held.seat.table_id
+-- what a pass's owner knows
+abbrev pub pass_view : {X O : Type 0} {g : Ghosts X O} → Pass X O g → View O
+pass_view pass = pass.seat.me.0
 
-  -- what its owner knows
-  abbrev pub pass_view : Pass X O g → View O
-  pass_view pass = pass.seat.me.0
+-- what a holder knows
+abbrev pub held_view : {X O : Type 0} {g : Ghosts X O} → Held X O g → View O
+held_view held = held.seat.me.0
 
-  abbrev pub queued_view : Queued X O g → View O
-  queued_view queued = queued.seat.me.0
+-- a value that a view may be handed
+pub record Suits {X O : Type 0} (origin : X → O) (history : X → List Entry) (lawful : X → Type 0) (v : View O) (x : X) : Type 0 where
+  pub lawful_now : lawful x
+  pub same_origin : origin x ≡ v.origin
+  -- all that was seen before stands at the front
+  pub begins : IsPrefix v.seen (history x)
+  -- and after it comes nothing under the view's number
+  pub own : entries_by v.number (history x) ≡ v.mine
+  pub enrolled : v.number ≢ 0 → v.mine ≢ []
 
-  abbrev pub held_view : Held X O g → View O
-  held_view held = held.seat.me.0
+-- w is v, after it waited and was handed a value with this history
+abbrev pub HasTaken : {O : Type 0} → View O → List Entry → View O → Type 0
+HasTaken v history w = (t : ℕ) × (t < last_ticket) × (w ≡ taking v t history)
 
-module _ {O : Type 0} where
-  -- w is v, after it waited and was handed a value with this history
-  abbrev pub HasTaken : View O → List Entry → View O → Type 0
-  HasTaken v history w = (t : ℕ) × (t < last_ticket) × (w ≡ taking v t history)
+-- v, with one try more
+abbrev pub tried : {O : Type 0} → View O → View O
+tried v = record v { tries = v.tries + 1 }
 
-  -- v, with one try more
-  abbrev pub tried : View O → View O
-  tried v = record v { tries = v.tries + 1 }
+-- w is v, after one peek and one grab, which found another next ticket than the one that is served
+abbrev pub HasMissed : {O : Type 0} → View O → View O → Type 0
+HasMissed v w = (s n : ℕ) × (n ≢ s) × (w ≡ moved (tried v) (Missed s n))
 
-  -- w is v, after one peek and one grab, which found another next ticket than the one that is served
-  abbrev pub HasMissed : View O → View O → Type 0
-  HasMissed v w = (s n : ℕ) × (n ≢ s) × (w ≡ moved (tried v) (Missed s n))
+-- w is v, after a try that had this fault
+abbrev pub HasFailed : {O : Type 0} → View O → TryFault → View O → Type 0
+HasFailed v Busy w = HasMissed v w
+HasFailed v Worn w = w ≡ moved (tried v) (Peeked last_ticket)
 
-  -- w is v, after a try that had this fault
-  abbrev pub HasFailed : View O → TryFault → View O → Type 0
-  HasFailed v Busy w = HasMissed v w
-  HasFailed v Worn w = w ≡ moved (tried v) (Peeked last_ticket)
-
-  -- w is v, after it saw a history with nothing more under its number, and added an entry of its own to it
-  abbrev pub HasAdded : View O → Entry → View O → Type 0
-  HasAdded v e w = (history : List Entry) × IsPrefix v.seen history × (entries_by v.number history ≡ v.mine)
-      × (w ≡ record v { seen = history ++ e ∷ []; mine = v.mine ++ e ∷ []; place = Idle })
-
-  -- w is v, which added nothing: it drew no ticket, or it saw a history with nothing more under its number
-  abbrev pub HasNotAdded : View O → AddFault → View O → Type 0
-  HasNotAdded v add.Worn w = w ≡ moved v (Looked last_ticket)
-  HasNotAdded v add.Memory w = (history : List Entry) × IsPrefix v.seen history × (entries_by v.number history ≡ v.mine) × (w ≡ record v { seen = history; place = Idle })
+-- what a lock was when it ended: a state that meets the rule, which has this view among its own, and where no one holds the lock this value
+pub record HasEnded {X O : Type 0} (origin : X → O) (history : X → List Entry) (lawful : X → Type 0) (o : O) (v : View O) (parts : Parts X) : Type 0 where
+  pub state : State (Option X) (View O)
+  pub orderly : IsOrderly origin history lawful o state
+  pub in_line : IsInLine state
+  pub known : (i : ℕ) × (get_elem? state.views i ≡ some v)
+  pub atomic_words : state.words ≡ parts.next ∷ parts.serving ∷ []
+  pub slot : (state.homes ≡ some parts.value ∷ []) ⊎ IsOut state

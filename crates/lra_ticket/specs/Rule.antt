@@ -43,33 +43,32 @@ pub record IsOut {X O : Type 0} (s : State (Option X) (View O)) : Type 0 where
   pub empty : s.homes ≡ maybe.none ∷ []
   pub held : sum_by (λ (v : View O). holds_lock v.place) s.views ≡ 1
 
-module _ {X O : Type 0} (origin : X → O) (history : X → List Entry) (lawful : X → Type 0) where
-  -- the value is in the slot: it is lawful, and no one holds the lock
-  pub record IsHome (o : O) (log : List Entry) (s : State (Option X) (View O)) : Type 0 where
-    pub value : X
-    pub stored : s.homes ≡ some (Some value) ∷ []
-    pub lawful_now : lawful value
-    pub same_origin : origin value ≡ o
-    pub has_log : history value ≡ log
-    pub free : sum_by (λ (v : View O). holds_lock v.place) s.views ≡ 0
+-- the value is in the slot: it is lawful, and no one holds the lock
+pub record IsHome {X O : Type 0} (origin : X → O) (history : X → List Entry) (lawful : X → Type 0) (o : O) (log : List Entry) (s : State (Option X) (View O)) : Type 0 where
+  pub value : X
+  pub stored : s.homes ≡ some (Some value) ∷ []
+  pub lawful_now : lawful value
+  pub same_origin : origin value ≡ o
+  pub has_log : history value ≡ log
+  pub free : sum_by (λ (v : View O). holds_lock v.place) s.views ≡ 0
 
-  -- the rule, where o is the origin of the value that the lock began with
-  pub record IsOrderly (o : O) (s : State (Option X) (View O)) : Type 0 where
-    -- the next ticket, the one that is served, and the history of the value at home, or of the one that the holder took
-    pub next : ℕ
-    pub serving : ℕ
-    pub log : List Entry
-    pub words : s.words ≡ next ∷ serving ∷ []
-    pub served : serving ≤ next
-    pub small : next < 2 ^ 64
-    pub slot : IsHome o log s ⊎ IsOut s
-    -- no entry bears 0
-    pub from_one : entries_by 0 log ≡ []
-    pub each : (i : ℕ) (v : View O) → get_elem? s.views i ≡ some v → Stands o next serving log v
-    -- no two have one ticket
-    pub one_ticket : (t : ℕ) → sum_by (λ (v : View O). has_ticket t v.place) s.views ≤ 1
-    -- no two have one number, but for 0
-    pub one_number : (n : ℕ) → n ≢ 0 → sum_by (λ (v : View O). bearers n (sights v)) s.views ≤ 1
+-- the rule, where o is the origin of the value that the lock began with
+pub record IsOrderly {X O : Type 0} (origin : X → O) (history : X → List Entry) (lawful : X → Type 0) (o : O) (s : State (Option X) (View O)) : Type 0 where
+  -- the next ticket, the one that is served, and the history of the value at home, or of the one that the holder took
+  pub next : ℕ
+  pub serving : ℕ
+  pub log : List Entry
+  pub atomic_words : s.words ≡ next ∷ serving ∷ []
+  pub served : serving ≤ next
+  pub small : next < 2 ^ 64
+  pub slot : IsHome origin history lawful o log s ⊎ IsOut s
+  -- no entry bears 0
+  pub from_one : entries_by 0 log ≡ []
+  pub each : (i : ℕ) (v : View O) → get_elem? s.views i ≡ some v → Stands o next serving log v
+  -- no two have one ticket
+  pub one_ticket : (t : ℕ) → sum_by (λ (v : View O). has_ticket t v.place) s.views ≤ 1
+  -- no two have one number other than 0
+  pub one_number : (n : ℕ) → n ≢ 0 → sum_by (λ (v : View O). bearers n (sights v)) s.views ≤ 1
 
 -- some view of the state has this sight
 abbrev pub IsKnown : {X O : Type 0} → State (Option X) (View O) → Sight O → Type 0

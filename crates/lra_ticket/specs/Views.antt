@@ -4,7 +4,7 @@ use Rattle.lra_model.specs.declared.entry.Entry.{Entry}
 use Rattle.lra_ticket.specs.declared.view.Place.{Place}
 use Rattle.lra_ticket.specs.declared.view.Place.TheVariants.{Idle, Looked, Waiting, Holding, Peeked, Missed, Paired, Spent}
 use Rattle.lra_ticket.specs.declared.view.View.{View}
-use Rattle.lra_ticket.specs.History.{entries_by, block_after, longer, number_after}
+use Rattle.lra_ticket.specs.History.{entries_by, block_after, number_after}
 
 -- it waits for nothing, holds nothing, and stands for itself alone
 abbrev pub is_resting : Place → Bool
@@ -35,72 +35,50 @@ pub record Sight (O : Type 0) : Type 0 where
   pub seen : List Entry
   pub mine : List Entry
 
-module _ {O : Type 0} where
-  abbrev pub sight : ℕ → O → List Entry → List Entry → Sight O
-  sight number origin seen mine = record { number = number; origin = origin; seen = seen; mine = mine }
+-- a sight, by its parts in their order
+abbrev pub sight : {O : Type 0} → ℕ → O → List Entry → List Entry → Sight O
+sight number origin seen mine = record { number = number; origin = origin; seen = seen; mine = mine }
 
-  -- a paired view counts as two, and a spent one as none
-  abbrev pub sights_at : Sight O → Place → List (Sight O)
-  sights_at own (Paired k h) = own ∷ sight k own.origin h (entries_by k h) ∷ []
-  sights_at own Spent = []
-  sights_at own _ = own ∷ []
+-- a paired view counts as two, and a spent one as none
+abbrev pub sights_at : {O : Type 0} → Sight O → Place → List (Sight O)
+sights_at own (Paired k h) = own ∷ sight k own.origin h (entries_by k h) ∷ []
+sights_at own Spent = []
+sights_at own _ = own ∷ []
 
-  abbrev pub sights : View O → List (Sight O)
-  sights v = sights_at (sight v.number v.origin v.seen v.mine) v.place
+-- what a view knows, under its own number and, where it is paired, under the second one
+abbrev pub sights : {O : Type 0} → View O → List (Sight O)
+sights v = sights_at (sight v.number v.origin v.seen v.mine) v.place
 
-  -- how many of these have this number
-  abbrev pub bearers : ℕ → List (Sight O) → ℕ
-  bearers n [] = 0
-  bearers n (s ∷ ss) = (if s.number == n then 1 else 0) + bearers n ss
+-- how many of these have this number
+abbrev pub bearers : {O : Type 0} → ℕ → List (Sight O) → ℕ
+bearers n [] = 0
+bearers n (s ∷ ss) = (if s.number == n then 1 else 0) + bearers n ss
 
-  abbrev pub view : ℕ → O → List Entry → List Entry → ℕ → Place → View O
-  view number origin seen mine tries place = record { number = number; origin = origin; seen = seen; mine = mine; tries = tries; place = place }
+-- a view, by its parts in their order
+abbrev pub view : {O : Type 0} → ℕ → O → List Entry → List Entry → ℕ → Place → View O
+view number origin seen mine tries place = record { number = number; origin = origin; seen = seen; mine = mine; tries = tries; place = place }
 
-  -- make: the first pass, with all of the first value's history seen
-  abbrev pub first_view : ℕ → O → List Entry → View O
-  first_view number origin history = view number origin history (entries_by number history) 0 Idle
+-- make: the first pass, with all of the first value's history seen
+abbrev pub first_view : {O : Type 0} → ℕ → O → List Entry → View O
+first_view number origin history = view number origin history (entries_by number history) 0 Idle
 
-  -- what is left of a pass that another one stands for
-  abbrev pub spent_view : O → View O
-  spent_view blank = view 0 blank [] [] 0 Spent
+-- the same view at another place
+abbrev pub moved : {O : Type 0} → View O → Place → View O
+moved v place = record v { place = place }
 
-  -- the same view at another place
-  abbrev pub moved : View O → Place → View O
-  moved v place = record v { place = place }
+-- split: a second pass, which has seen as much and has no number yet
+abbrev pub newcomer : {O : Type 0} → View O → View O
+newcomer v = view 0 v.origin v.seen [] 0 Idle
 
-  -- split: a second pass, which has seen as much and has no number yet
-  abbrev pub newcomer : View O → View O
-  newcomer v = view 0 v.origin v.seen [] 0 Idle
+-- watch and grab, where the ticket t is served: it was handed a value with this history
+abbrev pub taking : {O : Type 0} → View O → ℕ → List Entry → View O
+taking v t history = record v { seen = history; place = Holding t }
 
-  -- peek: one more try, which saw the ticket s served
-  abbrev pub peeking : View O → ℕ → View O
-  peeking v s = record v { tries = v.tries + 1; place = Peeked s }
+-- give: it gave a value with this history back, and what that added is its own
+abbrev pub given : {O : Type 0} → View O → List Entry → View O
+given v history = let block = block_after v.seen history in
+    view (number_after v.number block) v.origin history (v.mine ++ block) v.tries Idle
 
-  -- watch and grab, where the ticket t is served: it was handed a value with this history
-  abbrev pub taking : View O → ℕ → List Entry → View O
-  taking v t history = record v { seen = history; place = Holding t }
-
-  -- give: it gave a value with this history back, and what that added is its own
-  abbrev pub given : View O → List Entry → View O
-  given v history = let block = block_after v.seen history in
-      view (number_after v.number block) v.origin history (v.mine ++ block) v.tries Idle
-
-  -- pair: v also stands for w, which is spent
-  abbrev pub paired : View O → View O → View O
-  paired v w = moved v (Paired w.number w.seen)
-
-  -- part: the second pass that v stood for
-  abbrev pub second_at : View O → Place → View O
-  second_at v (Paired k h) = view k v.origin h (entries_by k h) 0 Idle
-  second_at v _ = newcomer v
-
-  abbrev pub second : View O → View O
-  second v = second_at v v.place
-
-  -- join: v has seen what w had seen too, and w is spent
-  abbrev pub joined : View O → View O → View O
-  joined v w = record v { seen = longer v.seen w.seen }
-
-  -- its own entries are those of what it has seen, where no entry bears 0
-  abbrev pub IsComplete : View O → Type 0
-  IsComplete v = (v.mine ≡ entries_by v.number v.seen) × (entries_by 0 v.seen ≡ [])
+-- its own entries are those of what it has seen, where no entry bears 0
+abbrev pub IsComplete : {O : Type 0} → View O → Type 0
+IsComplete v = (v.mine ≡ entries_by v.number v.seen) × (entries_by 0 v.seen ≡ [])

@@ -1,14 +1,11 @@
 //! The end of a lock.
 ghost use Rattle.std.specs.Prelude.{◌≡◌, ◌-◌, ◌^◌, ◌∷◌, [], Option, IfOk, IfErr};
-ghost use Rattle.atomic_table.specs.Table.{State};
-ghost use Rattle.lra_ticket.specs.Locks.{lock_id, first_value, pass_id, pass_view, last_ticket, HasMissed};
-ghost use Rattle.lra_ticket.specs.Rule.{IsOrderly, IsInLine};
-ghost use Rattle.lra_ticket.specs.Steps.{Suits};
-ghost use Rattle.lra_ticket.specs.declared.view.View.{View};
+ghost use Rattle.lra_ticket.specs.Locks.{lock_id, first_value, pass_id, pass_view, last_ticket, HasMissed, HasEnded, Suits};
 ghost use Rattle.lra_ticket.specs.declared.view.Place.TheVariants.{Peeked};
 
 use crate::kept::Kept;
-use crate::lock::{Held, Pass, TicketLock};
+use crate::lock::{Held, Parts, Pass, TicketLock};
+use crate::rule::{NEXT, SERVING};
 
 impl<V: Kept> TicketLock<V> {
     /// Ends the lock and gives its value, where no one has the lock or waits for it. Else it hands lock and pass back. It
@@ -37,24 +34,29 @@ impl<V: Kept> TicketLock<V> {
         requires last { (pass_view pass).place ≡ Peeked last_ticket }
         ensures { Suits V.origin V.history V.lawful (pass_view pass) result }
     {
+        self.into_parts(pass).value.unwrap()
+    }
+
+    /// Ends the lock as it is, held or not, and tells what it had: its two tickets, and the value where no one holds it. What a
+    /// holder still has can't be given back then.
+    ///
+    /// One state meets the rule of the lock, with these, and with the view of this pass. Of the other passes it tells that the
+    /// rule holds of their views too, and not which they are; `meet` tells of any two.
+    pub fn into_parts(self, pass: Pass<V>) -> Parts<V>
+        requires { pass_id pass ≡ lock_id self }
+        ensures { HasEnded V.origin V.history V.lawful (V.origin (first_value self)) (pass_view pass) result }
+    {
         let TicketLock { table } = self;
         let Pass { seat } = pass;
         let mut closed = table.close_with(seat);
-        let slot = closed.take(0);
+        let next = closed.word(NEXT);
+        let serving = closed.word(SERVING);
+        let value = closed.take(0);
         closed.free();
-        slot.unwrap()
-    }
-
-    /// Ends the lock with its value, and tells the next ticket and the one that was served.
-    pub fn into_tickets(self) -> (u64, u64)
-        ensures { (s : State (Option V) (View V.Origin)) × IsOrderly V.origin V.history V.lawful (V.origin (first_value self)) s × IsInLine s × (s.words ≡ result.0 ∷ result.1 ∷ []) }
-    {
-        let TicketLock { table } = self;
-        let mut closed = table.close();
-        let next = closed.word(0);
-        let serving = closed.word(1);
-        drop(closed.take(0));
-        closed.free();
-        (next, serving)
+        Parts {
+            next,
+            serving,
+            value,
+        }
     }
 }

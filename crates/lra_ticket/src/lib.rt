@@ -6,7 +6,7 @@
 #![tactic(auto)]
 
 mod end;
-mod entries;
+pub mod example;
 mod give;
 mod kept;
 mod lock;
@@ -15,11 +15,8 @@ mod plays;
 mod rule;
 mod slot;
 mod take;
-#[cfg(test)]
-mod tests;
 mod view;
 
-pub use entries::AddFault;
 pub use kept::Kept;
-pub use lock::{Held, Pass, TicketLock, TryFault, Worn};
+pub use lock::{Held, Parts, Pass, TicketLock, TryFault, Worn};
 pub use view::{Place, View};

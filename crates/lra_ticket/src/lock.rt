@@ -45,6 +45,17 @@ pub struct Held<V: Kept> {
     ghost small: { ticket + 1 < 2 ^ 64 },
 }
 
+/// What a lock had when it ended.
+#[derive(Drop)]
+pub struct Parts<V> {
+    /// The next ticket.
+    pub next: u64,
+    /// The ticket that was served.
+    pub serving: u64,
+    /// The value, where no one had it out of the lock.
+    pub value: Option<V>,
+}
+
 /// No ticket is left: the next one would be 2^64 - 1.
 #[derive(Debug, Drop, Clone, Copy, PartialEq, Eq)]
 pub struct Worn;

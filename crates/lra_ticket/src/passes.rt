@@ -1,5 +1,5 @@
 //! What passes tell one another.
-ghost use Rattle.std.specs.Prelude.{◌≡◌};
+ghost use Rattle.std.specs.Prelude.{◌≡◌, ◌≢◌};
 ghost use mathlib.Core.List.{IsPrefix};
 ghost use Rattle.lra_ticket.specs.History.{Comparable, longer, entries_by};
 ghost use Rattle.lra_ticket.specs.Locks.{lock_id, pass_id, pass_view};
@@ -24,7 +24,7 @@ impl<V: Kept> TicketLock<V> {
         (Pass { seat }, Pass { seat: second })
     }
 
-    /// Compares what two passes have seen: of their histories one begins the other.
+    /// Compares two passes: of the histories that they have seen one begins the other, and no two have one number other than 0.
     pub fn meet(&self, first: Pass<V>, second: Pass<V>) -> (Pass<V>, Pass<V>)
         requires { (pass_id first ≡ lock_id self.now) × (pass_id second ≡ lock_id self.now) }
         ensures lock { (pass_id result.0 ≡ lock_id self.now) × (pass_id result.1 ≡ lock_id self.now) }
@@ -32,6 +32,7 @@ impl<V: Kept> TicketLock<V> {
         ensures second { pass_view result.1 ≡ record (pass_view second) { origin = (pass_view first).origin; tries = 0; place = Idle } }
         ensures in_line { Comparable (pass_view first).seen (pass_view second).seen }
         ensures complete { IsPrefix (pass_view first).seen (pass_view second).seen → entries_by (pass_view first).number (pass_view second).seen ≡ (pass_view first).mine }
+        ensures apart { (pass_view first).number ≢ 0 → (pass_view first).number ≢ (pass_view second).number }
     {
         let Pass { mut seat } = first;
         let Pass { seat: other } = second;

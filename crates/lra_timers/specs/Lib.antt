@@ -1,5 +1,4 @@
 pub mod Moments
-pub mod Order
+pub mod Pauses
 pub mod Planned
-pub mod Schedule
-pub mod Tree
+pub mod inner

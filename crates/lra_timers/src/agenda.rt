@@ -112,6 +112,3 @@ impl Agenda {
         self.retries.first_due(now)
     }
 }
-
-#[cfg(test)]
-mod tests;

@@ -1,5 +1,5 @@
 ghost use Rattle.std.specs.Prelude.{MatchBool};
-ghost use Rattle.lra_timers.specs.Order.{IsNotAfter, IsWinner};
+ghost use Rattle.lra_timers.specs.inner.Order.{IsNotAfter, IsWinner};
 
 /// A number with its moment.
 #[derive(Clone, Copy, Debug, PartialEq, Eq)]

@@ -19,7 +19,7 @@ pub(crate) struct Schedule {
 impl Model for Schedule {
     ghost use Rattle.std.specs.Prelude.{min};
     ghost use Rattle.std.specs.HashMap.{spare};
-    ghost use Rattle.lra_timers.specs.Schedule.{Timetable, timetable_code, moments_at, IsIndex};
+    ghost use Rattle.lra_timers.specs.inner.Schedule.{Timetable, timetable_code, moments_at, IsIndex};
 
     ghost Value = { Timetable };
 

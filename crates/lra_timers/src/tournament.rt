@@ -1,6 +1,6 @@
 ghost use Rattle.std.specs.Prelude.{◌≡◌, ◌↔◌, ◌+◌, ◌*◌, ◌≤◌, ◌<◌, [], ◌∷◌, ◌++◌, length, take, drop, slice_set, IsNone, IsOk, IfSome, OnOk, OnErr};
-ghost use Rattle.lra_timers.specs.Order.{IsWinner, IsFirstOf, IsNotAfter, node, last};
-ghost use Rattle.lra_timers.specs.Tree.{IsWon, IsTree};
+ghost use Rattle.lra_timers.specs.inner.Order.{IsWinner, IsFirstOf, IsNotAfter, node, last};
+ghost use Rattle.lra_timers.specs.inner.Tree.{IsWon, IsTree};
 
 use crate::deadline::Deadline;
 use std::alloc::{AllocError, Global};
@@ -19,7 +19,7 @@ pub(crate) struct Tournament {
 
 impl Model for Tournament {
     ghost use Rattle.std.specs.Prelude.{◌-◌, take, drop};
-    ghost use Rattle.lra_timers.specs.Tree.{Entrants, IsTree};
+    ghost use Rattle.lra_timers.specs.inner.Tree.{Entrants, IsTree};
 
     ghost Value = { Entrants };
 

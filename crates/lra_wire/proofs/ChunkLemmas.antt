@@ -11,8 +11,9 @@ use Rattle.lra_wire.specs.declared.fault.WireFault.{WireFault}
 use Rattle.lra_wire.specs.declared.fault.WireFault.TheVariants.{BadLength, TooLarge}
 use Rattle.lra_wire.specs.declared.inbox.Inbox.{Inbox}
 use Rattle.lra_wire.specs.Chunks.{HasTrailer, PassesLimit, RefusesLine, RefusesTrailer, RefusesContent}
-use Rattle.lra_wire.specs.Inbox.{kept_bytes, stream_of, Grows, IsOutside}
-use Rattle.lra_wire.specs.Steps.{IsTrailerOf, IsLineOf, ReadsTrailerAt, ReadsLineAt}
+use Rattle.lra_wire.specs.Inbox.{kept_bytes, stream_of, IsOutside}
+use Rattle.lra_wire.specs.inner.Growth.{Grows}
+use Rattle.lra_wire.specs.inner.Steps.{IsTrailerOf, IsLineOf, ReadsTrailerAt, ReadsLineAt}
 use Rattle.lra_wire.proofs.StreamLemmas.{on_stream, on_stream_end, grown, drop_more_bytes}
 
 -- ---- whatever follows

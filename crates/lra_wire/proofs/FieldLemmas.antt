@@ -9,7 +9,8 @@ use Rattle.std.proofs.lemmas.Str.Parse.{digits_value_short, numerals_by_value, t
 use Rattle.httparse.specs.declared.spans.HeaderSpan.{HeaderSpan}
 use Rattle.httparse.specs.Spans.{header_bytes}
 use Rattle.lra_wire.specs.declared.fields.Named.{Named}
-use Rattle.lra_wire.specs.Fields.{is_alike, is_named, values_of, Shows}
+use Rattle.lra_wire.specs.Fields.{is_alike, is_named, values_of}
+use Rattle.lra_wire.specs.inner.Fields.{Shows}
 
 -- the value of one field, where it has the name
 abbrev pub value_if : List ℕ → List ℕ × List ℕ → List (List ℕ)

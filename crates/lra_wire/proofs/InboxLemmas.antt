@@ -1,9 +1,10 @@
 -- An inbox that grows twice grows.
-use Rattle.std.proofs.Common.{ℕ, ◌+◌, ◌≤◌, length, List, [], ◌++◌, refl, sym, ap, ◌∙◌, Option, Some, None, append_assoc}
+use Rattle.std.proofs.Common.{◌≡◌, ℕ, List, [], ◌++◌, refl, sym, ap, subst, ◌∙◌, Option, Some, None, append_assoc, inl, inr}
 use Rattle.std.proofs.lemmas.List.{append-nil}
 use Rattle.std.specs.Io.KnownBytes.{Keeps}
 use Rattle.lra_wire.specs.declared.inbox.Inbox.{Inbox}
-use Rattle.lra_wire.specs.Inbox.{kept_bytes, stream_of, Grows}
+use Rattle.lra_wire.specs.Inbox.{kept_bytes, stream_of, asked_at, AsksAt}
+use Rattle.lra_wire.specs.inner.Growth.{Grows}
 
 pub Keeps_refl : (a : Option (List ℕ)) → Keeps a a
 Keeps_refl None = tt
@@ -25,7 +26,27 @@ Grows_trans {R} {remaining} {a} {b} {c} x y = record {
   stream = Keeps_trans (stream_of remaining a) (stream_of remaining b) (stream_of remaining c) x.stream y.stream;
 }
 
--- what a search for an end keeps: what came is of the stream, and so much of it was looked at, from a place on
-pub record Looked {R : Type 0} (remaining : R → Option (List ℕ)) (old new : Inbox R) (start seen : ℕ) : Type 0 where
+-- what a loop of reads keeps: what came is of the stream, and more was asked for only where it was wanted
+pub record Waits {R : Type 0} (remaining : R → Option (List ℕ)) (Awaits : List ℕ → Type 0) (old new : Inbox R) : Type 0 where
   pub grows : Grows remaining old new
-  pub within : start + seen ≤ length (kept_bytes new)
+  pub asks : AsksAt Awaits old new
+
+-- what was read first, and then what was read behind it
+pub asks_on : {R : Type 0} (P Q S : List ℕ → Type 0) (a b c : Inbox R) → AsksAt P a b → AsksAt Q b c → ((bytes : List ℕ) → P bytes → S bytes) → ((bytes : List ℕ) → Q bytes → S bytes)
+    → AsksAt S a c
+asks_on P Q S a b c (inl first) (inl then) p q = inl (then.0 ∙ first.0, then.1 ∙ first.1)
+asks_on P Q S a b c (inr first) (inl then) p q = inr (subst S (sym then.1) (p (asked_at b) first))
+asks_on P Q S a b c first (inr then) p q = inr (q (asked_at c) then)
+
+-- one more read
+pub asks_more : {R : Type 0} (P : List ℕ → Type 0) (a b c : Inbox R) → AsksAt P a b → AsksAt (λ bytes. bytes ≡ kept_bytes b) b c → P (kept_bytes b) → AsksAt P a c
+asks_more P a b c first then here = asks_on P (λ bytes. bytes ≡ kept_bytes b) P a b c first then (λ bytes p. p) (λ bytes e. subst P (sym e) here)
+
+-- what was read first, and then taken
+pub asks_taken : {R : Type 0} (P : List ℕ → Type 0) (a b c : Inbox R) → AsksAt P a b → c.reader ≡ b.reader → asked_at c ≡ asked_at b → AsksAt P a c
+asks_taken P a b c first reader asked = asks_on P P P a b c first (inl (reader, asked)) (λ bytes p. p) (λ bytes p. p)
+
+-- a wider reason
+pub asks_weaker : {R : Type 0} (P Q : List ℕ → Type 0) (a b : Inbox R) → AsksAt P a b → ((bytes : List ℕ) → P bytes → Q bytes) → AsksAt Q a b
+asks_weaker P Q a b (inl same) f = inl same
+asks_weaker P Q a b (inr p) f = inr (f (asked_at b) p)

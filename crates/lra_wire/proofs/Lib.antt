@@ -1,5 +1,6 @@
 pub mod FieldLemmas
 pub mod InboxLemmas
+pub mod SearchLemmas
 pub mod RequestLemmas
 pub mod ReadingLemmas
 pub mod WritingLemmas

@@ -1,24 +1,34 @@
 -- From the spans of a head to the request that the stream begins with.
-use Rattle.std.proofs.Common.{◌≡◌, ℕ, ◌+◌, ◌-◌, ◌<◌, ◌≤◌, ◌||◌, ◌==◌, List, [], ◌++◌, length, map, take, drop, sym, ap, subst, ◌∙◌, arith, append_assoc, Option, Some, None, Ok, Err, inl, inr}
-use Rattle.std.specs.Prelude.{slice_range, IfSome}
+use Rattle.std.proofs.Common.{◌≡◌, ℕ, ◌+◌, ◌-◌, ◌<◌, ◌≤◌, ◌||◌, ◌==◌, Bool, true, false, cond, List, [], ◌∷◌, ◌++◌, length, map, take, drop, refl, sym, ap, subst, ◌∙◌, arith, append_assoc, Option, Some, None, Result, Ok, Err, inl, inr}
+use Rattle.std.specs.Prelude.{◌⊎◌, nat_le, slice_range, IfSome}
 use Rattle.std.specs.Io.KnownBytes.{Keeps, prepend_known, IsAtEnd}
 use Rattle.std.proofs.lemmas.List.{take-append-drop, drop-append-le, length-append, length-take, length-drop, drop-drop, append-nil}
 use Rattle.httparse.specs.declared.spans.HeaderSpan.{HeaderSpan}
 use Rattle.httparse.specs.declared.spans.RequestSpans.{RequestSpans}
-use Rattle.httparse.specs.Grammar.{ReadsRequest}
+use Rattle.httparse.specs.Grammar.{ReadsRequest, HasNoRequest, MayBecomeRequest}
 use Rattle.httparse.specs.Spans.{header_bytes}
 use Rattle.httparse.proofs.GrammarLemmas.{ReadsRequest-append}
 use Rattle.lra_wire.specs.declared.fault.WireFault.{WireFault}
 use Rattle.lra_wire.specs.declared.fault.WireFault.TheVariants.{BadHead, Chunked, BadLength, TooLarge, Cut, Io, Memory}
+use Rattle.lra_wire.specs.declared.fields.Stated.{Stated}
+use Rattle.lra_wire.specs.declared.fields.Stated.TheVariants.{Nothing, Length, Malformed}
 use Rattle.lra_wire.specs.declared.inbox.Inbox.{Inbox}
 use Rattle.lra_wire.specs.declared.request.RequestRead.{RequestRead}
-use Rattle.lra_wire.specs.Fields.{body_length_of, lists_close}
-use Rattle.lra_wire.specs.Heads.{IsHeadAt}
-use Rattle.lra_wire.specs.Inbox.{kept_bytes, stream_of, Grows, IsOutside, FillsTo}
-use Rattle.lra_wire.specs.Reading.{request_at}
-use Rattle.lra_wire.specs.Request.{IsRequest, Request, request_of, RefusesRequest, EndsInBody, GivesRequest}
+use Rattle.lra_wire.specs.Fields.{is_coded, stated_of, stated_body, body_length_of, lists_close}
+use Rattle.lra_wire.specs.inner.Heads.{IsHeadAt, FindsHead}
+use Rattle.lra_wire.specs.Inbox.{kept_bytes, stream_of, IsOutside, AsksAt}
+use Rattle.lra_wire.specs.inner.Growth.{Grows, FillsTo, LacksBytes}
+use Rattle.lra_wire.specs.inner.Reading.{request_at}
+use Rattle.lra_wire.specs.Request.{IsRequest, Request, request_of, fields_of, RefusesBody, RefusesRequest, EndsInBody, GivesRequest, AwaitsRequest}
 use Rattle.lra_wire.specs.Streams.{IfBothKnown}
-use Rattle.lra_wire.proofs.InboxLemmas.{Grows_trans}
+use Rattle.lra_wire.proofs.InboxLemmas.{Grows_trans, asks_on}
+use Rattle.lra_wire.proofs.StreamLemmas.{on_stream}
+
+ok_is_no_err : {n : ℕ} {fault : WireFault} → ¬ (◌≡◌ {A = Result ℕ WireFault} (Ok n) (Err fault))
+ok_is_no_err e = cc
+
+same_err : {a b : WireFault} → ◌≡◌ {A = Result ℕ WireFault} (Err a) (Err b) → a ≡ b
+same_err e = cc
 
 -- a part of the list, and what is behind it
 part_of : (bytes : List ℕ) (a n : ℕ) → drop a bytes ≡ slice_range bytes a (a + n) ++ drop (a + n) bytes
@@ -85,6 +95,57 @@ at_end (Some xs) kept (Some ys) P keeps end h =
     let whole : kept ≡ xs = sym (append-nil kept) ∙ ap (λ zs. kept ++ zs) (sym end) ∙ keeps in
     subst P whole h
 
+-- a lawful head stands there, and not all of the body behind it
+pub lacks_body : (bytes more : List ℕ) (headers : List HeaderSpan) (spans : RequestSpans) (size : ℕ) → IsHeadAt bytes headers spans
+    → body_length_of (map (header_bytes bytes) (take spans.headers headers)) ≡ Ok size → length (bytes ++ more) < spans.len + size → EndsInBody (bytes ++ more)
+lacks_body bytes more headers spans size at stated few =
+    let front : drop spans.len (bytes ++ more) ≡ drop spans.len bytes ++ more = drop-append-le spans.len bytes more at.within.section.len_fits in
+    record {
+      head = at.head;
+      rest = drop spans.len bytes ++ more;
+      found = record { reads = ReadsRequest-append bytes at.head (drop spans.len bytes) more at.places.reads; lawful = at.lawful };
+      size = size;
+      stated = ap body_length_of (sym at.places.fields) ∙ stated;
+      short = omega (arith, ap length front, length-drop spans.len (bytes ++ more), few, at.within.section.len_fits, length-append bytes more);
+    }
+
+-- a lawful head stands there, and the length of its body is refused
+length_fault : (fields : List (List ℕ × List ℕ)) (fault : WireFault) → body_length_of fields ≡ Err fault → (fault ≡ Chunked) ⊎ ((fault ≡ BadLength) ⊎ (fault ≡ TooLarge))
+length_fault fields fault e = go (is_coded fields) (stated_of fields) e
+  where
+    within : (b : Bool) (n : ℕ) → ◌≡◌ {A = Result ℕ WireFault} (cond b (Ok n) (Err TooLarge)) (Err fault) → (fault ≡ Chunked) ⊎ ((fault ≡ BadLength) ⊎ (fault ≡ TooLarge))
+    within true n f = absurd (ok_is_no_err f)
+    within false n f = inr (inr (sym (same_err f)))
+
+    go : (b : Bool) (s : Stated) → ◌≡◌ {A = Result ℕ WireFault} (cond b (Err Chunked) (stated_body s)) (Err fault) → (fault ≡ Chunked) ⊎ ((fault ≡ BadLength) ⊎ (fault ≡ TooLarge))
+    go true s f = inl (sym (same_err f))
+    go false Nothing f = absurd (ok_is_no_err f)
+    go false (Length n) f = within (nat_le n 65536) n f
+    go false Malformed f = inr (inl (sym (same_err f)))
+
+pub size_refused : {R : Type 0} (remaining : R → Option (List ℕ)) (old mid : Inbox R) (headers : List HeaderSpan) (spans : RequestSpans) (fault : WireFault)
+    → Grows remaining old mid → IsHeadAt (kept_bytes mid) headers spans
+    → body_length_of (map (header_bytes (kept_bytes mid)) (take spans.headers headers)) ≡ Err fault
+    → IfSome (stream_of remaining old) (λ bytes. RefusesRequest bytes fault)
+size_refused {R} remaining old mid headers spans fault grows at stated =
+    on_stream grows (λ bytes. RefusesRequest bytes fault) (λ rest. says (kept_bytes mid ++ rest) (behind rest) (length_fault (fields_of at.head) fault is))
+  where
+    is : body_length_of (fields_of at.head) ≡ Err fault
+    is = ap body_length_of (sym at.places.fields) ∙ stated
+
+    behind : (rest : List ℕ) → RefusesBody (kept_bytes mid ++ rest) fault
+    behind rest = record {
+      head = at.head;
+      rest = drop spans.len (kept_bytes mid) ++ rest;
+      found = record { reads = ReadsRequest-append (kept_bytes mid) at.head (drop spans.len (kept_bytes mid)) rest at.places.reads; lawful = at.lawful };
+      refused = is;
+    }
+
+    says : (bytes : List ℕ) → RefusesBody bytes fault → (fault ≡ Chunked) ⊎ ((fault ≡ BadLength) ⊎ (fault ≡ TooLarge)) → RefusesRequest bytes fault
+    says bytes refused (inl e) = subst (RefusesRequest bytes) (sym e) (subst (RefusesBody bytes) e refused)
+    says bytes refused (inr (inl e)) = subst (RefusesRequest bytes) (sym e) (subst (RefusesBody bytes) e refused)
+    says bytes refused (inr (inr e)) = subst (RefusesRequest bytes) (sym e) (subst (RefusesBody bytes) e refused)
+
 -- the stream ends in the body
 pub cut_body : {R : Type 0} (remaining : R → Option (List ℕ)) (old mid new : Inbox R) (headers : List HeaderSpan) (spans : RequestSpans) (size : ℕ) (fault : WireFault)
     → Grows remaining old mid → IsHeadAt (kept_bytes mid) headers spans
@@ -97,22 +158,31 @@ cut_body {R} remaining old mid new headers spans size fault grows at stated (inl
     some None = tt
     some (Some bytes) = outside_refuses fault bytes outside
 cut_body {R} remaining old mid new headers spans size fault grows at stated (inr cut) =
-    let more : List ℕ = cut.1.more in
-    let bytes : List ℕ = kept_bytes mid in
-    let front : drop spans.len (bytes ++ more) ≡ drop spans.len bytes ++ more = drop-append-le spans.len bytes more at.within.section.len_fits in
-    let short : length (drop spans.len bytes ++ more) < size = omega (arith, ap length front, length-drop spans.len (bytes ++ more), cut.3, ap length cut.1.kept, at.within.section.len_fits, length-append bytes more) in
-    let ends : EndsInBody (bytes ++ more) = record {
-      head = at.head;
-      rest = drop spans.len bytes ++ more;
-      found = record { reads = ReadsRequest-append bytes at.head (drop spans.len bytes) more at.places.reads; lawful = at.lawful };
-      size = size;
-      stated = ap body_length_of (sym at.places.fields) ∙ stated;
-      short = short;
-    } in
+    let few : length (kept_bytes mid ++ cut.1.more) < spans.len + size = subst (λ (bs : List ℕ). length bs < spans.len + size) cut.1.kept cut.3 in
     let P : List ℕ → Type 0 = λ bs. RefusesRequest bs fault in
-    let refused : RefusesRequest (bytes ++ more) fault = subst (λ (f : WireFault). RefusesRequest (bytes ++ more) f) (sym cut.0) (inr ends) in
+    let refused : P (kept_bytes mid ++ cut.1.more) =
+    subst (λ (f : WireFault). RefusesRequest (kept_bytes mid ++ cut.1.more) f) (sym cut.0) (inr (lacks_body (kept_bytes mid) cut.1.more headers spans size at stated few)) in
     at_end (stream_of remaining old) (kept_bytes new) (remaining new.reader) P
     (Grows_trans grows cut.1).stream cut.2 (subst P (sym cut.1.kept) refused)
+
+-- more is asked for in a head, and then in the body
+pub asks_body : {R : Type 0} (old mid new : Inbox R) (headers : List HeaderSpan) (spans : RequestSpans) (size : ℕ) → IsHeadAt (kept_bytes mid) headers spans
+    → body_length_of (map (header_bytes (kept_bytes mid)) (take spans.headers headers)) ≡ Ok size
+    → AsksAt AwaitsRequest old mid → AsksAt (LacksBytes (spans.len + size) (kept_bytes mid)) mid new → AsksAt AwaitsRequest old new
+asks_body old mid new headers spans size at stated first then =
+    asks_on AwaitsRequest (LacksBytes (spans.len + size) (kept_bytes mid)) AwaitsRequest old mid new first then (λ bytes p. p)
+    (λ bytes short. subst AwaitsRequest (sym short.front) (inr (inr (lacks_body (kept_bytes mid) short.more headers spans size at stated
+    (subst (λ (bs : List ℕ). length bs < spans.len + size) short.front short.few)))))
+
+-- more is asked for before a head, or in it
+awaits_head : (bytes : List ℕ) → HasNoRequest bytes → MayBecomeRequest bytes → AwaitsRequest bytes
+awaits_head [] none open_head = inl refl
+awaits_head (b ∷ bytes) none open_head = inr (inl (record { begun = λ e. cc; open_head = none; lawful = open_head }))
+
+pub head_awaits : (bytes kept : List ℕ) (headers : List HeaderSpan) (found : Option RequestSpans) → bytes ≡ kept → found ≡ None → FindsHead bytes headers (Ok found) → AwaitsRequest kept
+head_awaits bytes kept headers found same is finds =
+    let none = subst (λ (o : Option RequestSpans). FindsHead bytes headers (Ok o)) is finds in
+    subst AwaitsRequest same (awaits_head bytes none.0 none.1)
 
 -- the request, and the inbox behind it
 pub found_request : {R : Type 0} (remaining : R → Option (List ℕ)) (old mid full new : Inbox R) (headers : List HeaderSpan) (spans : RequestSpans) (size : ℕ) (read : RequestRead)

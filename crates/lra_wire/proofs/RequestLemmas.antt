@@ -13,7 +13,7 @@ use Rattle.httparse.specs.Grammar.{RequestHead, print_request, ReadsRequest, Has
 use Rattle.httparse.specs.Spans.{IsRequestAt, header_bytes}
 use Rattle.httparse.proofs.GrammarLemmas.{request_prefix_free}
 use Rattle.lra_wire.specs.Fields.{values_of}
-use Rattle.lra_wire.specs.Heads.{has_host}
+use Rattle.lra_wire.specs.inner.Heads.{has_host}
 use Rattle.lra_wire.specs.Request.{IsLawful, NeverLawful, fields_of}
 
 -- a head stands there that isn't lawful

@@ -12,7 +12,7 @@ use Rattle.lra_wire.specs.declared.fault.WireFault.{WireFault}
 use Rattle.lra_wire.specs.declared.fault.WireFault.TheVariants.{BadHead, Chunked, BadLength, TooLarge, Cut, Io, Memory}
 use Rattle.lra_wire.specs.Fields.{body_length_of}
 use Rattle.lra_wire.specs.Inbox.{IsOutside}
-use Rattle.lra_wire.specs.Request.{Request, IsLawful, HasHead, IsRequest, RefusesRequest, fields_of, closes}
+use Rattle.lra_wire.specs.Request.{Request, IsLawful, HasHead, IsRequest, RefusesRequest, AwaitsRequest, fields_of, closes}
 use Rattle.lra_wire.specs.Requests.{Requests, IsHeadFault, EndsAlike}
 
 -- what is refused behind a lawful head
@@ -74,6 +74,11 @@ same_request bytes a b r q x y =
 some_bytes : (head : RequestHead) (rest : List ℕ) → IsRequestHead head → print_request head ++ rest ≢ []
 unfolding print_request
 some_bytes head rest is e = omega (arith, is.method.0, simp length-append at (ap length e))
+
+-- where more of a request is asked for, none has come
+pub awaits_none : (bytes : List ℕ) (request : Request) (rest : List ℕ) → AwaitsRequest bytes → ¬ (IsRequest bytes request rest)
+awaits_none bytes request rest (inl none) is = some_bytes is.head (request.body ++ rest) is.found.reads.0 (sym is.found.reads.1 ∙ none)
+awaits_none bytes request rest (inr cut) is = exclusive bytes request rest Cut (λ h. h) is cut
 
 -- a short head that is lawful
 example : RequestHead

@@ -18,12 +18,13 @@ use Rattle.lra_wire.specs.declared.inbox.Inbox.{Inbox}
 use Rattle.lra_wire.specs.declared.response.Head.{Head}
 use Rattle.lra_wire.specs.Chunks.{content_of, RefusesLine, RefusesTrailer, RefusesContent, RefusesBehind, RefusesChunk}
 use Rattle.lra_wire.specs.Fields.{is_alike, values_of, stated_of}
-use Rattle.lra_wire.specs.Inbox.{kept_bytes, stream_of, Grows, IsOutside, FillsTo}
-use Rattle.lra_wire.specs.Response.{IsShort, HasResponse, NeverShort, is_interim, IsInterim, Skips, HasFinal, fields_in, stated_framing, coded_framing, framing_of, IsResponse, RefusesFramed, RefusesRest, RefusesResponse}
-use Rattle.lra_wire.specs.Steps.{IsHeadOf, ReadsHeadAt, FindsBody, LacksBody, ReadsToTheEnd}
+use Rattle.lra_wire.specs.Inbox.{kept_bytes, stream_of, IsOutside, AsksAt}
+use Rattle.lra_wire.specs.inner.Growth.{Grows, FillsTo, LacksBytes, Lacks}
+use Rattle.lra_wire.specs.Response.{IsShort, HasResponse, NeverShort, is_interim, IsInterim, Skips, HasFinal, fields_in, stated_framing, coded_framing, framing_of, IsResponse, RefusesFramed, RefusesRest, RefusesResponse, AwaitsBody, AwaitsResponse}
+use Rattle.lra_wire.specs.inner.Steps.{IsHeadOf, FindsResponse, ReadsHeadAt, FindsBody, LacksBody, ReadsToTheEnd, AsksBehind, IsOpenHead}
 use Rattle.lra_wire.specs.Streams.{IfBothKnown}
-use Rattle.lra_wire.proofs.InboxLemmas.{Grows_refl, Grows_trans}
-use Rattle.lra_wire.proofs.StreamLemmas.{on_stream, on_stream_end, some_weaker, some_both, grown, drop_more_bytes, known}
+use Rattle.lra_wire.proofs.InboxLemmas.{Grows_refl, Grows_trans, asks_on, asks_weaker}
+use Rattle.lra_wire.proofs.StreamLemmas.{on_stream, on_stream_end, some_weaker, some_both, grown, drop_more_bytes, known, behind_in}
 
 -- ---- heads
 
@@ -44,6 +45,13 @@ never_after_open bytes none long more head rest found =
 NeverShort-append : (text rest : List ℕ) → NeverShort text → NeverShort (text ++ rest)
 NeverShort-append text rest never more head behind found =
     never (rest ++ more) head behind (subst (λ (bs : List ℕ). HasResponse bs head behind) (append_assoc text rest more) found)
+
+-- the head behind a place is open
+pub open_head : {R : Type 0} (remaining : R → Option (List ℕ)) (start : ℕ) (old mid : Inbox R) (bytes : List ℕ) (found : Option Head) → Grows remaining old mid
+    → bytes ≡ kept_bytes mid → found ≡ None → FindsResponse (slice_range bytes start (length bytes)) (Ok found) → Lacks IsOpenHead start (kept_bytes old) (kept_bytes mid)
+open_head remaining start old mid bytes found grows same is finds =
+    let none = subst (λ (o : Option Head). FindsResponse (slice_range bytes start (length bytes)) (Ok o)) is finds in
+    record { more = grows.more; front = grows.kept; there = subst IsOpenHead (behind_in start same) (none.0, none.1) }
 
 -- ---- bodies
 
@@ -68,6 +76,12 @@ sized_found remaining start size old new body within limit small filled is = rec
         omega (arith, ap length is, length-take n (drop start kept), length-drop start kept, filled.1),
       ));
 }
+
+-- more is asked for in it
+pub asks_sized : {R : Type 0} (start size : ℕ) (old new : Inbox R) → start ≤ length (kept_bytes old) → AsksAt (LacksBytes (start + size) (kept_bytes old)) old new → AsksBehind (AwaitsBody (Sized size)) start old new
+asks_sized start size old new within asks =
+    asks_weaker (LacksBytes (start + size) (kept_bytes old)) (Lacks (AwaitsBody (Sized size)) start (kept_bytes old)) old new asks
+    (λ bytes l. record { more = l.more; front = l.front; there = omega (arith, l.few, within, ap length l.front, length-append (kept_bytes old) l.more, length-drop start bytes) })
 
 pub rest_found : {R : Type 0} (remaining : R → Option (List ℕ)) (start end : ℕ) (old new : Inbox R) (body : List ℕ) → start ≤ length (kept_bytes old) → start ≤ 73728
     → ReadsToTheEnd remaining start old new (Ok end) → body ≡ slice_range (kept_bytes new) start end
@@ -94,10 +108,10 @@ rest_refused remaining start old new fault within (inr (large, grows, long)) =
 
 -- ---- the heads before a body
 
--- interim heads up to a place of the stream
-pub record SkipsTo (stream : List ℕ) (start count : ℕ) : Type 0 where
+-- interim heads up to a place of the bytes
+pub record SkipsTo (bytes : List ℕ) (start count : ℕ) : Type 0 where
   pub heads : List ResponseHead
-  pub skips : Skips stream heads (drop start stream)
+  pub skips : Skips bytes heads (drop start bytes)
   pub counted : length heads ≡ count
 
 -- what the loop over the heads keeps
@@ -106,7 +120,8 @@ pub record Skipped {R : Type 0} (remaining : R → Option (List ℕ)) (old new :
   pub within : start ≤ length (kept_bytes new)
   pub place : start ≤ interim * 8192
   pub few : interim ≤ 8
-  pub so_far : IfSome (stream_of remaining old) (λ stream. SkipsTo stream start interim)
+  pub so_far : SkipsTo (kept_bytes new) start interim
+  pub asks : AsksAt AwaitsResponse old new
 
 pub skipped_none : {R : Type 0} (remaining : R → Option (List ℕ)) (inbox : Inbox R) → Skipped remaining inbox inbox 0 0
 skipped_none remaining inbox = record {
@@ -114,11 +129,32 @@ skipped_none remaining inbox = record {
   within = omega arith;
   place = omega arith;
   few = omega arith;
-  so_far = known (stream_of remaining inbox) (λ stream. SkipsTo stream 0 0)
-      (λ stream. record { heads = []; skips = record { each = All-nil IsInterim; few = omega arith; front = refl }; counted = refl });
+  so_far = record { heads = []; skips = record { each = All-nil IsInterim; few = omega arith; front = refl }; counted = refl };
+  asks = inl (refl, refl);
 }
 
--- the head that was read, of the stream
+-- the same heads in more bytes
+skips_in : {R : Type 0} {remaining : R → Option (List ℕ)} {old mid : Inbox R} {start interim : ℕ} (bytes more : List ℕ) → Skipped remaining old mid start interim
+    → bytes ≡ kept_bytes mid ++ more → SkipsTo bytes start interim
+skips_in {R} {remaining} {old} {mid} {start} {interim} bytes more skipped front =
+    let before = skipped.so_far in
+    subst (λ (bs : List ℕ). SkipsTo bs start interim) (sym front) (record {
+      heads = before.heads;
+      skips = record {
+        each = before.skips.each;
+        few = before.skips.few;
+        front = ap (λ bs. bs ++ more) before.skips.front ∙ append_assoc (flat_map print_response before.heads) (drop start (kept_bytes mid)) more
+            ∙ ap (λ bs. flat_map print_response before.heads ++ bs) (drop_more_bytes start (kept_bytes mid) more skipped.within);
+      };
+      counted = before.counted;
+    })
+
+skips_known : {R : Type 0} {remaining : R → Option (List ℕ)} {old mid : Inbox R} {start interim : ℕ} → Skipped remaining old mid start interim
+    → IfSome (stream_of remaining old) (λ stream. SkipsTo stream start interim)
+skips_known {R} {remaining} {old} {mid} {start} {interim} skipped =
+    on_stream skipped.grows (λ stream. SkipsTo stream start interim) (λ rest. skips_in (kept_bytes mid ++ rest) rest skipped refl)
+
+-- the head that was read, in more bytes
 response_there : (start : ℕ) (kept rest : List ℕ) (found : Head) → start ≤ length kept → (at : IsHeadOf (drop start kept) found)
     → HasResponse (drop start (kept ++ rest)) at.head (drop (start + found.len) (kept ++ rest))
 response_there start kept rest found within at =
@@ -131,54 +167,77 @@ response_there start kept rest found within at =
       short = at.has.short;
     }
 
--- the heads that were skipped, and the one behind them
-head_known : {R : Type 0} (remaining : R → Option (List ℕ)) (old mid new : Inbox R) (start interim : ℕ) (found : Head) → Skipped remaining old mid start interim
-    → (read : ReadsHeadAt remaining start mid new (Ok found))
-    → IfSome (stream_of remaining old) (λ stream. SkipsTo stream start interim × HasResponse (drop start stream) read.1.head (drop (start + found.len) stream) × (start + found.len ≤ length stream))
-head_known remaining old mid new start interim found skipped read =
-    let here : start ≤ length (kept_bytes new) = grown start read.0 skipped.within in
-    some_both (stream_of remaining old) (stream_of remaining mid) _ _ (λ stream. SkipsTo stream start interim × HasResponse (drop start stream) read.1.head (drop (start + found.len) stream) × (start + found.len ≤ length stream))
-    skipped.grows.stream skipped.so_far
-    (on_stream read.0 (λ stream. HasResponse (drop start stream) read.1.head (drop (start + found.len) stream) × (start + found.len ≤ length stream))
-    (λ rest. (response_there start (kept_bytes new) rest found here read.1, omega (arith, read.1.within, length-drop start (kept_bytes new), length-append (kept_bytes new) rest))))
-    (λ stream skips there. (skips, there.0, there.1))
+-- the heads that were skipped, and the one behind them, in what was kept and more
+record HeadIn {R : Type 0} (remaining : R → Option (List ℕ)) (mid new : Inbox R) (start interim : ℕ) (found : Head) (read : ReadsHeadAt remaining start mid new (Ok found)) (bytes : List ℕ) : Type 0 where
+  pub before : SkipsTo bytes start interim
+  pub has : HasResponse (drop start bytes) read.1.head (drop (start + found.len) bytes)
+  pub within : start + found.len ≤ length bytes
+
+head_in : {R : Type 0} {remaining : R → Option (List ℕ)} {old mid new : Inbox R} {start interim : ℕ} {found : Head} (more : List ℕ) → Skipped remaining old mid start interim
+    → (read : ReadsHeadAt remaining start mid new (Ok found)) → HeadIn remaining mid new start interim found read (kept_bytes new ++ more)
+head_in {R} {remaining} {old} {mid} {new} {start} {interim} {found} more skipped read =
+    let kept : List ℕ = kept_bytes new in
+    let here : start ≤ length kept = grown start read.0 skipped.within in
+    let front : kept ++ more ≡ kept_bytes mid ++ (read.0.more ++ more) = ap (λ bs. bs ++ more) read.0.kept ∙ append_assoc (kept_bytes mid) read.0.more more in
+    record {
+      before = skips_in (kept ++ more) (read.0.more ++ more) skipped front;
+      has = response_there start kept more found here read.1;
+      within = omega (arith, read.1.within, length-drop start kept, length-append kept more);
+    }
+
+head_known : {R : Type 0} {remaining : R → Option (List ℕ)} {old mid new : Inbox R} {start interim : ℕ} {found : Head} (skipped : Skipped remaining old mid start interim)
+    → (read : ReadsHeadAt remaining start mid new (Ok found)) → IfSome (stream_of remaining old) (HeadIn remaining mid new start interim found read)
+head_known {R} {remaining} {old} {mid} {new} {start} {interim} {found} skipped read =
+    on_stream (Grows_trans skipped.grows read.0) (HeadIn remaining mid new start interim found read) (λ rest. head_in rest skipped read)
+
+-- more is asked for in a head behind those that were skipped
+pub asks_head : {R : Type 0} (remaining : R → Option (List ℕ)) (old mid new : Inbox R) (start interim : ℕ) → Skipped remaining old mid start interim
+    → AsksBehind IsOpenHead start mid new → AsksAt AwaitsResponse old new
+asks_head remaining old mid new start interim skipped then =
+    asks_on AwaitsResponse (Lacks IsOpenHead start (kept_bytes mid)) AwaitsResponse old mid new skipped.asks then (λ bytes l. l)
+    (λ bytes l. let before = skips_in bytes l.more skipped l.front in
+    inl (record { interim = before.heads; rest = drop start bytes; skips = before.skips; open_head = l.there.0; lawful = l.there.1 }))
 
 -- one more head was skipped
 pub skipped_more : {R : Type 0} (remaining : R → Option (List ℕ)) (old mid new : Inbox R) (start interim : ℕ) (found : Head) → Skipped remaining old mid start interim
-    → ReadsHeadAt remaining start mid new (Ok found) → is_interim found.code ≡ true → interim < 8
+    → ReadsHeadAt remaining start mid new (Ok found) → AsksBehind IsOpenHead start mid new → is_interim found.code ≡ true → interim < 8
     → Skipped remaining old new (start + found.len) (interim + 1)
-skipped_more remaining old mid new start interim found skipped read status room = record {
-  grows = Grows_trans skipped.grows read.0;
-  within = omega (arith, read.1.within, length-drop start (kept_bytes new), grown start read.0 skipped.within);
-  place = omega (arith, skipped.place, read.1.len, read.1.has.short.size);
-  few = omega arith;
-  so_far = some_weaker (stream_of remaining old) _ (λ stream. SkipsTo stream (start + found.len) (interim + 1)) (head_known remaining old mid new start interim found skipped read)
-      (λ stream there. let before = there.0 in let head = read.1.head in record {
+skipped_more remaining old mid new start interim found skipped read asks status room =
+    let kept : List ℕ = kept_bytes new in
+    let head = read.1.head in
+    let before = skips_in kept read.0.more skipped read.0.kept in
+    record {
+      grows = Grows_trans skipped.grows read.0;
+      within = omega (arith, read.1.within, length-drop start kept, grown start read.0 skipped.within);
+      place = omega (arith, skipped.place, read.1.len, read.1.has.short.size);
+      few = omega arith;
+      so_far = record {
         heads = before.heads ++ head ∷ [];
         skips = record {
           each = All-push IsInterim before.heads head before.skips.each
-              (record { valid = there.1.reads.0; short = there.1.short; status = ap is_interim (sym read.1.code) ∙ status });
+              (record { valid = read.1.has.reads.0; short = read.1.has.short; status = ap is_interim (sym read.1.code) ∙ status });
           few = omega (arith, length-append before.heads (head ∷ []), before.counted);
-          front = before.skips.front ∙ ap (λ bs. flat_map print_response before.heads ++ bs) there.1.reads.1
-              ∙ sym (append_assoc (flat_map print_response before.heads) (print_response head) (drop (start + found.len) stream))
-              ∙ ap (λ bs. (flat_map print_response before.heads ++ bs) ++ drop (start + found.len) stream) (sym (append-nil (print_response head)))
-              ∙ ap (λ bs. bs ++ drop (start + found.len) stream) (sym (flat_map-append print_response before.heads (head ∷ [])));
+          front = before.skips.front ∙ ap (λ bs. flat_map print_response before.heads ++ bs) (read.1.has.reads.1 ∙ ap (λ bs. print_response head ++ bs) (drop-drop found.len start kept))
+              ∙ sym (append_assoc (flat_map print_response before.heads) (print_response head) (drop (start + found.len) kept))
+              ∙ ap (λ bs. (flat_map print_response before.heads ++ bs) ++ drop (start + found.len) kept) (sym (append-nil (print_response head)))
+              ∙ ap (λ bs. bs ++ drop (start + found.len) kept) (sym (flat_map-append print_response before.heads (head ∷ [])));
         };
         counted = length-append before.heads (head ∷ []) ∙ ap (λ n. n + 1) before.counted;
-      });
-}
+      };
+      asks = asks_head remaining old mid new start interim skipped asks;
+    }
 
 -- a ninth interim head
 pub ninth_refused : {R : Type 0} (remaining : R → Option (List ℕ)) (old mid new : Inbox R) (start : ℕ) (found : Head) → Skipped remaining old mid start 8
     → ReadsHeadAt remaining start mid new (Ok found) → is_interim found.code ≡ true
     → IfSome (stream_of remaining old) (λ stream. RefusesResponse stream BadHead)
 ninth_refused remaining old mid new start found skipped read status =
-    some_weaker (stream_of remaining old) _ (λ stream. RefusesResponse stream BadHead) (head_known remaining old mid new start 8 found skipped read)
+    some_weaker (stream_of remaining old) _ (λ stream. RefusesResponse stream BadHead) (head_known skipped read)
     (λ stream there. record {
-      interim = there.0.heads;
+      interim = there.before.heads;
       rest = drop start stream;
-      skips = there.0.skips;
-      refused = inr (there.0.counted, read.1.head, drop (start + found.len) stream, there.1, ap is_interim (sym read.1.code) ∙ status);
+      skips = there.before.skips;
+      refused = inr (there.before.counted, read.1.head, drop (start + found.len) stream, there.has, ap is_interim (sym read.1.code) ∙ status);
     })
 
 -- no fault of a reader or of memory says anything of the bytes
@@ -199,12 +258,12 @@ head_refused remaining old mid new start interim fault skipped (inl outside) = o
 head_refused remaining old mid new start interim fault skipped (inr (grows, inl (bad, never))) =
     let here : start ≤ length (kept_bytes new) = grown start grows skipped.within in
     subst (λ (f : WireFault). IfSome (stream_of remaining old) (λ stream. RefusesResponse stream f)) (sym bad)
-    (some_both (stream_of remaining old) (stream_of remaining mid) _ _ (λ stream. RefusesResponse stream BadHead) skipped.grows.stream skipped.so_far
+    (some_both (stream_of remaining old) (stream_of remaining mid) _ _ (λ stream. RefusesResponse stream BadHead) skipped.grows.stream (skips_known skipped)
     (on_stream grows (λ stream. NeverShort (drop start stream)) (λ rest. subst NeverShort (drop_more_bytes start (kept_bytes new) rest here) (NeverShort-append (drop start (kept_bytes new)) rest never)))
     (λ stream skips none. record { interim = skips.heads; rest = drop start stream; skips = skips.skips; refused = inl none }))
 head_refused remaining old mid new start interim fault skipped (inr (grows, inr (cut, end, none, open_head))) =
     subst (λ (f : WireFault). IfSome (stream_of remaining old) (λ stream. RefusesResponse stream f)) (sym cut)
-    (some_both (stream_of remaining old) (stream_of remaining mid) _ _ (λ stream. RefusesResponse stream Cut) skipped.grows.stream skipped.so_far
+    (some_both (stream_of remaining old) (stream_of remaining mid) _ _ (λ stream. RefusesResponse stream Cut) skipped.grows.stream (skips_known skipped)
     (on_stream_end grows (λ stream. HasNoResponse (drop start stream) × MayBecomeResponse (drop start stream)) end (none, open_head))
     (λ stream skips ends. inl (record { interim = skips.heads; rest = drop start stream; skips = skips.skips; open_head = ends.0; lawful = ends.1 })))
 
@@ -220,22 +279,39 @@ rest_says stream Cut other refused = inr refused
 rest_says stream Io other refused = tt
 rest_says stream Memory other refused = tt
 
--- the final head of the stream
+-- the final head in the bytes
+final_in : {R : Type 0} {remaining : R → Option (List ℕ)} {mid new : Inbox R} {start interim : ℕ} {found : Head} {bytes : List ℕ}
+    → (read : ReadsHeadAt remaining start mid new (Ok found)) → is_interim found.code ≡ false → HeadIn remaining mid new start interim found read bytes
+    → HasFinal bytes read.1.head (drop (start + found.len) bytes)
+final_in {R} {remaining} {mid} {new} {start} {interim} {found} {bytes} read status there = record {
+  interim = there.before.heads;
+  behind = drop start bytes;
+  skips = there.before.skips;
+  found = there.has;
+  status = ap is_interim (sym read.1.code) ∙ status;
+}
+
 final_known : {R : Type 0} (remaining : R → Option (List ℕ)) (old mid new : Inbox R) (start interim : ℕ) (found : Head) → Skipped remaining old mid start interim
     → (read : ReadsHeadAt remaining start mid new (Ok found)) → is_interim found.code ≡ false
     → IfSome (stream_of remaining old) (λ stream. HasFinal stream read.1.head (drop (start + found.len) stream) × (start + found.len ≤ length stream))
 final_known remaining old mid new start interim found skipped read status =
-    some_weaker (stream_of remaining old) _ _ (head_known remaining old mid new start interim found skipped read)
-    (λ stream there. (
-      record {
-        interim = there.0.heads;
-        behind = drop start stream;
-        skips = there.0.skips;
-        found = there.1;
-        status = ap is_interim (sym read.1.code) ∙ status;
-      },
-      there.2,
-    ))
+    some_weaker (stream_of remaining old) _ _ (head_known skipped read) (λ stream there. (final_in read status there, there.within))
+
+-- more is asked for in the body behind a final head
+pub asks_rest : {R : Type 0} (remaining : R → Option (List ℕ)) (old mid headed new : Inbox R) (start interim : ℕ) (found : Head) (framing : Framing) → Skipped remaining old mid start interim
+    → ReadsHeadAt remaining start mid headed (Ok found) → AsksBehind IsOpenHead start mid headed → is_interim found.code ≡ false → found.framing ≡ Ok framing
+    → AsksBehind (AwaitsBody framing) (start + found.len) headed new → AsksAt AwaitsResponse old new
+asks_rest remaining old mid headed new start interim found framing skipped read first status framed then =
+    let place : ℕ = start + found.len in
+    asks_on AwaitsResponse (Lacks (AwaitsBody framing) place (kept_bytes headed)) AwaitsResponse old headed new (asks_head remaining old mid headed start interim skipped first) then (λ bytes l. l)
+    (λ bytes l. inr (record {
+      head = read.1.head;
+      behind = drop place bytes;
+      final = subst (λ (bs : List ℕ). HasFinal bs read.1.head (drop place bs)) (sym l.front) (final_in read status (head_in l.more skipped read));
+      framing = framing;
+      framed = sym read.1.framing ∙ framed;
+      open_body = l.there;
+    }))
 
 -- no framing and no body is refused as a head is
 stated_other : (stated : Stated) → stated_framing stated ≢ Err BadHead

@@ -1,10 +1,12 @@
 -- From the bytes that an inbox kept to the stream that it stands for.
-use Rattle.std.proofs.Common.{◌≡◌, ℕ, ◌≤◌, List, [], ◌++◌, length, drop, refl, sym, ap, subst, ◌∙◌, arith, Option, Some, None}
-use Rattle.std.specs.Prelude.{IfSome}
+use Rattle.std.proofs.Common.{◌≡◌, ℕ, ◌-◌, ◌≤◌, Bool, true, ◌==◌, List, [], ◌∷◌, ◌++◌, length, drop, refl, sym, ap, subst, ◌∙◌, arith, Option, Some, None}
+use Rattle.std.specs.Prelude.{IfSome, slice_range}
+use Rattle.std.proofs.lemmas.Bool.Decides.{nat_tests}
 use Rattle.std.specs.Io.KnownBytes.{Keeps, prepend_known, IsAtEnd}
-use Rattle.std.proofs.lemmas.List.{drop-append-le, length-append, append-nil}
+use Rattle.std.proofs.lemmas.List.{drop-append-le, length-append, length-drop, append-nil, take_all}
 use Rattle.lra_wire.specs.declared.inbox.Inbox.{Inbox}
-use Rattle.lra_wire.specs.Inbox.{kept_bytes, stream_of, Grows}
+use Rattle.lra_wire.specs.Inbox.{kept_bytes, stream_of}
+use Rattle.lra_wire.specs.inner.Growth.{Grows}
 
 -- a stream that was known is what was kept, and then what the reader has left
 split_known : (old : Option (List ℕ)) (kept : List ℕ) (left : Option (List ℕ)) (P : List ℕ → Type 0)
@@ -54,3 +56,12 @@ known (Some xs) P h = h xs
 pub prepend_none : (kept : List ℕ) (left : Option (List ℕ)) → kept ≡ [] → prepend_known kept left ≡ left
 prepend_none kept None e = refl
 prepend_none kept (Some xs) e = ap (λ bs. Some (bs ++ xs)) e
+
+-- no byte came
+pub empty_bytes : (bytes kept : List ℕ) (is_empty : Bool) → bytes ≡ kept → is_empty ≡ (length bytes == 0) → is_empty ≡ true → kept ≡ []
+empty_bytes [] kept is_empty same says shown = sym same
+empty_bytes (b ∷ bytes) kept is_empty same says shown = grind (arith, nat_tests)
+
+-- the bytes from a place on
+pub behind_in : {bytes kept : List ℕ} (n : ℕ) → bytes ≡ kept → slice_range bytes n (length bytes) ≡ drop n kept
+behind_in {bytes} {kept} n same = take_all (length bytes - n) (drop n bytes) (omega (arith, length-drop n bytes)) ∙ ap (drop n) same

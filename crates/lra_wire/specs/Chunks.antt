@@ -111,3 +111,16 @@ pub record RefusesChunks (place : ℕ) (bytes : List ℕ) (fault : WireFault) : 
   pub text : List ℕ
   pub has : HasChunks bytes chunks text
   pub refused : RefusesChunk (place + (length bytes - length text)) (65536 - length (content_of chunks)) text fault
+
+-- a chunk isn't whole there, nor is the end of the body: a line is open, or the content behind one, or the trailer
+abbrev pub AwaitsChunk : List ℕ → Type 0
+AwaitsChunk text = HasNoChunkLine text
+    ⊎ ((line : ChunkLine) × (behind : List ℕ) × ReadsChunkLine text line behind
+    × (((chunk_size line ≡ 0) × HasNoSection behind) ⊎ ((0 < chunk_size line) × (length behind < chunk_size line + 2))))
+
+-- the bytes begin with chunks, and what stands behind them isn't whole
+pub record AwaitsChunks (bytes : List ℕ) : Type 0 where
+  pub chunks : List Chunk
+  pub text : List ℕ
+  pub has : HasChunks bytes chunks text
+  pub open_text : AwaitsChunk text

@@ -1,5 +1,5 @@
 -- What the fields of a head say, each a name and a value without the white space around it.
-use Rattle.std.specs.Prelude.{◌≡◌, ℕ, ◌<◌, Bool, ◌&&◌, ◌||◌, if◌then◌else◌, nat_lt, nat_le, ◌==◌, List, [], ◌∷◌, length, map, codes, bytes_eq, Result, Ok, Err}
+use Rattle.std.specs.Prelude.{ℕ, Bool, ◌&&◌, ◌||◌, if◌then◌else◌, nat_lt, nat_le, ◌==◌, List, [], ◌∷◌, length, map, codes, bytes_eq, Result, Ok, Err}
 use Rattle.std.specs.List.{list_all, list_any, slice_split}
 use Rattle.std.specs.Char.{is_ascii_digit, to_ascii_lowercase}
 use Rattle.std.specs.Str.Parse.{digits_value}
@@ -7,8 +7,6 @@ use Rattle.httparse.specs.Ascii.{comma}
 use Rattle.httparse.specs.Grammar.{trim_ows}
 use Rattle.lra_wire.specs.declared.fault.WireFault.{WireFault}
 use Rattle.lra_wire.specs.declared.fault.WireFault.TheVariants.{Chunked, BadLength, TooLarge}
-use Rattle.lra_wire.specs.declared.fields.Named.{Named}
-use Rattle.lra_wire.specs.declared.fields.Named.TheVariants.{Absent, Once, Several}
 use Rattle.lra_wire.specs.declared.fields.Stated.{Stated}
 use Rattle.lra_wire.specs.declared.fields.Stated.TheVariants.{Nothing, Length, Malformed}
 
@@ -28,12 +26,6 @@ values_of name (field ∷ fields) = if is_named name field then field.1 ∷ valu
 -- a field has that name
 abbrev pub has_field : List ℕ → List (List ℕ × List ℕ) → Bool
 has_field name fields = nat_lt 0 (length (values_of name fields))
-
--- what a search for a name found: no value, just one, or more
-abbrev pub Shows : Named → List (List ℕ) → Type 0
-Shows Absent values = values ≡ []
-Shows (Once value) values = values ≡ value.now ∷ []
-Shows Several values = 1 < length values
 
 -- A number of a Content-Length: 1 to 19 digits (RFC 9110, section 8.6; that many fit 64 bits).
 abbrev pub spelled_length : List ℕ → Stated

@@ -2,10 +2,8 @@ pub mod Fields
 pub mod Inbox
 pub mod Request
 pub mod Streams
-pub mod Heads
-pub mod Reading
 pub mod Writing
 pub mod Chunks
 pub mod Response
-pub mod Steps
 pub mod Requests
+pub mod inner

@@ -88,3 +88,7 @@ RefusesRequest bytes Memory = ⊤
 abbrev pub GivesRequest : Option RequestRead → List ℕ → List ℕ → Type 0
 GivesRequest None bytes rest = (bytes ≡ []) × (rest ≡ [])
 GivesRequest (Some read) bytes rest = IsRequest bytes (request_of read) rest
+
+-- What came would be cut short if the stream ended there, or nothing came.
+abbrev pub AwaitsRequest : List ℕ → Type 0
+AwaitsRequest bytes = (bytes ≡ []) ⊎ RefusesRequest bytes Cut

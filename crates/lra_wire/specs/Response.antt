@@ -9,7 +9,7 @@ use Rattle.lra_wire.specs.declared.fields.Stated.{Stated}
 use Rattle.lra_wire.specs.declared.fields.Stated.TheVariants.{Nothing, Length, Malformed}
 use Rattle.lra_wire.specs.declared.framing.Framing.{Framing}
 use Rattle.lra_wire.specs.declared.framing.Framing.TheVariants.{Sized, Chunks, ToTheEnd}
-use Rattle.lra_wire.specs.Chunks.{IsChunked, RefusesChunks}
+use Rattle.lra_wire.specs.Chunks.{IsChunked, RefusesChunks, AwaitsChunks}
 use Rattle.lra_wire.specs.Fields.{is_alike, values_of, stated_of}
 
 -- the names and the values of a head's fields
@@ -126,3 +126,22 @@ RefusesResponse bytes TooLarge = RefusesRest bytes TooLarge
 RefusesResponse bytes Cut = EndsInResponse bytes ⊎ RefusesRest bytes Cut
 RefusesResponse bytes Io = ⊤
 RefusesResponse bytes Memory = ⊤
+
+-- the body isn't whole: where it ends with the stream it never is before
+abbrev pub AwaitsBody : Framing → List ℕ → Type 0
+AwaitsBody (Sized n) bytes = length bytes < n
+AwaitsBody Chunks bytes = AwaitsChunks bytes
+AwaitsBody ToTheEnd bytes = ⊤
+
+-- a final head stands there, and its body isn't whole
+pub record AwaitsRest (bytes : List ℕ) : Type 0 where
+  pub head : ResponseHead
+  pub behind : List ℕ
+  pub final : HasFinal bytes head behind
+  pub framing : Framing
+  pub framed : framing_of (status_code head) (fields_in head) ≡ Ok framing
+  pub open_body : AwaitsBody framing behind
+
+-- the bytes are an open response: in a head that goes by the grammar so far or before it, or in the body
+abbrev pub AwaitsResponse : List ℕ → Type 0
+AwaitsResponse bytes = EndsInResponse bytes ⊎ AwaitsRest bytes

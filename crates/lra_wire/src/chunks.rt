@@ -1,11 +1,14 @@
 //! The chunks of a body, read (RFC 9112, section 7.1).
-ghost use Rattle.std.specs.Prelude.{◌≡◌, ◌≤◌, ◌<◌, ◌+◌, length, IfOk, IfErr};
-ghost use Rattle.lra_wire.specs.Inbox.{kept_bytes, stream_of};
-ghost use Rattle.lra_wire.specs.Steps.{FindsLine, ReadsLineAt, FindsTrailer, ReadsTrailerAt, ReadsLast, ReadsContent, ReadsPiece, FindsBody, LacksBody};
+ghost use Rattle.std.specs.Prelude.{◌≡◌, ◌≤◌, ◌<◌, ◌+◌, length, take, IfOk, IfErr};
+ghost use Rattle.httparse.specs.Grammar.{HasNoChunkLine, HasNoSection};
+ghost use Rattle.lra_wire.specs.Chunks.{AwaitsChunk, AwaitsChunks};
+ghost use Rattle.lra_wire.specs.Inbox.{kept_bytes, stream_of, AsksAt};
+ghost use Rattle.lra_wire.specs.inner.Growth.{LacksBytes};
+ghost use Rattle.lra_wire.specs.inner.Steps.{FindsLine, FindsNewLine, ReadsLineAt, FindsTrailer, FindsNewTrailer, ReadsTrailerAt, ReadsLast, ReadsContent, ReadsPiece, FindsBody, LacksBody, AsksBehind};
 
 use crate::fault::WireFault;
 use crate::framing::Framing;
-use crate::head::{MAX_FIELDS, has_empty_line};
+use crate::head::MAX_FIELDS;
 use crate::inbox::Inbox;
 use crate::request::MAX_BODY;
 use httparse::spans::{EMPTY_HEADER_SPAN, parse_headers};
@@ -35,6 +38,7 @@ pub(crate) fn next_chunks<R: Read + Drop>(
     requires limit { start ≤ 1048576 }
     ensures ok { IfOk result (λ found. FindsBody R.remaining Framing.Chunks start inbox.old inbox.new found.0.items found.1) }
     ensures err { IfErr result (LacksBody R.remaining Framing.Chunks start inbox.old) }
+    ensures asks { AsksBehind AwaitsChunks start inbox.old inbox.new }
 {
     let mut body = Vec::new(alloc);
     let mut at = start;
@@ -57,7 +61,8 @@ fn next_piece<R: Read + Drop>(
 ) -> Result<Piece, WireFault>
     requires start { start ≤ length (kept_bytes inbox.old) }
     requires room { room ≤ 65536 }
-    ensures { ReadsPiece R.remaining start room inbox.old inbox.new result }
+    ensures reads { ReadsPiece R.remaining start room inbox.old inbox.new result }
+    ensures asks { AsksBehind AwaitsChunk start inbox.old inbox.new }
 {
     let (line, size) = next_line(inbox, start)?;
     let from = start + line;
@@ -77,7 +82,8 @@ fn next_content<R: Read + Drop>(
 ) -> Result<usize, WireFault>
     requires start { start ≤ length (kept_bytes inbox.old) }
     requires room { room ≤ 65536 }
-    ensures { ReadsContent R.remaining start room size inbox.old inbox.new result }
+    ensures reads { ReadsContent R.remaining start room size inbox.old inbox.new result }
+    ensures asks { AsksAt (LacksBytes (start + size + 2) (kept_bytes inbox.old)) inbox.old inbox.new }
 {
     if size > room as u64 {
         return Err(WireFault::TooLarge);
@@ -97,7 +103,8 @@ fn next_content<R: Read + Drop>(
 /// Reads the trailer that begins at `start`, and answers where it ends.
 fn next_last<R: Read + Drop>(inbox: &mut Inbox<R>, start: usize) -> Result<usize, WireFault>
     requires { start ≤ length (kept_bytes inbox.old) }
-    ensures { ReadsLast R.remaining start inbox.old inbox.new result }
+    ensures reads { ReadsLast R.remaining start inbox.old inbox.new result }
+    ensures asks { AsksBehind HasNoSection start inbox.old inbox.new }
 {
     let end = start + next_trailer(inbox, start)?;
     if end > MAX_RESPONSE {
@@ -109,29 +116,39 @@ fn next_last<R: Read + Drop>(inbox: &mut Inbox<R>, start: usize) -> Result<usize
 /// Reads until there is a whole chunk line behind `start`, and answers its length and its number.
 fn next_line<R: Read + Drop>(inbox: &mut Inbox<R>, start: usize) -> Result<(usize, u64), WireFault>
     requires { start ≤ length (kept_bytes inbox.old) }
-    ensures { ReadsLineAt R.remaining start inbox.old inbox.new result }
+    ensures reads { ReadsLineAt R.remaining start inbox.old inbox.new result }
+    ensures asks { AsksBehind HasNoChunkLine start inbox.old inbox.new }
 {
-    let mut searched = start;
+    let mut searched = 0;
     loop {
-        let bytes = inbox.bytes();
-        let is_long = bytes.len() >= MAX_RESPONSE;
-        if is_long || bytes[searched..].contains(&b'\n') {
-            if let Some(line) = line_at(&bytes[start..])? {
-                return Ok(line);
-            }
-            if is_long {
-                return Err(WireFault::TooLarge);
-            }
+        let bytes = &inbox.bytes()[start..];
+        if let Some(line) = new_line(bytes, searched)? {
+            return Ok(line);
         }
         searched = bytes.len();
+        if inbox.bytes().len() >= MAX_RESPONSE {
+            return Err(WireFault::TooLarge);
+        }
         if !inbox.fill()? {
-            break;
+            return match line_at(&inbox.bytes()[start..])? {
+                Some(line) => Ok(line),
+                None => Err(WireFault::Cut),
+            };
         }
     }
-    match line_at(&inbox.bytes()[start..])? {
-        Some(line) => Ok(line),
-        None => Err(WireFault::Cut),
+}
+
+/// The chunk line at the front of the bytes, of which the first `searched` are known to have none.
+/// A line ends in a line feed: without a new one nothing is parsed.
+fn new_line(bytes: &[u8], searched: usize) -> Result<Option<(usize, u64)>, WireFault>
+    requires within { searched ≤ length bytes.now }
+    requires none { HasNoChunkLine (take searched bytes.now) }
+    ensures { FindsNewLine bytes.now result }
+{
+    if !bytes[searched..].contains(&b'\n') {
+        return Ok(None);
     }
+    line_at(bytes)
 }
 
 fn line_at(bytes: &[u8]) -> Result<Option<(usize, u64)>, WireFault>
@@ -147,29 +164,39 @@ fn line_at(bytes: &[u8]) -> Result<Option<(usize, u64)>, WireFault>
 /// Reads until there is a whole trailer behind `start`, and answers its length.
 fn next_trailer<R: Read + Drop>(inbox: &mut Inbox<R>, start: usize) -> Result<usize, WireFault>
     requires { start ≤ length (kept_bytes inbox.old) }
-    ensures { ReadsTrailerAt R.remaining start inbox.old inbox.new result }
+    ensures reads { ReadsTrailerAt R.remaining start inbox.old inbox.new result }
+    ensures asks { AsksBehind HasNoSection start inbox.old inbox.new }
 {
     let mut searched = 0;
     loop {
-        let is_long = inbox.bytes().len() >= MAX_RESPONSE;
         let bytes = &inbox.bytes()[start..];
-        if is_long || has_empty_line(bytes, searched) {
-            if let Some(length) = trailer_at(bytes)? {
-                return Ok(length);
-            }
-            if is_long {
-                return Err(WireFault::TooLarge);
-            }
+        if let Some(length) = new_trailer(bytes, searched)? {
+            return Ok(length);
         }
         searched = bytes.len();
+        if inbox.bytes().len() >= MAX_RESPONSE {
+            return Err(WireFault::TooLarge);
+        }
         if !inbox.fill()? {
-            break;
+            return match trailer_at(&inbox.bytes()[start..])? {
+                Some(length) => Ok(length),
+                None => Err(WireFault::Cut),
+            };
         }
     }
-    match trailer_at(&inbox.bytes()[start..])? {
-        Some(length) => Ok(length),
-        None => Err(WireFault::Cut),
+}
+
+/// The trailer at the front of the bytes, of which the first `searched` are known to have none.
+/// It ends in a line feed: without a new one nothing is parsed.
+fn new_trailer(bytes: &[u8], searched: usize) -> Result<Option<usize>, WireFault>
+    requires within { searched ≤ length bytes.now }
+    requires none { HasNoSection (take searched bytes.now) }
+    ensures { FindsNewTrailer bytes.now result }
+{
+    if !bytes[searched..].contains(&b'\n') {
+        return Ok(None);
     }
+    trailer_at(bytes)
 }
 
 fn trailer_at(bytes: &[u8]) -> Result<Option<usize>, WireFault>

@@ -5,6 +5,7 @@ ghost use Rattle.std.specs.Io.KnownBytes.{Consumes, IsAtEnd};
 use crate::fault::WireFault;
 use std::alloc::{AllocError, Global};
 use std::io::Read;
+use std::snapshot::Snapshot;
 
 /// How many bytes a read asks for.
 const PIECE: usize = 4096;
@@ -34,6 +35,8 @@ pub struct Inbox<R> {
     piece: Vec<u8>,
     kept: Vec<u8>,
     taken: usize,
+    /// What was kept when the reader was last asked for more. It is for contracts, and takes no memory.
+    asked: Snapshot<Vec<u8>>,
     pub(crate) spent: bool,
     ghost in_range: { taken ≤ vec_len kept },
     ghost room: { 0 < vec_len piece },
@@ -41,7 +44,8 @@ pub struct Inbox<R> {
 
 impl<R: Read + Drop> Inbox<R> {
     ghost use Rattle.std.specs.Prelude.{length, drop, OnOk, IsFalse};
-    ghost use Rattle.lra_wire.specs.Inbox.{kept_bytes, stream_of, is_spent, Fills, FillsTo};
+    ghost use Rattle.lra_wire.specs.Inbox.{kept_bytes, stream_of, asked_at, is_spent, AsksAt};
+    ghost use Rattle.lra_wire.specs.inner.Growth.{Fills, FillsTo, LacksBytes};
 
     /// An inbox that has read nothing yet. Where memory is refused the reader is dropped.
     pub fn new(alloc: Global, reader: R) -> Result<Inbox<R>, AllocError>
@@ -49,11 +53,14 @@ impl<R: Read + Drop> Inbox<R> {
         ensures spent { IfOk result (λ inbox. IsFalse (is_spent inbox)) }
     {
         let piece = vec![in alloc; 0; PIECE]?;
+        let kept = Vec::new(alloc);
+        let asked = Snapshot::of(&kept);
         Ok(Inbox {
             reader,
             piece,
-            kept: Vec::new(alloc),
+            kept,
             taken: 0,
+            asked,
             spent: false,
         })
     }
@@ -66,11 +73,14 @@ impl<R: Read + Drop> Inbox<R> {
     }
 
     /// Reads once, and answers whether bytes came: none come at the end of the stream alone.
+    /// Nothing else asks the reader.
     pub(crate) fn fill(&mut self) -> Result<bool, WireFault>
-        ensures { Fills R.remaining self.old self.new result }
+        ensures fills { Fills R.remaining self.old self.new result }
+        ensures asks { AsksAt (λ bytes. bytes ≡ kept_bytes self.old) self.old self.new }
     {
-        let count = read_piece(&mut self.reader, &mut self.piece)?;
         self.drop_taken()?;
+        self.asked = Snapshot::of(&self.kept);
+        let count = read_piece(&mut self.reader, &mut self.piece)?;
         self.kept
             .extend_from_slice(&self.piece.as_slice()[..count])?;
         Ok(count > 0)
@@ -78,7 +88,8 @@ impl<R: Read + Drop> Inbox<R> {
 
     /// Reads until there are so many bytes.
     pub(crate) fn fill_to(&mut self, len: usize) -> Result<(), WireFault>
-        ensures { FillsTo R.remaining len self.old self.new result }
+        ensures fills { FillsTo R.remaining len self.old self.new result }
+        ensures asks { AsksAt (LacksBytes len (kept_bytes self.old)) self.old self.new }
     {
         while self.bytes().len() < len {
             if !self.fill()? {
@@ -93,6 +104,7 @@ impl<R: Read + Drop> Inbox<R> {
         requires { len ≤ length (kept_bytes self.old) }
         ensures kept { kept_bytes self.new ≡ drop len (kept_bytes self.old) }
         ensures reader { self.new.reader ≡ self.old.reader }
+        ensures asked { asked_at self.new ≡ asked_at self.old }
     {
         self.taken += len;
     }
@@ -101,6 +113,7 @@ impl<R: Read + Drop> Inbox<R> {
         ensures kept { kept_bytes self.new ≡ kept_bytes self.old }
         ensures taken { OnOk result (self.new.taken ≡ 0) }
         ensures reader { self.new.reader ≡ self.old.reader }
+        ensures asked { asked_at self.new ≡ asked_at self.old }
         ensures piece { self.new.piece ≡ self.old.piece }
     {
         if self.taken == self.kept.len() {

@@ -20,6 +20,3 @@ pub use inbox::Inbox;
 pub use request::{RequestRead, one_reading, read_request};
 pub use response::{ResponseRead, read_response};
 pub use write::{ReplyWrite, RequestWrite, write_request, write_response};
-
-#[cfg(test)]
-mod tests;

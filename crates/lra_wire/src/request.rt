@@ -3,16 +3,16 @@ ghost use Rattle.std.specs.Prelude.{◌≡◌, ◌<◌, ◌≤◌, ◌+◌, ℕ,
 ghost use Rattle.httparse.specs.Spans.{IsHeaderWithin, header_bytes};
 ghost use Rattle.lra_wire.specs.declared.fault.WireFault.{WireFault};
 ghost use Rattle.lra_wire.specs.Fields.{body_length_of};
-ghost use Rattle.lra_wire.specs.Heads.{has_host, IsHeadAt, FindsHead, ReadsHead};
-ghost use Rattle.lra_wire.specs.Inbox.{stream_of, is_spent};
-ghost use Rattle.lra_wire.specs.Request.{Request, GivesRequest, RefusesRequest, request_of};
-ghost use Rattle.lra_wire.specs.Reading.{NextRequest, request_at};
+ghost use Rattle.lra_wire.specs.inner.Heads.{has_host, IsHeadAt, FindsHead, ReadsHead};
+ghost use Rattle.lra_wire.specs.Inbox.{stream_of, is_spent, AsksAt};
+ghost use Rattle.lra_wire.specs.Request.{Request, IsRequest, GivesRequest, RefusesRequest, AwaitsRequest, request_of};
+ghost use Rattle.lra_wire.specs.inner.Reading.{NextRequest, request_at};
 ghost use Rattle.lra_wire.specs.Requests.{Requests, EndsAlike};
 ghost use Rattle.lra_wire.specs.Streams.{IfBothKnown};
 
 use crate::fault::WireFault;
 use crate::fields::{Named, Stated, has, lists_close, lookup, stated_length};
-use crate::head::{MAX_FIELDS, MAX_HEAD, has_empty_line, skip_empty_lines};
+use crate::head::{MAX_FIELDS, MAX_HEAD};
 use crate::inbox::Inbox;
 use httparse::Status;
 use httparse::spans::{EMPTY_HEADER_SPAN, HeaderSpan, RequestSpans, parse_request};
@@ -51,6 +51,9 @@ pub fn read_request<R: Read + Drop>(
     ensures spent { IsTrue (is_spent inbox.old) → result ≡ Err WireFault.Cut }
     ensures ok { OnOk result (IsFalse (is_spent inbox.new)) }
     ensures err { OnErr result (IsTrue (is_spent inbox.new)) }
+
+    // Where the bytes that came spell a request, or none whatever follows, no more is asked for.
+    ensures rests { AsksAt AwaitsRequest inbox.old inbox.new }
 {
     if inbox.spent {
         return Err(WireFault::Cut);
@@ -64,16 +67,21 @@ pub fn read_request<R: Read + Drop>(
 /// it ends in a head that no continuation makes lawful, that is [`WireFault::BadHead`] or
 /// [`WireFault::Cut`].
 pub fn one_reading()
-    ensures { (bytes : List ℕ) (requests others : List Request) (end other : Option WireFault)
+    ensures reading { (bytes : List ℕ) (requests others : List Request) (end other : Option WireFault)
         → Requests bytes requests end → Requests bytes others other
         → (requests ≡ others) × EndsAlike end other }
+
+    // Where more of a request is asked for, the bytes that came spell none.
+    ensures rests { (bytes : List ℕ) (request : Request) (rest : List ℕ)
+        → AwaitsRequest bytes → ¬ (IsRequest bytes request rest) }
 {}
 
 fn next_request<R: Read + Drop>(
     alloc: Global,
     inbox: &mut Inbox<R>,
 ) -> Result<Option<RequestRead>, WireFault>
-    ensures { NextRequest R.remaining inbox.old inbox.new result }
+    ensures next { NextRequest R.remaining inbox.old inbox.new result }
+    ensures asks { AsksAt AwaitsRequest inbox.old inbox.new }
 {
     let mut headers = [EMPTY_HEADER_SPAN; MAX_FIELDS];
     let Some(head) = next_head(inbox, &mut headers)? else {
@@ -88,35 +96,25 @@ fn next_request<R: Read + Drop>(
     Ok(Some(request))
 }
 
-/// Reads until there is a whole head, and writes where its fields are.
+/// Reads until there is a whole head, and writes where its fields are. What came is parsed anew
+/// with each piece: it is less than [`MAX_HEAD`] bytes until the last.
 fn next_head<R: Read + Drop>(
     inbox: &mut Inbox<R>,
     headers: &mut [HeaderSpan; MAX_FIELDS],
 ) -> Result<Option<RequestSpans>, WireFault>
-    ensures { ReadsHead R.remaining inbox.old inbox.new headers.new result }
+    ensures reads { ReadsHead R.remaining inbox.old inbox.new headers.new result }
+    ensures asks { AsksAt AwaitsRequest inbox.old inbox.new }
 {
-    let mut blank = 0;
-    let mut searched = 0;
     loop {
-        let bytes = inbox.bytes();
-        blank = skip_empty_lines(bytes, blank);
-        let is_whole = has_empty_line(&bytes[blank..], searched.max(blank) - blank);
-        if is_whole || bytes.len() >= MAX_HEAD {
-            if let Some(head) = head_at(bytes, headers)? {
-                return Ok(Some(head));
-            }
+        if let Some(head) = head_at(inbox.bytes(), headers)? {
+            return Ok(Some(head));
         }
-        searched = bytes.len();
         if !inbox.fill()? {
-            break;
+            if inbox.bytes().is_empty() {
+                return Ok(None);
+            }
+            return Err(WireFault::Cut);
         }
-    }
-    if inbox.bytes().is_empty() {
-        return Ok(None);
-    }
-    match head_at(inbox.bytes(), headers)? {
-        Some(head) => Ok(Some(head)),
-        None => Err(WireFault::Cut),
     }
 }
 

@@ -1,14 +1,14 @@
 //! Responses, read.
 ghost use Rattle.std.specs.Prelude.{◌≡◌, ◌≤◌, length, IfOk, IfErr, IfSome, OnOk, OnErr, IsTrue, IsFalse, Err};
-ghost use Rattle.lra_wire.specs.Inbox.{kept_bytes, stream_of, is_spent};
-ghost use Rattle.lra_wire.specs.Response.{is_interim, IsResponse, RefusesResponse};
-ghost use Rattle.lra_wire.specs.Steps.{FindsResponse, ReadsHeadAt, FindsBody, LacksBody, ReadsToTheEnd, IsSmall, NextResponse};
+ghost use Rattle.lra_wire.specs.Inbox.{kept_bytes, stream_of, is_spent, AsksAt};
+ghost use Rattle.lra_wire.specs.Response.{is_interim, IsResponse, RefusesResponse, AwaitsBody, AwaitsResponse};
+ghost use Rattle.lra_wire.specs.inner.Steps.{FindsResponse, ReadsHeadAt, FindsBody, LacksBody, ReadsToTheEnd, IsSmall, NextResponse, AsksBehind, IsOpenHead};
 ghost use Rattle.lra_wire.specs.Streams.{IfBothKnown};
 
 use crate::chunks::next_chunks;
 use crate::fault::WireFault;
 use crate::framing::{Framing, framing_of};
-use crate::head::{MAX_FIELDS, MAX_HEAD, has_empty_line, skip_empty_lines};
+use crate::head::{MAX_FIELDS, MAX_HEAD};
 use crate::inbox::Inbox;
 use crate::request::MAX_BODY;
 use httparse::Status;
@@ -51,6 +51,10 @@ pub fn read_response<R: Read + Drop>(
     ensures spent { IsTrue (is_spent inbox.old) → result ≡ Err WireFault.Cut }
     ensures ok { OnOk result (IsFalse (is_spent inbox.new)) }
     ensures err { OnErr result (IsTrue (is_spent inbox.new)) }
+
+    // Where the bytes that came spell a response, no more is asked for, unless its body ends with the
+    // stream.
+    ensures rests { AsksAt AwaitsResponse inbox.old inbox.new }
 {
     if inbox.spent {
         return Err(WireFault::Cut);
@@ -64,7 +68,8 @@ fn next_response<R: Read + Drop>(
     alloc: Global,
     inbox: &mut Inbox<R>,
 ) -> Result<ResponseRead, WireFault>
-    ensures { NextResponse R.remaining inbox.old inbox.new result }
+    ensures next { NextResponse R.remaining inbox.old inbox.new result }
+    ensures asks { AsksAt AwaitsResponse inbox.old inbox.new }
 {
     let mut start = 0;
     let mut interim = 0;
@@ -93,30 +98,20 @@ fn is_interim(code: u16) -> bool
     100 <= code && code < 200
 }
 
-/// Reads until there is a whole head behind `start`.
+/// Reads until there is a whole head behind `start`. What came of it is parsed anew with each
+/// piece: it is less than [`MAX_HEAD`] bytes until the last.
 fn next_head<R: Read + Drop>(inbox: &mut Inbox<R>, start: usize) -> Result<Head, WireFault>
     requires { start ≤ length (kept_bytes inbox.old) }
-    ensures { ReadsHeadAt R.remaining start inbox.old inbox.new result }
+    ensures reads { ReadsHeadAt R.remaining start inbox.old inbox.new result }
+    ensures asks { AsksBehind IsOpenHead start inbox.old inbox.new }
 {
-    let mut blank = 0;
-    let mut searched = 0;
     loop {
-        let bytes = &inbox.bytes()[start..];
-        blank = skip_empty_lines(bytes, blank);
-        let is_whole = has_empty_line(&bytes[blank..], searched.max(blank) - blank);
-        if is_whole || bytes.len() >= MAX_HEAD {
-            if let Some(head) = head_at(bytes)? {
-                return Ok(head);
-            }
+        if let Some(head) = head_at(&inbox.bytes()[start..])? {
+            return Ok(head);
         }
-        searched = bytes.len();
         if !inbox.fill()? {
-            break;
+            return Err(WireFault::Cut);
         }
-    }
-    match head_at(&inbox.bytes()[start..])? {
-        Some(head) => Ok(head),
-        None => Err(WireFault::Cut),
     }
 }
 
@@ -154,6 +149,7 @@ fn next_body<R: Read + Drop>(
     requires small { IsSmall framing }
     ensures ok { IfOk result (λ found. FindsBody R.remaining framing start inbox.old inbox.new found.0.items found.1) }
     ensures err { IfErr result (LacksBody R.remaining framing start inbox.old) }
+    ensures asks { AsksBehind (AwaitsBody framing) start inbox.old inbox.new }
 {
     match framing {
         Framing::Chunks => next_chunks(alloc, inbox, start),
@@ -173,6 +169,7 @@ fn next_sized<R: Read + Drop>(
     requires small { size ≤ 65536 }
     ensures ok { IfOk result (λ found. FindsBody R.remaining (Framing.Sized size) start inbox.old inbox.new found.0.items found.1) }
     ensures err { IfErr result (LacksBody R.remaining (Framing.Sized size) start inbox.old) }
+    ensures asks { AsksBehind (AwaitsBody (Framing.Sized size)) start inbox.old inbox.new }
 {
     let end = start + size;
     inbox.fill_to(end)?;
@@ -189,6 +186,7 @@ fn next_rest<R: Read + Drop>(
     requires limit { start ≤ 73728 }
     ensures ok { IfOk result (λ found. FindsBody R.remaining Framing.ToTheEnd start inbox.old inbox.new found.0.items found.1) }
     ensures err { IfErr result (LacksBody R.remaining Framing.ToTheEnd start inbox.old) }
+    ensures asks { AsksBehind (AwaitsBody Framing.ToTheEnd) start inbox.old inbox.new }
 {
     let end = fill_to_the_end(inbox, start)?;
     let body = Vec::from_slice(alloc, &inbox.bytes()[start..end])?;
@@ -199,7 +197,8 @@ fn next_rest<R: Read + Drop>(
 fn fill_to_the_end<R: Read + Drop>(inbox: &mut Inbox<R>, start: usize) -> Result<usize, WireFault>
     requires start { start ≤ length (kept_bytes inbox.old) }
     requires limit { start ≤ 73728 }
-    ensures { ReadsToTheEnd R.remaining start inbox.old inbox.new result }
+    ensures reads { ReadsToTheEnd R.remaining start inbox.old inbox.new result }
+    ensures asks { AsksBehind (AwaitsBody Framing.ToTheEnd) start inbox.old inbox.new }
 {
     loop {
         let end = inbox.bytes().len();

@@ -1,7 +1,7 @@
 use Rattle.std.proofs.Common.{◌≡◌, ◌+◌, ◌++◌, drop, None}
 use Rattle.std.specs.Prelude.{unwrap_or}
-use Rattle.lra_auditor.specs.Rows.{row_at}
-use Rattle.lra_auditor.specs.Totals.{failed_ends_from}
+use Rattle.lra_auditor.specs.Listed.{row_at}
+use Rattle.lra_auditor.specs.inner.Totals.{failed_ends_from}
 use Rattle.lra_auditor.proofs.summary.failed_ends.Given as goal
 
 abbrev pub invariant-loop-place : goal.invariant-loop-place

@@ -1,5 +1,5 @@
 use Rattle.std.proofs.Common.{◌≡◌, None, sym, ◌∙◌, ap, length, arith, replicate, rules}
-use Rattle.lra_auditor.specs.Rows.{State}
+use Rattle.lra_auditor.specs.inner.Rows.{State}
 use Rattle.lra_auditor.proofs.Marks.{IsToFill-start, IsToFill-marked, IsToFill-passed, IsToFill-end, IsClosed-start}
 use Rattle.lra_auditor.proofs.summary.least_failed.Goals as goal
 use Rattle.lra_auditor.proofs.summary.least_failed.Goals.{then-has_failed_here, else-has_failed_here}

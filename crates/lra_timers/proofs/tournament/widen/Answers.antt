@@ -1,6 +1,6 @@
 use Rattle.std.proofs.Common.{◌≡◌, ◌*◌, ◌∙◌, ◌++◌, length, take, drop, sym, ap, subst, arith, rules}
 use Rattle.std.proofs.lemmas.List.{take_at}
-use Rattle.lra_timers.specs.Tree.{IsTree}
+use Rattle.lra_timers.specs.inner.Tree.{IsTree}
 use Rattle.lra_timers.proofs.Widened.{IsTree-widened}
 use Rattle.lra_timers.proofs.tournament.widen.Goals as goal
 

@@ -3,7 +3,7 @@ use mathlib.Core.Option.{none}
 use Rattle.atomic_table.specs.Table.{Allows, step, rest}
 use Rattle.lra_ticket.specs.History.{block_after, entries_by, number_after}
 use Rattle.lra_ticket.specs.Rule.{IsOrderly}
-use Rattle.lra_ticket.specs.Steps.{Hand, gave}
+use Rattle.lra_ticket.specs.inner.Steps.{Hand, gave}
 use Rattle.lra_ticket.specs.Views.{is_resting, given, IsComplete}
 use Rattle.lra_ticket.proofs.Histories.{entries_by-given, whole}
 use Rattle.lra_ticket.proofs.Keeps.{gives_back}

@@ -1,6 +1,0 @@
-pub mod Lines
-pub mod Feeding
-pub mod Versions
-pub mod Growths
-pub mod Playing
-pub mod ScriptLines

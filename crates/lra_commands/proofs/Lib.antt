@@ -1,0 +1,8 @@
+pub mod Keeps
+pub mod KeepsAddresses
+pub mod KeepsDepth
+pub mod KeepsGrounds
+pub mod KeepsLate
+pub mod KeepsOwn
+pub mod Rests
+pub mod Worked

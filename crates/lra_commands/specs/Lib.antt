@@ -1,0 +1,10 @@
+pub mod Terms
+pub mod Errands
+pub mod Calls
+pub mod Due
+pub mod Deeds
+pub mod Blocks
+pub mod Refusals
+pub mod Answers
+pub mod Runs
+pub mod Names

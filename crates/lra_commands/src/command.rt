@@ -1,0 +1,71 @@
+//! What clerks ask of a coordinator, and what it answers.
+
+use lra_model::{ActionStatus, Ending, MemberStatus, Outcome, Uris};
+
+/// What a clerk asks of the coordinator. `E` is the errand that a request to a member was carried by.
+#[derive(Debug, Drop)]
+pub enum Command<'a, E> {
+    /// To have a number as a clerk.
+    Enrol,
+    /// To start an action. A limit is in milliseconds, and 0 is none.
+    Start { parent: Option<u64>, limit: u64 },
+    /// To let a member join an action.
+    Join { action: u64, uris: &'a Uris },
+    /// To let a member leave its action.
+    Leave { action: u64, member: u64 },
+    /// To close an action.
+    Close { action: u64 },
+    /// To cancel an action.
+    Cancel { action: u64 },
+    /// To cancel an action whose limit has passed.
+    Tick,
+    /// To have something that a member is to be asked.
+    NextAsk,
+    /// To take down what came of an ask.
+    Record { errand: &'a E, outcome: Outcome },
+    /// To take down what a member tells of itself.
+    Report { member: u64, ending: Ending },
+    /// To make every outstanding ask void.
+    Restart,
+    /// To set an action's limit anew, in milliseconds from now.
+    Renew { action: u64, limit: u64 },
+    /// To know an action's status.
+    Status { action: u64 },
+    /// To know a member's status.
+    MemberStatus { member: u64 },
+}
+
+/// What the coordinator answers where it doesn't refuse.
+#[derive(Clone, Copy, Debug, PartialEq, Eq)]
+pub enum Told {
+    /// The new clerk's number.
+    Clerk(u32),
+    /// The new action's number.
+    Action(u64),
+    /// The new member's number.
+    Member(u64),
+    /// The member that has joined this action with these addresses before.
+    AlreadyMember(u64),
+    Left,
+    /// The action's status, once its close or cancel was taken.
+    Now(ActionStatus),
+    /// The action's status, where it was closed or cancelled before.
+    Already(ActionStatus),
+    /// The action that was cancelled since its limit has passed.
+    Fired(u64),
+    /// Nothing is due.
+    Idle,
+    /// The number of the ask.
+    Asked(u64),
+    Recorded,
+    /// The member's status, once its report was taken.
+    MemberNow(MemberStatus),
+    /// The member's status, where it had told of that direction before.
+    MemberAlready(MemberStatus),
+    Restarted,
+    Renewed,
+    /// The action's status.
+    ActionIs(ActionStatus),
+    /// The member's status.
+    MemberIs(MemberStatus),
+}

@@ -1,0 +1,20 @@
+//! Laws of coordinators: public functions that do nothing, whose contracts say what holds whatever commands are given.
+
+ghost use Rattle.lra_commands.specs.Runs.{CallsKeepHistories, CallsLeaveQuiet, CallsMakeHistories};
+
+/// Whatever commands are given to a coordinator, by any clerks, at any moments and in any order, refused ones among
+/// them, its history stays legal in the version of its journal, and within its limits.
+pub fn commands_keep_histories()
+    ensures { CallsKeepHistories }
+{}
+
+/// Whatever commands are given to a new coordinator, its history is legal, and within its limits.
+pub fn commands_make_histories()
+    ensures { CallsMakeHistories }
+{}
+
+/// After a command that isn't refused and that writes, nothing is left to settle: its block has room for all that
+/// follows by itself, however much that is.
+pub fn calls_leave_quiet_histories()
+    ensures { CallsLeaveQuiet }
+{}

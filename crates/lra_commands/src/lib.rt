@@ -1,0 +1,13 @@
+//! What each command of a coordinator is answered and appends, and laws about it. The definitions stand in `specs/`; the
+//! coordinator that keeps to them is `lra_core`.
+#![tactic(auto)]
+
+mod command;
+mod laws;
+mod limits;
+mod refusal;
+
+pub use command::{Command, Told};
+pub use laws::{calls_leave_quiet_histories, commands_keep_histories, commands_make_histories};
+pub use limits::{Limits, Terms};
+pub use refusal::{Refusal, Resource};

@@ -1,0 +1,45 @@
+//! How much a coordinator takes.
+
+ghost use Rattle.std.specs.Prelude.{◌≡◌};
+ghost use Rattle.lra_commands.specs.Terms.{usual};
+
+use lra_model::Version;
+
+/// How much a coordinator takes, and how it repeats its asks.
+#[derive(Clone, Copy, Debug, PartialEq, Eq)]
+pub struct Limits {
+    pub clerks: u32,
+    pub actions: u64,
+    pub members: u64,
+    pub entries: u64,
+    /// How deep actions are nested: one without a parent has depth 1.
+    pub depth: u64,
+    /// How long the first repetition of an ask waits, in milliseconds.
+    pub retry_base: u64,
+    /// The longest that a repetition waits, in milliseconds.
+    pub retry_cap: u64,
+}
+
+impl Limits {
+    /// What serves most teams.
+    pub const fn usual() -> Limits
+        ensures { result ≡ usual }
+    {
+        Limits {
+            clerks: 1_000_000,
+            actions: 100_000,
+            members: 400_000,
+            entries: 4_000_000,
+            depth: 64,
+            retry_base: 100,
+            retry_cap: 60_000,
+        }
+    }
+}
+
+/// What answers depend on beside the history: the version of the journal, and the limits.
+#[derive(Clone, Copy, Debug, PartialEq, Eq)]
+pub struct Terms {
+    pub version: Version,
+    pub limits: Limits,
+}

@@ -1,5 +1,0 @@
-use Rattle.lra_core.proofs.Rests.{calls_leave_quiet}
-use Rattle.lra_core.proofs.laws.calls_leave_quiet_histories.Goals as goal
-
-pub returns : goal.returns
-returns c = calls_leave_quiet

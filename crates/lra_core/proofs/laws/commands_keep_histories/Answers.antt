@@ -1,5 +1,0 @@
-use Rattle.lra_core.proofs.Keeps.{calls_keep}
-use Rattle.lra_core.proofs.laws.commands_keep_histories.Goals as goal
-
-pub returns : goal.returns
-returns c = calls_keep

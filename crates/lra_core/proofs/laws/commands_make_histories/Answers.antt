@@ -1,5 +1,0 @@
-use Rattle.lra_core.proofs.Keeps.{calls_make}
-use Rattle.lra_core.proofs.laws.commands_make_histories.Goals as goal
-
-pub returns : goal.returns
-returns c = calls_make

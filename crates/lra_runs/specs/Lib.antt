@@ -1,0 +1,9 @@
+pub mod Report
+pub mod Faults
+pub mod Script
+pub mod Play
+pub mod Show
+pub mod Upgrade
+pub mod Words
+pub mod Invoked
+pub mod inner

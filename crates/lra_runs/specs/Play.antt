@@ -1,0 +1,107 @@
+-- What the program prints of a script that it plays.
+use Rattle.std.specs.Prelude.{◌≡◌, ℕ, ◌+◌, ◌<◌, List, [], ◌∷◌, ◌++◌, length, map, codes, Option, Result, Ok, Err, cond}
+use Rattle.std.specs.Fmt.{decimal}
+use Rattle.std.specs.List.{flat_map, list_any}
+use Rattle.std.specs.Result.{is_err}
+use Rattle.std.specs.Io.KnownBytes.{Appends}
+use Rattle.lra_model.specs.declared.entry.Entry.{Entry}
+use Rattle.lra_model.specs.declared.version.Version.TheVariants.{One}
+use Rattle.lra_model.specs.Names.{action_status_name, member_status_name}
+use Rattle.lra_model.specs.History.{History}
+use Rattle.lra_journal.specs.Line.{line, header}
+use Rattle.lra_commands.specs.declared.command.Told.{Told}
+use Rattle.lra_commands.specs.declared.command.Told.TheVariants as told
+use Rattle.lra_commands.specs.declared.refusal.Refusal.{Refusal}
+use Rattle.lra_commands.specs.declared.refusal.Refusal.TheVariants as refusal
+use Rattle.lra_commands.specs.Names.{refusal_name, resource_name}
+use Rattle.lra_commands.specs.declared.limits.Terms.{Terms}
+use Rattle.lra_commands.specs.Terms.{usual}
+use Rattle.lra_commands.specs.Answers.{answer, growth, after_call}
+use Rattle.lra_commands.specs.Runs.{answers}
+use Rattle.lra_runs.specs.declared.script.ScriptLine.{ScriptLine}
+use Rattle.lra_runs.specs.Report.{joined, line_feed}
+use Rattle.lra_runs.specs.Script.{call_of, Begins, BeginsWithNone}
+
+-- what the player's coordinator is made with: a journal of version 1, and the usual limits
+abbrev pub player : Terms
+player = record { version = One; limits = usual }
+
+-- the words of what a command is told; of an ask its number alone, since no script asks for one so far
+abbrev pub told_text : Told → List ℕ
+told_text (told.Clerk n) = codes "clerk " ++ decimal n
+told_text (told.Action n) = codes "action " ++ decimal n
+told_text (told.Now status) = codes "now " ++ action_status_name status
+told_text (told.Already status) = codes "already " ++ action_status_name status
+told_text (told.ActionIs status) = codes "status " ++ action_status_name status
+told_text (told.Member n) = codes "member " ++ decimal n
+told_text (told.AlreadyMember n) = codes "already " ++ decimal n
+told_text told.Left = codes "left"
+told_text (told.Fired n) = codes "fired " ++ decimal n
+told_text told.Idle = codes "idle"
+told_text (told.Asked n) = codes "ask " ++ decimal n
+told_text told.Recorded = codes "recorded"
+told_text (told.MemberNow status) = codes "now " ++ member_status_name status
+told_text (told.MemberAlready status) = codes "already " ++ member_status_name status
+told_text told.Restarted = codes "restarted"
+told_text told.Renewed = codes "renewed"
+told_text (told.MemberIs status) = codes "status " ++ member_status_name status
+
+-- what a refusal says beside its name: the action's status, or what there is too much of
+abbrev pub refusal_detail : Refusal → List ℕ
+refusal_detail (refusal.NotActive status) = codes " " ++ action_status_name status
+refusal_detail (refusal.Full resource) = codes " " ++ resource_name resource
+refusal_detail refusal.NoSuchClerk = []
+refusal_detail refusal.OldJournal = []
+refusal_detail refusal.NoSuchAction = []
+refusal_detail refusal.NoSuchMember = []
+refusal_detail refusal.WrongAction = []
+refusal_detail refusal.HasLeft = []
+refusal_detail refusal.BadAddresses = []
+refusal_detail refusal.LimitTooFar = []
+refusal_detail refusal.TooDeep = []
+refusal_detail refusal.NotAsked = []
+refusal_detail refusal.Stopped = []
+refusal_detail refusal.Memory = []
+
+-- the line of an answer
+abbrev pub answer_line : Result Told Refusal → List ℕ
+answer_line (Ok t) = told_text t ++ line_feed
+answer_line (Err r) = joined (codes "refused " ∷ refusal_name r ∷ refusal_detail r ∷ line_feed ∷ [])
+
+-- a new line of the journal
+abbrev pub marked : List ℕ → List ℕ
+marked text = codes "+ " ++ text
+
+-- what is printed of a script's line: the answer, then each new line of the journal
+abbrev pub played_line : History → ScriptLine → List ℕ
+played_line J l = answer_line (answer player J (call_of l)) ++ flat_map (λ (e : Entry). marked (line e)) (growth player J (call_of l))
+
+-- what is printed of lines, one after another
+abbrev pub played_lines : History → List ScriptLine → List ℕ
+played_lines J [] = []
+played_lines J (l ∷ ls) = played_line J l ++ played_lines (after_call player J (call_of l)) ls
+
+-- the journal's header, and what is printed of the lines
+abbrev pub played : List ScriptLine → List ℕ
+played ls = marked (header One 7) ++ played_lines [] ls
+
+-- 1 where a command was refused, else 0
+abbrev pub play_status : List ScriptLine → ℕ
+play_status ls = cond (list_any is_err (answers player [] (map call_of ls))) 1 0
+
+-- a script was played to its end
+pub record Plays (input : List ℕ) (status : ℕ) (before after : Option (List ℕ)) : Type 0 where
+  pub lines : List ScriptLine
+  pub read : Begins input lines []
+  pub written : Appends before after (played lines)
+  pub answered : status ≡ play_status lines
+
+-- a script was played up to line `number`, counted from 1, which isn't a line that a script may have
+pub record PlaysUpToLine (input : List ℕ) (number : ℕ) (before after : Option (List ℕ)) : Type 0 where
+  pub lines : List ScriptLine
+  pub rest : List ℕ
+  pub read : Begins input lines rest
+  pub goes_on : 0 < length rest
+  pub bad : BeginsWithNone rest
+  pub place : number ≡ length lines + 1
+  pub written : Appends before after (played lines)

@@ -1,0 +1,17 @@
+-- What the words of a command line ask for.
+use Rattle.std.specs.Prelude.{◌≡◌, ℕ, List, [], ◌∷◌, map, codes, String, string_bytes}
+use Rattle.std.specs.Global.{Global}
+use Rattle.lra_runs.specs.declared.words.Invocation.{Invocation}
+use Rattle.lra_runs.specs.declared.words.Invocation.TheVariants.{AuditInput, Audit, Show, Upgrade, Play}
+
+-- the bytes of each word
+abbrev pub texts : List (String Global) → List (List ℕ)
+texts words = map string_bytes words
+
+-- no word is to audit standard input; `audit FILE` is to audit a file, `show FILE` to list it, and `upgrade FILE` to upgrade it; `play SCRIPT` is to play a script
+abbrev pub IsInvocation : List (List ℕ) → Invocation → Type 0
+IsInvocation words AuditInput = words ≡ []
+IsInvocation words (Audit file) = words ≡ codes "audit" ∷ file.now ∷ []
+IsInvocation words (Show file) = words ≡ codes "show" ∷ file.now ∷ []
+IsInvocation words (Upgrade file) = words ≡ codes "upgrade" ∷ file.now ∷ []
+IsInvocation words (Play script) = words ≡ codes "play" ∷ script.now ∷ []

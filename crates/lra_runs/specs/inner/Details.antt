@@ -1,0 +1,7 @@
+-- What a refusal says beside its name.
+use Rattle.std.specs.Prelude.{ℕ, List, [], ◌++◌, codes, Option, Some, None}
+
+-- a detail with a space before it, if there is one
+abbrev pub detail_text : Option (List ℕ) → List ℕ
+detail_text None = []
+detail_text (Some text) = codes " " ++ text

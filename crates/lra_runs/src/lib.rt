@@ -1,0 +1,27 @@
+//! The runs of the program `lra`, over any reader and writer: to audit a journal, to list its actions and members, to upgrade
+//! it, and to play a script of commands; and what the words of a command line ask for.
+#![tactic(auto)]
+
+mod answers;
+mod audit;
+mod dispatch;
+mod errors;
+mod fault;
+mod input;
+mod output;
+mod play;
+mod report;
+mod script;
+mod show;
+mod upgrade;
+mod words;
+
+pub use audit::audit_run;
+pub use dispatch::{Sources, run};
+pub use errors::{error_line, input_name};
+pub use fault::RunFault;
+pub use play::play_run;
+pub use script::{ScriptLine, Verb, read_script_line};
+pub use show::show_run;
+pub use upgrade::upgrade_run;
+pub use words::{Invocation, Usage, read_words};

@@ -1,0 +1,21 @@
+//! Tests of the crates below: each over their public surface alone.
+#![tactic(auto)]
+
+#[cfg(test)]
+mod auditor;
+#[cfg(test)]
+mod core;
+#[cfg(test)]
+mod ids;
+#[cfg(test)]
+mod journal;
+#[cfg(test)]
+mod model;
+#[cfg(test)]
+mod runs;
+#[cfg(test)]
+mod ticket;
+#[cfg(test)]
+mod timers;
+#[cfg(test)]
+mod wire;

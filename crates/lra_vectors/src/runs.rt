@@ -1,0 +1,177 @@
+//! The runs of the program, each over inputs in memory.
+
+mod fakes;
+
+use fakes::{Full, Halting, Halts, Shelf};
+use lra_runs::{Invocation, RunFault, Usage, error_line, input_name, read_words, run};
+use std::test::Fail;
+
+const JOURNAL: &str = "lra-journal 1 7\n1 0 enrol\n1 0 start 1 * 0\n1 5 start 2 1 0\n";
+
+const AUDITED: &str = "sound entries 3 actions 2 unended 2 closed 0 cancelled 0 failed 0\n";
+
+const LISTED: &str = "action 1 * Active\naction 2 1 Active\n";
+
+const UPGRADED: &str = "lra-journal 2 7\n1 0 enrol\n1 0 start 1 * 0\n1 5 start 2 1 0\n";
+
+const SCRIPT: &str = "0 0 enrol\n1 0 start * 9\n1 5 close 1\n1 7 status 2\n";
+
+const PLAYED: &str =
+    "+ lra-journal 1 7\nclerk 1\n+ 1 0 enrol\naction 1\n+ 1 0 start 1 * 9\nnow Closed\n+ 1 5 close 1 client\n+ 1 5 end 1 Closed\nrefused NoSuchAction\n";
+
+/// A script whose second line is none.
+const BAD: &str = "0 0 enrol\n1 0 enrol\n1 0 start * 0\n";
+
+const SHELF: Shelf = Shelf {
+    input: "lra-journal 1 7\n1 0 start 1 * 0\n",
+    journal: JOURNAL,
+    script: SCRIPT,
+    bad: BAD,
+};
+
+/// What is asked for, what is printed, and the outcome.
+const RUNS: [(Invocation<'static>, &str, Result<u8, RunFault>); 7] = [
+    (Invocation::AuditInput, "unsound line 2 clerk\n", Ok(1)),
+    (Invocation::Audit { file: "journal" }, AUDITED, Ok(0)),
+    (Invocation::Show { file: "journal" }, LISTED, Ok(0)),
+    (Invocation::Upgrade { file: "journal" }, UPGRADED, Ok(0)),
+    (Invocation::Play { script: "script" }, PLAYED, Ok(1)),
+    (
+        Invocation::Play { script: "bad" },
+        "+ lra-journal 1 7\nclerk 1\n+ 1 0 enrol\n",
+        Err(RunFault::Line(2)),
+    ),
+    (
+        Invocation::Audit { file: "elsewhere" },
+        "",
+        Err(RunFault::Read),
+    ),
+];
+
+#[test]
+fn invocations_are_carried_out(rt: HostRuntime) -> Result<(), Fail> {
+    for (invocation, printed, outcome) in RUNS {
+        let mut out = Vec::new(rt.alloc());
+        let answer = run(rt.alloc(), &SHELF, invocation, &mut out);
+        assert_eq!(rt; answer, outcome, "of {invocation:?}");
+        assert_eq!(rt; out.as_slice(), printed.as_bytes(), "of {invocation:?}");
+    }
+    Ok(())
+}
+
+/// What is asked for of a file, what is read there, what is printed, and the status.
+const FILES: [(Invocation<'static>, &str, &str, u8); 4] = [
+    (Invocation::Audit { file: "it" }, JOURNAL, AUDITED, 0),
+    (Invocation::Show { file: "it" }, JOURNAL, LISTED, 0),
+    (Invocation::Upgrade { file: "it" }, JOURNAL, UPGRADED, 0),
+    (Invocation::Play { script: "it" }, SCRIPT, PLAYED, 1),
+];
+
+#[test]
+fn an_input_may_halt(rt: HostRuntime) -> Result<(), Fail> {
+    for (invocation, text, printed, status) in FILES {
+        let mut out = Vec::new(rt.alloc());
+        let source = Halts { text, fails: false };
+        let answer = run(rt.alloc(), &source, invocation, &mut out);
+        assert_eq!(rt; answer, Ok(status), "of {invocation:?}");
+        assert_eq!(rt; out.as_slice(), printed.as_bytes(), "of {invocation:?}");
+    }
+    Ok(())
+}
+
+#[test]
+fn an_input_may_fail(rt: HostRuntime) {
+    for (invocation, text, _, _) in FILES {
+        let mut out = Vec::new(rt.alloc());
+        let source = Halts { text, fails: true };
+        let answer = run(rt.alloc(), &source, invocation, &mut out);
+        assert_eq!(rt; answer, Err(RunFault::Read), "of {invocation:?}");
+        assert!(rt; out.is_empty(), "of {invocation:?}");
+    }
+}
+
+#[test]
+fn an_output_may_fail(rt: HostRuntime) {
+    for (invocation, text, printed, status) in FILES {
+        for (room, wanted) in [
+            (0, Err(RunFault::Write)),
+            (printed.len().saturating_sub(1), Err(RunFault::Write)),
+            (printed.len(), Ok(status)),
+        ] {
+            let source = Halts { text, fails: false };
+            let answer = run(rt.alloc(), &source, invocation, &mut Full { room });
+            assert_eq!(rt; answer, wanted, "of {invocation:?} with room for {room}");
+        }
+    }
+}
+
+/// Run with one allocation failing in turn: what is printed is what was wanted, or the first part of it.
+#[test]
+fn a_growth_may_be_refused(rt: HostRuntime) -> Result<(), Fail> {
+    for (invocation, text, printed, status) in FILES {
+        // The writer itself grows no more.
+        let mut out = match Vec::with_capacity(rt.alloc(), 1024) {
+            Ok(out) => out,
+            Err(_) => Vec::with_capacity(rt.alloc(), 1024)?,
+        };
+        let source = Halts { text, fails: false };
+        let answer = run(rt.alloc(), &source, invocation, &mut out);
+        if answer == Err(RunFault::Memory) {
+            assert!(rt; printed.as_bytes().starts_with(out.as_slice()));
+        } else {
+            assert_eq!(rt; answer, Ok(status), "of {invocation:?}");
+            assert_eq!(rt; out.as_slice(), printed.as_bytes(), "of {invocation:?}");
+        }
+    }
+    Ok(())
+}
+
+#[test]
+fn faults_are_told_in_a_line(rt: HostRuntime) -> Result<(), Fail> {
+    for (fault, line) in [
+        (RunFault::Read, "lra: cannot read a file\n"),
+        (RunFault::Write, "lra: cannot write -\n"),
+        (RunFault::TooLong, "lra: input too long\n"),
+        (RunFault::Memory, "lra: out of memory\n"),
+        (RunFault::Line(12), "lra: bad script line 12\n"),
+    ] {
+        let told = error_line(rt.alloc(), fault, "a file")?;
+        assert_eq!(rt; told.as_str(), line);
+    }
+    assert_eq!(rt; input_name(Invocation::AuditInput), "-");
+    Ok(())
+}
+
+/// What two words ask for: the name of the command, and of its input.
+fn asked(rt: &HostRuntime, verb: &str, file: &str) -> Result<Option<&'static str>, Fail> {
+    let alloc = rt.alloc();
+    let words = vec![in alloc;
+        String::from_str(alloc, verb)?,
+        String::from_str(alloc, file)?,
+    ]?;
+    Ok(match read_words(&words) {
+        Ok(Invocation::Audit { file: "it" }) => Some("audit"),
+        Ok(Invocation::Show { file: "it" }) => Some("show"),
+        Ok(Invocation::Upgrade { file: "it" }) => Some("upgrade"),
+        Ok(Invocation::Play { script: "it" }) => Some("play"),
+        _ => None,
+    })
+}
+
+#[test]
+fn words_are_invocations(rt: HostRuntime) -> Result<(), Fail> {
+    for (verb, file, wanted) in [
+        ("audit", "it", Some("audit")),
+        ("show", "it", Some("show")),
+        ("upgrade", "it", Some("upgrade")),
+        ("play", "it", Some("play")),
+        ("it", "audit", None),
+        ("audits", "it", None),
+    ] {
+        assert_eq!(rt; asked(&rt, verb, file)?, wanted, "of {verb} {file}");
+    }
+    let one = vec![in rt.alloc(); String::from_str(rt.alloc(), "audit")?]?;
+    assert!(rt; matches!(read_words(&[]), Ok(Invocation::AuditInput)));
+    assert!(rt; matches!(read_words(&one), Err(Usage)));
+    Ok(())
+}

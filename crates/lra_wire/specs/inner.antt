@@ -1,0 +1,6 @@
+-- Words that private functions and proofs alone use.
+pub mod Growth
+pub mod Fields
+pub mod Heads
+pub mod Reading
+pub mod Steps

@@ -1,6 +1,0 @@
-mod fakes;
-mod faults;
-mod memory;
-mod requests;
-mod responses;
-mod writing;
