@@ -44,17 +44,18 @@ numbers_are = snoc_induction (λ J. numbers (asks_made J) ≡ asks J) refl push
         ∙ (λ i. h i ++ one J e.by e.moment e.deed i)
         ∙ sym (asks_push J e)
 
+-- the first is numbered a, and the rest on from there
+first_number : (x : Asked) (xs : List Asked) (a : ℕ) → numbers (x ∷ xs) ≡ range_with_len a (suc (length xs)) → x.number ≡ a
+first_number x xs a h = cc
+
+numbers_after : (x : Asked) (xs : List Asked) (a : ℕ) → numbers (x ∷ xs) ≡ range_with_len a (suc (length xs)) → numbers xs ≡ range_with_len (a + 1) (length xs)
+numbers_after x xs a h = cc
+
 -- one is found at the place of its number, where they are numbered on from a
 find_place : (xs : List Asked) (a i n : ℕ) → numbers xs ≡ range_with_len a (length xs) → n ≡ a + i → find (λ (x : Asked). x.number == n) xs ≡ slice_get xs i
 find_place [] a i n h e = refl
-find_place (x ∷ xs) a i n h e = at i e (head h) (λ j g. find_place xs (a + 1) j n (tail h) g)
+find_place (x ∷ xs) a i n h e = at i e (first_number x xs a h) (λ j g. find_place xs (a + 1) j n (numbers_after x xs a h) g)
   where
-    head : numbers (x ∷ xs) ≡ range_with_len a (suc (length xs)) → x.number ≡ a
-    head g = cc
-
-    tail : numbers (x ∷ xs) ≡ range_with_len a (suc (length xs)) → numbers xs ≡ range_with_len (a + 1) (length xs)
-    tail g = cc
-
     found : Bool → Option Asked
     found b = cond b (Some x) (find (λ (y : Asked). y.number == n) xs)
 
@@ -65,14 +66,8 @@ find_place (x ∷ xs) a i n h e = at i e (head h) (λ j g. find_place xs (a + 1)
 -- and none before that
 find_below : (xs : List Asked) (a n : ℕ) → numbers xs ≡ range_with_len a (length xs) → n < a → find (λ (x : Asked). x.number == n) xs ≡ None
 find_below [] a n h e = refl
-find_below (x ∷ xs) a n h e = ap found (ne_eqb x.number n (λ z. let f = head h in omega arith)) ∙ find_below xs (a + 1) n (tail h) (omega arith)
+find_below (x ∷ xs) a n h e = ap found (ne_eqb x.number n (λ z. let f = first_number x xs a h in omega arith)) ∙ find_below xs (a + 1) n (numbers_after x xs a h) (omega arith)
   where
-    head : numbers (x ∷ xs) ≡ range_with_len a (suc (length xs)) → x.number ≡ a
-    head g = cc
-
-    tail : numbers (x ∷ xs) ≡ range_with_len a (suc (length xs)) → numbers xs ≡ range_with_len (a + 1) (length xs)
-    tail g = cc
-
     found : Bool → Option Asked
     found b = cond b (Some x) (find (λ (y : Asked). y.number == n) xs)
 

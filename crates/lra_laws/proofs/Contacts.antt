@@ -19,10 +19,10 @@ use Rattle.lra_model.specs.Rules.{is_legal}
 use Rattle.lra_laws.specs.Rows.{change_row}
 use Rattle.lra_laws.specs.Sheets.{Repeats, Contact, repeats_in, contact_of, no_repeats, new_contact, again, with_repeat, with_answer}
 use Rattle.lra_laws.proofs.Push.{step, read_push, last_or_push, replies_push, members_push}
-use Rattle.lra_laws.proofs.Legal.{legal_induction, Allowed, numbered_fresh, members_numbered, addresses_stay, addresses_of_new, member_there_push}
+use Rattle.lra_laws.proofs.Legal.{legal_induction, Allowed, numbered_fresh, members_numbered, addresses_stay, addresses_of_new}
 use Rattle.lra_laws.proofs.RowLists.{eqb_self, eqb_flip, among_apart, map_within, rows_changed, rows_more}
 use Rattle.lra_laws.proofs.Told.{entry, more, Told, told}
-use Rattle.lra_laws.proofs.MemberRows.{members_stay}
+use Rattle.lra_laws.proofs.MemberRows.{absent_before, members_stay}
 use Rattle.lra_laws.proofs.AskWords.{asks_listed}
 
 -- what a reply counts for
@@ -65,11 +65,7 @@ repeats_absent v t = legal_induction v t (λ J. (p : ℕ) → is_among (members 
     push J e l k ih p h stage = repeats_still J e.by e.moment e.deed p stage (none e.deed (told v t J e.by e.moment e.deed k)) ∙ ih p before stage
       where
         before : is_among (members J) p ≡ false
-        before = decide (is_among (members J) p) refl
-          where
-            decide : (b : Bool) → is_among (members J) p ≡ b → b ≡ false
-            decide false g = refl
-            decide true g = let x : is_among (members (J ++ e ∷ [])) p ≡ true = member_there_push J e p g in absurd cc
+        before = absent_before J e p h
 
         none : (d : Deed) → Told J e.by d → option_map_or (repeat_of p stage) (replied_at (step J (entry e.by e.moment d))) None ≡ None
         none (Reply n o) x = other_reply J e.by e.moment n o x.0 p stage x.1.asked (eqb_flip p x.0.member (among_apart (members J) x.0.member p ((asks_listed v t J l).there n x.0 x.1.asked) before))

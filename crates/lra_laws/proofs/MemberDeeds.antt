@@ -1,9 +1,8 @@
 -- The row of a member after an entry that concerns it.
-use Rattle.std.proofs.Common.{◌≡◌, ℕ, Bool, true, false, List, [], ◌∷◌, Option, Some, None, refl, sym, ap, ◌∙◌, cond}
+use Rattle.std.proofs.Common.{◌≡◌, ℕ, Bool, true, false, Option, Some, None, refl, sym, ap, ◌∙◌, cond}
 use Rattle.std.proofs.Math.Bool.{or-false, or-true}
 use Rattle.std.specs.Prelude.{◌==◌, ◌&&◌, ◌||◌, option_map}
 use Rattle.std.specs.Option.{option_map_or, option_or, option_and_then}
-use Rattle.std.specs.List.{filter_map, find}
 use Rattle.lra_model.specs.declared.status.MemberStatus.{MemberStatus}
 use Rattle.lra_model.specs.declared.status.MemberStatus.TheVariants as member
 use Rattle.lra_model.specs.declared.asks.AskKind.{AskKind}
@@ -16,12 +15,11 @@ use Rattle.lra_model.specs.declared.entry.Deed.{Deed}
 use Rattle.lra_model.specs.declared.entry.Deed.TheVariants.{Leave, Skip, Ask, Reply, Report}
 use Rattle.lra_model.specs.Addresses.{presence_of}
 use Rattle.lra_model.specs.Words.{when, same_kind, same_direction, is_untouched, is_completing, is_compensating, is_done, is_decisive}
-use Rattle.lra_model.specs.History.{History, steps}
+use Rattle.lra_model.specs.History.{History}
 use Rattle.lra_model.specs.Members.{action_given, addresses_given, is_leave_of, has_left, is_ask_for, was_asked, status_direction, ask_direction, Asked, ask_of, replied_at, Heard, heard_at, decides, decided, member_status, last_reply}
 use Rattle.lra_laws.proofs.GoodStatus.{status_by}
 use Rattle.lra_laws.proofs.Push.{step, has_left_push, was_asked_push, decided_push}
 use Rattle.lra_laws.proofs.Rests.{decided_is_decisive}
-use Rattle.lra_laws.proofs.Tested.{both}
 use Rattle.lra_laws.specs.Rows.{Standing, MemberRow, standing_at, standing, member_row, decided_as, way_of, way_asked, asked_as, with_ask, with_reply, with_reply_to, with_report}
 use Rattle.lra_laws.proofs.RowLists.{eqb_self}
 use Rattle.lra_laws.proofs.Told.{entry, more, ask_fits}

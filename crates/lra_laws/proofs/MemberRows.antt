@@ -2,7 +2,7 @@
 use Rattle.std.proofs.Common.{◌≡◌, ℕ, zero, suc, ◌+◌, ◌<◌, Bool, true, false, List, [], ◌∷◌, ◌++◌, length, map, Option, Some, None, refl, sym, ap, ◌∙◌, arith, eqb-true, append-nil}
 use Rattle.std.proofs.lemmas.Bool.{ne_eqb}
 use Rattle.std.proofs.lemmas.Option.{same_Some}
-use Rattle.std.specs.Prelude.{◌==◌, nat_lt, ◌&&◌, unwrap_or, option_to_list}
+use Rattle.std.specs.Prelude.{◌==◌, nat_lt, unwrap_or, option_to_list}
 use Rattle.std.specs.Option.{option_map_or}
 use Rattle.std.specs.List.{range_with_len}
 use Rattle.lra_model.specs.declared.status.MemberStatus.TheVariants as member
@@ -41,6 +41,14 @@ quiet_of_absent J by m (Reply n o) p t list h k =
     ap (λ (x : Option Asked). option_map_or (λ (a : Asked). a.member == p) x false) t.1.asked ∙ eqb_flip p t.0.member (among_apart (members J) t.0.member p (list.there n t.0 t.1.asked) h)
 quiet_of_absent J by m d p t list h k = refl
 
+-- one that isn't there after an entry wasn't there before it
+pub absent_before : (J : History) (e : Entry) (p : ℕ) → is_among (members (J ++ e ∷ [])) p ≡ false → is_among (members J) p ≡ false
+absent_before J e p h = decide (is_among (members J) p) refl
+  where
+    decide : (b : Bool) → is_among (members J) p ≡ b → b ≡ false
+    decide false g = refl
+    decide true g = let x : is_among (members (J ++ e ∷ [])) p ≡ true = member_there_push J e p g in absurd cc
+
 pub absent_row : (v : Version) (t : List ℕ → Bool) (J : History) → is_legal v t J ≡ true → (p : ℕ) → is_among (members J) p ≡ false → member_row J p ≡ new_member 0 no_addresses
 unfolding steps action_of addresses_of has_left was_asked replies decided member_status last_reply was_answered standing
 absent_row v t = legal_induction v t (λ J. (p : ℕ) → is_among (members J) p ≡ false → member_row J p ≡ new_member 0 no_addresses) (λ p h. refl) push
@@ -50,11 +58,7 @@ absent_row v t = legal_induction v t (λ J. (p : ℕ) → is_among (members J) p
     push J e l k ih p h = quiet_row J e.by e.moment e.deed p (quiet_of_absent J e.by e.moment e.deed p (told v t J e.by e.moment e.deed k) (asks_listed v t J l) before h) ∙ ih p before
       where
         before : is_among (members J) p ≡ false
-        before = decide (is_among (members J) p) refl
-          where
-            decide : (b : Bool) → is_among (members J) p ≡ b → b ≡ false
-            decide false g = refl
-            decide true g = let x : is_among (members (J ++ e ∷ [])) p ≡ true = member_there_push J e p g in absurd cc
+        before = absent_before J e p h
 
 -- ---- the rows
 

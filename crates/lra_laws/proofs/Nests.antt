@@ -64,7 +64,8 @@ filter_none f ns h = filter_same f (λ n. false) ns h ∙ none ns
 pub nothing_in : (v : Version) (t : List ℕ → Bool) (J : History) (c : ℕ) → is_legal v t J ≡ true → is_among (actions J) c ≡ false → (children J c ≡ []) × (members_of J c ≡ [])
 nothing_in v t J c l fresh = (
   children_by v t J l c ∙ filter_none (λ b. is_parent c (parent J b)) (actions J) (λ b h. of_parent b (parent J b) refl),
-  members_by v t J l c ∙ filter_none (λ p. action_of J p == c) (members J) (λ p h. eqb_flip c (action_of J p) (among_apart (actions J) (action_of J p) c (action_of_there v t J l p h) fresh)))
+  members_by v t J l c ∙ filter_none (λ p. action_of J p == c) (members J) (λ p h. eqb_flip c (action_of J p) (among_apart (actions J) (action_of J p) c (action_of_there v t J l p h) fresh)),
+)
   where
     of_parent : (b : ℕ) (o : Option ℕ) → parent J b ≡ o → is_parent c o ≡ false
     of_parent b None e = refl

@@ -1,7 +1,7 @@
--- The forward state of a history: what stands for it in rows, what the rules read there, and how one more entry changes it.
-use Rattle.std.specs.Prelude.{ℕ, zero, suc, ◌+◌, ◌-◌, ◌==◌, nat_le, nat_lt, Bool, false, ◌&&◌, ◌||◌, not, cond, List, [], ◌∷◌, ◌++◌, length, map, Option, Some, None, unwrap_or, option_map, count_by, slice_get, slice_set}
+-- The forward state of a history: what stands for it in rows, and how one more entry changes it.
+use Rattle.std.specs.Prelude.{ℕ, zero, suc, ◌+◌, ◌-◌, ◌==◌, Bool, false, ◌&&◌, ◌||◌, not, cond, List, [], ◌∷◌, ◌++◌, length, map, Option, Some, None, unwrap_or, count_by, slice_get, slice_set}
 use Rattle.std.specs.Option.{option_map_or, option_and_then}
-use Rattle.std.specs.List.{filter_map, find}
+use Rattle.std.specs.List.{filter_map}
 use Rattle.lra_model.specs.declared.status.ActionStatus.{ActionStatus}
 use Rattle.lra_model.specs.declared.status.ActionStatus.TheVariants as action
 use Rattle.lra_model.specs.declared.status.MemberStatus.{MemberStatus}
@@ -14,14 +14,12 @@ use Rattle.lra_model.specs.declared.asks.Outcome.{Outcome}
 use Rattle.lra_model.specs.declared.asks.Outcome.TheVariants as outcome
 use Rattle.lra_model.specs.declared.entry.Deed.{Deed}
 use Rattle.lra_model.specs.declared.entry.Deed.TheVariants.{Enrol, Start, Join, Leave, Close, Cancel, Skip, Ask, Reply, Report, End, Restart, Renew}
-use Rattle.lra_model.specs.declared.entry.Entry.{Entry}
 use Rattle.lra_model.specs.Addresses.{Addresses, Presence, presence_of}
 use Rattle.lra_model.specs.Words.{has_ended, has_failed, has_finished_cancelling, is_completing, is_compensating, is_completed, is_compensated, is_done_completing, is_done_compensating, has_gone, is_done, same_kind}
 use Rattle.lra_model.specs.History.{History, Step, steps, last, clerks, actions, members, asks, last_moment}
 use Rattle.lra_model.specs.Actions.{Limit, parent, top, action_status, limit_in_force, children}
 use Rattle.lra_model.specs.Members.{Asked, ask_of, action_of, addresses_of, member_status, last_reply, was_answered, ask_direction}
 use Rattle.lra_model.specs.Ends.{staying, action_is}
-use Rattle.lra_model.specs.Facts.{ActionFacts, MemberFacts, Facts}
 
 -- an ask that its member hasn't answered; a restart may have made it void
 pub record Standing : Type 0 where
@@ -163,82 +161,20 @@ state_of J = record {
   members = map (member_row J) (members J);
 }
 
--- ---- what the rules read there
+-- ---- rows by number
 
 -- row n - 1 of a list of rows: numbers are counted from 1
 abbrev pub row_at : {R : Type 0} → List R → ℕ → Option R
 row_at rows zero = None
 row_at rows (suc n) = slice_get rows n
 
--- whether an action may end, by its counts
-abbrev pub settled_by : ActionRow → Bool
-settled_by r = by_status r.status
-  where
-    by_status : ActionStatus → Bool
-    by_status action.Closing = (r.completing == 0) && (r.unended == 0)
-    by_status action.Cancelling = (r.compensating == 0) && (r.uncancelled == 0)
-    by_status _ = false
-
--- the status that an action ends with, by its counts
-abbrev pub right_end_by : ActionRow → ActionStatus
-right_end_by r = by_status r.status
-  where
-    by_status : ActionStatus → ActionStatus
-    by_status action.Closing = cond ((r.uncompleted == 0) && (r.failed == 0)) action.Closed action.FailedToClose
-    by_status _ = cond ((r.uncompensated == 0) && (r.failed == 0)) action.Cancelled action.FailedToCancel
-
--- what the rules ask of an action, by its row
-abbrev pub action_by : State → ActionRow → ActionFacts
-action_by s r = record {
-  parent = r.parent;
-  status = r.status;
-  limit = r.limit;
-  settled = settled_by r;
-  right_end = right_end_by r;
-  top_has_ended = option_map_or (λ (t : ActionRow). has_ended t.status) (row_at s.actions r.top) false;
-}
-
--- whether a member's ask is outstanding: a restart made those up to void so
-abbrev pub is_standing : ℕ → MemberRow → Bool
-is_standing void r = option_map_or (λ (x : Standing). nat_lt void x.number) r.asked false
-
--- what the rules ask of a member, by its row
-abbrev pub member_by : State → MemberRow → MemberFacts
-member_by s r = record {
-  action = r.action;
-  addresses = r.addresses;
-  status = r.status;
-  completion = r.completion;
-  compensation = r.compensation;
-  is_asked = is_standing s.void r;
-  has_forgotten = r.has_forgotten;
-  was_told = r.was_told;
-}
-
--- whether that ask is the member's last, unanswered
+-- whether an ask is the one of a member that stands
 abbrev pub stands_as : ℕ → MemberRow → Bool
 stands_as n r = option_map_or (λ (x : Standing). x.number == n) r.asked false
 
--- the member that an outstanding ask was made of
-abbrev pub member_asked : State → ℕ → Option MemberRow
-member_asked s n = cond (nat_lt s.void n) (find (stands_as n) s.members) None
-
--- all that the rules ask, by the rows
-abbrev pub facts_by : State → Facts
-facts_by s = record {
-  moment = s.moment;
-  clerks = s.clerks;
-  actions = length s.actions;
-  members = length s.members;
-  asks = s.asks;
-  is_clerk = λ n. nat_lt 0 n && nat_le n s.clerks;
-  action = λ a. option_map (action_by s) (row_at s.actions a);
-  member = λ p. option_map (member_by s) (row_at s.members p);
-  outstanding = λ n. option_and_then (λ (r : MemberRow). option_map (λ (x : Standing). x.kind) r.asked) (member_asked s n);
-}
-
 -- ---- one more entry
 
+-- 1 where a test holds, else 0
 abbrev pub one : Bool → ℕ
 one b = cond b 1 0
 
@@ -402,7 +338,3 @@ after_deed m (Report p o) s = change_member (with_report o) p s
 after_deed m (End a status) s = change_status status a s
 after_deed m Restart s = record s { void = s.asks }
 after_deed m (Renew a limit) s = record s { actions = change_row (λ (r : ActionRow). record r { limit = record { length_of = limit; since = m } }) a s.actions }
-
--- the state after one more entry, where it is allowed
-abbrev pub after_entry : Entry → State → State
-after_entry e s = after_deed e.moment e.deed (record s { moment = e.moment })

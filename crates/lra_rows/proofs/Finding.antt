@@ -17,7 +17,8 @@ use Rattle.lra_model.specs.Facts.{Facts}
 use Rattle.lra_model.specs.Wants.{wants, wanted, stage_of, repeats, repeat_count, last_repeat}
 use Rattle.lra_model.specs.Rules.{is_legal}
 use Rattle.lra_laws.specs.Rows as laws
-use Rattle.lra_laws.specs.Rows.{way_asked, row_at, stands_as, action_row, member_row, void_asks, standing, state_of, facts_by, member_by}
+use Rattle.lra_laws.specs.Rows.{way_asked, row_at, stands_as, action_row, member_row, void_asks, standing, state_of}
+use Rattle.lra_laws.specs.inner.RowFacts.{facts_by, member_by}
 use Rattle.lra_laws.specs.Sheets.{Repeats, repeats_in, no_repeats, Nest, Contact, nest_of, contact_of, sheet_of}
 use Rattle.lra_laws.proofs.Legal.{actions_numbered, members_numbered}
 use Rattle.lra_laws.proofs.RowLists.{row_there, row_absent}

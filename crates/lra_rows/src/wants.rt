@@ -44,8 +44,7 @@ impl Rows {
     ghost use Rattle.lra_model.specs.Words as words;
     ghost use Rattle.lra_model.specs.Tests as tests;
     ghost use Rattle.lra_model.specs.Wants as wants;
-    ghost use Rattle.lra_laws.specs.Rows as laws;
-    ghost use Rattle.lra_laws.specs.Rows.{facts_by, member_by};
+    ghost use Rattle.lra_laws.specs.inner.RowFacts.{action_by, is_standing, facts_by, member_by};
 
     fn is_closing(&self, action: u64) -> bool
         ensures { result ≡ tests.status_is words.is_closing (facts_by self.now.state) action }
@@ -66,7 +65,7 @@ impl Rows {
     }
 
     fn top_has_ended(&self, row: &ActionState) -> bool
-        ensures { result ≡ (laws.action_by self.now.state row.now).top_has_ended }
+        ensures { result ≡ (action_by self.now.state row.now).top_has_ended }
     {
         match at(&self.actions, row.top) {
             Some(top) => has_ended(top.status),
@@ -128,7 +127,7 @@ impl Rows {
     }
 
     fn is_asked(&self, row: &MemberState) -> bool
-        ensures { result ≡ laws.is_standing self.now.state.void row.now }
+        ensures { result ≡ is_standing self.now.state.void row.now }
     {
         match row.asked {
             Some(asked) => self.void < asked.number,

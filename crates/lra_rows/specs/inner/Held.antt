@@ -8,7 +8,8 @@ use Rattle.lra_model.specs.Words.{when}
 use Rattle.lra_model.specs.Members.{Asked}
 use Rattle.lra_model.specs.Wants.{wanted, stage_of}
 use Rattle.lra_laws.specs.Rows as laws
-use Rattle.lra_laws.specs.Rows.{Standing, row_at, stands_as, facts_by, member_by, way_asked}
+use Rattle.lra_laws.specs.Rows.{Standing, row_at, stands_as, way_asked}
+use Rattle.lra_laws.specs.inner.RowFacts.{facts_by, member_by}
 use Rattle.lra_laws.specs.Sheets.{Nest, Repeats, Contact, Sheet, no_repeats}
 use Rattle.lra_rows.specs.declared.found.ActionRow.{ActionRow}
 use Rattle.lra_rows.specs.declared.found.MemberRow.{MemberRow}
