@@ -258,8 +258,7 @@ impl Rows {
     {
         match version {
             Version::One => false,
-            Version::Two => row.status.is_closed()
-                && self.parent_is_active(row),
+            Version::Two => row.status.is_closed() && self.parent_is_active(row),
         }
     }
 
@@ -314,8 +313,7 @@ impl Rows {
             return false;
         };
         self.top_has_ended(&action)
-            && (row.status.has_failed()
-                || (row.status.is_completed() && action.parent.is_some()))
+            && (row.status.has_failed() || (row.status.is_completed() && action.parent.is_some()))
             && !row.has_forgotten
     }
 
@@ -393,7 +391,8 @@ impl Rows {
     {
         match self.member(number) {
             Some(row) => {
-                (row.status.is_completing() || row.status.is_compensating()) && outcome.is_decisive()
+                (row.status.is_completing() || row.status.is_compensating())
+                    && outcome.is_decisive()
             }
             None => false,
         }

@@ -4,7 +4,7 @@
 #[cfg(test)]
 mod auditor;
 #[cfg(test)]
-mod core;
+mod coordinator;
 #[cfg(test)]
 mod ids;
 #[cfg(test)]

@@ -70,7 +70,13 @@ fn assert_answers(
         let [by, moment, verb, number, wanted] = words.as_slice() else {
             return Err("five words are wanted")?;
         };
-        let told = answer(coordinator, by.parse()?, moment.parse()?, verb, number.parse()?);
+        let told = answer(
+            coordinator,
+            by.parse()?,
+            moment.parse()?,
+            verb,
+            number.parse()?,
+        );
         let told = format!(in alloc; "{told:?}")?;
         assert_eq!(rt; told.as_str(), *wanted, "at {line}");
     }
@@ -186,12 +192,24 @@ fn what_is_prepared_is_written_by_commit_alone(rt: HostRuntime) -> Result<(), Fa
     let opened = "0 0 enrol 0 Ok(Clerk(1))\n1 0 start 0 Ok(Action(1))";
     assert_answers(&rt, alloc, &mut coordinator, opened)?;
     for commits in [false, true] {
-        assert_eq!(rt; coordinator.status(1, 1), Ok(Told::ActionIs(ActionStatus::Active)));
+        assert_eq!(rt;
+            coordinator.status(1, 1),
+            Ok(Told::ActionIs(ActionStatus::Active))
+        );
         let text = close(alloc, &mut coordinator, commits)?.ok_or("nothing to write")?;
-        assert_eq!(rt; text.as_slice(), b"1 5 close 1 client\n1 5 end 1 Closed\n".as_slice());
+        assert_eq!(rt;
+            text.as_slice(),
+            b"1 5 close 1 client\n1 5 end 1 Closed\n".as_slice()
+        );
     }
-    assert_eq!(rt; coordinator.status(1, 1), Ok(Told::ActionIs(ActionStatus::Closed)));
-    assert!(rt; close(alloc, &mut coordinator, true)?.is_none(), "a second close");
+    assert_eq!(rt;
+        coordinator.status(1, 1),
+        Ok(Told::ActionIs(ActionStatus::Closed))
+    );
+    assert!(rt;
+        close(alloc, &mut coordinator, true)?.is_none(),
+        "a second close"
+    );
     Ok(())
 }
 
