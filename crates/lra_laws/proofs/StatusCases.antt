@@ -13,7 +13,7 @@ use Rattle.lra_laws.proofs.GoodStatus.{status_by}
 use Rattle.lra_laws.specs.Rows.{decided_as, way_of}
 use Rattle.lra_laws.proofs.Told.{ask_fits}
 
--- what a direction came to is decisive
+-- what was decided in a direction is decisive
 abbrev pub is_word : Option Outcome → Bool
 is_word o = option_map_or is_decisive o true
 
