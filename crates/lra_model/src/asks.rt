@@ -3,6 +3,8 @@
 ghost use Rattle.std.specs.Prelude.{◌≡◌, IfSome, Some};
 ghost use Rattle.lra_model.specs.Words.{outcome_suits};
 
+use crate::naming::{Named, find_by_name};
+
 /// What a member is asked for.
 #[derive(Clone, Copy, Debug, PartialEq, Eq)]
 pub enum AskKind {
@@ -59,14 +61,24 @@ impl AskKind {
         ensures found { IfSome result (λ kind. text.now ≡ ask_kind_name kind) }
         ensures only { (kind : AskKind) → text.now ≡ ask_kind_name kind → result ≡ Some kind }
     {
-        match text {
-            b"complete" => Some(AskKind::Complete),
-            b"compensate" => Some(AskKind::Compensate),
-            b"status" => Some(AskKind::Status),
-            b"forget" => Some(AskKind::Forget),
-            b"after" => Some(AskKind::After),
-            _ => None,
-        }
+        let values = [
+            AskKind::Complete,
+            AskKind::Compensate,
+            AskKind::Status,
+            AskKind::Forget,
+            AskKind::After,
+        ];
+        find_by_name(&values, text)
+    }
+}
+
+impl Named for AskKind {
+    ghost use Rattle.lra_model.specs.Names.{ask_kind_name};
+
+    ghost name_of = { ask_kind_name };
+
+    fn name(self) -> &'static str {
+        AskKind::name(self)
     }
 }
 
@@ -89,12 +101,22 @@ impl Direction {
         ensures found { IfSome result (λ direction. text.now ≡ direction_name direction) }
         ensures only { (direction : Direction) → text.now ≡ direction_name direction → result ≡ Some direction }
     {
-        match text {
-            b"completion" => Some(Direction::Completion),
-            b"compensation" => Some(Direction::Compensation),
-            b"neither" => Some(Direction::Neither),
-            _ => None,
-        }
+        let values = [
+            Direction::Completion,
+            Direction::Compensation,
+            Direction::Neither,
+        ];
+        find_by_name(&values, text)
+    }
+}
+
+impl Named for Direction {
+    ghost use Rattle.lra_model.specs.Names.{direction_name};
+
+    ghost name_of = { direction_name };
+
+    fn name(self) -> &'static str {
+        Direction::name(self)
     }
 }
 
@@ -119,13 +141,13 @@ impl Outcome {
         ensures found { IfSome result (λ outcome. text.now ≡ outcome_name outcome) }
         ensures only { (outcome : Outcome) → text.now ≡ outcome_name outcome → result ≡ Some outcome }
     {
-        match text {
-            b"done" => Some(Outcome::Done),
-            b"accepted" => Some(Outcome::Accepted),
-            b"failed" => Some(Outcome::Failed),
-            b"silent" => Some(Outcome::Silent),
-            _ => None,
-        }
+        let values = [
+            Outcome::Done,
+            Outcome::Accepted,
+            Outcome::Failed,
+            Outcome::Silent,
+        ];
+        find_by_name(&values, text)
     }
 
     /// Whether it settles a direction.
@@ -133,6 +155,16 @@ impl Outcome {
         ensures { result ≡ is_decisive self }
     {
         matches!(self, Outcome::Done | Outcome::Failed)
+    }
+}
+
+impl Named for Outcome {
+    ghost use Rattle.lra_model.specs.Names.{outcome_name};
+
+    ghost name_of = { outcome_name };
+
+    fn name(self) -> &'static str {
+        Outcome::name(self)
     }
 }
 
@@ -155,12 +187,18 @@ impl Cause {
         ensures found { IfSome result (λ cause. text.now ≡ cause_name cause) }
         ensures only { (cause : Cause) → text.now ≡ cause_name cause → result ≡ Some cause }
     {
-        match text {
-            b"client" => Some(Cause::Client),
-            b"parent" => Some(Cause::Parent),
-            b"limit" => Some(Cause::Limit),
-            _ => None,
-        }
+        let values = [Cause::Client, Cause::Parent, Cause::Limit];
+        find_by_name(&values, text)
+    }
+}
+
+impl Named for Cause {
+    ghost use Rattle.lra_model.specs.Names.{cause_name};
+
+    ghost name_of = { cause_name };
+
+    fn name(self) -> &'static str {
+        Cause::name(self)
     }
 }
 

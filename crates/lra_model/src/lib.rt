@@ -4,6 +4,7 @@
 
 mod asks;
 mod entry;
+mod naming;
 mod rule;
 mod status;
 mod version;

@@ -2,6 +2,8 @@
 
 ghost use Rattle.std.specs.Prelude.{◌≡◌, IfSome, Some};
 
+use crate::naming::{Named, find_by_name};
+
 /// A rule that a line of a journal may break, in the order in which they are looked at.
 #[derive(Clone, Copy, Debug, PartialEq, Eq)]
 pub enum Rule {
@@ -77,26 +79,36 @@ impl Rule {
         ensures found { IfSome result (λ rule. text.now ≡ rule_name rule) }
         ensures only { (rule : Rule) → text.now ≡ rule_name rule → result ≡ Some rule }
     {
-        match text {
-            b"header" => Some(Rule::Header),
-            b"grammar" => Some(Rule::Grammar),
-            b"clerk" => Some(Rule::Clerk),
-            b"moment" => Some(Rule::Moment),
-            b"number" => Some(Rule::Number),
-            b"action" => Some(Rule::Action),
-            b"member" => Some(Rule::Member),
-            b"left" => Some(Rule::Left),
-            b"active" => Some(Rule::Active),
-            b"addresses" => Some(Rule::Addresses),
-            b"limit" => Some(Rule::Limit),
-            b"cause" => Some(Rule::Cause),
-            b"skip" => Some(Rule::Skip),
-            b"ask" => Some(Rule::Ask),
-            b"reply" => Some(Rule::Reply),
-            b"report" => Some(Rule::Report),
-            b"unsettled" => Some(Rule::Unsettled),
-            b"ending" => Some(Rule::Ending),
-            _ => None,
-        }
+        let values = [
+            Rule::Header,
+            Rule::Grammar,
+            Rule::Clerk,
+            Rule::Moment,
+            Rule::Number,
+            Rule::Action,
+            Rule::Member,
+            Rule::Left,
+            Rule::Active,
+            Rule::Addresses,
+            Rule::Limit,
+            Rule::Cause,
+            Rule::Skip,
+            Rule::Ask,
+            Rule::Reply,
+            Rule::Report,
+            Rule::Unsettled,
+            Rule::Ending,
+        ];
+        find_by_name(&values, text)
+    }
+}
+
+impl Named for Rule {
+    ghost use Rattle.lra_model.specs.Names.{rule_name};
+
+    ghost name_of = { rule_name };
+
+    fn name(self) -> &'static str {
+        Rule::name(self)
     }
 }

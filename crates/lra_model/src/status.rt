@@ -2,6 +2,8 @@
 
 ghost use Rattle.std.specs.Prelude.{◌≡◌, IfSome, Some};
 
+use crate::naming::{Named, find_by_name};
+
 /// The status of an action (MicroProfile LRA 2.0, LRAStatus).
 #[derive(Clone, Copy, Debug, PartialEq, Eq)]
 pub enum ActionStatus {
@@ -60,16 +62,16 @@ impl ActionStatus {
         ensures found { IfSome result (λ status. text.now ≡ action_status_name status) }
         ensures only { (status : ActionStatus) → text.now ≡ action_status_name status → result ≡ Some status }
     {
-        match text {
-            b"Active" => Some(ActionStatus::Active),
-            b"Closing" => Some(ActionStatus::Closing),
-            b"Closed" => Some(ActionStatus::Closed),
-            b"FailedToClose" => Some(ActionStatus::FailedToClose),
-            b"Cancelling" => Some(ActionStatus::Cancelling),
-            b"Cancelled" => Some(ActionStatus::Cancelled),
-            b"FailedToCancel" => Some(ActionStatus::FailedToCancel),
-            _ => None,
-        }
+        let values = [
+            ActionStatus::Active,
+            ActionStatus::Closing,
+            ActionStatus::Closed,
+            ActionStatus::FailedToClose,
+            ActionStatus::Cancelling,
+            ActionStatus::Cancelled,
+            ActionStatus::FailedToCancel,
+        ];
+        find_by_name(&values, text)
     }
 
     /// Whether it may still be closed or cancelled by its client.
@@ -149,6 +151,16 @@ impl ActionStatus {
     }
 }
 
+impl Named for ActionStatus {
+    ghost use Rattle.lra_model.specs.Names.{action_status_name};
+
+    ghost name_of = { action_status_name };
+
+    fn name(self) -> &'static str {
+        ActionStatus::name(self)
+    }
+}
+
 impl MemberStatus {
     ghost use Rattle.lra_model.specs.Names.{member_status_name};
     ghost use Rattle.lra_model.specs.Words as words;
@@ -174,17 +186,17 @@ impl MemberStatus {
         ensures found { IfSome result (λ status. text.now ≡ member_status_name status) }
         ensures only { (status : MemberStatus) → text.now ≡ member_status_name status → result ≡ Some status }
     {
-        match text {
-            b"Active" => Some(MemberStatus::Active),
-            b"Completing" => Some(MemberStatus::Completing),
-            b"Completed" => Some(MemberStatus::Completed),
-            b"FailedToComplete" => Some(MemberStatus::FailedToComplete),
-            b"Compensating" => Some(MemberStatus::Compensating),
-            b"Compensated" => Some(MemberStatus::Compensated),
-            b"FailedToCompensate" => Some(MemberStatus::FailedToCompensate),
-            b"Left" => Some(MemberStatus::Left),
-            _ => None,
-        }
+        let values = [
+            MemberStatus::Active,
+            MemberStatus::Completing,
+            MemberStatus::Completed,
+            MemberStatus::FailedToComplete,
+            MemberStatus::Compensating,
+            MemberStatus::Compensated,
+            MemberStatus::FailedToCompensate,
+            MemberStatus::Left,
+        ];
+        find_by_name(&values, text)
     }
 
     /// Whether it was asked nothing yet.
@@ -230,6 +242,16 @@ impl MemberStatus {
     }
 }
 
+impl Named for MemberStatus {
+    ghost use Rattle.lra_model.specs.Names.{member_status_name};
+
+    ghost name_of = { member_status_name };
+
+    fn name(self) -> &'static str {
+        MemberStatus::name(self)
+    }
+}
+
 impl Ending {
     ghost use Rattle.lra_model.specs.Names.{ending_name};
 
@@ -250,12 +272,22 @@ impl Ending {
         ensures found { IfSome result (λ ending. text.now ≡ ending_name ending) }
         ensures only { (ending : Ending) → text.now ≡ ending_name ending → result ≡ Some ending }
     {
-        match text {
-            b"Completed" => Some(Ending::Completed),
-            b"FailedToComplete" => Some(Ending::FailedToComplete),
-            b"Compensated" => Some(Ending::Compensated),
-            b"FailedToCompensate" => Some(Ending::FailedToCompensate),
-            _ => None,
-        }
+        let values = [
+            Ending::Completed,
+            Ending::FailedToComplete,
+            Ending::Compensated,
+            Ending::FailedToCompensate,
+        ];
+        find_by_name(&values, text)
+    }
+}
+
+impl Named for Ending {
+    ghost use Rattle.lra_model.specs.Names.{ending_name};
+
+    ghost name_of = { ending_name };
+
+    fn name(self) -> &'static str {
+        Ending::name(self)
     }
 }
