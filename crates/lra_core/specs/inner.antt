@@ -1,2 +1,4 @@
 -- Words that private functions and proofs alone use.
 pub mod Drafts
+pub mod Plain
+pub mod Spelled

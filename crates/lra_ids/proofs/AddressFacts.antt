@@ -20,7 +20,8 @@ use Rattle.url.proofs.Theorems.{parse_url-serialize_special}
 use Rattle.lra_ids.proofs.ParsedValid.{http_kind, parse_url-valid}
 use Rattle.lra_ids.specs.declared.fault.UriFault.{UriFault}
 use Rattle.lra_ids.specs.declared.fault.UriFault.TheVariants.{NotUrl, NotHttp, TooLong, Memory}
-use Rattle.lra_ids.specs.Addresses.{fault_of, is_http, address_of_url, address_of_parsed, address_of, is_own, is_address, IsAddressUrl}
+use Rattle.lra_ids.specs.Addresses.{fault_of, is_http, address_of_url, address_of_parsed, address_of, is_own, is_address}
+use Rattle.lra_ids.specs.inner.Urls.{IsAddressUrl}
 
 -- what is known of an address text
 pub record IsFit (text : List ℕ) : Type 0 where

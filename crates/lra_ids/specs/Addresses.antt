@@ -45,11 +45,6 @@ is_own text (Err fault) = false
 unfoldable pub is_address : List ℕ → Bool
 is_address text = is_own text (address_of text)
 
--- the URL is an address, and its text the address that it is
-pub record IsAddressUrl (url : Parts) : Type 0 where
-  pub scheme : url.scheme ≡ codes "http"
-  pub own : is_address (serialize url) ≡ true
-
 -- what an error of the parser comes to: a growth that was refused, or a text that is no URL
 abbrev pub fault_of : ParseError → UriFault
 fault_of OutOfMemory = Memory

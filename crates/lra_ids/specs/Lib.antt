@@ -1,2 +1,3 @@
 pub mod Identifiers
 pub mod Addresses
+pub mod inner

@@ -29,7 +29,7 @@ impl Model for Address {
     ghost Value = { List ℕ };
 
     ghost use Rattle.url.specs.Parts.{serialize};
-    ghost use Rattle.lra_ids.specs.Addresses.{IsAddressUrl};
+    ghost use Rattle.lra_ids.specs.inner.Urls.{IsAddressUrl};
 
     ghost view = { λ a. serialize a.url };
 
@@ -57,7 +57,7 @@ fn has_tail(text: &[u8]) -> bool
 
 impl Address {
     ghost use Rattle.url.specs.Parts.{serialize};
-    ghost use Rattle.lra_ids.specs.Addresses.{IsAddressUrl};
+    ghost use Rattle.lra_ids.specs.inner.Urls.{IsAddressUrl};
 
     // The URL as an address.
     pub(crate) fn of_url(url: Url) -> Address
