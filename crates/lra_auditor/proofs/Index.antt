@@ -4,13 +4,14 @@ use Rattle.std.specs.Option.{option_map_or}
 use Rattle.std.specs.List.{find}
 use Rattle.std.proofs.lemmas.Option.{same_Some, none-some}
 use Rattle.std.proofs.lemmas.Bool.{lt-ltb, cases_eq, eqb-true, eq-eqb, ne_eqb}
-use Rattle.lra_auditor.specs.declared.rows.MemberRow.{MemberRow}
-use Rattle.lra_auditor.specs.declared.rows.Standing.{Standing}
-use Rattle.lra_auditor.specs.inner.Rows.{State, change_row, stands_as, place_of, member_asked, change_member, with_member, with_reply, with_reply_to}
-use Rattle.lra_auditor.specs.Listed.{row_at}
+use Rattle.lra_laws.specs.Rows.{MemberRow}
+use Rattle.lra_laws.specs.Rows.{Standing}
+use Rattle.lra_laws.specs.Rows.{State, change_row, stands_as, place_of, change_member, with_member, with_reply, with_reply_to}
+use Rattle.lra_laws.specs.inner.RowFacts.{member_asked}
+use Rattle.lra_laws.specs.Rows.{row_at}
 use Rattle.lra_model.specs.declared.status.ActionStatus.{ActionStatus}
 use Rattle.lra_model.specs.declared.asks.Outcome.{Outcome}
-use Rattle.lra_auditor.specs.declared.rows.ActionRow.{ActionRow}
+use Rattle.lra_laws.specs.Rows.{ActionRow}
 use Rattle.lra_auditor.specs.inner.Changes.{with_row, CanCount, AllCanCount}
 use Rattle.lra_auditor.specs.inner.Holders.{Holds, IsIndex}
 

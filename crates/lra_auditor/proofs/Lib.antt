@@ -1,15 +1,3 @@
-pub mod RowLists
-pub mod Told
-pub mod MemberWords
-pub mod StatusCases
-pub mod MemberDeeds
-pub mod AskWords
-pub mod MemberRows
-pub mod ActionWords
-pub mod ActionRows
-pub mod StartRows
-pub mod StatePush
-pub mod Agree
 pub mod RowsLaw
 pub mod RowsWorked
 pub mod Index

@@ -6,10 +6,10 @@ use Rattle.lra_model.specs.declared.version.Version.{Version}
 use Rattle.lra_model.specs.History.{History, actions, members}
 use Rattle.lra_model.specs.Rules.{is_legal}
 use Rattle.lra_laws.proofs.Legal.{IsNumbered, actions_numbered, members_numbered}
-use Rattle.lra_auditor.specs.declared.rows.ActionRow.{ActionRow}
-use Rattle.lra_auditor.specs.declared.rows.MemberRow.{MemberRow}
-use Rattle.lra_auditor.specs.inner.Rows.{State, action_row, member_row, state_of}
-use Rattle.lra_auditor.specs.Listed.{row_at}
+use Rattle.lra_laws.specs.Rows.{ActionRow}
+use Rattle.lra_laws.specs.Rows.{MemberRow}
+use Rattle.lra_laws.specs.Rows.{State, action_row, member_row, state_of}
+use Rattle.lra_laws.specs.Rows.{row_at}
 use Rattle.lra_auditor.specs.Listed.{Listed}
 use Rattle.lra_auditor.specs.inner.Listings.{listed_from, action_listed, member_listed, listed_by}
 use Rattle.lra_auditor.specs.Listings.{listing}

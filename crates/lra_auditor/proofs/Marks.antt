@@ -8,11 +8,11 @@ use Rattle.std.proofs.lemmas.Option.{same_Some, none-some, slice_get-get_or, sli
 use Rattle.std.proofs.lemmas.Iterator.Adapters.{option_map_id}
 use Rattle.std.proofs.lemmas.List.{drop_more, drop_all}
 use Rattle.lra_model.specs.Words.{has_failed}
-use Rattle.lra_auditor.specs.declared.rows.ActionRow.{ActionRow}
-use Rattle.lra_auditor.specs.declared.rows.MemberRow.{MemberRow}
+use Rattle.lra_laws.specs.Rows.{ActionRow}
+use Rattle.lra_laws.specs.Rows.{MemberRow}
 use Rattle.lra_auditor.specs.declared.verdict.FailedEnd.{FailedEnd}
-use Rattle.lra_auditor.specs.inner.Rows.{State, change_row}
-use Rattle.lra_auditor.specs.Listed.{row_at}
+use Rattle.lra_laws.specs.Rows.{State, change_row}
+use Rattle.lra_laws.specs.Rows.{row_at}
 use Rattle.lra_auditor.specs.inner.Changes.{with_row}
 use Rattle.lra_auditor.specs.inner.Totals.{is_within_by, has_failed_here, number_of_first, least_failed_by, failed_ends_from}
 use Rattle.lra_auditor.proofs.Index.{change_row-there, change_row-absent, row_at-with_row_same, row_at-with_row_other}

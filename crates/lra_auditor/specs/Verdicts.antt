@@ -1,5 +1,5 @@
 -- What an audit answers, in the words of histories and of the journal's text.
-use Rattle.std.specs.Prelude.{◌≡◌, ℕ, ◌+◌, ◌<◌, Bool, true, false, not, List, ◌++◌, length, Option, Some, option_map, unwrap_or, ◌⊎◌}
+use Rattle.std.specs.Prelude.{◌≡◌, ℕ, ◌+◌, ◌<◌, Bool, true, false, List, ◌++◌, length, Option, Some, option_map, unwrap_or, ◌⊎◌}
 use Rattle.std.specs.Option.{option_map_or}
 use Rattle.std.specs.List.{filter_map}
 use Rattle.lra_model.specs.declared.status.ActionStatus.{ActionStatus}
@@ -8,12 +8,13 @@ use Rattle.lra_model.specs.declared.version.Version.{Version}
 use Rattle.lra_model.specs.declared.rule.Rule.{Rule}
 use Rattle.lra_model.specs.declared.rule.Rule.TheVariants as rule
 use Rattle.lra_model.specs.declared.entry.Entry.{Entry}
-use Rattle.lra_model.specs.Words.{has_ended, is_closed, same_status}
+use Rattle.lra_model.specs.Words.{is_closed, same_status}
 use Rattle.lra_model.specs.History.{History, actions}
 use Rattle.lra_model.specs.Actions.{action_status}
 use Rattle.lra_model.specs.Rules.{Fault, broken, is_legal, first_fault}
 use Rattle.lra_model.specs.GoodEnds.{GoodEnds}
 use Rattle.lra_model.specs.Tallies.{count_actions, least_failed, failed_actions}
+use Rattle.lra_laws.specs.Rows.{is_unended}
 use Rattle.lra_journal.specs.Line.{line, text, HasLine, HasText}
 use Rattle.lra_journal.specs.Lines.{HasNoHeader, HasNoLine}
 use Rattle.lra_auditor.specs.declared.verdict.FailedEnd.{FailedEnd}
@@ -25,10 +26,6 @@ use Rattle.lra_ids.specs.Addresses.{is_address}
 -- an action that ended in failure, with the least member that failed and stays in it or below it; a legal history has one for each
 abbrev pub failed_end : History → ℕ → Option FailedEnd
 failed_end J a = option_map (λ p. record { action = a; status = unwrap_or (action_status J a) action.Active; member = p }) (least_failed J a)
-
--- an action that has not ended
-abbrev pub is_unended : ActionStatus → Bool
-is_unended s = not (has_ended s)
 
 -- an action that ended cancelled, and not in failure
 abbrev pub ended_cancelled : ActionStatus → Bool

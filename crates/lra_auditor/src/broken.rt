@@ -6,7 +6,8 @@ ghost use Rattle.lra_model.specs.declared.entry.Deed.TheVariants as deeds;
 ghost use Rattle.lra_model.specs.Rules as rules;
 ghost use Rattle.lra_journal.specs.Borrowed.{entry_seen, deed_seen};
 ghost use Rattle.lra_ids.specs.Addresses.{is_address};
-ghost use Rattle.lra_auditor.specs.inner.Rows.{State, facts_by};
+ghost use Rattle.lra_laws.specs.Rows.{State};
+ghost use Rattle.lra_laws.specs.inner.RowFacts.{facts_by};
 
 use crate::lawful::{addresses_fit, has_deed, is_moment, is_next};
 use crate::state::Rows;

@@ -9,9 +9,9 @@ ghost use Rattle.lra_model.specs.Tests as tests;
 ghost use Rattle.lra_model.specs.Rules as rules;
 ghost use Rattle.lra_journal.specs.Borrowed.{deed_seen};
 ghost use Rattle.lra_ids.specs.Addresses.{is_address};
-ghost use Rattle.lra_auditor.specs.inner.Presence.{presence_facts};
-ghost use Rattle.lra_auditor.specs.inner.Rows.{State, action_by, member_by, facts_by, settled_by, right_end_by, is_standing};
-ghost use Rattle.lra_auditor.specs.Listed.{row_at};
+ghost use Rattle.lra_laws.specs.Rows.{State};
+ghost use Rattle.lra_laws.specs.inner.RowFacts.{action_by, member_by, facts_by, settled_by, right_end_by, is_standing};
+ghost use Rattle.lra_laws.specs.Rows.{row_at};
 
 use crate::rows::{ActionRow, Limit, MemberRow, Presence, Standing};
 use crate::state::Rows;
@@ -85,7 +85,7 @@ pub(crate) fn is_moment(moment: u64, limit: u64) -> bool
 }
 
 fn limit_has_passed(moment: u64, limit: Limit) -> bool
-    ensures { result ≡ (not (limit.length == 0) && nat_le (limit.since + limit.length) moment) }
+    ensures { result ≡ (not (limit.length_of == 0) && nat_le (limit.since + limit.length_of) moment) }
 {
     match limit.since.checked_add(limit.length) {
         Some(end) => limit.length != 0 && end <= moment,
@@ -94,7 +94,7 @@ fn limit_has_passed(moment: u64, limit: Limit) -> bool
 }
 
 fn has_address(kind: AskKind, addresses: &Presence) -> bool
-    ensures { result ≡ tests.has_address kind (presence_facts addresses.now) }
+    ensures { result ≡ tests.has_address kind (addresses.now) }
 {
     match kind {
         AskKind::Complete => addresses.complete,

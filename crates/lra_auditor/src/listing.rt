@@ -1,7 +1,7 @@
 //! An account of a journal: each action and each member of its history.
 
 ghost use Rattle.std.specs.Prelude.{◌≡◌, length};
-ghost use Rattle.lra_auditor.specs.Listed.{row_at};
+ghost use Rattle.lra_laws.specs.Rows.{row_at};
 ghost use Rattle.lra_auditor.specs.inner.Listings.{listed_by};
 
 use crate::state::Rows;

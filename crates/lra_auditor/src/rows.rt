@@ -1,12 +1,23 @@
 //! What the auditor keeps of a history: a row for each action and for each member.
 
 use lra_model::{ActionStatus, AskKind, Direction, MemberStatus, Outcome};
+use std::marker::Model;
 
 /// A limit in milliseconds, where 0 is none, and the moment that it counts from.
 #[derive(Clone, Copy, Debug)]
 pub(crate) struct Limit {
     pub length: u64,
     pub since: u64,
+}
+
+impl Model for Limit {
+    ghost use Rattle.lra_model.specs.Actions as words;
+
+    ghost Value = { words.Limit };
+
+    ghost view = { λ l. record { length_of = l.length; since = l.since } };
+
+    ghost inverse = { λ l. record { length = l.length_of; since = l.since } };
 }
 
 /// Which addresses a member has.
@@ -19,12 +30,32 @@ pub(crate) struct Presence {
     pub after: bool,
 }
 
+impl Model for Presence {
+    ghost use Rattle.lra_model.specs.Addresses as texts;
+
+    ghost Value = { texts.Presence };
+
+    ghost view = { λ p. record { compensate = p.compensate; complete = p.complete; status = p.status; forget = p.forget; after = p.after } };
+
+    ghost inverse = { λ p. record { compensate = p.compensate; complete = p.complete; status = p.status; forget = p.forget; after = p.after } };
+}
+
 /// An ask that its member hasn't answered; a restart may have made it void.
 #[derive(Clone, Copy, Debug)]
 pub(crate) struct Standing {
     pub number: u64,
     pub kind: AskKind,
     pub direction: Direction,
+}
+
+impl Model for Standing {
+    ghost use Rattle.lra_laws.specs.Rows as rows;
+
+    ghost Value = { rows.Standing };
+
+    ghost view = { λ s. record { number = s.number; kind = s.kind; direction = s.direction } };
+
+    ghost inverse = { λ s. record { number = s.number; kind = s.kind; direction = s.direction } };
 }
 
 /// A member, as the rules see it.
@@ -40,6 +71,34 @@ pub(crate) struct MemberRow {
     pub asked: Option<Standing>,
     pub has_forgotten: bool,
     pub was_told: bool,
+}
+
+impl Model for MemberRow {
+    ghost use Rattle.lra_laws.specs.Rows as rows;
+
+    ghost Value = { rows.MemberRow };
+
+    ghost view = { λ r. record {
+      action = r.action;
+      addresses = r.addresses;
+      status = r.status;
+      completion = r.completion;
+      compensation = r.compensation;
+      asked = r.asked;
+      has_forgotten = r.has_forgotten;
+      was_told = r.was_told;
+    } };
+
+    ghost inverse = { λ r. record {
+      action = r.action;
+      addresses = r.addresses;
+      status = r.status;
+      completion = r.completion;
+      compensation = r.compensation;
+      asked = r.asked;
+      has_forgotten = r.has_forgotten;
+      was_told = r.was_told;
+    } };
 }
 
 /// An action, as the rules see it, with how many of its staying members and of the actions nested in it have which status.
@@ -63,4 +122,38 @@ pub(crate) struct ActionRow {
     pub uncancelled: u64,
     /// Nested actions that ended in failure.
     pub failed: u64,
+}
+
+impl Model for ActionRow {
+    ghost use Rattle.lra_laws.specs.Rows as rows;
+
+    ghost Value = { rows.ActionRow };
+
+    ghost view = { λ r. record {
+      parent = r.parent;
+      top = r.top;
+      status = r.status;
+      limit = r.limit;
+      completing = r.completing;
+      compensating = r.compensating;
+      uncompleted = r.uncompleted;
+      uncompensated = r.uncompensated;
+      unended = r.unended;
+      uncancelled = r.uncancelled;
+      failed = r.failed;
+    } };
+
+    ghost inverse = { λ r. record {
+      parent = r.parent;
+      top = r.top;
+      status = r.status;
+      limit = r.limit;
+      completing = r.completing;
+      compensating = r.compensating;
+      uncompleted = r.uncompleted;
+      uncompensated = r.uncompensated;
+      unended = r.unended;
+      uncancelled = r.uncancelled;
+      failed = r.failed;
+    } };
 }

@@ -2,8 +2,9 @@
 
 ghost use Rattle.std.specs.Prelude.{◌≡◌, ◌-◌, ◌<◌, SomeIff, Some, None, []};
 ghost use Rattle.std.specs.Option.{option_and_then};
-ghost use Rattle.lra_auditor.specs.inner.Rows.{State, member_asked, new_top};
-ghost use Rattle.lra_auditor.specs.Listed.{row_at};
+ghost use Rattle.lra_laws.specs.Rows.{State, new_top};
+ghost use Rattle.lra_laws.specs.inner.RowFacts.{member_asked};
+ghost use Rattle.lra_laws.specs.Rows.{row_at};
 
 use crate::rows::{ActionRow, MemberRow};
 use std::alloc::Global;
@@ -30,7 +31,7 @@ pub(crate) struct Rows {
 impl Model for Rows {
     ghost use Rattle.std.specs.Prelude.{nat_eq};
     ghost use Rattle.std.specs.HashMap.{get};
-    ghost use Rattle.lra_auditor.specs.inner.Rows.{State};
+    ghost use Rattle.lra_laws.specs.Rows.{State};
     ghost use Rattle.lra_auditor.specs.inner.Holders.{IsIndex};
 
     ghost Value = { State };

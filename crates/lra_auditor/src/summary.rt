@@ -3,9 +3,8 @@
 ghost use Rattle.std.specs.Prelude.{◌≡◌, ◌<◌, ◌≤◌, ℕ, IfOk, Some, None, true, false, cond, count_by, nat_lt, option_map, unwrap_or};
 ghost use Rattle.std.specs.Option.{option_map_or, option_or};
 ghost use Rattle.lra_model.specs.Words as words;
-ghost use Rattle.lra_auditor.specs.inner.Rows.{State, change_row};
-ghost use Rattle.lra_auditor.specs.Verdicts.{is_unended};
-ghost use Rattle.lra_auditor.specs.Listed.{row_at};
+ghost use Rattle.lra_laws.specs.Rows.{State, change_row, is_unended};
+ghost use Rattle.lra_laws.specs.Rows.{row_at};
 ghost use Rattle.lra_auditor.specs.inner.Totals.{has_failed_here, is_within_by, least_failed_by, failed_ends_from, summary_by};
 ghost use Rattle.lra_auditor.specs.Verdicts.{ended_cancelled};
 
@@ -137,8 +136,9 @@ fn least_failed(alloc: Global, rows: &Rows) -> Result<Vec<Option<u64>>, Memory>
     let are_less = parents_are_less(actions);
     let mut least = vec![in alloc; None; actions.len()]?;
     for (place, row) in members.iter().enumerate() {
+        let action = row.action;
         if has_failed_here(row) {
-            mark_up(actions, are_less, &mut least, row.action, place as u64 + 1);
+            mark_up(actions, are_less, &mut least, action, place as u64 + 1);
         }
     }
     Ok(least)

@@ -1,10 +1,10 @@
 -- What a change of the rows needs and does.
 use Rattle.std.specs.Prelude.{◌≡◌, ℕ, ◌+◌, ◌-◌, ◌<◌, ◌^◌, List, IfSome}
-use Rattle.lra_auditor.specs.declared.rows.ActionRow.{ActionRow}
+use Rattle.lra_laws.specs.Rows.{ActionRow}
 use Rattle.lra_model.specs.declared.entry.Deed.{Deed}
 use Rattle.lra_model.specs.declared.entry.Deed.TheVariants.{Enrol, Ask}
-use Rattle.lra_auditor.specs.inner.Rows.{State, change_row}
-use Rattle.lra_auditor.specs.Listed.{row_at}
+use Rattle.lra_laws.specs.Rows.{State, change_row}
+use Rattle.lra_laws.specs.Rows.{row_at}
 
 -- the counts of an action can go up by one
 pub record CanCount (r : ActionRow) : Type 0 where

@@ -4,10 +4,11 @@ use Rattle.lra_model.specs.declared.version.Version.{Version}
 use Rattle.lra_model.specs.declared.entry.Entry.{Entry}
 use Rattle.lra_model.specs.History.{History}
 use Rattle.lra_model.specs.Rules.{is_legal}
-use Rattle.lra_auditor.specs.declared.rows.ActionRow.{ActionRow}
+use Rattle.lra_laws.specs.Rows.{ActionRow}
 use Rattle.lra_ids.specs.Addresses.{is_address}
-use Rattle.lra_auditor.specs.inner.Rows.{State, state_of, after_entry}
-use Rattle.lra_auditor.specs.Listed.{row_at}
+use Rattle.lra_laws.specs.Rows.{State, state_of}
+use Rattle.lra_auditor.specs.inner.Start.{after_entry}
+use Rattle.lra_laws.specs.Rows.{row_at}
 use Rattle.lra_auditor.specs.inner.Start.{no_entries}
 
 -- the version, how many entries there are, and the state after them

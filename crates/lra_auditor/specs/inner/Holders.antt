@@ -1,9 +1,9 @@
 -- Who holds which ask, beside the members' rows.
 use Rattle.std.specs.Prelude.{◌≡◌, ℕ, ◌≤◌, true, false, List, Option, Some}
 use Rattle.std.specs.Option.{option_map_or}
-use Rattle.lra_auditor.specs.declared.rows.MemberRow.{MemberRow}
-use Rattle.lra_auditor.specs.Listed.{row_at}
-use Rattle.lra_auditor.specs.inner.Rows.{stands_as}
+use Rattle.lra_laws.specs.Rows.{MemberRow}
+use Rattle.lra_laws.specs.Rows.{row_at}
+use Rattle.lra_laws.specs.Rows.{stands_as}
 
 -- the ask is the one that stands in the member's row
 abbrev pub Holds : List MemberRow → ℕ → ℕ → Type 0

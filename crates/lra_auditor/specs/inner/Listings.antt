@@ -1,11 +1,11 @@
 -- The listing, by the rows.
 use Rattle.std.specs.Prelude.{ℕ, ◌+◌, List, [], ◌∷◌}
-use Rattle.lra_auditor.specs.declared.rows.ActionRow.{ActionRow}
-use Rattle.lra_auditor.specs.declared.rows.MemberRow.{MemberRow}
+use Rattle.lra_laws.specs.Rows.{ActionRow}
+use Rattle.lra_laws.specs.Rows.{MemberRow}
 use Rattle.lra_auditor.specs.declared.listing.ListedAction.{ListedAction}
 use Rattle.lra_auditor.specs.declared.listing.ListedMember.{ListedMember}
 use Rattle.lra_auditor.specs.Listed.{Listed}
-use Rattle.lra_auditor.specs.inner.Rows.{State}
+use Rattle.lra_laws.specs.Rows.{State}
 
 -- what is listed of each row, where the first is number n
 abbrev pub listed_from : {R L : Type 0} → (ℕ → R → L) → ℕ → List R → List L

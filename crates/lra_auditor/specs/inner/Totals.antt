@@ -2,13 +2,13 @@
 use Rattle.std.specs.Prelude.{ℕ, zero, suc, ◌==◌, ◌+◌, Bool, false, ◌&&◌, ◌||◌, not, cond, List, [], ◌∷◌, length, Option, Some, None, option_map, count_by}
 use Rattle.std.specs.Option.{option_map_or}
 use Rattle.lra_model.specs.Words.{is_closed, has_failed, has_gone, member_has_failed}
-use Rattle.lra_auditor.specs.declared.rows.ActionRow.{ActionRow}
-use Rattle.lra_auditor.specs.declared.rows.MemberRow.{MemberRow}
+use Rattle.lra_laws.specs.Rows.{ActionRow}
+use Rattle.lra_laws.specs.Rows.{MemberRow}
 use Rattle.lra_auditor.specs.declared.verdict.FailedEnd.{FailedEnd}
 use Rattle.lra_auditor.specs.declared.verdict.Summary.{Summary}
-use Rattle.lra_auditor.specs.inner.Rows.{State}
-use Rattle.lra_auditor.specs.Listed.{row_at}
-use Rattle.lra_auditor.specs.Verdicts.{is_unended}
+use Rattle.lra_laws.specs.Rows.{State}
+use Rattle.lra_laws.specs.Rows.{row_at}
+use Rattle.lra_laws.specs.Rows.{is_unended}
 use Rattle.lra_auditor.specs.Verdicts.{ended_cancelled}
 
 -- whether an action is t or stands below it, by the parents in the rows

@@ -1,8 +1,8 @@
 use Rattle.std.proofs.Common.{◌≡◌, None, ◌∙◌, ap, subst, IfOk}
 use Rattle.std.specs.Prelude.{unwrap_or, List}
 use Rattle.lra_auditor.specs.declared.verdict.FailedEnd.{FailedEnd}
-use Rattle.lra_auditor.specs.inner.Rows.{State}
-use Rattle.lra_auditor.specs.Listed.{row_at}
+use Rattle.lra_laws.specs.Rows.{State}
+use Rattle.lra_laws.specs.Rows.{row_at}
 use Rattle.lra_auditor.specs.inner.Totals.{failed_ends_from}
 use Rattle.lra_auditor.proofs.Marks.{ends-by-places}
 use Rattle.lra_auditor.proofs.summary.failed_by.Goals as goal

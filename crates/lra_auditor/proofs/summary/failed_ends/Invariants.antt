@@ -1,6 +1,6 @@
 use Rattle.std.proofs.Common.{◌≡◌, ◌+◌, ◌++◌, drop, None}
 use Rattle.std.specs.Prelude.{unwrap_or}
-use Rattle.lra_auditor.specs.Listed.{row_at}
+use Rattle.lra_laws.specs.Rows.{row_at}
 use Rattle.lra_auditor.specs.inner.Totals.{failed_ends_from}
 use Rattle.lra_auditor.proofs.summary.failed_ends.Given as goal
 

@@ -1,6 +1,7 @@
-use Rattle.std.proofs.Common.{◌≡◌, None, sym, ◌∙◌, ap, length, arith, replicate, rules}
-use Rattle.lra_auditor.specs.inner.Rows.{State}
-use Rattle.lra_auditor.proofs.Marks.{IsToFill-start, IsToFill-marked, IsToFill-passed, IsToFill-end, IsClosed-start}
+use Rattle.std.proofs.Common.{◌≡◌, ℕ, ◌+◌, None, option_map, subst, sym, ◌∙◌, ap, length, arith, replicate, rules}
+use Rattle.lra_laws.specs.Rows.{State, MemberRow, row_at}
+use Rattle.lra_auditor.specs.inner.Totals.{has_failed_here, is_within_by}
+use Rattle.lra_auditor.proofs.Marks.{IsToFill-start, IsToFill-marked, IsToFill-passed, IsToFill-end, IsClosed-start, marked}
 use Rattle.lra_auditor.proofs.summary.least_failed.Goals as goal
 use Rattle.lra_auditor.proofs.summary.least_failed.Goals.{then-has_failed_here, else-has_failed_here}
 
@@ -23,15 +24,16 @@ pub loop-place-preserved : goal.loop-place-preserved
 loop-place-preserved c =
     let members : c.as_slice-members.result.now ≡ c.args.rows.now.members = c.as_slice-members.ensures.value ∙ ap (λ (s : State). s.members) c.rows.view_is in
     let actions : c.as_slice-actions.result.now ≡ c.args.rows.now.actions = c.as_slice-actions.ensures.value ∙ ap (λ (s : State). s.actions) c.rows.view_is in
+    let found = ap (λ (r : MemberRow). has_failed_here r) (sym c.index-members-place.is) in
     elim c.if-has_failed_here.branch [
       | then-has_failed_here w ↦ rw w.least-is (record {
-        to_fill = IsToFill-marked c.args.rows.now c.as_slice-actions.result.now c.as_slice-members.result.now actions members c.loop-place.place _ c.loop-place.least.items w.mark_up.new.least.items
-            c.loop-place-test.true (sym w.if-has_failed_here.ensures) w.mark_up.ensures.marks c.loop-place.invariant.to_fill;
+        to_fill = IsToFill-marked c.args.rows.now c.as_slice-actions.result.now c.as_slice-members.result.now actions members c.loop-place.place c.index-members-place.result c.loop-place.least.items w.mark_up.new.least.items
+            c.loop-place-test.true (found ∙ sym w.if-has_failed_here.ensures) (subst (λ (r : MemberRow). (t : ℕ) → row_at w.mark_up.new.least.items t ≡ option_map (marked (c.loop-place.place + 1) (is_within_by r.action c.as_slice-actions.result.now t r.action)) (row_at c.loop-place.least.items t)) (c.row.view_is ∙ c.index-members-place.is) w.mark_up.ensures.marks) c.loop-place.invariant.to_fill;
         closed = w.mark_up.ensures.closed;
       })
       | else-has_failed_here w ↦ rw w.least-is (record {
-        to_fill = IsToFill-passed c.args.rows.now c.as_slice-members.result.now members c.loop-place.place _ c.loop-place.least.items
-            c.loop-place-test.true (sym w.if-has_failed_here.ensures) c.loop-place.invariant.to_fill;
+        to_fill = IsToFill-passed c.args.rows.now c.as_slice-members.result.now members c.loop-place.place c.index-members-place.result c.loop-place.least.items
+            c.loop-place-test.true (found ∙ sym w.if-has_failed_here.ensures) c.loop-place.invariant.to_fill;
         closed = c.loop-place.invariant.closed;
       })
     ]
