@@ -1,5 +1,5 @@
 -- Where an action stands, with what its lists hold.
-use Rattle.std.specs.Prelude.{ℕ, ◌-◌, Bool, true, List, length, map, take}
+use Rattle.std.specs.Prelude.{ℕ, Bool, true, List, map}
 use Rattle.std.specs.Option.{option_map_or}
 use Rattle.lra_laws.specs.Rows.{row_at}
 use Rattle.lra_laws.specs.Sheets.{Nest, with_child_number, with_member_number, with_number_under}

@@ -1,0 +1,133 @@
+//! What settles next.
+
+ghost use Rattle.std.specs.Prelude.{◌≡◌, ◌&&◌, ◌==◌, not};
+ghost use Rattle.lra_model.specs.Words as words;
+ghost use Rattle.lra_model.specs.Tests as tests;
+ghost use Rattle.lra_laws.specs.inner.RowFacts.{settled_by, right_end_by};
+
+use crate::lists::at;
+use crate::rows::Rows;
+use crate::state::{ActionState, MemberState};
+use lra_model::{ActionStatus, Cause, Deed, MemberStatus};
+
+fn is_cancellable(status: ActionStatus) -> bool
+    ensures { result ≡ words.is_cancellable status }
+{
+    matches!(
+        status,
+        ActionStatus::Active | ActionStatus::Closed | ActionStatus::FailedToClose
+    )
+}
+
+/// Whether an action may end, by its counts.
+fn is_settled(row: &ActionState) -> bool
+    ensures { result ≡ settled_by row.now }
+{
+    match row.status {
+        ActionStatus::Closing => row.completing == 0 && row.unended == 0,
+        ActionStatus::Cancelling => row.compensating == 0 && row.uncancelled == 0,
+        _ => false,
+    }
+}
+
+/// The status that an action ends with, by its counts.
+fn right_end(row: &ActionState) -> ActionStatus
+    ensures { result ≡ right_end_by row.now }
+{
+    match row.status {
+        ActionStatus::Closing => {
+            if row.uncompleted == 0 && row.failed == 0 {
+                ActionStatus::Closed
+            } else {
+                ActionStatus::FailedToClose
+            }
+        }
+        _ => {
+            if row.uncompensated == 0 && row.failed == 0 {
+                ActionStatus::Cancelled
+            } else {
+                ActionStatus::FailedToCancel
+            }
+        }
+    }
+}
+
+impl Rows {
+    ghost use Rattle.std.specs.Prelude.{◌≡◌};
+    ghost use Rattle.lra_model.specs.Words as words;
+    ghost use Rattle.lra_model.specs.Tests as tests;
+    ghost use Rattle.lra_laws.specs.Settles.{may_skip_by, turn_by, end_by};
+    ghost use Rattle.lra_laws.specs.inner.RowFacts.{action_by, facts_by, member_by};
+
+    fn may_skip(&self, row: &MemberState) -> bool
+        ensures { result ≡ tests.may_skip (facts_by self.now.sheet.state) (member_by self.now.sheet.state row.now) }
+    {
+        self.is_closing(row.action)
+            && matches!(row.status, MemberStatus::Active)
+            && !row.addresses.complete
+            && row.addresses.compensate
+    }
+
+    /// Whether a member may be completed without being asked.
+    pub fn may_be_skipped(&self, member: u64) -> bool
+        ensures { result ≡ may_skip_by self.now.sheet.state member }
+    {
+        match at(&self.members, member) {
+            Some(row) => self.may_skip(&row),
+            None => false,
+        }
+    }
+
+    fn may_close_with_parent(&self, row: &ActionState) -> bool
+        ensures { result ≡ tests.may_close_with_parent (facts_by self.now.sheet.state) (action_by self.now.sheet.state row.now) }
+    {
+        match row.parent {
+            Some(parent) => matches!(row.status, ActionStatus::Active) && self.is_closing(parent),
+            None => false,
+        }
+    }
+
+    fn may_cancel_with_parent(&self, row: &ActionState) -> bool
+        ensures { result ≡ tests.may_cancel_with_parent (facts_by self.now.sheet.state) (action_by self.now.sheet.state row.now) }
+    {
+        match row.parent {
+            Some(parent) => is_cancellable(row.status) && self.is_cancelling(parent),
+            None => false,
+        }
+    }
+
+    /// What its parent does to an action, where it does anything: closes it, or cancels it.
+    pub fn by_parent(&self, action: u64) -> Option<Deed>
+        ensures { result ≡ turn_by self.now.sheet.state action }
+    {
+        let row = at(&self.actions, action)?;
+        if self.may_close_with_parent(&row) {
+            return Some(Deed::Close {
+                action,
+                cause: Cause::Parent,
+            });
+        }
+        if self.may_cancel_with_parent(&row) {
+            return Some(Deed::Cancel {
+                action,
+                cause: Cause::Parent,
+            });
+        }
+        None
+    }
+
+    /// The end of an action, where it may end.
+    pub fn end(&self, action: u64) -> Option<Deed>
+        ensures { result ≡ end_by self.now.sheet.state action }
+    {
+        let row = at(&self.actions, action)?;
+        if is_settled(&row) {
+            Some(Deed::End {
+                action,
+                status: right_end(&row),
+            })
+        } else {
+            None
+        }
+    }
+}
