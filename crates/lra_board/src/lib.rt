@@ -1,4 +1,8 @@
 //! The rows of a history with what settles it next, known without a walk.
 #![tactic(auto)]
 
+mod board;
 mod ready;
+
+pub use board::Board;
+pub use lra_model::Memory;
