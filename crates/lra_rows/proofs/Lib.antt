@@ -2,3 +2,4 @@ pub mod Finding
 pub mod Numbered
 pub mod Rooms
 pub mod SheetCounts
+pub mod Steps

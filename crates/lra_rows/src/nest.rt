@@ -3,10 +3,10 @@
 ghost use Rattle.std.specs.Prelude.{◌≡◌, [], true, false, OnOk, OnErr};
 ghost use Rattle.lra_laws.specs.Sheets as sheets;
 ghost use Rattle.lra_rows.specs.Rowed.{no_capacity};
-ghost use Rattle.lra_rows.specs.inner.Nested.{has_place, with_number};
+ghost use Rattle.lra_rows.specs.inner.Nested.{has_place, with_number, without_number};
 ghost use Rattle.lra_rows.specs.declared.nest.Listed.{Listed};
 
-use crate::lists::{add, reserve_one};
+use crate::lists::{add, remove_last, reserve_one};
 use lra_model::Memory;
 use std::alloc::Global;
 use std::marker::Model;
@@ -77,6 +77,17 @@ impl Nest {
             Listed::Children => add(&mut self.children, number),
             Listed::Members => add(&mut self.members, number),
             Listed::Under => add(&mut self.under, number),
+        }
+    }
+
+    /// Removes the last number of a list.
+    pub(crate) fn remove(&mut self, list: Listed)
+        ensures { self.new ≡ without_number list self.old }
+    {
+        match list {
+            Listed::Children => remove_last(&mut self.children),
+            Listed::Members => remove_last(&mut self.members),
+            Listed::Under => remove_last(&mut self.under),
         }
     }
 }
