@@ -7,7 +7,7 @@ ghost use Rattle.lra_laws.specs.Settles.{turn_by, end_by};
 
 use crate::ready::Ready;
 use lra_model::{Deed, Entry, Memory, Uris};
-use lra_rows::Rows;
+use lra_rows::{Rows, Step};
 use std::alloc::Global;
 use std::marker::Model;
 
@@ -71,7 +71,8 @@ impl Board {
     ghost use Rattle.lra_model.specs.Settling.{next_settling};
     ghost use Rattle.lra_laws.specs.Sheets.{StandsFor, Follows};
     ghost use Rattle.lra_rows.specs.Rowed.{addresses_joined};
-    ghost use Rattle.lra_board.specs.Boarded.{has_room, carried};
+    ghost use Rattle.lra_rows.specs.Steps.{addresses_back};
+    ghost use Rattle.lra_board.specs.Boarded.{has_room, carried, uncarried, CameBy};
 
     /// Of no entries.
     pub fn empty(alloc: Global) -> Board
@@ -102,16 +103,32 @@ impl Board {
 
     /// One more entry, which is allowed after those that the board stands for, and has room: it takes no memory. The addresses
     /// of a member that joins are handed in.
-    pub fn carry(&mut self, entry: &Entry, uris: Option<Uris>)
+    pub fn carry(&mut self, entry: &Entry, uris: Option<Uris>) -> Step
         requires follows { Follows self.old.rows.sheet entry.now }
         requires room { has_room entry.now self.old ≡ true }
         requires uris { uris ≡ addresses_joined entry.now.deed }
         ensures carried { self.new ≡ carried entry.now self.old }
         ensures stands { (J : History) (h : StandsFor self.old.rows.sheet J) → allows h.version h.is_address J entry.now ≡ true → StandsFor self.new.rows.sheet (J ++ entry.now ∷ []) }
+        ensures back { uncarried entry.now result self.new ≡ self.old }
+        ensures uris { addresses_back result self.new.rows ≡ addresses_joined entry.now.deed }
     {
-        self.rows.carry(entry, uris);
+        let step = self.rows.carry(entry, uris);
         self.ready.grow(&entry.deed);
         self.ready.mark(&self.rows, &entry.deed);
+        step
+    }
+
+    /// Takes the entry that was carried out last back, by its step, and gives the addresses of the member that joined by it: the
+    /// board is as before it, and has the room that it had. This takes no memory.
+    pub fn take_back(&mut self, entry: &Entry, step: Step) -> Option<Uris>
+        requires { CameBy entry.now step self.old }
+        ensures back { self.new ≡ uncarried entry.now step self.old }
+        ensures uris { result ≡ addresses_back step self.old.rows }
+    {
+        let uris = self.rows.take_back(step);
+        self.ready.shrink(&entry.deed);
+        self.ready.mark(&self.rows, &entry.deed);
+        uris
     }
 
     /// What a coordinator does next of itself: the skip of the least member that may be skipped; else what its parent does to the

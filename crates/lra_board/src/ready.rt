@@ -8,7 +8,7 @@ ghost use Rattle.lra_laws.specs.Rows.{State};
 ghost use Rattle.lra_laws.specs.Settles.{turn_by, end_by};
 ghost use Rattle.lra_laws.specs.Sheets.{StandsFor};
 ghost use Rattle.lra_laws.specs.inner.Concerned.{members_concerned, actions_concerned, around};
-ghost use Rattle.lra_board.specs.inner.Ready.{MarkedBut, SameRoom, MoreRoom, takes, grown};
+ghost use Rattle.lra_board.specs.inner.Ready.{MarkedBut, SameRoom, MoreRoom, takes, grown, has_numbers, shrunk};
 
 use lra_marks::{Marks, Order};
 use lra_model::{Deed, Memory};
@@ -200,6 +200,23 @@ impl Ready {
                 self.ends.push(false);
             }
             Deed::Join { .. } => self.skips.push(false),
+            _ => {}
+        }
+    }
+
+    /// Lets go of what a deed brought.
+    pub(crate) fn shrink(&mut self, deed: &Deed)
+        requires { has_numbers deed.now self.old ≡ true }
+        ensures { self.new ≡ shrunk deed.now self.old }
+    {
+        match deed {
+            Deed::Start { .. } => {
+                let _ = self.turns.pop();
+                let _ = self.ends.pop();
+            }
+            Deed::Join { .. } => {
+                let _ = self.skips.pop();
+            }
             _ => {}
         }
     }

@@ -1,5 +1,5 @@
 -- Which rows are marked as ready to settle.
-use Rattle.std.specs.Prelude.{◌≡◌, ℕ, ◌-◌, ◌≤◌, Bool, true, false, ◌&&◌, nat_lt, List, [], ◌∷◌, ◌++◌, length, is_some}
+use Rattle.std.specs.Prelude.{◌≡◌, ℕ, ◌+◌, ◌-◌, ◌≤◌, Bool, true, false, ◌&&◌, nat_lt, List, [], ◌∷◌, ◌++◌, length, is_some}
 use Rattle.lra_model.specs.declared.entry.Deed.{Deed}
 use Rattle.lra_model.specs.declared.entry.Deed.TheVariants.{Start, Join}
 use Rattle.lra_model.specs.History.{is_among}
@@ -7,6 +7,7 @@ use Rattle.lra_laws.specs.Rows.{State}
 use Rattle.lra_laws.specs.Settles.{may_skip_by, turn_by, end_by}
 use Rattle.lra_marks.specs.declared.marks.Order.TheVariants.{LeastFirst, GreatestFirst}
 use Rattle.lra_marks.specs.Marks.{Marking, mark_at}
+use Rattle.lra_rows.specs.Steps.{without_last}
 use Rattle.lra_board.specs.declared.ready.Ready.{Ready}
 
 -- each set has a number for each row, in its order
@@ -55,3 +56,19 @@ abbrev pub grown : Deed → Ready → Ready
 grown (Start a parent limit) r = record r { turns = pushed r.turns; ends = pushed r.ends }
 grown (Join p a uris) r = record r { skips = pushed r.skips }
 grown _ r = r
+
+-- whether the sets have a number for what a deed brought
+abbrev pub has_numbers : Deed → Ready → Bool
+has_numbers (Start a parent limit) r = nat_lt 0 (length r.turns.marked) && nat_lt 0 (length r.ends.marked)
+has_numbers (Join p a uris) r = nat_lt 0 (length r.skips.marked)
+has_numbers _ r = true
+
+-- without the last number
+abbrev pub popped : Marking → Marking
+popped m = record m { marked = without_last m.marked; room = m.room + 1 }
+
+-- the sets without a number for what a deed brought
+abbrev pub shrunk : Deed → Ready → Ready
+shrunk (Start a parent limit) r = record r { turns = popped r.turns; ends = popped r.ends }
+shrunk (Join p a uris) r = record r { skips = popped r.skips }
+shrunk _ r = r
