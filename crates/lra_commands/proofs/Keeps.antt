@@ -28,8 +28,10 @@ use Rattle.lra_commands.specs.declared.limits.Terms.{Terms}
 use Rattle.lra_commands.specs.Terms.{AreKeepable}
 use Rattle.lra_commands.specs.Calls.{Command, Call, moment_of, IsCall}
 use Rattle.lra_commands.specs.Due.{due, late}
-use Rattle.lra_commands.specs.Deeds.{already_member, stored_addresses, is_open, outcome_told, is_decided, may_be_cancelled, own_deed, entry_of}
-use Rattle.lra_commands.specs.Blocks.{settling_within, most_settling, settling, with_settling, block}
+use Rattle.lra_commands.specs.Deeds.{stored_addresses, is_open, outcome_told, is_decided, may_be_cancelled, own_deed, entry_of}
+use Rattle.lra_model.specs.Joins.{already_member}
+use Rattle.lra_commands.specs.Blocks.{block}
+use Rattle.lra_model.specs.Settling.{settling_within, most_settling, settling, with_settling}
 use Rattle.lra_commands.specs.Refusals.{refused}
 use Rattle.lra_commands.specs.Answers.{growth, after_call}
 use Rattle.lra_commands.specs.Runs.{IsWithin, IsShallow, IsLawful, CallsKeepHistories, CallsMakeHistories}

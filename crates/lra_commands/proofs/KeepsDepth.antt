@@ -29,8 +29,9 @@ use Rattle.lra_commands.specs.declared.limits.Terms.{Terms}
 use Rattle.lra_commands.specs.declared.command.Command.TheVariants as command
 use Rattle.lra_commands.specs.Calls.{Command}
 use Rattle.lra_commands.specs.Due.{due, late}
-use Rattle.lra_commands.specs.Deeds.{already_member, stored_addresses, is_open, outcome_told, is_decided, may_be_cancelled, own_deed}
-use Rattle.lra_commands.specs.Blocks.{settling_within}
+use Rattle.lra_commands.specs.Deeds.{stored_addresses, is_open, outcome_told, is_decided, may_be_cancelled, own_deed}
+use Rattle.lra_model.specs.Joins.{already_member}
+use Rattle.lra_model.specs.Settling.{settling_within}
 use Rattle.lra_commands.specs.Refusals.{command_grounds}
 use Rattle.lra_commands.specs.Runs.{IsShallow}
 use Rattle.lra_commands.proofs.KeepsGrounds.{NoneHolds}

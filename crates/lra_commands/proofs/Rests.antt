@@ -18,7 +18,8 @@ use Rattle.lra_commands.specs.declared.refusal.Refusal.{Refusal}
 use Rattle.lra_commands.specs.declared.limits.Terms.{Terms}
 use Rattle.lra_commands.specs.Calls.{Call, moment_of}
 use Rattle.lra_commands.specs.Deeds.{own_deed, entry_of}
-use Rattle.lra_commands.specs.Blocks.{settling_within, most_settling, settling, with_settling, block}
+use Rattle.lra_commands.specs.Blocks.{block}
+use Rattle.lra_model.specs.Settling.{settling_within, most_settling, settling, with_settling}
 use Rattle.lra_commands.specs.Answers.{growth, after_call}
 use Rattle.lra_commands.specs.Runs.{CallsLeaveQuiet}
 use Rattle.lra_commands.proofs.Keeps.{call_keeps}

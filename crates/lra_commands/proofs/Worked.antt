@@ -35,7 +35,7 @@ use Rattle.lra_commands.specs.Terms.{usual, AreKeepable}
 use Rattle.lra_timers.specs.Pauses.{pause}
 use Rattle.lra_commands.specs.Calls.{Command, Call}
 use Rattle.lra_commands.specs.Due.{due, late}
-use Rattle.lra_commands.specs.Deeds.{already_member}
+use Rattle.lra_model.specs.Joins.{already_member}
 use Rattle.lra_commands.specs.Blocks.{block}
 use Rattle.lra_commands.specs.Refusals.{refused}
 use Rattle.lra_commands.specs.Answers.{answer, growth}

@@ -13,7 +13,8 @@ use Rattle.lra_commands.specs.declared.refusal.Refusal.{Refusal}
 use Rattle.lra_commands.specs.declared.limits.Terms.{Terms}
 use Rattle.lra_commands.specs.Calls.{Command, Call, moment_of}
 use Rattle.lra_commands.specs.Due.{due, late}
-use Rattle.lra_commands.specs.Deeds.{already_member, stored_addresses, is_open, is_decided, may_be_cancelled}
+use Rattle.lra_commands.specs.Deeds.{stored_addresses, is_open, is_decided, may_be_cancelled}
+use Rattle.lra_model.specs.Joins.{already_member}
 use Rattle.lra_commands.specs.Blocks.{block}
 use Rattle.lra_commands.specs.Refusals.{status_at, refused}
 

@@ -1,8 +1,6 @@
 -- What a command writes of its own.
 use Rattle.std.specs.Prelude.{ℕ, ◌+◌, Bool, true, false, ◌&&◌, not, List, length, Option, Some, None, option_map, is_some, unwrap_or, cond}
 use Rattle.std.specs.Option.{option_map_or, option_and_then}
-use Rattle.std.specs.List.{find}
-use Rattle.std.specs.Str.{bytes_eq}
 use Rattle.std.specs.Result.{result_ok}
 use Rattle.lra_model.specs.declared.status.Ending.{Ending}
 use Rattle.lra_model.specs.declared.status.Ending.TheVariants as ending
@@ -17,8 +15,9 @@ use Rattle.lra_model.specs.declared.entry.Entry.{Entry}
 use Rattle.lra_model.specs.Addresses.{Addresses}
 use Rattle.lra_model.specs.Words.{when, is_active}
 use Rattle.lra_model.specs.History.{History, clerks, actions, members, asks}
-use Rattle.lra_model.specs.Actions.{action_status, members_of}
-use Rattle.lra_model.specs.Members.{addresses_of, has_left, decided}
+use Rattle.lra_model.specs.Actions.{action_status}
+use Rattle.lra_model.specs.Members.{decided}
+use Rattle.lra_model.specs.Joins.{already_member}
 use Rattle.lra_model.specs.Facts.{facts_of}
 use Rattle.lra_model.specs.Tests.{at_action, may_cancel_as_client}
 use Rattle.lra_model.specs.Wants.{wants}
@@ -41,21 +40,6 @@ stored_addresses u = record {
   forget = option_map stored u.forget;
   after = option_map stored u.after;
 }
-
--- whether two addresses are the same, or both absent
-abbrev pub same_address : Option (List ℕ) → Option (List ℕ) → Bool
-same_address (Some a) (Some b) = bytes_eq a b
-same_address None None = true
-same_address _ _ = false
-
--- whether two members have the same five addresses
-abbrev pub same_addresses : Addresses → Addresses → Bool
-same_addresses u w =
-    same_address u.compensate w.compensate && same_address u.complete w.complete && same_address u.status w.status && same_address u.forget w.forget && same_address u.after w.after
-
--- the least member of an action that has not left and has these addresses already
-unfoldable pub already_member : History → ℕ → Addresses → Option ℕ
-already_member J a u = find (λ p. not (has_left J p) && same_addresses (addresses_of J p) u) (members_of J a)
 
 -- the direction that a member's ending is of
 abbrev pub direction_told : Ending → Direction

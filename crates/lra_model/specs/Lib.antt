@@ -4,6 +4,7 @@ pub mod Words
 pub mod History
 pub mod Actions
 pub mod Members
+pub mod Joins
 pub mod Ends
 pub mod Facts
 pub mod Tests

@@ -1,11 +1,12 @@
 -- What follows by itself: the entries that settle a history, and the one that comes next.
-use Rattle.std.specs.Prelude.{◌≡◌, ℕ, Bool, true, false, List, Option, Some, None, option_map, cond}
-use Rattle.std.specs.Option.{option_or}
+use Rattle.std.specs.Prelude.{◌≡◌, ℕ, zero, suc, ◌+◌, ◌*◌, Bool, true, false, List, [], ◌∷◌, ◌++◌, length, Option, Some, None, option_map, cond}
+use Rattle.std.specs.Option.{option_map_or, option_or}
 use Rattle.std.specs.List.{filter_map, find}
 use Rattle.lra_model.specs.declared.asks.Cause.TheVariants as cause
 use Rattle.lra_model.specs.declared.version.Version.{Version}
 use Rattle.lra_model.specs.declared.entry.Deed.{Deed}
 use Rattle.lra_model.specs.declared.entry.Deed.TheVariants.{Close, Cancel, Skip, End}
+use Rattle.lra_model.specs.declared.entry.Entry.{Entry}
 use Rattle.lra_model.specs.History.{History, first, last, actions, members, last_moment}
 use Rattle.lra_model.specs.Ends.{is_settled, right_end}
 use Rattle.lra_model.specs.Facts.{facts_of}
@@ -41,3 +42,20 @@ next_settling J =
     option_or (option_map Skip (find (may_be_skipped J) (members J)))
     (option_or (first (filter_map (by_parent J) (actions J)))
     (option_map (λ a. End a (right_end J a)) (last (filter_map (λ a. cond (is_settled J a) (Some a) None) (actions J)))))
+
+-- one settling entry after another, at most so many, all by one clerk and at one moment
+abbrev pub settling_within : ℕ → ℕ → ℕ → History → List Entry
+settling_within zero by moment J = []
+settling_within (suc n) by moment J = option_map_or (λ (d : Deed). (record { by = by; moment = moment; deed = d }) ∷ settling_within n by moment (J ++ record { by = by; moment = moment; deed = d } ∷ [])) (next_settling J) []
+
+-- how many settling entries there can be: a member is skipped once, and an action turns four times at most, to Closing, its end, Cancelling and its end
+abbrev pub most_settling : History → ℕ
+most_settling J = length (members J) + 4 * length (actions J)
+
+-- the entries that settle a history: the next one until it is quiet
+abbrev pub settling : ℕ → ℕ → History → List Entry
+settling by moment J = settling_within (most_settling J) by moment J
+
+-- an entry, and those that settle the history after it
+abbrev pub with_settling : History → Entry → List Entry
+with_settling J e = e ∷ settling e.by e.moment (J ++ e ∷ [])

@@ -11,6 +11,7 @@ mod lists;
 mod nest;
 mod room;
 mod rows;
+mod settles;
 mod state;
 mod step;
 mod take_back;

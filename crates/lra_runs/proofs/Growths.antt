@@ -24,7 +24,8 @@ use Rattle.lra_commands.specs.declared.limits.Terms.{Terms}
 use Rattle.lra_commands.specs.Calls.{Call, moment_of}
 use Rattle.lra_core.specs.Shape.{is_taken}
 use Rattle.lra_commands.specs.Deeds.{is_open, own_deed, entry_of}
-use Rattle.lra_commands.specs.Blocks.{settling_within, most_settling, with_settling, block}
+use Rattle.lra_commands.specs.Blocks.{block}
+use Rattle.lra_model.specs.Settling.{settling_within, most_settling, with_settling}
 use Rattle.lra_commands.specs.Refusals.{refused}
 use Rattle.lra_commands.specs.Answers.{told_of, answer, growth}
 

@@ -1,8 +1,8 @@
-use Rattle.std.proofs.Common.{◌≡◌, ◌⊎◌, inl, inr, ◌<◌, ◌≤◌, length, List, Some, None, Bool, true, false, refl, sym, subst, slice_get, slice_set}
+use Rattle.std.proofs.Common.{◌≡◌, ◌⊎◌, inl, inr, ◌<◌, ◌≤◌, length, true, false, refl, sym, subst}
 use Rattle.std.proofs.lemmas.Option.{slice_get_read, slice_get_past}
 use Rattle.std.proofs.lemmas.Result.{on_ok_weaker, on_err_weaker}
 use Rattle.std.proofs.lemmas.Bool.{cases_lt}
-use Rattle.lra_rows.specs.inner.Nested.{Nested, has_place_at}
+use Rattle.lra_rows.specs.inner.Nested.{Nested}
 use Rattle.lra_rows.proofs.Rooms.{map-same, place_kept, place_there, place_none, place_past}
 use Rattle.lra_rows.proofs.room.reserve_at.Goals as goal
 

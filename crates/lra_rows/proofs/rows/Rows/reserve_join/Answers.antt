@@ -1,4 +1,4 @@
-use Rattle.std.proofs.Common.{◌≡◌, ◌&&◌, ℕ, List, refl, ap, ◌∙◌, sym, vec_capacity}
+use Rattle.std.proofs.Common.{◌≡◌, ◌&&◌, ℕ, List, ap, ◌∙◌, sym, vec_capacity}
 use Rattle.std.specs.Option.{option_map_or}
 use Rattle.std.proofs.lemmas.Result.{on_ok_weaker, on_err_weaker}
 use Rattle.std.proofs.lemmas.Bool.{and_right}

@@ -1,0 +1,66 @@
+-- What tables stand for, and what a plan says.
+use Rattle.std.specs.Prelude.{◌≡◌, ℕ, Bool, true, false, List, ◌++◌, Option, option_map}
+use Rattle.lra_model.specs.declared.asks.AskKind.{AskKind}
+use Rattle.lra_model.specs.declared.entry.Entry.{Entry}
+use Rattle.lra_model.specs.Words.{is_active}
+use Rattle.lra_model.specs.History.{History, is_among}
+use Rattle.lra_model.specs.Settling.{with_settling}
+use Rattle.lra_laws.specs.Sheets.{Sheet, StandsFor, Follows}
+use Rattle.lra_rows.specs.declared.found.ActionRow.{ActionRow}
+use Rattle.lra_rows.specs.declared.found.MemberRow.{MemberRow}
+use Rattle.lra_rows.specs.Found.{found_action, found_member}
+
+-- how much room tables have
+pub record Room : Type 0 where
+  pub places : ℕ
+
+-- tables: what they keep of a history, and how much room they have
+pub record Tabled : Type 0 where
+  pub sheet : Sheet
+  pub room : Room
+
+-- whether there is room for entries
+abbrev pub has_room : Tabled → List Entry → Bool
+has_room t entries = false
+
+-- a plan: the entries that are to come, the members whose wants they may change, and the actions whose deadlines they may change
+pub record Planned : Type 0 where
+  pub entries : List Entry
+  pub members : List ℕ
+  pub actions : List ℕ
+
+-- what a member wants to be asked next, how often it was asked for that in vain, and when it last was
+pub record Wanting : Type 0 where
+  pub want : Option AskKind
+  pub count : ℕ
+  pub last : Option ℕ
+
+-- what a member wants, if it is there
+abbrev pub wanting : History → ℕ → Option Wanting
+wanting J p = option_map (λ (m : MemberRow). record { want = m.want; count = m.k; last = m.last }) (found_member J p)
+
+-- what an action's deadline goes by: whether it is Active, its limit, and the moment that it counts from
+pub record Limiting : Type 0 where
+  pub active : Bool
+  pub limit : ℕ
+  pub since : ℕ
+
+-- what an action's deadline goes by, if it is there
+abbrev pub limiting : History → ℕ → Option Limiting
+limiting J a = option_map (λ (r : ActionRow). record { active = is_active r.status; limit = r.limit; since = r.since }) (found_action J a)
+
+-- the members listed are all whose wants differ in the longer history
+abbrev pub CoversWants : List ℕ → History → History → Type 0
+CoversWants ps J K = (p : ℕ) → is_among ps p ≡ false → wanting K p ≡ wanting J p
+
+-- the actions listed are all whose deadlines differ in the longer history
+abbrev pub CoversLimits : List ℕ → History → History → Type 0
+CoversLimits xs J K = (a : ℕ) → is_among xs a ≡ false → limiting K a ≡ limiting J a
+
+-- the plan of an entry that is allowed after the history: it, and all that settles after it
+pub record IsPlan (s : Sheet) (p : Planned) : Type 0 where
+  pub entry : Entry
+  pub follows : Follows s entry
+  pub block : (J : History) → StandsFor s J → p.entries ≡ with_settling J entry
+  pub wants : (J : History) → StandsFor s J → CoversWants p.members J (J ++ p.entries)
+  pub limits : (J : History) → StandsFor s J → CoversLimits p.actions J (J ++ p.entries)
