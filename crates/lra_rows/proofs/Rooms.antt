@@ -1,8 +1,8 @@
 -- Where the actions stand, with what their lists hold, and the room that there is for one more entry.
-use Rattle.std.proofs.Common.{◌≡◌, inl, inr, ℕ, zero, suc, ◌<◌, ◌≤◌, ◌-◌, ◌^◌, Bool, true, false, List, [], ◌∷◌, ◌++◌, length, take, map, Option, Some, None, refl, sym, ap, ◌∙◌, subst, IfSome, slice_get, slice_set}
-use Rattle.std.specs.Prelude.{◌&&◌, nat_lt, option_map, OnOk, OnErr, Result, vec_len}
+use Rattle.std.proofs.Common.{◌≡◌, inl, inr, ℕ, zero, suc, ◌≤◌, ◌-◌, ◌^◌, Bool, true, false, List, [], ◌∷◌, ◌++◌, length, take, map, Option, Some, None, refl, sym, ap, ◌∙◌, IfSome, slice_get, slice_set}
+use Rattle.std.specs.Prelude.{nat_lt, option_map}
 use Rattle.std.specs.Option.{option_map_or}
-use Rattle.std.proofs.lemmas.Bool.{cases_eq, ltb-true, and_left}
+use Rattle.std.proofs.lemmas.Bool.{cases_eq}
 use Rattle.std.proofs.lemmas.List.{map-set, take-map, length-map}
 use Rattle.std.proofs.lemmas.Option.{slice_get-map}
 use Rattle.lra_model.specs.declared.entry.Deed.{Deed}
@@ -11,8 +11,8 @@ use Rattle.lra_model.specs.declared.entry.Entry.{Entry}
 use Rattle.lra_laws.specs.Rows.{row_at, change_row}
 use Rattle.lra_laws.specs.Sheets.{Nest, with_child_number, with_member_number, with_number_under, new_nest, top_at}
 use Rattle.lra_laws.proofs.Tested.{both, and_intro}
-use Rattle.lra_rows.specs.Rowed.{NestCapacity, no_capacity, Rowed, takes_one, list_takes_one, takes_child, takes_member, takes_under, deed_has_room, has_room}
-use Rattle.lra_rows.specs.Steps.{without_last, without_child, without_member, without_under}
+use Rattle.lra_rows.specs.Rowed.{NestCapacity, no_capacity, Rowed, takes_one, takes_child, takes_under, deed_has_room, has_room}
+use Rattle.lra_rows.specs.Steps.{without_last}
 use Rattle.lra_rows.specs.declared.nest.Listed.{Listed}
 use Rattle.lra_rows.specs.declared.nest.Listed.TheVariants as listed
 use Rattle.lra_rows.specs.inner.Nested.{Nested, nests_in, capacities_in, has_place, has_place_at, nest_with, with_number, nest_without, without_number}

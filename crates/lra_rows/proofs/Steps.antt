@@ -1,5 +1,5 @@
 -- What takes an entry back.
-use Rattle.std.proofs.Common.{◌≡◌, ℕ, zero, suc, ◌+◌, ◌-◌, Bool, true, false, List, [], ◌∷◌, ◌++◌, length, take, Option, Some, None, refl, sym, ap, ◌∙◌, arith, subst, length-append}
+use Rattle.std.proofs.Common.{◌≡◌, ℕ, Bool, true, false, List, [], ◌∷◌, ◌++◌, take, Option, Some, None, refl, ap, ◌∙◌, arith, subst, length-append}
 use Rattle.std.proofs.Math.Seq.{take-append_seam}
 use Rattle.std.specs.Prelude.{cond}
 use Rattle.std.specs.Option.{option_map_or}
@@ -10,7 +10,7 @@ use Rattle.lra_model.specs.Words.{is_undecided}
 use Rattle.lra_model.specs.Members.{Asked}
 use Rattle.lra_model.specs.Wants.{stage_of}
 use Rattle.lra_laws.specs.Rows.{MemberRow, ActionRow, change_row}
-use Rattle.lra_laws.specs.Sheets.{Nest, Repeats, Contact, with_child_number, with_member_number, with_number_under, with_repeat, with_answer}
+use Rattle.lra_laws.specs.Sheets.{Nest, Contact, with_child_number, with_member_number, with_number_under, with_repeat, with_answer}
 use Rattle.lra_rows.specs.declared.step.Added.{Added}
 use Rattle.lra_rows.specs.declared.step.Added.TheVariants as added
 use Rattle.lra_rows.specs.Rowed.{NestCapacity, Rowed}

@@ -56,7 +56,11 @@ impl Rows {
     ghost use Rattle.std.specs.Prelude.{◌≡◌};
     ghost use Rattle.lra_model.specs.Words as words;
     ghost use Rattle.lra_model.specs.Tests as tests;
+    ghost use Rattle.lra_model.specs.History.{History};
+    ghost use Rattle.lra_model.specs.Settling.{may_be_skipped, by_parent};
     ghost use Rattle.lra_laws.specs.Settles.{may_skip_by, turn_by, end_by};
+    ghost use Rattle.lra_laws.specs.Sheets.{StandsFor};
+    ghost use Rattle.lra_rows.specs.Found.{found_end};
     ghost use Rattle.lra_laws.specs.inner.RowFacts.{action_by, facts_by, member_by};
 
     fn may_skip(&self, row: &MemberState) -> bool
@@ -68,14 +72,21 @@ impl Rows {
             && row.addresses.compensate
     }
 
-    /// Whether a member may be completed without being asked.
-    pub fn may_be_skipped(&self, member: u64) -> bool
+    fn held_skip(&self, member: u64) -> bool
         ensures { result ≡ may_skip_by self.now.sheet.state member }
     {
         match at(&self.members, member) {
             Some(row) => self.may_skip(&row),
             None => false,
         }
+    }
+
+    /// Whether a member may be completed without being asked.
+    pub fn may_be_skipped(&self, member: u64) -> bool
+        ensures state { result ≡ may_skip_by self.now.sheet.state member }
+        ensures history { (J : History) → StandsFor self.now.sheet J → result ≡ may_be_skipped J member }
+    {
+        self.held_skip(member)
     }
 
     fn may_close_with_parent(&self, row: &ActionState) -> bool
@@ -96,8 +107,7 @@ impl Rows {
         }
     }
 
-    /// What its parent does to an action, where it does anything: closes it, or cancels it.
-    pub fn by_parent(&self, action: u64) -> Option<Deed>
+    fn held_turn(&self, action: u64) -> Option<Deed>
         ensures { result ≡ turn_by self.now.sheet.state action }
     {
         let row = at(&self.actions, action)?;
@@ -116,8 +126,15 @@ impl Rows {
         None
     }
 
-    /// The end of an action, where it may end.
-    pub fn end(&self, action: u64) -> Option<Deed>
+    /// What its parent does to an action, where it does anything: closes it, or cancels it.
+    pub fn by_parent(&self, action: u64) -> Option<Deed>
+        ensures state { result ≡ turn_by self.now.sheet.state action }
+        ensures history { (J : History) → StandsFor self.now.sheet J → result ≡ by_parent J action }
+    {
+        self.held_turn(action)
+    }
+
+    fn held_end(&self, action: u64) -> Option<Deed>
         ensures { result ≡ end_by self.now.sheet.state action }
     {
         let row = at(&self.actions, action)?;
@@ -129,5 +146,13 @@ impl Rows {
         } else {
             None
         }
+    }
+
+    /// The end of an action, where it may end.
+    pub fn end(&self, action: u64) -> Option<Deed>
+        ensures state { result ≡ end_by self.now.sheet.state action }
+        ensures history { (J : History) → StandsFor self.now.sheet J → result ≡ found_end J action }
+    {
+        self.held_end(action)
     }
 }
