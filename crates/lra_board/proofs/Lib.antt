@@ -1,2 +1,3 @@
+pub mod Boards
 pub mod Grown
 pub mod Marked

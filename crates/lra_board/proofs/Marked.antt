@@ -1,10 +1,10 @@
 -- What stays marked when a row is looked at anew.
-use Rattle.std.proofs.Common.{◌≡◌, ◌≢◌, ℕ, zero, suc, ◌-◌, ◌≤◌, ◌<◌, Bool, true, false, List, [], ◌∷◌, ◌++◌, length, Option, Some, None, inl, inr, ◌⊎◌, refl, sym, ap, ◌∙◌, subst, cond, arith, length-set, drop, get_or, add-one, ◌+◌}
+use Rattle.std.proofs.Common.{◌≡◌, ◌≢◌, ℕ, zero, suc, ◌-◌, ◌≤◌, ◌<◌, Bool, true, false, List, [], ◌∷◌, length, Option, Some, None, inl, inr, ◌⊎◌, refl, sym, ap, ◌∙◌, subst, cond, arith, length-set, drop, get_or, add-one, ◌+◌}
 use Rattle.std.proofs.Math.Seq.{drop-cons}
 use Rattle.std.proofs.lemmas.List.{drop_all}
 use Rattle.std.proofs.lemmas.Bool.{cases_eq, ne_eqb}
 use Rattle.std.proofs.lemmas.Option.{slice_get_past}
-use Rattle.std.specs.Prelude.{◌==◌, ◌||◌, is_some, option_map, slice_set}
+use Rattle.std.specs.Prelude.{◌||◌, is_some, option_map, slice_set}
 use Rattle.std.specs.Option.{option_map_or, option_and_then}
 use Rattle.lra_model.specs.declared.asks.Cause.TheVariants as cause
 use Rattle.lra_model.specs.declared.entry.Deed.{Deed}
@@ -26,7 +26,7 @@ use Rattle.lra_rows.specs.Found.{found_action, found_member}
 use Rattle.lra_marks.specs.Marks.{Marking, mark_at}
 use Rattle.lra_marks.proofs.Read.{mark_at-set_same, mark_at-set_other, mark_at-past}
 use Rattle.lra_board.specs.declared.ready.Ready.{Ready}
-use Rattle.lra_board.specs.inner.Ready.{IsSized, MarkedBut, SameRoom}
+use Rattle.lra_board.specs.inner.Ready.{MarkedBut, SameRoom}
 
 -- a number among none but a first one and the others
 not_among : (n : ℕ) (ns : List ℕ) (m : ℕ) → m ≢ n → is_among ns m ≡ false → is_among (n ∷ ns) m ≡ false
@@ -118,7 +118,7 @@ pub action_absent : (s : State) (r : Ready) (a : ℕ) → (0 < a → (length r.t
 action_absent s r a past ps xs h =
     let turns = h.sized.turns in
     let ends = h.sized.ends in
-    let beyond : 0 < a → length s.actions < a = λ some. elim (past some) [ | inl g ↦ omega arith | inr g ↦ omega arith ] in
+    let beyond : 0 < a → length s.actions < a = λ some. elim (past some) [ inl g ↦ omega arith | inr g ↦ omega arith ] in
     let none = row_past s.actions a beyond in
     record {
       sized = h.sized;

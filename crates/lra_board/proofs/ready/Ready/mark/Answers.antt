@@ -1,4 +1,4 @@
-use Rattle.std.proofs.Common.{List, ◌∷◌, ◌++◌, [], sym, subst, append-nil}
+use Rattle.std.proofs.Common.{[], sym, subst, append-nil}
 use Rattle.std.specs.Prelude.{option_to_list}
 use Rattle.lra_board.specs.inner.Ready.{MarkedBut}
 use Rattle.lra_board.proofs.Marked.{of_deed}

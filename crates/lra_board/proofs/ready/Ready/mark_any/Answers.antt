@@ -1,4 +1,4 @@
-use Rattle.std.proofs.Common.{ℕ, List, ◌++◌, Option, subst}
+use Rattle.std.proofs.Common.{ℕ, ◌++◌, Option, subst}
 use Rattle.std.specs.Prelude.{option_to_list}
 use Rattle.lra_board.specs.inner.Ready.{MarkedBut}
 use Rattle.lra_board.proofs.ready.Ready.mark_any.Goals as goal

@@ -1,4 +1,4 @@
-use Rattle.std.proofs.Common.{ℕ, List, ◌∷◌, ◌++◌, [], Option, ◌∙◌, sym, subst, append-nil}
+use Rattle.std.proofs.Common.{ℕ, List, ◌++◌, [], Option, ◌∙◌, sym, subst, append-nil}
 use Rattle.std.specs.Prelude.{option_to_list}
 use Rattle.lra_model.specs.Actions.{children, members_of}
 use Rattle.lra_board.specs.inner.Ready.{MarkedBut}

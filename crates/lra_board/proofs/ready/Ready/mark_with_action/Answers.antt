@@ -1,4 +1,4 @@
-use Rattle.std.proofs.Common.{ℕ, List, ◌∷◌, [], sym, subst, arith}
+use Rattle.std.proofs.Common.{ℕ, ◌∷◌, [], sym, subst, arith}
 use Rattle.lra_board.specs.inner.Ready.{MarkedBut}
 use Rattle.lra_board.proofs.Marked.{action_absent, in_none, action_found}
 use Rattle.lra_board.proofs.ready.Ready.mark_with_action.Goals as goal
