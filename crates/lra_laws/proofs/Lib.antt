@@ -4,6 +4,7 @@ pub mod Agree
 pub mod AskList
 pub mod AskWords
 pub mod Changes
+pub mod ChangesBlock
 pub mod Climbs
 pub mod Contacts
 pub mod GoodKept
