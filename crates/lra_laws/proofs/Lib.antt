@@ -37,5 +37,6 @@ pub mod Tops
 pub mod Upgraded
 pub mod Wanted
 pub mod WantedWay
+pub mod Widest
 pub mod Worked
 pub mod Writes

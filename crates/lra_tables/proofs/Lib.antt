@@ -1,1 +1,2 @@
+mod Covered
 mod SameMembers
