@@ -10,7 +10,7 @@ use Rattle.lra_model.specs.declared.asks.Direction.TheVariants as direction
 use Rattle.lra_model.specs.declared.version.Version.{Version}
 use Rattle.lra_model.specs.History.{History, actions, members, is_among, last}
 use Rattle.lra_model.specs.Actions.{children, members_of}
-use Rattle.lra_model.specs.Members.{Asked, ask_of, is_outstanding, outstanding_ask, ask_direction, member_status}
+use Rattle.lra_model.specs.Members.{Asked, ask_of, is_outstanding, outstanding_ask, ask_direction, member_status, members_under}
 use Rattle.lra_model.specs.declared.asks.AskKind.{AskKind}
 use Rattle.lra_model.specs.Words.{when, is_compensating}
 use Rattle.lra_model.specs.Facts.{Facts}
@@ -31,7 +31,7 @@ use Rattle.lra_rows.specs.declared.found.ActionRow.{ActionRow}
 use Rattle.lra_rows.specs.declared.found.MemberRow.{MemberRow}
 use Rattle.lra_rows.specs.declared.found.AskRow.{AskRow}
 use Rattle.lra_rows.specs.Found.{found_action, found_member, found_addresses, found_ask}
-use Rattle.lra_rows.specs.inner.Held.{repeats_at, held_repeats, last_of, held_action, held_member, held_addresses, held_standing, held_ask, held_children, held_members}
+use Rattle.lra_rows.specs.inner.Held.{repeats_at, held_repeats, last_of, held_action, held_member, held_addresses, held_standing, held_ask, held_children, held_members, held_under}
 
 pub action_held : (v : Version) (t : List ℕ → Bool) (J : History) → is_legal v t J ≡ true → (a : ℕ) → held_action (sheet_of J) a ≡ found_action J a
 action_held v t J l a = decide (is_among (actions J) a) refl
@@ -73,6 +73,9 @@ children_held v t J l a = nest_held v t J l (λ (x : Nest). x.children) a (λ e.
 
 pub members_held : (v : Version) (t : List ℕ → Bool) (J : History) → is_legal v t J ≡ true → (a : ℕ) → held_members (sheet_of J) a ≡ members_of J a
 members_held v t J l a = nest_held v t J l (λ (x : Nest). x.members) a (λ e. (nothing_in v t J a l e).1)
+
+pub under_held : (v : Version) (t : List ℕ → Bool) (J : History) → is_legal v t J ≡ true → (a : ℕ) → held_under (sheet_of J) a ≡ members_under J a
+under_held v t J l a = nest_held v t J l (λ (x : Nest). x.under) a (λ e. (nothing_in v t J a l e).2)
 
 -- what a member wants, by its row
 want_held : (v : Version) (t : List ℕ → Bool) (J : History) → is_legal v t J ≡ true → (p : ℕ) → is_among (members J) p ≡ true → wanted (facts_by (state_of J)) (member_by (state_of J) (member_row J p)) ≡ wants J p

@@ -1,3 +1,4 @@
 pub mod Finding
 pub mod Numbered
+pub mod Rooms
 pub mod SheetCounts

@@ -1,2 +1,3 @@
+pub mod Rowed
 pub mod Found
 pub mod inner

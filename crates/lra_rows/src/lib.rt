@@ -3,11 +3,13 @@
 #![tactic(auto)]
 
 mod apply;
+mod carry;
 mod changes;
 mod contact;
 mod found;
 mod lists;
 mod nest;
+mod room;
 mod rows;
 mod state;
 mod wants;

@@ -6,6 +6,16 @@ use Rattle.lra_model.specs.declared.asks.Outcome.{Outcome}
 use Rattle.lra_model.specs.declared.entry.Deed.{Deed}
 use Rattle.lra_model.specs.declared.entry.Deed.TheVariants.{Enrol, Ask}
 use Rattle.lra_laws.specs.Rows.{State, change_row}
+use Rattle.lra_laws.specs.Sheets.{Sheet}
+use Rattle.lra_rows.specs.Rowed.{Rowed}
+
+-- the rows with another sheet
+abbrev pub with_sheet : Rowed → Sheet → Rowed
+with_sheet r s = record r { sheet = s }
+
+-- the rows with another state
+abbrev pub with_state : Rowed → State → Rowed
+with_state r s = record r { sheet = record r.sheet { state = s } }
 
 -- the rows with that of n replaced, if it is there
 abbrev pub with_row : {R : Type 0} → ℕ → R → List R → List R
