@@ -1,5 +1,5 @@
 -- An entry leaves the wants and the deadlines of all that aren't listed as they were.
-use Rattle.std.proofs.Common.{◌≡◌, ℕ, zero, suc, ◌+◌, ◌<◌, ◌≤◌, Bool, true, false, List, [], ◌∷◌, ◌++◌, length, Option, Some, None, ◌⊎◌, inl, inr, refl, sym, ap, ◌∙◌, cond, arith, append-nil, eqb-true}
+use Rattle.std.proofs.Common.{◌≡◌, ℕ, ◌+◌, Bool, true, false, List, [], ◌∷◌, ◌++◌, length, Option, Some, None, ◌⊎◌, inl, inr, refl, sym, ap, ◌∙◌, cond, append-nil, eqb-true}
 use Rattle.std.proofs.Math.Bool.{or-false}
 use Rattle.std.specs.Prelude.{◌==◌, ◌&&◌, ◌||◌, nat_lt, is_some, unwrap_or, option_map, option_to_list}
 use Rattle.std.specs.Option.{option_map_or, option_or}
@@ -10,29 +10,27 @@ use Rattle.lra_model.specs.declared.asks.AskKind.{AskKind}
 use Rattle.lra_model.specs.declared.asks.Cause.{Cause}
 use Rattle.lra_model.specs.declared.asks.Direction.{Direction}
 use Rattle.lra_model.specs.declared.entry.Deed.{Deed}
-use Rattle.lra_model.specs.declared.entry.Deed.TheVariants.{Enrol, Start, Join, Leave, Close, Cancel, Skip, Ask, Reply, Report, End, Restart, Renew}
-use Rattle.lra_model.specs.Addresses.{presence_of}
+use Rattle.lra_model.specs.declared.entry.Deed.TheVariants.{Start, Join, Leave, Close, Cancel, Skip, Ask, Reply, Report, End, Restart, Renew}
 use Rattle.lra_model.specs.Words.{when, same_kind, is_active, is_cancelling, has_ended, is_undecided}
-use Rattle.lra_model.specs.History.{History, actions, started_by, members, joined_by, is_among, last_moment}
-use Rattle.lra_model.specs.Actions.{Limit, parent, top, status_given, action_status, limit_given, limit_in_force, members_of}
-use Rattle.lra_model.specs.Members.{Asked, ask_of, Replied, replied_at, action_of, addresses_of, member_status, last_reply, was_answered, outstanding_ask, ask_direction, members_under}
-use Rattle.lra_model.specs.Ends.{action_is, is_settled, right_end, top_has_ended}
+use Rattle.lra_model.specs.History.{History, actions, started_by, members, joined_by, is_among}
+use Rattle.lra_model.specs.Actions.{parent, top, status_given, action_status, limit_given, limit_in_force, members_of}
+use Rattle.lra_model.specs.Members.{Asked, ask_of, replied_at, action_of, outstanding_ask, ask_direction, members_under}
+use Rattle.lra_model.specs.Ends.{action_is, top_has_ended}
 use Rattle.lra_model.specs.Facts.{ActionFacts, MemberFacts, Facts, action_facts, member_facts, facts_of}
-use Rattle.lra_model.specs.Tests.{status_is, parent_is, may_close, may_cancel}
+use Rattle.lra_model.specs.Tests.{status_is, parent_is, may_cancel}
 use Rattle.lra_model.specs.Wants.{wanted, wants, stage_of, repeats}
 use Rattle.lra_model.specs.Rules.{deed_rules, is_legal}
-use Rattle.lra_laws.specs.Rows.{Standing, MemberRow, member_row, standing, void_at, void_asks, way_asked}
+use Rattle.lra_laws.specs.Rows.{Standing, MemberRow, member_row, void_at, void_asks, way_asked}
 use Rattle.lra_laws.specs.inner.Changes.{members_changed, actions_changed}
 use Rattle.lra_laws.proofs.Push.{step, action_status_push, actions_push, members_push}
-use Rattle.lra_laws.proofs.Climbs.{top_within, top_climbs}
 use Rattle.lra_laws.proofs.Contacts.{repeat_of, repeats_push}
 use Rattle.lra_laws.proofs.GoodLists.{among_filter}
-use Rattle.lra_laws.proofs.GoodSpared.{close_active, cancel_case, active_not_ended}
-use Rattle.lra_laws.proofs.Legal.{Allowed, AllKept, at_action_from, entry_kept, close_kept, cancel_kept, action_fact, among_push, state_is_lem, parent_stays, parent_there, started_number, numbered_fresh, actions_numbered, action_there_push, member_there_push, action_of_there, members_of_lem, legal_more}
+use Rattle.lra_laws.proofs.GoodSpared.{close_active, cancel_case}
+use Rattle.lra_laws.proofs.Legal.{Allowed, AllKept, at_action_from, entry_kept, close_kept, cancel_kept, action_fact, among_push, state_is_lem, parent_stays, started_number, numbered_fresh, actions_numbered, member_there_push, action_of_there, members_of_lem, legal_more}
 use Rattle.lra_laws.proofs.RowLists.{eqb_self, eqb_flip, among_apart}
 use Rattle.lra_laws.proofs.Told.{entry, more}
 use Rattle.lra_laws.proofs.Tops.{top_stays, top_is_there, top_is_outermost, top_of_outermost}
-use Rattle.lra_laws.proofs.MemberWords.{concerns, quiet_row, void_push}
+use Rattle.lra_laws.proofs.MemberWords.{concerns, quiet_row}
 use Rattle.lra_laws.proofs.AskWords.{asks_listed, asks_stand, is_asked_by, void_kept}
 use Rattle.lra_laws.proofs.ActionWords.{status_kept, limit_kept}
 use Rattle.lra_laws.proofs.WantedWay.{wanted_way}

@@ -2,13 +2,12 @@
 use Rattle.std.proofs.Common.{◌≡◌, ℕ, zero, suc, Bool, true, false, List, [], ◌∷◌, ◌++◌, Option, Some, None, refl, sym, ap, ◌∙◌, subst, cond, append-nil, append_assoc}
 use Rattle.std.specs.Prelude.{◌==◌, ◌&&◌, ◌||◌, is_some}
 use Rattle.std.specs.Option.{option_map_or}
-use Rattle.std.specs.List.{flat_map}
 use Rattle.std.proofs.lemmas.List.Folds.{list_any-append}
 use Rattle.lra_model.specs.declared.version.Version.{Version}
 use Rattle.lra_model.specs.declared.entry.Deed.{Deed}
 use Rattle.lra_model.specs.declared.entry.Deed.TheVariants.{Close, Cancel, Skip, End}
 use Rattle.lra_model.specs.declared.entry.Entry.{Entry}
-use Rattle.lra_model.specs.History.{History, actions, members, joined_by, is_among}
+use Rattle.lra_model.specs.History.{History, actions, members, is_among}
 use Rattle.lra_model.specs.Actions.{parent, top, members_of}
 use Rattle.lra_model.specs.Members.{action_of, members_under}
 use Rattle.lra_model.specs.Settling.{is_settling, next_settling, settling_within, most_settling, with_settling}
@@ -17,7 +16,6 @@ use Rattle.lra_laws.specs.inner.Changes.{members_changed, actions_changed, membe
 use Rattle.lra_laws.proofs.Changes.{SameWants, SameLimit, wants_kept, limits_kept, under_lem}
 use Rattle.lra_laws.proofs.Legal.{Allowed, action_there_push, parent_stays, action_of_stays, action_of_there, members_of_lem}
 use Rattle.lra_laws.proofs.RowLists.{eqb_flip, among_apart}
-use Rattle.lra_laws.proofs.MemberRows.{members_stay}
 use Rattle.lra_laws.proofs.Settled.{settling_allowed, next_is_settling}
 use Rattle.lra_laws.proofs.Told.{entry, more}
 use Rattle.lra_laws.proofs.Tops.{top_is_there, top_stays}

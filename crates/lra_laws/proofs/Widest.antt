@@ -1,7 +1,7 @@
 -- What is legal or allowed in some version, with some test of an address's text, is so in version 2 with every text for an address; and what is
 -- allowed after one of the histories that a sheet stands for is allowed so after each.
 use Rattle.std.proofs.Common.{◌≡◌, ℕ, Bool, true, false, List, Option, Some, None, refl, sym, ap, ◌∙◌, subst}
-use Rattle.std.specs.Prelude.{◌&&◌, ◌||◌, is_some, is_none, nat_le}
+use Rattle.std.specs.Prelude.{◌&&◌, ◌||◌, is_some, is_none}
 use Rattle.std.specs.Option.{option_map_or}
 use Rattle.lra_model.specs.declared.version.Version.{Version}
 use Rattle.lra_model.specs.declared.version.Version.TheVariants.{One, Two}
@@ -18,7 +18,7 @@ use Rattle.lra_laws.specs.inner.RowFacts.{facts_by}
 use Rattle.lra_laws.proofs.Agree.{agree}
 use Rattle.lra_laws.proofs.Legal.{Allowed, allowed, all_kept, none_broken}
 use Rattle.lra_laws.proofs.Tested.{both, and_intro, none_from_test, list_all-weaker}
-use Rattle.lra_laws.proofs.Upgraded.{allows_kept, upgrade}
+use Rattle.lra_laws.proofs.Upgraded.{allows_kept}
 
 -- every text is an address
 abbrev pub any_text : List ℕ → Bool

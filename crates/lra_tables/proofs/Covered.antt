@@ -1,5 +1,5 @@
 -- The lists of what a block changes cover it.
-use Rattle.std.proofs.Common.{◌≡◌, ℕ, Bool, true, false, List, ◌++◌, length, Option, Some, None, refl, sym, ap, ◌∙◌, cond}
+use Rattle.std.proofs.Common.{◌≡◌, ℕ, Bool, true, false, List, ◌++◌, length, Option, Some, None, refl, sym, ap, ◌∙◌, subst, cond}
 use Rattle.std.specs.Prelude.{option_map, unwrap_or}
 use Rattle.std.specs.Option.{option_map_or, option_and_then}
 use Rattle.lra_model.specs.declared.status.ActionStatus.{ActionStatus}
@@ -11,7 +11,7 @@ use Rattle.lra_model.specs.Words.{is_active}
 use Rattle.lra_model.specs.History.{History, last, actions, members, is_among}
 use Rattle.lra_model.specs.Actions.{Limit, action_status, limit_in_force}
 use Rattle.lra_model.specs.Members.{ask_direction}
-use Rattle.lra_model.specs.Wants.{wants, stage_of, repeats, repeat_count, last_repeat}
+use Rattle.lra_model.specs.Wants.{wants, stage_of, repeat_count, last_repeat}
 use Rattle.lra_model.specs.Settling.{with_settling}
 use Rattle.lra_laws.specs.Sheets.{Sheet, StandsFor, Follows}
 use Rattle.lra_laws.specs.inner.Changes.{members_changed_by, actions_changed_by}
@@ -71,8 +71,13 @@ same_limiting J K a x =
 
 -- ---- blocks
 
-pub covers_wants : (s : Sheet) (e : Entry) (J : History) → Follows s e → StandsFor s J → CoversWants (members_changed_by J (with_settling J e)) J (J ++ with_settling J e)
-covers_wants s e J f h p out = let x = follows_each s e J f h in same_wanting J (J ++ with_settling J e) p (block_wants Two any_text J e p x.0 x.1 out)
+-- a list that has them all
+pub covers_wants : (s : Sheet) (e : Entry) (J : History) (es : List Entry) (ps : List ℕ) → Follows s e → StandsFor s J → es ≡ with_settling J e → ps ≡ members_changed_by J es → CoversWants ps J (J ++ es)
+covers_wants s e J es ps f h block listed p out =
+    let x = follows_each s e J f h in
+    same_wanting J (J ++ es) p
+    (subst (λ (fs : List Entry). SameWants J (J ++ fs) p) (sym block)
+    (block_wants Two any_text J e p x.0 x.1 (ap (λ (fs : List Entry). is_among (members_changed_by J fs) p) (sym block) ∙ ap (λ (ns : List ℕ). is_among ns p) (sym listed) ∙ out)))
 
-pub covers_limits : (J : History) (es : List Entry) → CoversLimits (actions_changed_by es) J (J ++ es)
-covers_limits J es a out = same_limiting J (J ++ es) a (block_limits J es a out)
+pub covers_limits : (J : History) (es : List Entry) (xs : List ℕ) → xs ≡ actions_changed_by es → CoversLimits xs J (J ++ es)
+covers_limits J es xs listed a out = same_limiting J (J ++ es) a (block_limits J es a (ap (λ (ns : List ℕ). is_among ns a) (sym listed) ∙ out))

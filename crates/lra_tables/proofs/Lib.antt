@@ -1,2 +1,3 @@
 mod Covered
+mod Listed
 mod SameMembers

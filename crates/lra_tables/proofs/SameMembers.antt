@@ -6,16 +6,14 @@ use Rattle.lra_model.specs.Addresses.{Addresses}
 use Rattle.lra_model.specs.Words.{has_gone}
 use Rattle.lra_model.specs.History.{History, members, is_among}
 use Rattle.lra_model.specs.Actions.{members_of}
-use Rattle.lra_model.specs.Members.{addresses_of, has_left, member_status}
+use Rattle.lra_model.specs.Members.{addresses_of, has_left}
 use Rattle.lra_model.specs.Joins.{same_addresses, already_member}
-use Rattle.lra_model.specs.Rules.{is_legal}
 use Rattle.lra_laws.proofs.Legal.{member_action}
 use Rattle.lra_laws.proofs.GoodLists.{find_same}
 use Rattle.lra_laws.proofs.MemberWords.{status_is}
 use Rattle.lra_laws.proofs.StatusCases.{gone_is_left}
 use Rattle.lra_laws.specs.Sheets.{StandsFor}
 use Rattle.lra_rows.specs.declared.found.MemberRow.{MemberRow}
-use Rattle.lra_rows.specs.Found.{found_member, found_addresses}
 use Rattle.lra_tables.specs.inner.Same.{found_same}
 
 -- of a member that is there
