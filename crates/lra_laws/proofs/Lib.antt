@@ -3,6 +3,8 @@ pub mod ActionWords
 pub mod Agree
 pub mod AskList
 pub mod AskWords
+pub mod Changes
+pub mod ChangesBlock
 pub mod Climbs
 pub mod Contacts
 pub mod GoodKept
@@ -39,5 +41,6 @@ pub mod Tops
 pub mod Upgraded
 pub mod Wanted
 pub mod WantedWay
+pub mod Widest
 pub mod Worked
 pub mod Writes

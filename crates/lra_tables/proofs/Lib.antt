@@ -1,0 +1,5 @@
+mod Covered
+mod Keeping
+mod Listed
+mod SameMembers
+mod Staying
