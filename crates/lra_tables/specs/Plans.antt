@@ -1,27 +1,35 @@
 -- What tables stand for, and what a plan says.
-use Rattle.std.specs.Prelude.{◌≡◌, ℕ, Bool, false, List, ◌++◌, Option, option_map}
+use Rattle.std.specs.Prelude.{◌≡◌, ℕ, ◌+◌, ◌^◌, Bool, true, false, ◌&&◌, nat_lt, nat_le, List, [], ◌∷◌, ◌++◌, length, Option, option_map}
+use Rattle.lra_model.specs.declared.entry.Deed.{Deed}
+use Rattle.lra_model.specs.declared.entry.Deed.TheVariants.{Join}
 use Rattle.lra_model.specs.declared.asks.AskKind.{AskKind}
 use Rattle.lra_model.specs.declared.entry.Entry.{Entry}
 use Rattle.lra_model.specs.Words.{is_active}
 use Rattle.lra_model.specs.History.{History, is_among}
 use Rattle.lra_model.specs.Settling.{with_settling}
+use Rattle.lra_model.specs.Rules.{allows}
 use Rattle.lra_laws.specs.Sheets.{Sheet, StandsFor, Follows}
+use Rattle.lra_board.specs.Boarded as boards
+use Rattle.lra_board.specs.Boarded.{Boarded}
 use Rattle.lra_rows.specs.declared.found.ActionRow.{ActionRow}
 use Rattle.lra_rows.specs.declared.found.MemberRow.{MemberRow}
 use Rattle.lra_rows.specs.Found.{found_action, found_member}
 
--- how much room tables have
-pub record Room : Type 0 where
-  pub places : ℕ
-
--- tables: what they keep of a history, and how much room they have
+-- tables: what they keep of a history, and how much room they have for more rows, and for more of those that join
 pub record Tabled : Type 0 where
   pub sheet : Sheet
-  pub room : Room
+  pub board : Boarded
+  pub places : ℕ
 
--- whether there is room for entries
+-- whether there is room for one that joins, where an entry lets one join
+abbrev pub takes_one : Deed → ℕ → Bool
+takes_one (Join p a uris) places = nat_lt 0 places
+takes_one d places = true
+
+-- whether there is room for entries of which the first is a command's own, and the others settle what follows from it
 abbrev pub has_room : Tabled → List Entry → Bool
-has_room t entries = false
+has_room t [] = true
+has_room t (e ∷ es) = boards.has_room e t.board && takes_one e.deed t.places && nat_le (t.sheet.entries + length (e ∷ es)) (2 ^ 63)
 
 -- a plan: the entries that are to come, the members whose wants they may change, and the actions whose deadlines they may change
 pub record Planned : Type 0 where
@@ -60,7 +68,9 @@ CoversLimits xs J K = (a : ℕ) → is_among xs a ≡ false → limiting K a ≡
 -- the plan of an entry that is allowed after the history: it, and all that settles after it
 pub record IsPlan (s : Sheet) (p : Planned) : Type 0 where
   pub entry : Entry
+  pub rest : List Entry
+  pub starts : p.entries ≡ entry ∷ rest
   pub follows : Follows s entry
-  pub block : (J : History) → StandsFor s J → p.entries ≡ with_settling J entry
-  pub wants : (J : History) → StandsFor s J → CoversWants p.members J (J ++ p.entries)
-  pub limits : (J : History) → StandsFor s J → CoversLimits p.actions J (J ++ p.entries)
+  pub block : (J : History) (h : StandsFor s J) → allows h.version h.is_address J entry ≡ true → p.entries ≡ with_settling J entry
+  pub wants : (J : History) (h : StandsFor s J) → allows h.version h.is_address J entry ≡ true → CoversWants p.members J (J ++ p.entries)
+  pub limits : (J : History) → CoversLimits p.actions J (J ++ p.entries)
