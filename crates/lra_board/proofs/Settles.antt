@@ -1,26 +1,23 @@
 -- What settles next may be carried out, and leaves less to settle.
-use Rattle.std.proofs.Common.{◌≡◌, ℕ, zero, suc, ◌^◌, Bool, true, false, List, [], ◌∷◌, ◌++◌, length, Option, Some, None, refl, sym, ap, ◌∙◌, subst, append_assoc, append-nil}
+use Rattle.std.proofs.Common.{◌≡◌, ℕ, zero, suc, ◌^◌, Bool, true, false, List, [], ◌∷◌, ◌++◌, Option, Some, None, refl, sym, ap, ◌∙◌, subst, append_assoc, append-nil}
 use Rattle.std.specs.Prelude.{nat_lt, ◌&&◌}
 use Rattle.std.specs.Option.{option_map_or}
 use Rattle.lra_model.specs.declared.version.Version.{Version}
-use Rattle.lra_model.specs.declared.asks.Cause.TheVariants as cause
 use Rattle.lra_model.specs.declared.entry.Deed.{Deed}
 use Rattle.lra_model.specs.declared.entry.Deed.TheVariants.{Close, Cancel, Skip, End}
 use Rattle.lra_model.specs.declared.entry.Entry.{Entry}
-use Rattle.lra_model.specs.Addresses.{Addresses}
 use Rattle.lra_model.specs.History.{History}
 use Rattle.lra_model.specs.Rules.{is_legal, allows}
 use Rattle.lra_model.specs.Settling.{is_settling, next_settling, settling_within, most_settling, with_settling}
 use Rattle.lra_laws.specs.Sheets.{Sheet, StandsFor, Follows}
-use Rattle.lra_laws.proofs.Legal.{Allowed, allowed, allows_from}
+use Rattle.lra_laws.proofs.Legal.{allowed, allows_from}
 use Rattle.lra_laws.proofs.Writes.{MayWrite, may_go_on}
 use Rattle.lra_laws.proofs.Settled.{settling_allowed}
 use Rattle.lra_laws.proofs.Rests.{next_settles}
-use Rattle.lra_laws.proofs.Tested.{and_intro}
 use Rattle.lra_rows.specs.Rowed as rows
 use Rattle.lra_rows.specs.Rowed.{addresses_joined}
 use Rattle.lra_board.specs.Boarded.{Boarded, has_room, marks_take}
-use Rattle.lra_board.specs.inner.Trail.{MayGoOn, SettlesTo, GoesOn}
+use Rattle.lra_board.specs.inner.Trail.{MayGoOn, SettlesTo, Going}
 
 -- ---- what settles takes no room and no addresses
 
@@ -107,4 +104,12 @@ pub settles_start : (J : History) (e : Entry) (b : Boarded) (n by m : ℕ) (es :
 settles_start J e b n by m es v t l k stands most is_by is_moment is_first =
     subst (λ x. SettlesTo J x m n b es (with_settling J e)) (sym is_by)
     (subst (λ x. SettlesTo J e.by x n b es (with_settling J e)) (sym is_moment)
-      (subst (λ (xs : List Entry). SettlesTo J e.by e.moment n b xs (with_settling J e)) (sym is_first) (settles_first J e b n v t l k stands most)))
+    (subst (λ (xs : List Entry). SettlesTo J e.by e.moment n b xs (with_settling J e)) (sym is_first) (settles_first J e b n v t l k stands most)))
+
+-- one whose entry was carried out may go on
+pub going_after : (s : Sheet) (e : Entry) (b : Boarded) (f : Follows s e) → StandsFor b.rows.sheet (f.history ++ e ∷ []) → Going b e.by e.moment
+going_after s e b f k = record {
+  history = f.history ++ e ∷ [];
+  may = goes_on b f.history e f.stands.version f.stands.is_address k
+      (may_go_on f.stands.version f.stands.is_address f.history e.by e.moment e.deed f.stands.legal (allowed f.stands.version f.stands.is_address f.history e f.allowed));
+}

@@ -1,20 +1,22 @@
 -- The way back over entries that were carried out.
-use Rattle.std.proofs.Common.{◌≡◌, ℕ, zero, suc, ◌≤◌, ◌<◌, List, [], ◌∷◌, ◌++◌, length, take, Option, Some, None, inl, inr, ◌⊎◌, refl, sym, ap, ◌∙◌, subst, arith, length-append}
-use Rattle.std.proofs.lemmas.List.{take_at, take_all, take-append-le}
+use Rattle.std.proofs.Common.{◌≡◌, ℕ, zero, suc, ◌≤◌, ◌<◌, true, List, [], ◌∷◌, ◌++◌, length, take, Some, inl, inr, ◌⊎◌, refl, sym, ap, ◌∙◌, subst, arith, length-append}
+use Rattle.std.proofs.lemmas.List.{take_all}
 use Rattle.std.specs.Prelude.{slice_get}
 use Rattle.lra_model.specs.declared.entry.Entry.{Entry}
-use Rattle.lra_laws.specs.Sheets.{Sheet, Follows}
-use Rattle.lra_rows.specs.Rowed.{Rowed}
+use Rattle.lra_model.specs.History.{History}
+use Rattle.lra_model.specs.Rules.{allows}
+use Rattle.lra_laws.specs.Sheets.{Sheet, StandsFor, Follows, sheet_after}
+use Rattle.lra_laws.proofs.SheetPush.{StandsFor-push}
 use Rattle.lra_rows.specs.Steps.{Step}
 use Rattle.lra_board.specs.Boarded.{Boarded, carried, uncarried, CameBy}
-use Rattle.lra_board.specs.inner.Trail.{carried_all, IsTrail, HasTrail}
+use Rattle.lra_board.specs.inner.Trail.{carried_all, IsTrail}
 
 -- one of a list with one more is one of the list, or that one
 of_more : {X : Type 0} (xs : List X) (y : X) (i : ℕ) (x : X) → slice_get (xs ++ y ∷ []) i ≡ Some x → ((i < length xs) × (slice_get xs i ≡ Some x)) ⊎ ((i ≡ length xs) × (y ≡ x))
 of_more [] y zero x h = inr (refl, cc)
 of_more [] y (suc i) x h = absurd cc
 of_more (z ∷ xs) y zero x h = inl (omega arith, h)
-of_more (z ∷ xs) y (suc i) x h = elim (of_more xs y i x h) [ | inl before ↦ inl (omega (arith, before.0), before.1) | inr here ↦ inr (ap suc here.0, here.1) ]
+of_more (z ∷ xs) y (suc i) x h = elim (of_more xs y i x h) [ inl before ↦ inl (omega (arith, before.0), before.1) | inr here ↦ inr (ap suc here.0, here.1) ]
 
 carried_all-push : (b : Boarded) (es : List Entry) (e : Entry) → carried_all b (es ++ e ∷ []) ≡ carried e (carried_all b es)
 carried_all-push b [] e = refl
@@ -54,10 +56,10 @@ trail_more b es ks now after e k h follows is back = record {
     now_is = carried_all-push b es e ∙ ap (carried e) (sym h.at) ∙ sym is
 
     older : (i : ℕ) (q : Step) → i < length es → slice_get (ks ++ k ∷ []) i ≡ Some q → slice_get ks i ≡ Some q
-    older i q l f = elim (of_more ks k i q f) [ | inl before ↦ before.1 | inr here ↦ let n = h.many in let m = here.0 in absurd (omega arith) ]
+    older i q l f = elim (of_more ks k i q f) [ inl before ↦ before.1 | inr here ↦ let n = h.many in let m = here.0 in absurd (omega arith) ]
 
     newest : (i : ℕ) (q : Step) → i ≡ length es → slice_get (ks ++ k ∷ []) i ≡ Some q → k ≡ q
-    newest i q l f = elim (of_more ks k i q f) [ | inl before ↦ let n = h.many in let m = before.0 in absurd (omega arith) | inr here ↦ here.1 ]
+    newest i q l f = elim (of_more ks k i q f) [ inl before ↦ let n = h.many in let m = before.0 in absurd (omega arith) | inr here ↦ here.1 ]
 
 take_next : {X : Type 0} (xs : List X) (i : ℕ) (x : X) → slice_get xs i ≡ Some x → take (suc i) xs ≡ take i xs ++ x ∷ []
 take_next [] i x h = absurd cc
@@ -81,3 +83,14 @@ last_came b es ks last now e k i n h number here step is =
 
 pub last_back : (b : Boarded) (es : List Entry) (ks : List Step) (last now : Boarded) (e : Entry) (k : Step) (i n : ℕ) → IsTrail b es ks last → n ≡ suc i → slice_get es i ≡ Some e → slice_get ks i ≡ Some k → now ≡ carried_all b (take n es) → uncarried e k now ≡ carried_all b (take i es)
 last_back b es ks last now e k i n h number here step is = ap (uncarried e k) (is ∙ ap (λ m. carried_all b (take m es)) number) ∙ h.back i e k here step
+
+-- no entry yet
+pub trail_none : (b : Boarded) (es : List Entry) (ks : List Step) → es ≡ [] → ks ≡ [] → IsTrail b es ks b
+trail_none b es ks no_entry no_step =
+    subst (λ (xs : List Entry). IsTrail b xs ks b) (sym no_entry)
+    (subst (λ (qs : List Step). IsTrail b [] qs b) (sym no_step) (record { at = refl; many = refl; follows = λ i e h. absurd cc; back = λ i e k h g. absurd cc }))
+
+-- the board after an entry stands for the longer history
+pub carried_stands : (s : Sheet) (b after : Boarded) (J : History) (e : Entry) (h : StandsFor s J) → allows h.version h.is_address J e ≡ true → b.rows.sheet ≡ s → after ≡ carried e b → StandsFor after.rows.sheet (J ++ e ∷ [])
+carried_stands s b after J e h k same is =
+    subst (λ (x : Sheet). StandsFor x (J ++ e ∷ [])) (ap (sheet_after e) (sym same) ∙ sym (ap (λ (c : Boarded). c.rows.sheet) is)) (StandsFor-push s J e h k)

@@ -119,7 +119,13 @@ impl Board {
     }
 
     /// Carries the deed out that settles next.
-    fn settle_next(&mut self, by: u32, moment: u64, deed: Deed, trail: &mut Trail) -> Result<(), Memory>
+    fn settle_next(
+        &mut self,
+        by: u32,
+        moment: u64,
+        deed: Deed,
+        trail: &mut Trail,
+    ) -> Result<(), Memory>
         requires { GoesOn self.old by moment deed }
         ensures entries { OnOk result (trail.new.entries.items ≡ trail.old.entries.items ++ record { by = by; moment = moment; deed = deed } ∷ []) }
         ensures goes { OnOk result ((K : History) → MayGoOn self.old K by moment → Some deed ≡ next_settling K → MayGoOn self.new (K ++ record { by = by; moment = moment; deed = deed } ∷ []) by moment) }
@@ -132,7 +138,13 @@ impl Board {
     }
 
     /// Carries out all that settles, at most so many entries.
-    fn settle_all(&mut self, by: u32, moment: u64, most: u64, trail: &mut Trail) -> Result<(), Memory>
+    fn settle_all(
+        &mut self,
+        by: u32,
+        moment: u64,
+        most: u64,
+        trail: &mut Trail,
+    ) -> Result<(), Memory>
         requires { Going self.old by moment }
         ensures whole { OnOk result ((J : History) (whole : List EntryValue) → SettlesTo J by moment most self.old trail.old.entries.items whole → trail.new.entries.items ≡ whole) }
         ensures trail { (b : Boarded) → IsTrail b trail.old.entries.items trail.old.steps.items self.old → IsTrail b trail.new.entries.items trail.new.steps.items self.new }

@@ -1,5 +1,3 @@
-use Rattle.std.proofs.Common.{ap, sym, subst}
-use Rattle.lra_board.specs.inner.Trail.{IsTrail}
 use Rattle.lra_board.proofs.Trails.{trail_more}
 use Rattle.lra_board.proofs.board.Board.follow.Goals as goal
 

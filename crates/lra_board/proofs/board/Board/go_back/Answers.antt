@@ -1,8 +1,5 @@
-use Rattle.std.proofs.Common.{◌≡◌, ◌-◌, ◌<◌, ◌∙◌, List, length, take, Some, suc, refl, arith}
+use Rattle.std.proofs.Common.{◌≡◌, ◌-◌, ◌<◌, ◌∙◌, length, refl, arith}
 use Rattle.std.proofs.lemmas.Option.{slice_get_read}
-use Rattle.std.specs.Prelude.{slice_get}
-use Rattle.lra_board.specs.Boarded.{uncarried}
-use Rattle.lra_board.specs.inner.Trail.{carried_all}
 use Rattle.lra_board.proofs.Trails.{last_came, last_back}
 use Rattle.lra_board.proofs.board.Board.go_back.Goals as goal
 

@@ -1,4 +1,4 @@
-use Rattle.std.proofs.Common.{◌≡◌, ◌≤◌, take, length}
+use Rattle.std.proofs.Common.{◌≡◌, take}
 use Rattle.lra_board.specs.Boarded.{Boarded}
 use Rattle.lra_board.specs.inner.Trail.{carried_all, IsTrail}
 use Rattle.lra_board.proofs.board.Board.go_back.Given as goal

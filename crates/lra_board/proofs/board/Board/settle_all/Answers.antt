@@ -1,6 +1,6 @@
 use Rattle.std.proofs.Common.{◌≡◌, ◌-◌, ◌+◌, ◌++◌, ◌∷◌, [], List, suc, sym, subst, arith}
 use Rattle.lra_model.specs.declared.entry.Entry.{Entry}
-use Rattle.lra_board.specs.inner.Trail.{IsTrail, Going, SettlesTo}
+use Rattle.lra_board.specs.inner.Trail.{SettlesTo}
 use Rattle.lra_board.proofs.Settles.{settles_more, settles_no_more, settles_all}
 use Rattle.lra_board.proofs.board.Board.settle_all.Goals as goal
 
@@ -28,8 +28,8 @@ loop-done-preserved c =
     let number : c.args.most - c.loop-done.done ≡ suc left = omega arith in (
       record { history = going.history ++ e ∷ []; may = c.in_ok-settle_next.ensures.goes going.history going.may (c.in-Some.ensures going.history going.may.stands) },
       λ J whole h.
-        let before : SettlesTo J by m (suc left) c.loop-done.self es whole = subst (λ n. SettlesTo J by m n c.loop-done.self es whole) number (c.loop-done.invariant.1 J whole h) in
-        subst (λ (xs : List Entry). SettlesTo J by m left c.settle_next.new.self xs whole) (sym c.in_ok-settle_next.ensures.entries)
-        (settles_more J by m left c.loop-done.self c.settle_next.new.self es whole c.in-Some.deed before (c.in-Some.ensures (J ++ es) before.may.stands) c.in_ok-settle_next.ensures.goes),
+          let before : SettlesTo J by m (suc left) c.loop-done.self es whole = subst (λ n. SettlesTo J by m n c.loop-done.self es whole) number (c.loop-done.invariant.1 J whole h) in
+          subst (λ (xs : List Entry). SettlesTo J by m left c.settle_next.new.self xs whole) (sym c.in_ok-settle_next.ensures.entries)
+          (settles_more J by m left c.loop-done.self c.settle_next.new.self es whole c.in-Some.deed before (c.in-Some.ensures (J ++ es) before.may.stands) c.in_ok-settle_next.ensures.goes),
       λ b h. c.settle_next.ensures.trail b (c.loop-done.invariant.2 b h),
     )

@@ -1,7 +1,7 @@
-use Rattle.std.proofs.Common.{◌≡◌, ◌∙◌, ◌^◌, ◌∷◌, ◌++◌, [], true, length, ap, sym, subst}
+use Rattle.std.proofs.Common.{◌∙◌, ◌^◌, ◌∷◌, ◌++◌, [], ap, sym, subst}
 use Rattle.std.specs.Prelude.{nat_lt}
 use Rattle.lra_model.specs.declared.entry.Entry.{Entry}
-use Rattle.lra_laws.specs.Sheets.{Sheet, StandsFor, sheet_after}
+use Rattle.lra_laws.specs.Sheets.{Sheet, StandsFor}
 use Rattle.lra_laws.proofs.SheetPush.{StandsFor-push}
 use Rattle.lra_board.specs.Boarded.{Boarded}
 use Rattle.lra_board.proofs.Settles.{no_addresses, settling_room, next_allowed, next_is_settling, may_more}
