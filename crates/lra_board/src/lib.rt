@@ -3,6 +3,7 @@
 
 mod board;
 mod ready;
+mod settle;
 
 pub use board::Board;
 pub use lra_model::Memory;

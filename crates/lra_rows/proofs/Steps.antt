@@ -14,8 +14,8 @@ use Rattle.lra_laws.specs.Sheets.{Nest, Contact, with_child_number, with_member_
 use Rattle.lra_rows.specs.declared.step.Added.{Added}
 use Rattle.lra_rows.specs.declared.step.Added.TheVariants as added
 use Rattle.lra_rows.specs.Rowed.{NestCapacity, Rowed}
-use Rattle.lra_rows.specs.Steps.{Repeated, Writes, counts_of, with_counts, without_last, without_child, without_member, without_under, without_added, with_repeats, repeats_back, put_back, rewritten}
-use Rattle.lra_rows.specs.inner.Changes.{Undoes, IsOfMember}
+use Rattle.lra_rows.specs.Steps.{Repeated, Writes, with_counts, without_last, without_child, without_member, without_under, without_added, with_repeats, repeats_back, put_back, rewritten}
+use Rattle.lra_rows.specs.inner.Changes.{counts_of, Undoes, IsOfMember}
 use Rattle.lra_rows.specs.inner.Held.{repeats_at}
 use Rattle.lra_rows.proofs.Numbered.{changed_back}
 

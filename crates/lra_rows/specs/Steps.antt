@@ -5,7 +5,7 @@ use Rattle.lra_model.specs.declared.asks.AskKind.{AskKind}
 use Rattle.lra_model.specs.declared.asks.AskKind.TheVariants as ask
 use Rattle.lra_model.specs.Addresses.{Addresses}
 use Rattle.lra_laws.specs.Rows.{MemberRow, ActionRow, row_at, change_row}
-use Rattle.lra_laws.specs.Sheets.{Nest, Repeats, Contact, Sheet}
+use Rattle.lra_laws.specs.Sheets.{Nest, Repeats, Contact}
 use Rattle.lra_rows.specs.declared.step.Added.{Added}
 use Rattle.lra_rows.specs.declared.step.Added.TheVariants as added
 use Rattle.lra_rows.specs.Rowed.{Rowed}
@@ -37,10 +37,6 @@ pub record Writes : Type 0 where
 pub record Step : Type 0 where
   pub before : Counts
   pub writes : Writes
-
--- what is counted, by a sheet
-abbrev pub counts_of : Sheet → Counts
-counts_of s = record { entries = s.entries; moment = s.state.moment; clerks = s.state.clerks; asks = s.state.asks; void = s.state.void }
 
 -- rows with other counts
 abbrev pub with_counts : Counts → Rowed → Rowed

@@ -68,11 +68,17 @@ pub(crate) fn remove_last<T: Drop>(rows: &mut Vec<T>)
     let _ = rows.pop();
 }
 
+/// Whether there is room for one more row.
+pub(crate) fn takes_one<T>(rows: &Vec<T>) -> bool
+    ensures { result ≡ takes_one rows.now.items (vec_capacity rows.now) }
+{
+    rows.len() < rows.capacity()
+}
+
 /// Makes room for one more row.
 pub(crate) fn reserve_one<T: Drop>(rows: &mut Vec<T>) -> Result<(), Memory>
     ensures items { rows.new.items ≡ rows.old.items }
     ensures ok { OnOk result (takes_one rows.new.items (vec_capacity rows.new) ≡ true) }
-    ensures err { OnErr result (takes_one rows.old.items (vec_capacity rows.old) ≡ false) }
     ensures kept { takes_one rows.old.items (vec_capacity rows.old) ≡ true → takes_one rows.new.items (vec_capacity rows.new) ≡ true }
 {
     rows.reserve(1)?;

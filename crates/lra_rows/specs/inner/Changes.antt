@@ -9,7 +9,7 @@ use Rattle.lra_laws.specs.Rows.{State, change_row}
 use Rattle.lra_laws.specs.Sheets.{Sheet}
 use Rattle.lra_rows.specs.declared.step.Added.TheVariants as added
 use Rattle.lra_rows.specs.Rowed.{Rowed}
-use Rattle.lra_rows.specs.Steps.{Writes, counts_of, taken_back}
+use Rattle.lra_rows.specs.Steps.{Counts, Writes, taken_back}
 
 -- the rows with another sheet
 abbrev pub with_sheet : Rowed → Sheet → Rowed
@@ -34,6 +34,10 @@ abbrev pub IsNext : State → Deed → ℕ → Type 0
 IsNext s Enrol by = by ≡ s.clerks + 1
 IsNext s (Ask n p kind) by = n ≡ s.asks + 1
 IsNext s _ by = Unit {0}
+
+-- what is counted, by a sheet
+abbrev pub counts_of : Sheet → Counts
+counts_of s = record { entries = s.entries; moment = s.state.moment; clerks = s.state.clerks; asks = s.state.asks; void = s.state.void }
 
 -- what was written, and what was added, takes the rows back to what they were
 abbrev pub Undoes : Writes → Rowed → Rowed → Type 0
