@@ -3,3 +3,4 @@ mod Keeping
 mod Listed
 mod SameMembers
 mod Staying
+pub mod Adopting

@@ -13,13 +13,22 @@ use Rattle.lra_board.specs.Boarded as boards
 use Rattle.lra_board.specs.Boarded.{Boarded}
 use Rattle.lra_rows.specs.declared.found.ActionRow.{ActionRow}
 use Rattle.lra_rows.specs.declared.found.MemberRow.{MemberRow}
+use Rattle.lra_rows.specs.Rowed.{Capacity}
 use Rattle.lra_rows.specs.Found.{found_action, found_member}
 
--- tables: what they keep of a history, and how much room they have for more rows, and for more of those that join
+-- tables: what they keep of a history, how much their lists hold with no more memory, how many more members and actions their marks take, and
+-- how many more may join
 pub record Tabled : Type 0 where
   pub sheet : Sheet
-  pub board : Boarded
+  pub capacity : Capacity
+  pub skips : ℕ
+  pub turns : ℕ
+  pub ends : ℕ
   pub places : ℕ
+
+-- the rows, with the room beside them
+abbrev pub board_of : Tabled → Boarded
+board_of t = record { rows = record { sheet = t.sheet; capacity = t.capacity }; skips = t.skips; turns = t.turns; ends = t.ends }
 
 -- whether there is room for one that joins, where an entry lets one join
 abbrev pub takes_one : Deed → ℕ → Bool
@@ -29,7 +38,7 @@ takes_one d places = true
 -- whether there is room for entries of which the first is a command's own, and the others settle what follows from it
 abbrev pub has_room : Tabled → List Entry → Bool
 has_room t [] = true
-has_room t (e ∷ es) = boards.has_room e t.board && takes_one e.deed t.places && nat_le (t.sheet.entries + length (e ∷ es)) (2 ^ 63)
+has_room t (e ∷ es) = boards.has_room e (board_of t) && takes_one e.deed t.places && nat_le (t.sheet.entries + length (e ∷ es)) (2 ^ 63)
 
 -- a plan: the entries that are to come, the members whose wants they may change, and the actions whose deadlines they may change
 pub record Planned : Type 0 where
