@@ -25,8 +25,12 @@ pub mod Push
 pub mod Quiet
 pub mod Ranges
 pub mod Rests
+pub mod RowChanges
 pub mod RowLists
 pub mod Settled
+pub mod SettlesNext
+pub mod SettlesPush
+pub mod SettlesStay
 pub mod SheetPush
 pub mod StartRows
 pub mod StatePush

@@ -1,9 +1,9 @@
 -- Where the actions stand, with what their lists hold, and the room that there is for one more entry.
-use Rattle.std.proofs.Common.{◌≡◌, inl, inr, ℕ, zero, suc, ◌<◌, ◌≤◌, ◌^◌, Bool, true, false, List, [], ◌∷◌, ◌++◌, length, map, Option, Some, None, refl, sym, ap, ◌∙◌, subst, IfSome, slice_get, slice_set}
-use Rattle.std.specs.Prelude.{◌&&◌, nat_lt, option_map, OnOk, OnErr, Result, vec_len}
+use Rattle.std.proofs.Common.{◌≡◌, inl, inr, ℕ, zero, suc, ◌≤◌, ◌-◌, ◌^◌, Bool, true, false, List, [], ◌∷◌, ◌++◌, length, take, map, Option, Some, None, refl, sym, ap, ◌∙◌, IfSome, slice_get, slice_set}
+use Rattle.std.specs.Prelude.{nat_lt, option_map}
 use Rattle.std.specs.Option.{option_map_or}
-use Rattle.std.proofs.lemmas.Bool.{cases_eq, ltb-true, and_left}
-use Rattle.std.proofs.lemmas.List.{map-set, length-map}
+use Rattle.std.proofs.lemmas.Bool.{cases_eq}
+use Rattle.std.proofs.lemmas.List.{map-set, take-map, length-map}
 use Rattle.std.proofs.lemmas.Option.{slice_get-map}
 use Rattle.lra_model.specs.declared.entry.Deed.{Deed}
 use Rattle.lra_model.specs.declared.entry.Deed.TheVariants.{Start, Join, Ask}
@@ -11,10 +11,11 @@ use Rattle.lra_model.specs.declared.entry.Entry.{Entry}
 use Rattle.lra_laws.specs.Rows.{row_at, change_row}
 use Rattle.lra_laws.specs.Sheets.{Nest, with_child_number, with_member_number, with_number_under, new_nest, top_at}
 use Rattle.lra_laws.proofs.Tested.{both, and_intro}
-use Rattle.lra_rows.specs.Rowed.{NestCapacity, no_capacity, Rowed, takes_one, list_takes_one, takes_child, takes_member, takes_under, deed_has_room, has_room}
+use Rattle.lra_rows.specs.Rowed.{NestCapacity, no_capacity, Rowed, takes_one, takes_child, takes_under, deed_has_room, has_room}
+use Rattle.lra_rows.specs.Steps.{without_last}
 use Rattle.lra_rows.specs.declared.nest.Listed.{Listed}
 use Rattle.lra_rows.specs.declared.nest.Listed.TheVariants as listed
-use Rattle.lra_rows.specs.inner.Nested.{Nested, nests_in, capacities_in, has_place, has_place_at, nest_with, with_number}
+use Rattle.lra_rows.specs.inner.Nested.{Nested, nests_in, capacities_in, has_place, has_place_at, nest_with, with_number, nest_without, without_number}
 use Rattle.lra_rows.specs.inner.Room.{Keeps}
 use Rattle.lra_rows.specs.inner.Counts.{DeepTo}
 use Rattle.lra_rows.proofs.Numbered.{slice_get-set_same, slice_get-set_other}
@@ -42,6 +43,20 @@ map-same f (y ∷ rows) zero x n there e = ap (λ s. s ∷ map f rows) (e ∙ ap
     some h = cc
 map-same f (y ∷ rows) (suc k) x n there e = ap (λ ss. f y ∷ ss) (map-same f rows k x n there e)
 
+-- a change that changes nothing
+change_none : {R : Type 0} (a : ℕ) (rows : List R) → change_row (λ r. r) a rows ≡ rows
+change_none zero rows = refl
+change_none (suc k) rows = at k rows
+  where
+    at : {R : Type 0} (k : ℕ) (rows : List R) → option_map_or (λ r. slice_set rows k r) (slice_get rows k) rows ≡ rows
+    at k [] = refl
+    at zero (x ∷ rows) = refl
+    at {R = R} (suc k) (x ∷ rows) = of_get (slice_get rows k) (at k rows)
+      where
+        of_get : (o : Option R) → option_map_or (λ r. slice_set rows k r) o rows ≡ rows → option_map_or (λ r. x ∷ slice_set rows k r) o (x ∷ rows) ≡ x ∷ rows
+        of_get None h = refl
+        of_get (Some r) h = ap (λ rs. x ∷ rs) h
+
 -- ---- lists with a place
 
 -- a number goes to a list
@@ -49,20 +64,7 @@ pub nests-with : (l : Listed) (number a : ℕ) (rows : List Nested) → nests_in
 nests-with l number a rows = map-change_row (λ (n : Nested). n.nest) (with_number l number) (nest_with l number) (λ n. refl) a rows
 
 pub capacities-with : (l : Listed) (number a : ℕ) (rows : List Nested) → capacities_in (change_row (with_number l number) a rows) ≡ capacities_in rows
-capacities-with l number a rows = map-change_row (λ (n : Nested). n.capacity) (with_number l number) (λ c. c) (λ n. refl) a rows ∙ same a (capacities_in rows)
-  where
-    same : (a : ℕ) (cs : List NestCapacity) → change_row (λ c. c) a cs ≡ cs
-    same zero cs = refl
-    same (suc k) cs = at k cs
-      where
-        at : (k : ℕ) (cs : List NestCapacity) → option_map_or (λ c. slice_set cs k c) (slice_get cs k) cs ≡ cs
-        at k [] = refl
-        at zero (c ∷ cs) = refl
-        at (suc k) (c ∷ cs) = of_get (slice_get cs k) (at k cs)
-          where
-            of_get : (o : Option NestCapacity) → option_map_or (λ d. slice_set cs k d) o cs ≡ cs → option_map_or (λ d. c ∷ slice_set cs k d) o (c ∷ cs) ≡ c ∷ cs
-            of_get None h = refl
-            of_get (Some d) h = ap (λ ds. c ∷ ds) h
+capacities-with l number a rows = map-change_row (λ (n : Nested). n.capacity) (with_number l number) (λ c. c) (λ n. refl) a rows ∙ change_none a (capacities_in rows)
 
 -- a place of a list stays where no list of the row that changes loses its own
 pub place_kept : (rows : List Nested) (k : ℕ) (x n : Nested) → slice_get rows k ≡ Some x → ((l : Listed) → has_place l x ≡ true → has_place l n ≡ true) → (l : Listed) (a : ℕ) → has_place_at l a rows ≡ true → has_place_at l a (slice_set rows k n) ≡ true
@@ -167,6 +169,17 @@ nests_joined p a t rows = nests-with listed.Under p t (change_row (with_number l
 
 pub capacities_joined : (p a t : ℕ) (rows : List Nested) → capacities_in (change_row (with_number listed.Under p) t (change_row (with_number listed.Members p) a rows)) ≡ capacities_in rows
 capacities_joined p a t rows = capacities-with listed.Under p t (change_row (with_number listed.Members p) a rows) ∙ capacities-with listed.Members p a rows
+
+-- ---- one less
+
+pub map-without_last : {R S : Type 0} (f : R → S) (rows : List R) → map f (without_last rows) ≡ without_last (map f rows)
+map-without_last f rows = sym (take-map f (length rows - 1) rows) ∙ ap (λ n. take (n - 1) (map f rows)) (sym (length-map rows f))
+
+pub nests-without : (l : Listed) (a : ℕ) (rows : List Nested) → nests_in (change_row (without_number l) a rows) ≡ change_row (nest_without l) a (nests_in rows)
+nests-without l a rows = map-change_row (λ (n : Nested). n.nest) (without_number l) (nest_without l) (λ n. refl) a rows
+
+pub capacities-without : (l : Listed) (a : ℕ) (rows : List Nested) → capacities_in (change_row (without_number l) a rows) ≡ capacities_in rows
+capacities-without l a rows = map-change_row (λ (n : Nested). n.capacity) (without_number l) (λ c. c) (λ n. refl) a rows ∙ change_none a (capacities_in rows)
 
 -- ---- room for a deed
 

@@ -3,10 +3,10 @@
 ghost use Rattle.std.specs.Prelude.{◌≡◌, [], true, false, OnOk, OnErr};
 ghost use Rattle.lra_laws.specs.Sheets as sheets;
 ghost use Rattle.lra_rows.specs.Rowed.{no_capacity};
-ghost use Rattle.lra_rows.specs.inner.Nested.{has_place, with_number};
+ghost use Rattle.lra_rows.specs.inner.Nested.{has_place, with_number, without_number};
 ghost use Rattle.lra_rows.specs.declared.nest.Listed.{Listed};
 
-use crate::lists::{add, reserve_one};
+use crate::lists::{add, remove_last, reserve_one, takes_one};
 use lra_model::Memory;
 use std::alloc::Global;
 use std::marker::Model;
@@ -54,11 +54,21 @@ impl Nest {
         }
     }
 
+    /// Whether there is room for one more number in a list.
+    pub(crate) fn has_place(&self, list: Listed) -> bool
+        ensures { result ≡ has_place list self.now }
+    {
+        match list {
+            Listed::Children => takes_one(&self.children),
+            Listed::Members => takes_one(&self.members),
+            Listed::Under => takes_one(&self.under),
+        }
+    }
+
     /// Makes room for one more number in a list.
     pub(crate) fn reserve(&mut self, list: Listed) -> Result<(), Memory>
         ensures same { self.new.nest ≡ self.old.nest }
         ensures ok { OnOk result (has_place list self.new ≡ true) }
-        ensures err { OnErr result (has_place list self.old ≡ false) }
         ensures kept { (l : Listed) → has_place l self.old ≡ true → has_place l self.new ≡ true }
     {
         match list {
@@ -77,6 +87,17 @@ impl Nest {
             Listed::Children => add(&mut self.children, number),
             Listed::Members => add(&mut self.members, number),
             Listed::Under => add(&mut self.under, number),
+        }
+    }
+
+    /// Removes the last number of a list.
+    pub(crate) fn remove(&mut self, list: Listed)
+        ensures { self.new ≡ without_number list self.old }
+    {
+        match list {
+            Listed::Children => remove_last(&mut self.children),
+            Listed::Members => remove_last(&mut self.members),
+            Listed::Under => remove_last(&mut self.under),
         }
     }
 }

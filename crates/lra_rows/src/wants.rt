@@ -46,7 +46,7 @@ impl Rows {
     ghost use Rattle.lra_model.specs.Wants as wants;
     ghost use Rattle.lra_laws.specs.inner.RowFacts.{action_by, is_standing, facts_by, member_by};
 
-    fn is_closing(&self, action: u64) -> bool
+    pub(crate) fn is_closing(&self, action: u64) -> bool
         ensures { result ≡ tests.status_is words.is_closing (facts_by self.now.sheet.state) action }
     {
         match at(&self.actions, action) {
@@ -55,7 +55,7 @@ impl Rows {
         }
     }
 
-    fn is_cancelling(&self, action: u64) -> bool
+    pub(crate) fn is_cancelling(&self, action: u64) -> bool
         ensures { result ≡ tests.status_is words.is_cancelling (facts_by self.now.sheet.state) action }
     {
         match at(&self.actions, action) {

@@ -1,9 +1,10 @@
 -- Where an action stands, with what its lists hold.
-use Rattle.std.specs.Prelude.{ℕ, ◌-◌, Bool, true, List, length, map, take}
+use Rattle.std.specs.Prelude.{ℕ, Bool, true, List, map}
 use Rattle.std.specs.Option.{option_map_or}
 use Rattle.lra_laws.specs.Rows.{row_at}
 use Rattle.lra_laws.specs.Sheets.{Nest, with_child_number, with_member_number, with_number_under}
 use Rattle.lra_rows.specs.Rowed.{NestCapacity, takes_one}
+use Rattle.lra_rows.specs.Steps.{without_child, without_member, without_under}
 use Rattle.lra_rows.specs.declared.nest.Listed.{Listed}
 use Rattle.lra_rows.specs.declared.nest.Listed.TheVariants as listed
 
@@ -39,3 +40,13 @@ nest_with listed.Under number n = with_number_under number n
 -- one more number in a list
 abbrev pub with_number : Listed → ℕ → Nested → Nested
 with_number l number n = record n { nest = nest_with l number n.nest }
+
+-- one number less in a list of where an action stands
+abbrev pub nest_without : Listed → Nest → Nest
+nest_without listed.Children n = without_child n
+nest_without listed.Members n = without_member n
+nest_without listed.Under n = without_under n
+
+-- one number less in a list
+abbrev pub without_number : Listed → Nested → Nested
+without_number l n = record n { nest = nest_without l n.nest }

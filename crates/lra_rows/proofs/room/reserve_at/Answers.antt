@@ -1,9 +1,9 @@
-use Rattle.std.proofs.Common.{◌≡◌, ◌⊎◌, inl, inr, ◌<◌, ◌≤◌, length, List, Some, None, Bool, true, false, refl, sym, subst, slice_get, slice_set}
+use Rattle.std.proofs.Common.{◌≡◌, ◌⊎◌, inl, inr, ◌<◌, ◌≤◌, length, true, false, refl, sym, subst}
 use Rattle.std.proofs.lemmas.Option.{slice_get_read, slice_get_past}
-use Rattle.std.proofs.lemmas.Result.{on_ok_weaker, on_err_weaker}
+use Rattle.std.proofs.lemmas.Result.{on_ok_weaker}
 use Rattle.std.proofs.lemmas.Bool.{cases_lt}
-use Rattle.lra_rows.specs.inner.Nested.{Nested, has_place_at}
-use Rattle.lra_rows.proofs.Rooms.{map-same, place_kept, place_there, place_none, place_past}
+use Rattle.lra_rows.specs.inner.Nested.{Nested}
+use Rattle.lra_rows.proofs.Rooms.{map-same, place_kept, place_there, place_past}
 use Rattle.lra_rows.proofs.room.reserve_at.Goals as goal
 
 pub returns-in-Some-get_mut-clause-same : goal.returns-in-Some-get_mut-clause-same
@@ -15,11 +15,6 @@ pub returns-in-Some-get_mut-clause-ok : goal.returns-in-Some-get_mut-clause-ok
 returns-in-Some-get_mut-clause-ok c =
     on_ok_weaker c.reserve.result (λ h. rw c.in-Some.ensures (place_there c.args.nests.now.items c.in-Some.place c.in-Some-get_mut.nest.now c.reserve.new.self c.args.list
     (slice_get_read c.args.nests.now.items _ c.in-Some.place c.in-Some-get_mut.nest.now c.args.nests.now.ok.0 (c.in-Some-get_mut.ensures.variant.0 refl) c.in-Some-get_mut.ensures.value) h)) c.reserve.ensures.ok
-
-pub returns-in-Some-get_mut-clause-err : goal.returns-in-Some-get_mut-clause-err
-returns-in-Some-get_mut-clause-err c =
-    on_err_weaker c.reserve.result (λ h. rw c.in-Some.ensures (place_none c.args.nests.now.items c.in-Some.place c.in-Some-get_mut.nest.now c.args.list
-    (slice_get_read c.args.nests.now.items _ c.in-Some.place c.in-Some-get_mut.nest.now c.args.nests.now.ok.0 (c.in-Some-get_mut.ensures.variant.0 refl) c.in-Some-get_mut.ensures.value) h)) c.reserve.ensures.err
 
 pub returns-in-Some-get_mut-clause-kept : goal.returns-in-Some-get_mut-clause-kept
 returns-in-Some-get_mut-clause-kept c =

@@ -1,14 +1,11 @@
-use Rattle.std.proofs.Common.{◌≡◌, ◌&&◌, ℕ, List, refl, ap, ◌∙◌, sym, vec_capacity}
+use Rattle.std.proofs.Common.{◌≡◌, ℕ, List, ap, ◌∙◌, sym}
 use Rattle.std.specs.Option.{option_map_or}
-use Rattle.std.proofs.lemmas.Result.{on_ok_weaker, on_err_weaker}
-use Rattle.std.proofs.lemmas.Bool.{and_right}
+use Rattle.std.proofs.lemmas.Result.{on_ok_weaker}
 use Rattle.lra_laws.proofs.Tested.{and_intro}
 use Rattle.lra_laws.specs.Rows.{ActionRow, row_at}
-use Rattle.lra_laws.specs.Sheets.{Nest}
-use Rattle.lra_rows.specs.Rowed.{NestCapacity, takes_one}
 use Rattle.lra_rows.specs.declared.nest.Listed.TheVariants as listed
 use Rattle.lra_rows.specs.inner.Nested.{has_place_at}
-use Rattle.lra_rows.proofs.Rooms.{apart, children_kept, members_kept, under_kept, member_place, under_place, fails_before}
+use Rattle.lra_rows.proofs.Rooms.{children_kept, members_kept, under_kept, member_place, under_place}
 use Rattle.lra_rows.proofs.rows.Rows.reserve_join.Goals as goal
 
 abbrev top_in : List ActionRow → ℕ → ℕ
@@ -31,15 +28,6 @@ returns-clause-ok c = on_ok_weaker c.reserve_at-2.result (λ h p uris.
     and_intro _ _ (and_intro _ _ (and_intro _ _ c.in_ok-reserve_one.ensures.ok c.in_ok-reserve_one-2.ensures.ok)
     (member_place c.reserve_at-2.new.nests.items c.args.action ∙ c.reserve_at-2.ensures.kept listed.Members c.args.action c.in_ok-reserve_at.ensures.ok))
     (under_place c.reserve_at-2.new.nests.items (top_in c.self.inside.actions.items c.args.action) ∙ ap (λ b. has_place_at listed.Under b c.reserve_at-2.new.nests.items) (sym top) ∙ h)) c.reserve_at-2.ensures.ok
-  where
-    top : c.top_of.result ≡ top_in c.self.inside.actions.items c.args.action
-    top = c.top_of.ensures ∙ ap (λ rows. top_in rows c.args.action) c.deref.ensures.value
-
-pub returns-clause-err : goal.returns-clause-err
-returns-clause-err c = on_err_weaker c.reserve_at-2.result (λ h p uris. rw (← c.self.view_is) (and_right
-    (takes_one c.self.inside.members.items (vec_capacity c.self.inside.members) && takes_one c.self.inside.contacts.items (vec_capacity c.self.inside.contacts) && apart (λ (n : Nest). n.members) (λ (k : NestCapacity). k.members) c.self.inside.nests.items c.args.action)
-    (apart (λ (n : Nest). n.under) (λ (k : NestCapacity). k.under) c.self.inside.nests.items (top_in c.self.inside.actions.items c.args.action))
-    (under_place c.self.inside.nests.items (top_in c.self.inside.actions.items c.args.action) ∙ ap (λ b. has_place_at listed.Under b c.self.inside.nests.items) (sym top) ∙ fails_before c.self.inside.nests.items c.reserve_at.new.nests.items c.reserve_at.ensures.kept listed.Under c.top_of.result h))) c.reserve_at-2.ensures.err
   where
     top : c.top_of.result ≡ top_in c.self.inside.actions.items c.args.action
     top = c.top_of.ensures ∙ ap (λ rows. top_in rows c.args.action) c.deref.ensures.value

@@ -1,4 +1,4 @@
-use Rattle.std.proofs.Common.{◌≡◌, sym, ◌∙◌, vec_capacity}
+use Rattle.std.proofs.Common.{sym, ◌∙◌, vec_capacity}
 use Rattle.lra_rows.proofs.Rooms.{children_kept, members_kept, under_kept, takes_nest}
 use Rattle.lra_rows.proofs.rows.Rows.reserve_start.Goals as goal
 

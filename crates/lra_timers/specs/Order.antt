@@ -1,17 +1,11 @@
 -- The order of deadlines: by moment, and at one moment by number.
-use Rattle.std.specs.Prelude.{◌≡◌, ◌⊎◌, ℕ, ◌-◌, ◌^◌, ◌≤◌, ◌<◌, List, length, slice_index_or}
+use Rattle.std.specs.Prelude.{◌≡◌, ℕ, ◌-◌, ◌^◌, ◌≤◌, ◌<◌, List, length, slice_index_or}
 use Rattle.lra_timers.specs.declared.deadline.Deadline.{Deadline}
 
 -- a is b, or stands before it
 pub record IsNotAfter (a b : Deadline) : Type 0 where
   pub moment : a.moment ≤ b.moment
   pub number : a.moment ≡ b.moment → a.number ≤ b.number
-
--- the one of a and b that isn't after the other
-pub record IsWinner (winner a b : Deadline) : Type 0 where
-  pub one_of : (winner ≡ a) ⊎ (winner ≡ b)
-  pub first : IsNotAfter winner a
-  pub second : IsNotAfter winner b
 
 -- nothing is after it
 abbrev pub last : Deadline
@@ -27,3 +21,8 @@ pub record IsFirstOf (deadlines : List Deadline) (first : Deadline) : Type 0 whe
   pub within : place < length deadlines
   pub here : node deadlines place ≡ first
   pub least : (i : ℕ) → i < length deadlines → IsNotAfter first (node deadlines i)
+
+-- a list of deadlines, and how many more fit
+pub record Entrants : Type 0 where
+  pub items : List Deadline
+  pub room : ℕ
