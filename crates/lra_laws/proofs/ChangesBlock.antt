@@ -15,8 +15,9 @@ use Rattle.lra_model.specs.Rules.{is_legal}
 use Rattle.lra_laws.specs.inner.Changes.{members_changed, actions_changed, members_changed_by, actions_changed_by}
 use Rattle.lra_laws.proofs.Changes.{SameWants, SameLimit, wants_kept, limits_kept, under_lem}
 use Rattle.lra_laws.proofs.Legal.{Allowed, action_there_push, parent_stays, action_of_stays, action_of_there, members_of_lem}
+use Rattle.lra_laws.proofs.Rests.{next_settles}
 use Rattle.lra_laws.proofs.RowLists.{eqb_flip, among_apart}
-use Rattle.lra_laws.proofs.Settled.{settling_allowed, next_is_settling}
+use Rattle.lra_laws.proofs.Settled.{settling_allowed}
 use Rattle.lra_laws.proofs.Told.{entry, more}
 use Rattle.lra_laws.proofs.Tops.{top_is_there, top_stays}
 use Rattle.lra_laws.proofs.Writes.{MayWrite, may_go_on}
@@ -147,7 +148,7 @@ settling_wants v t J p l (suc n) by m K w x h = next (next_settling K) refl (set
     next (Some d) g rest i =
         let allowed = settling_allowed v t K by m d w g in
         let both = in_neither (members_changed J d) (members_changed_by J (settling_within n by m (more K by m d))) p i in
-        let out = still_out v t J K d p l w.legal x (next_is_settling K d g) both.0 in
+        let out = still_out v t J K d p l w.legal x (next_settles K d g) both.0 in
         subst (λ (L : History). SameWants K L p) (sym (then K by m d (settling_within n by m (more K by m d))))
         (wants_twice K (more K by m d) (more K by m d ++ settling_within n by m (more K by m d)) p
         (wants_kept v t K by m d p w.legal allowed out)

@@ -17,7 +17,7 @@ use Rattle.lra_model.specs.Actions.{action_status}
 use Rattle.lra_model.specs.Ends.{settles, is_settled, right_end}
 use Rattle.lra_model.specs.Facts.{ActionFacts, MemberFacts, member_facts, facts_of}
 use Rattle.lra_model.specs.Tests.{at_action, status_is, may_close_with_parent, may_cancel_with_parent, may_skip}
-use Rattle.lra_model.specs.Settling.{is_settling, may_be_skipped, by_parent, next_settling}
+use Rattle.lra_model.specs.Settling.{may_be_skipped, by_parent, next_settling}
 use Rattle.lra_laws.proofs.Tested.{both}
 use Rattle.lra_laws.proofs.Legal.{Allowed, action_fact, member_fact, at_action_from, at_member_from, status_is_there}
 use Rattle.lra_laws.proofs.Ranges.{action_in_range, member_in_range}
@@ -145,36 +145,6 @@ settling_allowed v t J by m d k h = either (option_map Skip (find (may_be_skippe
 
     either : (x : Option Deed) → option_map Skip (find (may_be_skipped J) (members J)) ≡ x → (y : Option Deed) → first (filter_map (by_parent J) (actions J)) ≡ y
         → option_or x (option_or y (option_map (λ a. End a (right_end J a)) (last (filter_map (λ a. cond (is_settled J a) (Some a) None) (actions J))))) ≡ Some d → Allowed v t J (record { by = by; moment = m; deed = d })
-    either (Some x) g y i j = skipped (g ∙ j)
-    either None g (Some y) i j = turned (i ∙ j)
-    either None g None i j = ended j
-
--- what settles a history next is a settling deed
-pub next_is_settling : (J : History) (d : Deed) → next_settling J ≡ Some d → is_settling d ≡ true
-unfolding next_settling
-next_is_settling J d h = either (option_map Skip (find (may_be_skipped J) (members J))) refl (first (filter_map (by_parent J) (actions J))) refl h
-  where
-    same_deed : (x : Deed) → x ≡ d → is_settling x ≡ true → is_settling d ≡ true
-    same_deed x e g = ap is_settling (sym e) ∙ g
-
-    by_tests : (a : ℕ) (x y : Bool) → cond x (Some (Close a cause.Parent)) (cond y (Some (Cancel a cause.Parent)) None) ≡ Some d → is_settling d ≡ true
-    by_tests a true y i = same_deed (Close a cause.Parent) (cc) refl
-    by_tests a false true i = same_deed (Cancel a cause.Parent) (cc) refl
-    by_tests a false false i = absurd cc
-
-    turned : first (filter_map (by_parent J) (actions J)) ≡ Some d → is_settling d ≡ true
-    turned g = let r = first_is_read (by_parent J) (actions J) d g in by_tests r.0 _ _ r.1
-
-    ended : option_map (λ a. End a (right_end J a)) (last (filter_map (λ a. cond (is_settled J a) (Some a) None) (actions J))) ≡ Some d → is_settling d ≡ true
-    ended g =
-        let r = some_map (λ (a : ℕ). End a (right_end J a)) (last (filter_map (λ a. cond (is_settled J a) (Some a) None) (actions J))) d g in
-        same_deed (End r.0 (right_end J r.0)) r.2 refl
-
-    skipped : option_map Skip (find (may_be_skipped J) (members J)) ≡ Some d → is_settling d ≡ true
-    skipped g = let r = some_map Skip (find (may_be_skipped J) (members J)) d g in same_deed (Skip r.0) r.2 refl
-
-    either : (x : Option Deed) → option_map Skip (find (may_be_skipped J) (members J)) ≡ x → (y : Option Deed) → first (filter_map (by_parent J) (actions J)) ≡ y
-        → option_or x (option_or y (option_map (λ a. End a (right_end J a)) (last (filter_map (λ a. cond (is_settled J a) (Some a) None) (actions J))))) ≡ Some d → is_settling d ≡ true
     either (Some x) g y i j = skipped (g ∙ j)
     either None g (Some y) i j = turned (i ∙ j)
     either None g None i j = ended j
