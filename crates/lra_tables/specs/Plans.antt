@@ -7,7 +7,6 @@ use Rattle.lra_model.specs.declared.entry.Entry.{Entry}
 use Rattle.lra_model.specs.Words.{is_active}
 use Rattle.lra_model.specs.History.{History, is_among}
 use Rattle.lra_model.specs.Settling.{with_settling}
-use Rattle.lra_model.specs.Rules.{allows}
 use Rattle.lra_laws.specs.Sheets.{Sheet, StandsFor, Follows}
 use Rattle.lra_board.specs.Boarded as boards
 use Rattle.lra_board.specs.Boarded.{Boarded}
@@ -77,9 +76,7 @@ CoversLimits xs J K = (a : ℕ) → is_among xs a ≡ false → limiting K a ≡
 -- the plan of an entry that is allowed after the history: it, and all that settles after it
 pub record IsPlan (s : Sheet) (p : Planned) : Type 0 where
   pub entry : Entry
-  pub rest : List Entry
-  pub starts : p.entries ≡ entry ∷ rest
   pub follows : Follows s entry
-  pub block : (J : History) (h : StandsFor s J) → allows h.version h.is_address J entry ≡ true → p.entries ≡ with_settling J entry
-  pub wants : (J : History) (h : StandsFor s J) → allows h.version h.is_address J entry ≡ true → CoversWants p.members J (J ++ p.entries)
-  pub limits : (J : History) → CoversLimits p.actions J (J ++ p.entries)
+  pub block : (J : History) → StandsFor s J → p.entries ≡ with_settling J entry
+  pub wants : (J : History) → StandsFor s J → CoversWants p.members J (J ++ p.entries)
+  pub limits : (J : History) → StandsFor s J → CoversLimits p.actions J (J ++ p.entries)
