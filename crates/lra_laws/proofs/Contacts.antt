@@ -26,7 +26,7 @@ use Rattle.lra_laws.proofs.MemberRows.{absent_before, members_stay}
 use Rattle.lra_laws.proofs.AskWords.{asks_listed}
 
 -- what a reply counts for
-abbrev repeat_of : ℕ → AskKind → Replied → Option ℕ
+abbrev pub repeat_of : ℕ → AskKind → Replied → Option ℕ
 repeat_of p stage r = when ((r.to.member == p) && same_kind (stage_of r.to.kind r.to.direction) stage && is_undecided r.outcome) r.moment
 
 -- the repeats after one more entry

@@ -49,7 +49,7 @@ not_in_both f g apart J a = one (action_status J a)
     one (Some s) h k = apart s h k
 
 -- neither an Active action nor a Cancelling one has ended
-active_not_ended : (s : ActionStatus) → is_active s ≡ true → has_ended s ≡ true → ⊥
+pub active_not_ended : (s : ActionStatus) → is_active s ≡ true → has_ended s ≡ true → ⊥
 active_not_ended action.Active h k = absurd cc
 active_not_ended _ h k = absurd cc
 
@@ -74,7 +74,7 @@ close_active f a c h = one c (f.action a) h
     one cause.Limit (Some x) g = absurd cc
 
 -- an action that may be cancelled is Active, or its parent is Active or Cancelling
-cancel_case : (v : Version) (m : ℕ) (c : Cause) (f : Facts) (x : ActionFacts) → may_cancel v m c f x ≡ true
+pub cancel_case : (v : Version) (m : ℕ) (c : Cause) (f : Facts) (x : ActionFacts) → may_cancel v m c f x ≡ true
     → (is_active x.status ≡ true) ⊎ (parent_is is_active f x ≡ true) ⊎ (parent_is is_cancelling f x ≡ true)
 cancel_case v m cause.Client f x h = either (is_active x.status) refl h
   where

@@ -3,6 +3,8 @@ pub mod ActionWords
 pub mod Agree
 pub mod AskList
 pub mod AskWords
+pub mod Changes
+pub mod ChangesBlock
 pub mod Climbs
 pub mod Contacts
 pub mod GoodKept
@@ -23,8 +25,12 @@ pub mod Push
 pub mod Quiet
 pub mod Ranges
 pub mod Rests
+pub mod RowChanges
 pub mod RowLists
 pub mod Settled
+pub mod SettlesNext
+pub mod SettlesPush
+pub mod SettlesStay
 pub mod SheetPush
 pub mod StartRows
 pub mod StatePush
@@ -35,5 +41,6 @@ pub mod Tops
 pub mod Upgraded
 pub mod Wanted
 pub mod WantedWay
+pub mod Widest
 pub mod Worked
 pub mod Writes

@@ -266,7 +266,7 @@ settling_lessens v t J by m d k h = by_deed d h (entry_kept v t (facts_of J) (re
     by_deed _ s r = absurd cc
 
 -- what comes next settles
-next_settles : (J : History) (d : Deed) → next_settling J ≡ Some d → is_settling d ≡ true
+pub next_settles : (J : History) (d : Deed) → next_settling J ≡ Some d → is_settling d ≡ true
 unfolding next_settling
 next_settles J d h =
     ap (λ (o : Option Deed). option_map_or is_settling o true) (sym h)

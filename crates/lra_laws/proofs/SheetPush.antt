@@ -51,7 +51,7 @@ pub sheet_push : (v : Version) (t : List ℕ → Bool) (J : History) (e : Entry)
 sheet_push v t J e l k = let a = allowed v t J e k in push_allowed v t J e.by e.moment e.deed l a (told v t J e.by e.moment e.deed a)
 
 -- so it stands for the longer history
-pub StandsFor-push : (s : Sheet) (J : History) (e : Entry) (h : StandsFor s J) → allows h.version h.is_address J e ≡ true → StandsFor (sheet_after e s) (J ++ e ∷ [])
+unfoldable pub StandsFor-push : (s : Sheet) (J : History) (e : Entry) (h : StandsFor s J) → allows h.version h.is_address J e ≡ true → StandsFor (sheet_after e s) (J ++ e ∷ [])
 StandsFor-push s J e h k = record {
   version = h.version;
   is_address = h.is_address;

@@ -1,5 +1,5 @@
 -- The lineage of an action after one more entry: so its outermost action and its depth stay; and its depth by its parent.
-use Rattle.std.proofs.Common.{◌≡◌, ℕ, zero, suc, Bool, true, List, [], ◌∷◌, ◌++◌, length, Option, Some, None, refl, ap, ◌∙◌}
+use Rattle.std.proofs.Common.{◌≡◌, ℕ, zero, suc, ◌≤◌, Bool, true, List, [], ◌∷◌, ◌++◌, length, Option, Some, None, refl, ap, ◌∙◌, arith}
 use Rattle.std.specs.Prelude.{unwrap_or}
 use Rattle.std.specs.Option.{option_map_or}
 use Rattle.lra_model.specs.declared.entry.Entry.{Entry}
@@ -8,7 +8,7 @@ use Rattle.lra_model.specs.History.{History, last, actions, is_among}
 use Rattle.lra_model.specs.Actions.{parent, lineage_within, lineage, top, depth}
 use Rattle.lra_model.specs.Rules.{is_legal}
 use Rattle.lra_laws.proofs.Climbs.{top_within, top_climbs}
-use Rattle.lra_laws.proofs.GoodWalks.{lineage_lem}
+use Rattle.lra_laws.proofs.GoodWalks.{lineage_lem, top_lem}
 use Rattle.lra_laws.proofs.Legal.{parent_stays, parent_there}
 
 -- the lineage of an action that is there stays
@@ -56,3 +56,23 @@ depth_by_parent v t J l a = ap (λ (ns : List ℕ). length ns) (lineage_lem v t 
     above : (o : Option ℕ) → length (a ∷ option_map_or (lineage J) o []) ≡ option_map_or (λ b. suc (length (lineage J b))) o 1
     above None = refl
     above (Some b) = refl
+
+-- the outermost action above one has no parent
+pub top_is_outermost : (v : Version) (t : List ℕ → Bool) (J : History) → is_legal v t J ≡ true → (a : ℕ) → parent J (top J a) ≡ None
+top_is_outermost v t J l a = ap (parent J) (top_climbs J a) ∙ within a a (omega arith)
+  where
+    within : (n b : ℕ) → b ≤ n → parent J (top_within n J b) ≡ None
+    within zero b h = above (parent J b) refl
+      where
+        above : (o : Option ℕ) → parent J b ≡ o → parent J b ≡ None
+        above None e = e
+        above (Some c) e = absurd (let x = (parent_there v t J l b c e).less in omega arith)
+    within (suc n) b h = above (parent J b) refl (λ c k. within n c k)
+      where
+        above : (o : Option ℕ) → parent J b ≡ o → ((c : ℕ) → c ≤ n → parent J (top_within n J c) ≡ None) → parent J (option_map_or (top_within n J) o b) ≡ None
+        above None e ih = e
+        above (Some c) e ih = ih c (let x = (parent_there v t J l b c e).less in omega arith)
+
+-- an action with no parent is the outermost one above itself
+pub top_of_outermost : (v : Version) (t : List ℕ → Bool) (J : History) → is_legal v t J ≡ true → (a : ℕ) → parent J a ≡ None → top J a ≡ a
+top_of_outermost v t J l a h = top_lem v t J l a ∙ ap (λ (o : Option ℕ). option_map_or (top J) o a) h

@@ -13,16 +13,18 @@ use Rattle.lra_model.specs.Addresses.{Addresses}
 use Rattle.lra_model.specs.Words.{is_undecided}
 use Rattle.lra_model.specs.History.{History, steps, actions, members}
 use Rattle.lra_model.specs.Actions.{children, members_of, depth}
-use Rattle.lra_model.specs.Members.{Asked, asked_at, addresses_of}
+use Rattle.lra_model.specs.Members.{Asked, asked_at, members_under, addresses_of}
 use Rattle.lra_model.specs.Wants.{stage_of, repeat_count, last_repeat}
 use Rattle.lra_model.specs.Rules.{is_legal, allows}
-use Rattle.lra_laws.specs.Rows.{State, MemberRow, state_of, row_at, change_row, change_member, way_asked, with_reply, after_deed}
+use Rattle.lra_laws.specs.Rows.{State, ActionRow, MemberRow, state_of, row_at, change_row, change_member, way_asked, with_reply, after_deed}
 
--- where an action stands among others: how deep it is nested, the actions nested in it, and its members
+-- where an action stands among others: how deep it is nested, the actions nested in it, its members, and, where it is an outermost one, the
+-- members of all that stand in it
 pub record Nest : Type 0 where
   pub depth : ℕ
   pub children : List ℕ
   pub members : List ℕ
+  pub under : List ℕ
 
 -- how often a member gave no final answer in a stage, and when it last did; 0 where it never did
 pub record Repeats : Type 0 where
@@ -49,7 +51,7 @@ pub record Sheet : Type 0 where
 
 -- where an action stands
 abbrev pub nest_of : History → ℕ → Nest
-nest_of J a = record { depth = depth J a; children = children J a; members = members_of J a }
+nest_of J a = record { depth = depth J a; children = children J a; members = members_of J a; under = members_under J a }
 
 -- a member's repeats in a stage
 abbrev pub repeats_in : History → ℕ → AskKind → Repeats
@@ -96,19 +98,27 @@ with_child_number c n = record n { children = n.children ++ c ∷ [] }
 abbrev pub with_member_number : ℕ → Nest → Nest
 with_member_number p n = record n { members = n.members ++ p ∷ [] }
 
+-- one more number for the members of all that stand in an action
+abbrev pub with_number_under : ℕ → Nest → Nest
+with_number_under p n = record n { under = n.under ++ p ∷ [] }
+
 -- how deep a new action is nested
 abbrev pub new_depth : List Nest → Option ℕ → ℕ
 new_depth nests parent = option_map_or (λ b. option_map_or (λ (n : Nest). suc n.depth) (row_at nests b) 1) parent 1
 
 -- a new action has no children and no members
 abbrev pub new_nest : ℕ → Nest
-new_nest depth = record { depth = depth; children = []; members = [] }
+new_nest depth = record { depth = depth; children = []; members = []; under = [] }
+
+-- the outermost action above one, as its row has it; 0, which no action bears, where there is none
+abbrev pub top_at : State → ℕ → ℕ
+top_at s a = option_map_or (λ (r : ActionRow). r.top) (row_at s.actions a) 0
 
 -- where the actions stand after one more deed
-abbrev pub nests_after : Deed → List Nest → List Nest
-nests_after (Start c parent limit) nests = option_map_or (λ b. change_row (with_child_number c) b nests) parent nests ++ new_nest (new_depth nests parent) ∷ []
-nests_after (Join p a uris) nests = change_row (with_member_number p) a nests
-nests_after _ nests = nests
+abbrev pub nests_after : State → Deed → List Nest → List Nest
+nests_after s (Start c parent limit) nests = option_map_or (λ b. change_row (with_child_number c) b nests) parent nests ++ new_nest (new_depth nests parent) ∷ []
+nests_after s (Join p a uris) nests = change_row (with_number_under p) (top_at s a) (change_row (with_member_number p) a nests)
+nests_after s _ nests = nests
 
 -- no repeat yet
 abbrev pub no_repeats : Repeats
@@ -158,7 +168,7 @@ state_after m asks d s = after_deed m d s
 abbrev pub deed_done : ℕ → Deed → Sheet → Sheet
 deed_done m d s = record s {
   state = state_after m s.asks d (record s.state { moment = m });
-  nests = nests_after d s.nests;
+  nests = nests_after s.state d s.nests;
   contacts = contacts_after m s.asks d s.contacts;
   asks = asks_after s.state d s.asks;
 }

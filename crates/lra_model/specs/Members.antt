@@ -1,5 +1,5 @@
 -- What a history says of a member: its action, its addresses, what it was asked, what it answered, and its status.
-use Rattle.std.specs.Prelude.{ℕ, ◌==◌, Bool, true, false, ◌&&◌, not, List, Option, Some, None, unwrap_or, option_map, is_some, cond}
+use Rattle.std.specs.Prelude.{ℕ, ◌==◌, Bool, true, false, ◌&&◌, not, List, filter, Option, Some, None, unwrap_or, option_map, is_some, cond}
 use Rattle.std.specs.List.{filter_map, find, list_any}
 use Rattle.lra_model.specs.declared.status.MemberStatus.{MemberStatus}
 use Rattle.lra_model.specs.declared.status.MemberStatus.TheVariants as member
@@ -14,7 +14,8 @@ use Rattle.lra_model.specs.declared.entry.Deed.TheVariants.{Join, Leave, Skip, A
 use Rattle.lra_model.specs.declared.entry.Entry.{Entry}
 use Rattle.lra_model.specs.Addresses.{Addresses}
 use Rattle.lra_model.specs.Words.{when, is_decisive, is_done, same_kind, same_direction}
-use Rattle.lra_model.specs.History.{History, Step, steps, first, last, read_deeds}
+use Rattle.lra_model.specs.History.{History, Step, steps, first, last, read_deeds, members}
+use Rattle.lra_model.specs.Actions.{top}
 
 -- the action that a deed lets a member join (this project's journal)
 abbrev pub action_given : ℕ → Deed → Option ℕ
@@ -24,6 +25,11 @@ action_given p _ = None
 -- the action that a member joined, or 0, which no action bears, where there is no such member (MicroProfile LRA 2.0, joining an LRA)
 unfoldable pub action_of : History → ℕ → ℕ
 action_of J p = unwrap_or (first (read_deeds (action_given p) J)) 0
+
+-- the members of an outermost action and of all that stand below it, those that left among them; an action that is nested in another has
+-- none (MicroProfile LRA 2.0, top-level LRA)
+unfoldable pub members_under : History → ℕ → List ℕ
+members_under J t = filter (λ p. top J (action_of J p) == t) (members J)
 
 -- addresses of which there is none
 abbrev pub no_addresses : Addresses

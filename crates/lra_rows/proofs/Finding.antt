@@ -1,27 +1,32 @@
 -- What a sheet has of a number is what is found of the history.
 use Rattle.std.proofs.Common.{◌≡◌, ℕ, Bool, true, false, List, [], map, Option, Some, None, refl, sym, ap, ◌∙◌, cond, ◌∷◌, length, ne_eqb, arith}
-use Rattle.std.specs.Prelude.{◌&&◌, nat_lt, option_map, unwrap_or}
+use Rattle.std.specs.Prelude.{◌&&◌, nat_lt, is_some, option_map, unwrap_or}
 use Rattle.std.specs.Option.{option_map_or, option_and_then}
 use Rattle.std.specs.List.{last_or}
+use Rattle.lra_model.specs.declared.status.ActionStatus.{ActionStatus}
 use Rattle.lra_model.specs.declared.status.MemberStatus.{MemberStatus}
+use Rattle.lra_model.specs.declared.entry.Deed.TheVariants.{End}
 use Rattle.lra_model.specs.declared.asks.AskKind.TheVariants as ask
 use Rattle.lra_model.specs.declared.asks.Direction.{Direction}
 use Rattle.lra_model.specs.declared.asks.Direction.TheVariants as direction
 use Rattle.lra_model.specs.declared.version.Version.{Version}
 use Rattle.lra_model.specs.History.{History, actions, members, is_among, last}
-use Rattle.lra_model.specs.Actions.{children, members_of}
-use Rattle.lra_model.specs.Members.{Asked, ask_of, is_outstanding, outstanding_ask, ask_direction, member_status}
+use Rattle.lra_model.specs.Actions.{action_status, children, members_of}
+use Rattle.lra_model.specs.Members.{Asked, ask_of, is_outstanding, outstanding_ask, ask_direction, member_status, members_under}
 use Rattle.lra_model.specs.declared.asks.AskKind.{AskKind}
 use Rattle.lra_model.specs.Words.{when, is_compensating}
 use Rattle.lra_model.specs.Facts.{Facts}
+use Rattle.lra_model.specs.Ends.{settles, is_settled, right_end}
 use Rattle.lra_model.specs.Wants.{wants, wanted, stage_of, repeats, repeat_count, last_repeat}
 use Rattle.lra_model.specs.Rules.{is_legal}
 use Rattle.lra_laws.specs.Rows as laws
 use Rattle.lra_laws.specs.Rows.{way_asked, row_at, stands_as, action_row, member_row, void_asks, standing, state_of}
 use Rattle.lra_laws.specs.inner.RowFacts.{facts_by, member_by}
 use Rattle.lra_laws.specs.Sheets.{Repeats, repeats_in, no_repeats, Nest, Contact, nest_of, contact_of, sheet_of}
-use Rattle.lra_laws.proofs.Legal.{actions_numbered, members_numbered}
+use Rattle.lra_laws.proofs.Legal.{actions_numbered, members_numbered, status_is_there}
 use Rattle.lra_laws.proofs.RowLists.{row_there, row_absent}
+use Rattle.lra_laws.specs.Settles.{end_by}
+use Rattle.lra_laws.proofs.SettlesNext.{end_agrees}
 use Rattle.lra_laws.proofs.Agree.{agree}
 use Rattle.lra_laws.proofs.WantedWay.{wanted_way}
 use Rattle.lra_laws.proofs.AskWords.{asks_listed, asks_stand, outstanding_by, stands_yet}
@@ -30,8 +35,8 @@ use Rattle.lra_laws.proofs.Nests.{nothing_in}
 use Rattle.lra_rows.specs.declared.found.ActionRow.{ActionRow}
 use Rattle.lra_rows.specs.declared.found.MemberRow.{MemberRow}
 use Rattle.lra_rows.specs.declared.found.AskRow.{AskRow}
-use Rattle.lra_rows.specs.Found.{found_action, found_member, found_addresses, found_ask}
-use Rattle.lra_rows.specs.inner.Held.{repeats_at, held_repeats, last_of, held_action, held_member, held_addresses, held_standing, held_ask, held_children, held_members}
+use Rattle.lra_rows.specs.Found.{found_action, found_member, found_addresses, found_ask, found_end}
+use Rattle.lra_rows.specs.inner.Held.{repeats_at, held_repeats, last_of, held_action, held_member, held_addresses, held_standing, held_ask, held_children, held_members, held_under}
 
 pub action_held : (v : Version) (t : List ℕ → Bool) (J : History) → is_legal v t J ≡ true → (a : ℕ) → held_action (sheet_of J) a ≡ found_action J a
 action_held v t J l a = decide (is_among (actions J) a) refl
@@ -73,6 +78,9 @@ children_held v t J l a = nest_held v t J l (λ (x : Nest). x.children) a (λ e.
 
 pub members_held : (v : Version) (t : List ℕ → Bool) (J : History) → is_legal v t J ≡ true → (a : ℕ) → held_members (sheet_of J) a ≡ members_of J a
 members_held v t J l a = nest_held v t J l (λ (x : Nest). x.members) a (λ e. (nothing_in v t J a l e).1)
+
+pub under_held : (v : Version) (t : List ℕ → Bool) (J : History) → is_legal v t J ≡ true → (a : ℕ) → held_under (sheet_of J) a ≡ members_under J a
+under_held v t J l a = nest_held v t J l (λ (x : Nest). x.under) a (λ e. (nothing_in v t J a l e).2)
 
 -- what a member wants, by its row
 want_held : (v : Version) (t : List ℕ → Bool) (J : History) → is_legal v t J ≡ true → (p : ℕ) → is_among (members J) p ≡ true → wanted (facts_by (state_of J)) (member_by (state_of J) (member_row J p)) ≡ wants J p
@@ -158,3 +166,13 @@ addresses_held v t J l p = decide (is_among (members J) p) refl
     decide : (b : Bool) → is_among (members J) p ≡ b → held_addresses (sheet_of J) p ≡ cond b (Some (contact_of J p).addresses) None
     decide true e = ap (option_map (λ (c : Contact). c.addresses)) (row_there (contact_of J) (members J) p (members_numbered v t J l) e)
     decide false e = ap (option_map (λ (c : Contact). c.addresses)) (row_absent (contact_of J) (members J) p (members_numbered v t J l) e)
+
+-- an action that isn't there may not end
+pub end_held : (v : Version) (t : List ℕ → Bool) (J : History) → is_legal v t J ≡ true → (a : ℕ) → end_by (state_of J) a ≡ found_end J a
+unfolding is_settled
+end_held v t J l a = end_agrees v t J l a ∙ decide (is_among (actions J) a) (action_status J a) refl (status_is_there v t J l a)
+  where
+    decide : (b : Bool) (o : Option ActionStatus) → action_status J a ≡ o → is_some (action_status J a) ≡ b → cond b (cond (settles (action_status J a) J a) (Some (End a (right_end J a))) None) None ≡ cond (settles (action_status J a) J a) (Some (End a (right_end J a))) None
+    decide true o e h = refl
+    decide false None e h = sym (ap (λ (q : Option ActionStatus). cond (settles q J a) (Some (End a (right_end J a))) None) e)
+    decide false (Some s) e h = let k = ap is_some e in absurd cc

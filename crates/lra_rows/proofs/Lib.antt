@@ -1,3 +1,6 @@
 pub mod Finding
 pub mod Numbered
+pub mod Rooms
+pub mod Settling
 pub mod SheetCounts
+pub mod Steps

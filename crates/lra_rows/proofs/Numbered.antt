@@ -3,7 +3,7 @@ use Rattle.std.proofs.Common.{◌≡◌, inl, inr, ℕ, zero, suc, ◌<◌, List
 use Rattle.std.specs.Option.{option_map_or}
 use Rattle.std.proofs.lemmas.Bool.{cases_eq}
 use Rattle.lra_model.specs.declared.status.ActionStatus.{ActionStatus}
-use Rattle.lra_laws.specs.Rows.{ActionRow, row_at}
+use Rattle.lra_laws.specs.Rows.{ActionRow, row_at, change_row}
 use Rattle.lra_rows.specs.inner.Counts.{CountsTo, AllCountTo}
 use Rattle.lra_rows.specs.inner.Changes.{with_row}
 
@@ -13,12 +13,12 @@ row_has P [] place r h e i = absurd (omega arith)
 row_has P (y ∷ rows) zero r h e i = subst P (sym e) i
 row_has P (y ∷ rows) (suc place) r h e i = row_has P rows place r (omega arith) e i
 
-slice_get-set_same : {R : Type 0} (rows : List R) (k : ℕ) (x r : R) → slice_get rows k ≡ Some x → slice_get (slice_set rows k r) k ≡ Some r
+pub slice_get-set_same : {R : Type 0} (rows : List R) (k : ℕ) (x r : R) → slice_get rows k ≡ Some x → slice_get (slice_set rows k r) k ≡ Some r
 slice_get-set_same [] k x r e = cc
 slice_get-set_same (y ∷ rows) zero x r e = refl
 slice_get-set_same (y ∷ rows) (suc k) x r e = slice_get-set_same rows k x r e
 
-slice_get-set_other : {R : Type 0} (rows : List R) (k j : ℕ) (r : R) → (j ≡ k → ⊥) → slice_get (slice_set rows k r) j ≡ slice_get rows j
+pub slice_get-set_other : {R : Type 0} (rows : List R) (k j : ℕ) (r : R) → (j ≡ k → ⊥) → slice_get (slice_set rows k r) j ≡ slice_get rows j
 slice_get-set_other [] k j r ne = refl
 slice_get-set_other (y ∷ rows) zero zero r ne = absurd (ne refl)
 slice_get-set_other (y ∷ rows) zero (suc j) r ne = refl
@@ -57,3 +57,26 @@ CountsTo-status k r status c = record {
   uncancelled = c.uncancelled;
   failed = c.failed;
 }
+
+-- ---- a row that was changed, as it was
+
+slice_set-set : {R : Type 0} (rows : List R) (k : ℕ) (x r : R) → slice_get rows k ≡ Some x → slice_set (slice_set rows k r) k x ≡ rows
+slice_set-set [] k x r e = refl
+slice_set-set (y ∷ rows) zero x r e = ap (λ z. z ∷ rows) (sym (some e))
+  where
+    some : Some y ≡ Some x → y ≡ x
+    some h = cc
+slice_set-set (y ∷ rows) (suc k) x r e = ap (λ zs. y ∷ zs) (slice_set-set rows k x r e)
+
+-- a row that another stands in for, which a change takes back to it
+pub changed_back_at : {R : Type 0} (g : R → R) (rows : List R) (k : ℕ) (x r : R) → slice_get rows k ≡ Some x → g r ≡ x → change_row g (suc k) (slice_set rows k r) ≡ rows
+changed_back_at g rows k x r there e = rw (slice_get-set_same rows k x r there, e) (slice_set-set rows k x r there)
+
+-- a row that is changed, and back
+pub changed_back : {R : Type 0} (f g : R → R) → ((r : R) → g (f r) ≡ r) → (n : ℕ) (rows : List R) → change_row g n (change_row f n rows) ≡ rows
+changed_back f g e zero rows = refl
+changed_back {R = R} f g e (suc k) rows = of_row (slice_get rows k) refl
+  where
+    of_row : (o : Option R) → slice_get rows k ≡ o → change_row g (suc k) (option_map_or (λ r. slice_set rows k (f r)) o rows) ≡ rows
+    of_row None h = rw h refl
+    of_row (Some r) h = changed_back_at g rows k r (f r) h (e r)

@@ -4,10 +4,13 @@ use Rattle.std.specs.Option.{option_map_or, option_and_then}
 use Rattle.lra_model.specs.declared.asks.AskKind.{AskKind}
 use Rattle.lra_model.specs.declared.status.ActionStatus.TheVariants as action
 use Rattle.lra_model.specs.declared.asks.Direction.TheVariants as direction
+use Rattle.lra_model.specs.declared.entry.Deed.{Deed}
+use Rattle.lra_model.specs.declared.entry.Deed.TheVariants.{End}
 use Rattle.lra_model.specs.Addresses.{Addresses}
 use Rattle.lra_model.specs.History.{History, actions, members, is_among}
 use Rattle.lra_model.specs.Actions.{parent, action_status, limit_in_force, depth}
 use Rattle.lra_model.specs.Members.{Asked, ask_of, action_of, addresses_of, member_status, last_reply, ask_direction, is_outstanding, outstanding_ask}
+use Rattle.lra_model.specs.Ends.{is_settled, right_end}
 use Rattle.lra_model.specs.Wants.{wants, stage_of, repeat_count, last_repeat}
 use Rattle.lra_rows.specs.declared.found.ActionRow.{ActionRow}
 use Rattle.lra_rows.specs.declared.found.MemberRow.{MemberRow}
@@ -44,3 +47,7 @@ found_addresses J p = cond (is_among (members J) p) (Some (addresses_of J p)) No
 -- an ask, if it was made: of whom, for what, which way it goes, and whether it is outstanding
 abbrev pub found_ask : History → ℕ → Option AskRow
 found_ask J n = option_map (λ (x : Asked). record { member = x.member; kind = x.kind; direction = x.direction; outstanding = is_outstanding J n }) (ask_of J n)
+
+-- the end of an action, where it may end
+abbrev pub found_end : History → ℕ → Option Deed
+found_end J a = cond (is_settled J a) (Some (End a (right_end J a))) None

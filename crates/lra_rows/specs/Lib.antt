@@ -1,2 +1,4 @@
+pub mod Rowed
+pub mod Steps
 pub mod Found
 pub mod inner

@@ -1,3 +1,5 @@
+pub mod Nested
+pub mod Room
 pub mod Changes
 pub mod Counts
 pub mod Held

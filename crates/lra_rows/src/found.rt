@@ -84,12 +84,13 @@ impl Rows {
     ghost use Rattle.lra_model.specs.History as history;
     ghost use Rattle.lra_model.specs.History.{History};
     ghost use Rattle.lra_model.specs.Actions as words;
+    ghost use Rattle.lra_model.specs.Members.{members_under};
     ghost use Rattle.lra_laws.specs.Sheets.{StandsFor};
     ghost use Rattle.lra_rows.specs.Found.{found_action, found_member, found_addresses, found_ask};
     ghost use Rattle.lra_rows.specs.inner.Held as held;
 
     fn held_action(&self, number: u64) -> Option<ActionRow>
-        ensures { result ≡ held.held_action self.now number }
+        ensures { result ≡ held.held_action self.now.sheet number }
     {
         let row = at(&self.actions, number)?;
         let nest = lent(&self.nests, number)?;
@@ -104,13 +105,13 @@ impl Rows {
 
     /// The action of that number, if it is there.
     pub fn action(&self, number: u64) -> Option<ActionRow>
-        ensures { (J : History) → StandsFor self.now J → result ≡ found_action J number }
+        ensures { (J : History) → StandsFor self.now.sheet J → result ≡ found_action J number }
     {
         self.held_action(number)
     }
 
     fn outstanding(&self, row: &MemberState) -> Option<u64>
-        ensures { result ≡ held.held_outstanding self.now row.now }
+        ensures { result ≡ held.held_outstanding self.now.sheet row.now }
     {
         match row.asked {
             Some(asked) if self.void < asked.number => Some(asked.number),
@@ -119,7 +120,7 @@ impl Rows {
     }
 
     fn held_repeats(&self, number: u64, row: &MemberState) -> Repeats
-        ensures { result ≡ held.held_repeats self.now number row.now }
+        ensures { result ≡ held.held_repeats self.now.sheet number row.now }
     {
         let Some(kind) = self.want(row) else {
             return Repeats::NONE;
@@ -131,7 +132,7 @@ impl Rows {
     }
 
     fn held_member(&self, number: u64) -> Option<MemberRow>
-        ensures { result ≡ held.held_member self.now number }
+        ensures { result ≡ held.held_member self.now.sheet number }
     {
         let row = at(&self.members, number)?;
         let repeats = self.held_repeats(number, &row);
@@ -149,13 +150,13 @@ impl Rows {
 
     /// The member of that number, if it is there.
     pub fn member(&self, number: u64) -> Option<MemberRow>
-        ensures { (J : History) → StandsFor self.now J → result ≡ found_member J number }
+        ensures { (J : History) → StandsFor self.now.sheet J → result ≡ found_member J number }
     {
         self.held_member(number)
     }
 
     fn held_addresses(&self, number: u64) -> Option<&Uris>
-        ensures { option_copied result ≡ held.held_addresses self.now number }
+        ensures { option_copied result ≡ held.held_addresses self.now.sheet number }
     {
         match lent(&self.contacts, number) {
             Some(contact) => Some(&contact.uris),
@@ -165,13 +166,13 @@ impl Rows {
 
     /// The addresses that a member joined with, if it is there.
     pub fn addresses(&self, number: u64) -> Option<&Uris>
-        ensures { (J : History) → StandsFor self.now J → option_copied result ≡ found_addresses J number }
+        ensures { (J : History) → StandsFor self.now.sheet J → option_copied result ≡ found_addresses J number }
     {
         self.held_addresses(number)
     }
 
     fn held_standing(&self, number: u64, member: u64) -> bool
-        ensures { result ≡ held.held_standing self.now number member }
+        ensures { result ≡ held.held_standing self.now.sheet number member }
     {
         if number <= self.void {
             return false;
@@ -183,7 +184,7 @@ impl Rows {
     }
 
     fn held_ask(&self, number: u64) -> Option<AskRow>
-        ensures { result ≡ held.held_ask self.now number }
+        ensures { result ≡ held.held_ask self.now.sheet number }
     {
         let asked = at(&self.asks, number)?;
         Some(AskRow {
@@ -196,13 +197,13 @@ impl Rows {
 
     /// The ask of that number, if it was made.
     pub fn ask(&self, number: u64) -> Option<AskRow>
-        ensures { (J : History) → StandsFor self.now J → result ≡ found_ask J number }
+        ensures { (J : History) → StandsFor self.now.sheet J → result ≡ found_ask J number }
     {
         self.held_ask(number)
     }
 
     fn held_children(&self, number: u64) -> &[u64]
-        ensures { result.now ≡ held.held_children self.now number }
+        ensures { result.now ≡ held.held_children self.now.sheet number }
     {
         match lent(&self.nests, number) {
             Some(nest) => &nest.children,
@@ -212,13 +213,13 @@ impl Rows {
 
     /// The numbers of the actions nested directly in an action, rising.
     pub fn children(&self, number: u64) -> &[u64]
-        ensures { (J : History) → StandsFor self.now J → result.now ≡ words.children J number }
+        ensures { (J : History) → StandsFor self.now.sheet J → result.now ≡ words.children J number }
     {
         self.held_children(number)
     }
 
     fn held_members(&self, number: u64) -> &[u64]
-        ensures { result.now ≡ held.held_members self.now number }
+        ensures { result.now ≡ held.held_members self.now.sheet number }
     {
         match lent(&self.nests, number) {
             Some(nest) => &nest.members,
@@ -228,62 +229,79 @@ impl Rows {
 
     /// The numbers of an action's members, those that left among them, rising.
     pub fn members(&self, number: u64) -> &[u64]
-        ensures { (J : History) → StandsFor self.now J → result.now ≡ words.members_of J number }
+        ensures { (J : History) → StandsFor self.now.sheet J → result.now ≡ words.members_of J number }
     {
         self.held_members(number)
     }
 
+    fn held_under(&self, number: u64) -> &[u64]
+        ensures { result.now ≡ held.held_under self.now.sheet number }
+    {
+        match lent(&self.nests, number) {
+            Some(nest) => &nest.under,
+            None => &[],
+        }
+    }
+
+    /// The numbers of the members of an outermost action and of all below it, those that left among them, rising; none of a
+    /// nested one.
+    pub fn under(&self, number: u64) -> &[u64]
+        ensures { (J : History) → StandsFor self.now.sheet J → result.now ≡ members_under J number }
+    {
+        self.held_under(number)
+    }
+
     fn held_clerk(&self, number: u32) -> bool
-        ensures { result ≡ held.held_clerk self.now number }
+        ensures { result ≡ held.held_clerk self.now.sheet number }
     {
         0 < number && u64::from(number) <= self.clerks
     }
 
     /// Whether a clerk is enrolled.
     pub fn is_clerk(&self, number: u32) -> bool
-        ensures { (J : History) → StandsFor self.now J → result ≡ history.is_among (history.clerks J) number }
+        ensures { (J : History) → StandsFor self.now.sheet J → result ≡ history.is_among (history.clerks J) number }
     {
         self.held_clerk(number)
     }
 
     /// How many entries there are.
     pub fn count_entries(&self) -> u64
-        ensures { (J : History) → StandsFor self.now J → result ≡ length J }
+        ensures { (J : History) → StandsFor self.now.sheet J → result ≡ length J }
     {
         self.entries
     }
 
     /// How many clerks are enrolled.
     pub fn count_clerks(&self) -> u64
-        ensures { (J : History) → StandsFor self.now J → result ≡ length (history.clerks J) }
+        ensures { (J : History) → StandsFor self.now.sheet J → result ≡ length (history.clerks J) }
     {
         self.clerks
     }
 
     /// How many actions were started.
     pub fn count_actions(&self) -> u64
-        ensures { (J : History) → StandsFor self.now J → result ≡ length (history.actions J) }
+        ensures { (J : History) → StandsFor self.now.sheet J → result ≡ length (history.actions J) }
     {
         self.actions.len() as u64
     }
 
     /// How many members joined.
     pub fn count_members(&self) -> u64
-        ensures { (J : History) → StandsFor self.now J → result ≡ length (history.members J) }
+        ensures { (J : History) → StandsFor self.now.sheet J → result ≡ length (history.members J) }
     {
         self.members.len() as u64
     }
 
     /// How many asks were made.
     pub fn count_asks(&self) -> u64
-        ensures { (J : History) → StandsFor self.now J → result ≡ length (history.asks J) }
+        ensures { (J : History) → StandsFor self.now.sheet J → result ≡ length (history.asks J) }
     {
         self.asked
     }
 
     /// The moment of the last entry; 0 where there is none.
     pub fn last_moment(&self) -> u64
-        ensures { (J : History) → StandsFor self.now J → result ≡ history.last_moment J }
+        ensures { (J : History) → StandsFor self.now.sheet J → result ≡ history.last_moment J }
     {
         self.moment
     }

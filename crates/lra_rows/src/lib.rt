@@ -3,16 +3,23 @@
 #![tactic(auto)]
 
 mod apply;
+mod carry;
 mod changes;
 mod contact;
 mod found;
 mod lists;
 mod nest;
+mod room;
 mod rows;
+mod settles;
 mod state;
+mod step;
+mod take_back;
 mod wants;
 mod words;
 
+pub use apply::copy_joined;
 pub use found::{ActionRow, AskRow, MemberRow};
 pub use lra_model::Memory;
 pub use rows::Rows;
+pub use step::Step;

@@ -1,9 +1,14 @@
 //! Lists of rows by number: the row of n is at the place n - 1.
 
-ghost use Rattle.std.specs.Prelude.{◌≡◌, ◌<◌, ◌++◌, ◌∷◌, [], suc, MatchOption, vec_len, vec_capacity};
+ghost use Rattle.std.specs.Prelude.{◌≡◌, ◌++◌, ◌∷◌, [], suc, true, false, OnOk, OnErr, MatchOption, vec_capacity};
 ghost use Rattle.std.specs.Option.{option_copied};
 ghost use Rattle.lra_laws.specs.Rows.{row_at};
+ghost use Rattle.lra_rows.specs.Rowed.{takes_one};
+ghost use Rattle.lra_rows.specs.Steps.{without_last, put_back};
 ghost use Rattle.lra_rows.specs.inner.Changes.{with_row};
+
+use crate::step::Written;
+use lra_model::Memory;
 
 /// The place of a number's row; 0 has none.
 pub(crate) fn place_of(number: u64) -> Option<usize>
@@ -33,23 +38,58 @@ pub(crate) fn at<T: Copy>(rows: &[T], number: u64) -> Option<T>
     rows.get(place as usize).copied()
 }
 
-/// Puts a row in the place of the one that is there.
-pub(crate) fn put<T: Copy>(rows: &mut Vec<T>, number: u64, row: T)
+/// Puts a row in the place of the one that is there, and gives that one.
+pub(crate) fn put<T: Copy>(rows: &mut Vec<T>, number: u64, row: T) -> Option<Written<T>>
     ensures items { rows.new.items ≡ with_row number row rows.old.items }
-    ensures len { vec_len rows.new ≡ vec_len rows.old }
-    ensures room { vec_capacity rows.new ≡ vec_capacity rows.old }
+    ensures back { put_back result rows.new.items ≡ rows.old.items }
+    ensures capacity { vec_capacity rows.new ≡ vec_capacity rows.old }
 {
-    if let Some(place) = number.checked_sub(1)
-        && (place as usize) < rows.len()
-    {
-        rows[place as usize] = row;
+    let place = place_of(number)?;
+    let before = *rows.get(place)?;
+    rows[place] = row;
+    Some((number, before))
+}
+
+/// Puts a row back as it was.
+pub(crate) fn restore<T: Copy>(rows: &mut Vec<T>, written: Option<Written<T>>)
+    ensures items { rows.new.items ≡ put_back written rows.old.items }
+    ensures capacity { vec_capacity rows.new ≡ vec_capacity rows.old }
+{
+    if let Some((number, row)) = written {
+        let _ = put(rows, number, row);
     }
+}
+
+/// Removes the last row, if there is one.
+pub(crate) fn remove_last<T: Drop>(rows: &mut Vec<T>)
+    ensures items { rows.new.items ≡ without_last rows.old.items }
+    ensures capacity { vec_capacity rows.new ≡ vec_capacity rows.old }
+{
+    let _ = rows.pop();
+}
+
+/// Whether there is room for one more row.
+pub(crate) fn takes_one<T>(rows: &Vec<T>) -> bool
+    ensures { result ≡ takes_one rows.now.items (vec_capacity rows.now) }
+{
+    rows.len() < rows.capacity()
+}
+
+/// Makes room for one more row.
+pub(crate) fn reserve_one<T: Drop>(rows: &mut Vec<T>) -> Result<(), Memory>
+    ensures items { rows.new.items ≡ rows.old.items }
+    ensures ok { OnOk result (takes_one rows.new.items (vec_capacity rows.new) ≡ true) }
+    ensures kept { takes_one rows.old.items (vec_capacity rows.old) ≡ true → takes_one rows.new.items (vec_capacity rows.new) ≡ true }
+{
+    rows.reserve(1)?;
+    Ok(())
 }
 
 /// Adds a row, for which there is room.
 pub(crate) fn add<T: Drop>(rows: &mut Vec<T>, row: T)
-    requires { vec_len rows.old < vec_capacity rows.old }
-    ensures { rows.new.items ≡ rows.old.items ++ row ∷ [] }
+    requires { takes_one rows.old.items (vec_capacity rows.old) ≡ true }
+    ensures items { rows.new.items ≡ rows.old.items ++ row ∷ [] }
+    ensures capacity { vec_capacity rows.new ≡ vec_capacity rows.old }
 {
-    let _ = rows.push(row);
+    rows.push_reserved(row);
 }

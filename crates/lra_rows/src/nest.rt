@@ -1,53 +1,103 @@
 //! Where an action stands among others.
 
-ghost use Rattle.std.specs.Prelude.{◌≡◌, ◌++◌, ◌∷◌, [], OnOk, OnErr};
+ghost use Rattle.std.specs.Prelude.{◌≡◌, [], true, false, OnOk, OnErr};
 ghost use Rattle.lra_laws.specs.Sheets as sheets;
+ghost use Rattle.lra_rows.specs.Rowed.{no_capacity};
+ghost use Rattle.lra_rows.specs.inner.Nested.{has_place, with_number, without_number};
+ghost use Rattle.lra_rows.specs.declared.nest.Listed.{Listed};
 
+use crate::lists::{add, remove_last, reserve_one, takes_one};
 use lra_model::Memory;
 use std::alloc::Global;
 use std::marker::Model;
 
-/// How deep an action is nested, the actions nested in it and its members, each by their numbers.
+/// How deep an action is nested, the actions nested in it, its members, and, where it is an outermost one, the members of
+/// all that stand in it, each by their numbers.
 #[derive(Drop)]
 pub(crate) struct Nest {
     pub(crate) depth: u64,
     pub(crate) children: Vec<u64>,
     pub(crate) members: Vec<u64>,
+    pub(crate) under: Vec<u64>,
+}
+
+/// One of the lists of an action.
+#[derive(Clone, Copy)]
+pub(crate) enum Listed {
+    Children,
+    Members,
+    Under,
 }
 
 impl Model for Nest {
-    ghost use Rattle.lra_laws.specs.Sheets as sheets;
+    ghost use Rattle.std.specs.Prelude.{vec_capacity};
+    ghost use Rattle.lra_rows.specs.inner.Nested.{Nested};
 
-    ghost Value = { sheets.Nest };
+    ghost Value = { Nested };
 
-    ghost view = { λ n. record { depth = n.depth; children = n.children.items; members = n.members.items } };
+    ghost view = { λ n. record {
+      nest = record { depth = n.depth; children = n.children.items; members = n.members.items; under = n.under.items };
+      capacity = record { children = vec_capacity n.children; members = vec_capacity n.members; under = vec_capacity n.under };
+    } };
 }
 
 impl Nest {
     /// Of an action that has just started.
     pub(crate) fn new(alloc: Global, depth: u64) -> Nest
-        ensures { result ≡ sheets.new_nest depth }
+        ensures { result ≡ record { nest = sheets.new_nest depth; capacity = no_capacity } }
     {
         Nest {
             depth,
             children: Vec::new(alloc),
             members: Vec::new(alloc),
+            under: Vec::new(alloc),
         }
     }
 
-    pub(crate) fn add_child(&mut self, number: u64) -> Result<(), Memory>
-        ensures ok { OnOk result (self.new ≡ sheets.with_child_number number self.old) }
-        ensures err { OnErr result (self.new ≡ self.old) }
+    /// Whether there is room for one more number in a list.
+    pub(crate) fn has_place(&self, list: Listed) -> bool
+        ensures { result ≡ has_place list self.now }
     {
-        self.children.push(number)?;
-        Ok(())
+        match list {
+            Listed::Children => takes_one(&self.children),
+            Listed::Members => takes_one(&self.members),
+            Listed::Under => takes_one(&self.under),
+        }
     }
 
-    pub(crate) fn add_member(&mut self, number: u64) -> Result<(), Memory>
-        ensures ok { OnOk result (self.new ≡ sheets.with_member_number number self.old) }
-        ensures err { OnErr result (self.new ≡ self.old) }
+    /// Makes room for one more number in a list.
+    pub(crate) fn reserve(&mut self, list: Listed) -> Result<(), Memory>
+        ensures same { self.new.nest ≡ self.old.nest }
+        ensures ok { OnOk result (has_place list self.new ≡ true) }
+        ensures kept { (l : Listed) → has_place l self.old ≡ true → has_place l self.new ≡ true }
     {
-        self.members.push(number)?;
-        Ok(())
+        match list {
+            Listed::Children => reserve_one(&mut self.children),
+            Listed::Members => reserve_one(&mut self.members),
+            Listed::Under => reserve_one(&mut self.under),
+        }
+    }
+
+    /// Adds a number to a list, in which there is room.
+    pub(crate) fn add(&mut self, list: Listed, number: u64)
+        requires { has_place list self.old ≡ true }
+        ensures { self.new ≡ with_number list number self.old }
+    {
+        match list {
+            Listed::Children => add(&mut self.children, number),
+            Listed::Members => add(&mut self.members, number),
+            Listed::Under => add(&mut self.under, number),
+        }
+    }
+
+    /// Removes the last number of a list.
+    pub(crate) fn remove(&mut self, list: Listed)
+        ensures { self.new ≡ without_number list self.old }
+    {
+        match list {
+            Listed::Children => remove_last(&mut self.children),
+            Listed::Members => remove_last(&mut self.members),
+            Listed::Under => remove_last(&mut self.under),
+        }
     }
 }

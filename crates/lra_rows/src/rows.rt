@@ -31,23 +31,35 @@ pub struct Rows {
 }
 
 impl Model for Rows {
-    ghost use Rattle.lra_laws.specs.Sheets as sheets;
+    ghost use Rattle.std.specs.Prelude.{vec_capacity};
+    ghost use Rattle.lra_rows.specs.Rowed.{Rowed};
+    ghost use Rattle.lra_rows.specs.inner.Nested.{nests_in, capacities_in};
 
-    ghost Value = { sheets.Sheet };
+    ghost Value = { Rowed };
 
     ghost view = { λ r. record {
-      entries = r.entries;
-      state = record {
-        moment = r.moment;
-        clerks = r.clerks;
-        asks = r.asked;
-        void = r.void;
-        actions = r.actions.items;
-        members = r.members.items;
+      sheet = record {
+        entries = r.entries;
+        state = record {
+          moment = r.moment;
+          clerks = r.clerks;
+          asks = r.asked;
+          void = r.void;
+          actions = r.actions.items;
+          members = r.members.items;
+        };
+        nests = nests_in r.nests.items;
+        contacts = r.contacts.items;
+        asks = r.asks.items;
       };
-      nests = r.nests.items;
-      contacts = r.contacts.items;
-      asks = r.asks.items;
+      capacity = record {
+        actions = vec_capacity r.actions;
+        members = vec_capacity r.members;
+        nests = vec_capacity r.nests;
+        contacts = vec_capacity r.contacts;
+        asks = vec_capacity r.asks;
+        lists = capacities_in r.nests.items;
+      };
     } };
 }
 
@@ -57,7 +69,7 @@ impl Rows {
 
     /// Of no entries.
     pub fn empty(alloc: Global) -> Rows
-        ensures { sheets.StandsFor result [] }
+        ensures { sheets.StandsFor result.sheet [] }
     {
         Rows {
             alloc,

@@ -46,8 +46,8 @@ impl Rows {
     ghost use Rattle.lra_model.specs.Wants as wants;
     ghost use Rattle.lra_laws.specs.inner.RowFacts.{action_by, is_standing, facts_by, member_by};
 
-    fn is_closing(&self, action: u64) -> bool
-        ensures { result ≡ tests.status_is words.is_closing (facts_by self.now.state) action }
+    pub(crate) fn is_closing(&self, action: u64) -> bool
+        ensures { result ≡ tests.status_is words.is_closing (facts_by self.now.sheet.state) action }
     {
         match at(&self.actions, action) {
             Some(row) => matches!(row.status, ActionStatus::Closing),
@@ -55,8 +55,8 @@ impl Rows {
         }
     }
 
-    fn is_cancelling(&self, action: u64) -> bool
-        ensures { result ≡ tests.status_is words.is_cancelling (facts_by self.now.state) action }
+    pub(crate) fn is_cancelling(&self, action: u64) -> bool
+        ensures { result ≡ tests.status_is words.is_cancelling (facts_by self.now.sheet.state) action }
     {
         match at(&self.actions, action) {
             Some(row) => matches!(row.status, ActionStatus::Cancelling),
@@ -65,7 +65,7 @@ impl Rows {
     }
 
     fn top_has_ended(&self, row: &ActionState) -> bool
-        ensures { result ≡ (action_by self.now.state row.now).top_has_ended }
+        ensures { result ≡ (action_by self.now.sheet.state row.now).top_has_ended }
     {
         match at(&self.actions, row.top) {
             Some(top) => has_ended(top.status),
@@ -74,7 +74,7 @@ impl Rows {
     }
 
     fn wants_completion(&self, row: &MemberState) -> Option<AskKind>
-        ensures { result ≡ wants.wants_completion (facts_by self.now.state) (member_by self.now.state row.now) }
+        ensures { result ≡ wants.wants_completion (facts_by self.now.sheet.state) (member_by self.now.sheet.state row.now) }
     {
         let is_time = self.is_closing(row.action)
             && (is_untouched(row.status) || is_completing(row.status));
@@ -89,7 +89,7 @@ impl Rows {
     }
 
     fn wants_compensation(&self, row: &MemberState) -> Option<AskKind>
-        ensures { result ≡ wants.wants_compensation (facts_by self.now.state) (member_by self.now.state row.now) }
+        ensures { result ≡ wants.wants_compensation (facts_by self.now.sheet.state) (member_by self.now.sheet.state row.now) }
     {
         let is_time = self.is_cancelling(row.action)
             && (is_untouched(row.status)
@@ -106,7 +106,7 @@ impl Rows {
     }
 
     fn is_time_to_forget(&self, row: &MemberState) -> bool
-        ensures { result ≡ tests.is_time_for ask.Forget (facts_by self.now.state) (member_by self.now.state row.now) }
+        ensures { result ≡ tests.is_time_for ask.Forget (facts_by self.now.sheet.state) (member_by self.now.sheet.state row.now) }
     {
         let Some(action) = at(&self.actions, row.action) else {
             return false;
@@ -118,7 +118,7 @@ impl Rows {
     }
 
     fn is_time_to_tell(&self, row: &MemberState) -> bool
-        ensures { result ≡ tests.is_time_for ask.After (facts_by self.now.state) (member_by self.now.state row.now) }
+        ensures { result ≡ tests.is_time_for ask.After (facts_by self.now.sheet.state) (member_by self.now.sheet.state row.now) }
     {
         let Some(action) = at(&self.actions, row.action) else {
             return false;
@@ -127,7 +127,7 @@ impl Rows {
     }
 
     fn is_asked(&self, row: &MemberState) -> bool
-        ensures { result ≡ is_standing self.now.state.void row.now }
+        ensures { result ≡ is_standing self.now.sheet.state.void row.now }
     {
         match row.asked {
             Some(asked) => self.void < asked.number,
@@ -137,7 +137,7 @@ impl Rows {
 
     /// What the member of a row wants to be asked next.
     pub(crate) fn want(&self, row: &MemberState) -> Option<AskKind>
-        ensures { result ≡ wants.wanted (facts_by self.now.state) (member_by self.now.state row.now) }
+        ensures { result ≡ wants.wanted (facts_by self.now.sheet.state) (member_by self.now.sheet.state row.now) }
     {
         if self.is_asked(row) || has_gone(row.status) {
             return None;

@@ -1,0 +1,6 @@
+mod Covered
+mod Keeping
+mod Listed
+mod SameMembers
+mod Staying
+pub mod Adopting

@@ -1,27 +1,43 @@
 -- What tables stand for, and what a plan says.
-use Rattle.std.specs.Prelude.{◌≡◌, ℕ, Bool, true, false, List, ◌++◌, Option, option_map}
+use Rattle.std.specs.Prelude.{◌≡◌, ℕ, ◌+◌, ◌^◌, Bool, true, false, ◌&&◌, nat_lt, nat_le, List, [], ◌∷◌, ◌++◌, length, Option, option_map}
+use Rattle.lra_model.specs.declared.entry.Deed.{Deed}
+use Rattle.lra_model.specs.declared.entry.Deed.TheVariants.{Join}
 use Rattle.lra_model.specs.declared.asks.AskKind.{AskKind}
 use Rattle.lra_model.specs.declared.entry.Entry.{Entry}
 use Rattle.lra_model.specs.Words.{is_active}
 use Rattle.lra_model.specs.History.{History, is_among}
 use Rattle.lra_model.specs.Settling.{with_settling}
 use Rattle.lra_laws.specs.Sheets.{Sheet, StandsFor, Follows}
+use Rattle.lra_board.specs.Boarded as boards
+use Rattle.lra_board.specs.Boarded.{Boarded}
 use Rattle.lra_rows.specs.declared.found.ActionRow.{ActionRow}
 use Rattle.lra_rows.specs.declared.found.MemberRow.{MemberRow}
+use Rattle.lra_rows.specs.Rowed.{Capacity}
 use Rattle.lra_rows.specs.Found.{found_action, found_member}
 
--- how much room tables have
-pub record Room : Type 0 where
-  pub places : ℕ
-
--- tables: what they keep of a history, and how much room they have
+-- tables: what they keep of a history, how much their lists hold with no more memory, how many more members and actions their marks take, and
+-- how many more may join
 pub record Tabled : Type 0 where
   pub sheet : Sheet
-  pub room : Room
+  pub capacity : Capacity
+  pub skips : ℕ
+  pub turns : ℕ
+  pub ends : ℕ
+  pub places : ℕ
 
--- whether there is room for entries
+-- the rows, with the room beside them
+abbrev pub board_of : Tabled → Boarded
+board_of t = record { rows = record { sheet = t.sheet; capacity = t.capacity }; skips = t.skips; turns = t.turns; ends = t.ends }
+
+-- whether there is room for one that joins, where an entry lets one join
+abbrev pub takes_one : Deed → ℕ → Bool
+takes_one (Join p a uris) places = nat_lt 0 places
+takes_one d places = true
+
+-- whether there is room for entries of which the first is a command's own, and the others settle what follows from it
 abbrev pub has_room : Tabled → List Entry → Bool
-has_room t entries = false
+has_room t [] = true
+has_room t (e ∷ es) = boards.has_room e (board_of t) && takes_one e.deed t.places && nat_le (t.sheet.entries + length (e ∷ es)) (2 ^ 63)
 
 -- a plan: the entries that are to come, the members whose wants they may change, and the actions whose deadlines they may change
 pub record Planned : Type 0 where

@@ -2,6 +2,8 @@
 //! what a command would append.
 #![tactic(auto)]
 
+mod changes;
+mod joins;
 mod plan;
 mod tables;
 

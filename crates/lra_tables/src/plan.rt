@@ -2,8 +2,7 @@
 
 ghost use Rattle.std.specs.Prelude.{◌≡◌};
 
-use lra_model::Entry;
-use std::convert::Infallible;
+use lra_model::{Entry, Uris};
 use std::marker::Model;
 
 /// An entry and all that settles after it, before any of it is appended. Dropping a plan changes nothing.
@@ -12,15 +11,19 @@ pub struct Plan {
     pub(crate) entries: Vec<Entry>,
     pub(crate) members: Vec<u64>,
     pub(crate) actions: Vec<u64>,
-    never: Infallible,
+    /// The addresses of the member that joins, for the tables to keep.
+    pub(crate) uris: Option<Uris>,
 }
 
 impl Model for Plan {
     ghost use Rattle.lra_tables.specs.Plans.{Planned};
+    ghost use Rattle.lra_tables.specs.inner.Adopting.{HasAddresses};
 
     ghost Value = { Planned };
 
     ghost view = { λ p. record { entries = p.entries.items; members = p.members.items; actions = p.actions.items } };
+
+    ghost invariant = { λ p. HasAddresses p.entries.items p.uris };
 }
 
 impl Plan {
@@ -43,12 +46,5 @@ impl Plan {
         ensures { result.now ≡ self.now.actions }
     {
         self.actions.as_slice()
-    }
-
-    /// There is none so far.
-    pub(crate) fn absurd(self) -> Vec<Entry>
-        ensures { result.items ≡ self.entries }
-    {
-        match self.never {}
     }
 }

@@ -5,7 +5,7 @@ use Rattle.std.specs.FinMap as finite
 use Rattle.std.specs.Option.{option_map}
 use Rattle.lra_timers.specs.declared.deadline.Deadline.{Deadline}
 use Rattle.lra_timers.specs.Moments.{IsFirstDue, NoneDue}
-use Rattle.lra_timers.specs.inner.Order.{node, IsFirstOf}
+use Rattle.lra_timers.specs.Order.{node, IsFirstOf}
 use Rattle.lra_timers.specs.inner.Schedule.{Places, moments_at, IsIndex}
 use Rattle.lra_timers.proofs.Index.{moment_at}
 use Rattle.lra_timers.proofs.Lookups.{moment_of, get-moments_at}

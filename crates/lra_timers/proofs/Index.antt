@@ -7,7 +7,7 @@ use Rattle.std.specs.HashMap.{get}
 use Rattle.std.specs.FinMap as finite
 use Rattle.std.specs.Option.{option_map}
 use Rattle.lra_timers.specs.declared.deadline.Deadline.{Deadline}
-use Rattle.lra_timers.specs.inner.Order.{node, last}
+use Rattle.lra_timers.specs.Order.{node, last}
 use Rattle.lra_timers.specs.inner.Schedule.{Places, moments_at, IsIndex}
 use Rattle.lra_timers.proofs.Lookups.{Changes, moment_of, get-moments_at, same_as_insert, same_as_remove, same_moment}
 

@@ -9,7 +9,7 @@ use Rattle.std.specs.HashMap.{get, Updates}
 use Rattle.std.specs.FinMap as finite
 use Rattle.std.specs.FinMap.{find, get-from_entries, get-insert, get-remove, same_map, nat_cmp-IsAntisymmetric}
 use Rattle.lra_timers.specs.declared.deadline.Deadline.{Deadline}
-use Rattle.lra_timers.specs.inner.Order.{node}
+use Rattle.lra_timers.specs.Order.{node}
 use Rattle.lra_timers.specs.Moments.{Moments}
 use Rattle.lra_timers.specs.inner.Schedule.{Places, moments_at}
 

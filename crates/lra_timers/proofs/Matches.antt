@@ -2,8 +2,8 @@
 use Rattle.std.proofs.Common.{◌≡◌, ◌≢◌, ℕ, ◌+◌, ◌*◌, ◌/◌, ◌≤◌, ◌<◌, List, length, set, inl, inr, sym, subst, arith, get_or-set_same, get_or-set_other}
 use Rattle.std.proofs.lemmas.Bool.{cases_eq}
 use Rattle.lra_timers.specs.declared.deadline.Deadline.{Deadline}
-use Rattle.lra_timers.specs.inner.Order.{IsWinner, node, last}
-use Rattle.lra_timers.specs.inner.Tree.{IsWonAt, IsWon}
+use Rattle.lra_timers.specs.Order.{node, last}
+use Rattle.lra_timers.specs.inner.Tree.{IsWinner, IsWonAt, IsWon}
 
 -- all matches were won, but perhaps the one at a place, which is 0 for none
 pub record IsWonBut (nodes : List Deadline) (width open_place : ℕ) : Type 0 where

@@ -2,7 +2,7 @@
 use Rattle.std.proofs.Common.{◌≡◌, Bool, true, false, ◌&&◌, eqb, refl, sym, arith}
 use Rattle.std.proofs.lemmas.Bool.{eqb-true}
 use Rattle.lra_timers.specs.declared.deadline.Deadline.{Deadline}
-use Rattle.lra_timers.specs.inner.Order.{IsNotAfter}
+use Rattle.lra_timers.specs.Order.{IsNotAfter}
 
 both_true : (x y : Bool) → true ≡ (x && y) → (x ≡ true) × (y ≡ true)
 both_true true y e = (refl, sym e)

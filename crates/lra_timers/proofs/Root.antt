@@ -4,7 +4,7 @@ use Rattle.std.proofs.lemmas.Bool.{cases_eq}
 use Rattle.std.proofs.lemmas.Bool.Decides.{leb_tells}
 use Rattle.std.proofs.lemmas.List.{get_or-drop, get_or-take, length-take-le, length-drop}
 use Rattle.lra_timers.specs.declared.deadline.Deadline.{Deadline}
-use Rattle.lra_timers.specs.inner.Order.{IsNotAfter, IsFirstOf, node, last}
+use Rattle.lra_timers.specs.Order.{IsNotAfter, IsFirstOf, node, last}
 use Rattle.lra_timers.specs.inner.Tree.{IsWonAt, IsWon, IsTree}
 use Rattle.lra_timers.proofs.Orders.{IsNotAfter-refl, IsNotAfter-trans, IsNotAfter-antisym}
 

@@ -5,7 +5,7 @@ use Rattle.std.proofs.lemmas.Bool.Decides.{leb_tells}
 use Rattle.std.proofs.lemmas.List.{get_or-drop, get_or_append_left, get_or-append_right, get_or-replicate, get_or_past, length-replicate, take_all}
 use Rattle.std.specs.List.{CopiedTo, SameFrom}
 use Rattle.lra_timers.specs.declared.deadline.Deadline.{Deadline}
-use Rattle.lra_timers.specs.inner.Order.{IsNotAfter, node, last}
+use Rattle.lra_timers.specs.Order.{IsNotAfter, node, last}
 use Rattle.lra_timers.specs.inner.Tree.{IsWon, IsTree}
 use Rattle.lra_timers.proofs.Orders.{IsNotAfter-refl}
 

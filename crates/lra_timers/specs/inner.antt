@@ -1,3 +1,2 @@
-pub mod Order
 pub mod Schedule
 pub mod Tree

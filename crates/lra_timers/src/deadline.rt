@@ -1,9 +1,10 @@
 ghost use Rattle.std.specs.Prelude.{MatchBool};
-ghost use Rattle.lra_timers.specs.inner.Order.{IsNotAfter, IsWinner};
+ghost use Rattle.lra_timers.specs.Order.{IsNotAfter};
+ghost use Rattle.lra_timers.specs.inner.Tree.{IsWinner};
 
 /// A number with its moment.
 #[derive(Clone, Copy, Debug, PartialEq, Eq)]
-pub(crate) struct Deadline {
+pub struct Deadline {
     pub moment: u64,
     pub number: u64,
 }
@@ -22,7 +23,7 @@ impl Deadline {
         self.moment < other.moment || (self.moment == other.moment && self.number < other.number)
     }
 
-    pub fn earlier(self, other: Deadline) -> Deadline
+    pub(crate) fn earlier(self, other: Deadline) -> Deadline
         ensures { IsWinner result self other }
     {
         if other.is_before(self) { other } else { self }

@@ -9,6 +9,8 @@ mod tournament;
 
 pub use agenda::Agenda;
 pub use backoff::pause;
+pub use deadline::Deadline;
+pub use tournament::Tournament;
 
 /// What a call answers that found no memory.
 pub use std::alloc::AllocError as Memory;

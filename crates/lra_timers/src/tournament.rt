@@ -1,6 +1,6 @@
-ghost use Rattle.std.specs.Prelude.{◌≡◌, ◌↔◌, ◌+◌, ◌*◌, ◌≤◌, ◌<◌, [], ◌∷◌, ◌++◌, length, take, drop, slice_set, IsNone, IsOk, IfSome, OnOk, OnErr};
-ghost use Rattle.lra_timers.specs.inner.Order.{IsWinner, IsFirstOf, IsNotAfter, node, last};
-ghost use Rattle.lra_timers.specs.inner.Tree.{IsWon, IsTree};
+ghost use Rattle.std.specs.Prelude.{◌≡◌, ◌↔◌, ◌+◌, ◌*◌, ◌^◌, ◌≤◌, ◌<◌, [], ◌∷◌, ◌++◌, length, take, drop, slice_set, IsNone, IsOk, IfSome, OnOk, OnErr};
+ghost use Rattle.lra_timers.specs.Order.{IsFirstOf, IsNotAfter, node, last};
+ghost use Rattle.lra_timers.specs.inner.Tree.{IsWinner, IsWon, IsTree};
 
 use crate::deadline::Deadline;
 use std::alloc::{AllocError, Global};
@@ -11,7 +11,7 @@ use std::marker::Model;
 /// The deadlines are the leaves of a binary tree in a vector, from place `width` on. Each place i below it, but
 /// place 0, has the earlier of those at 2i and 2i + 1, so place 1 has the earliest of all.
 #[derive(Drop)]
-pub(crate) struct Tournament {
+pub struct Tournament {
     nodes: Vec<Deadline>,
     width: usize,
     len: usize,
@@ -19,7 +19,8 @@ pub(crate) struct Tournament {
 
 impl Model for Tournament {
     ghost use Rattle.std.specs.Prelude.{◌-◌, take, drop};
-    ghost use Rattle.lra_timers.specs.inner.Tree.{Entrants, IsTree};
+    ghost use Rattle.lra_timers.specs.Order.{Entrants};
+    ghost use Rattle.lra_timers.specs.inner.Tree.{IsTree};
 
     ghost Value = { Entrants };
 
@@ -89,6 +90,7 @@ fn widen(
 }
 
 impl Tournament {
+    /// Of no deadlines, with no room.
     pub fn new(alloc: Global) -> Self
         ensures items { result.items ≡ [] }
         ensures room { result.room ≡ 0 }
@@ -100,12 +102,23 @@ impl Tournament {
         }
     }
 
+    /// How many deadlines there are.
     pub fn len(&self) -> usize
-        ensures { result ≡ length self.now.items }
+        ensures items { result ≡ length self.now.items }
+        ensures range { result + self.now.room < 2 ^ 63 }
     {
         self.len
     }
 
+    /// The deadline at a place, from 0 on.
+    pub fn get(&self, place: usize) -> Deadline
+        requires { place < length self.now.items }
+        ensures { result ≡ node self.now.items place }
+    {
+        self.nodes[self.width + place]
+    }
+
+    /// The earliest of the deadlines, where there are any.
     pub fn first(&self) -> Option<Deadline>
         ensures none { IsNone result ↔ (self.now.items ≡ []) }
         ensures first { IfSome result (IsFirstOf self.now.items) }
@@ -117,6 +130,7 @@ impl Tournament {
         }
     }
 
+    /// Makes room for so many more pushes.
     pub fn reserve(&mut self, additional: usize) -> Result<(), AllocError>
         ensures items { self.new.items ≡ self.old.items }
         ensures room { OnOk result (additional ≤ self.new.room) }
@@ -133,6 +147,7 @@ impl Tournament {
         Ok(())
     }
 
+    /// One more deadline, behind the others.
     pub fn push(&mut self, deadline: Deadline)
         requires { 0 < self.old.room }
         ensures items { self.new.items ≡ self.old.items ++ deadline ∷ [] }
@@ -142,6 +157,7 @@ impl Tournament {
         self.len += 1;
     }
 
+    /// Replaces the deadline at a place.
     pub fn set(&mut self, place: usize, deadline: Deadline)
         requires { place < length self.old.items }
         ensures items { self.new.items ≡ slice_set self.old.items place deadline }
@@ -150,6 +166,7 @@ impl Tournament {
         enter(&mut self.nodes, self.width, place, deadline);
     }
 
+    /// Takes the last deadline away.
     pub fn pop(&mut self) -> Deadline
         requires { 0 < length self.old.items }
         ensures items { self.old.items ≡ self.new.items ++ result ∷ [] }

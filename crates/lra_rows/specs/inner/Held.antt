@@ -74,6 +74,10 @@ held_children s a = option_map_or (λ (x : Nest). x.children) (row_at s.nests a)
 abbrev pub held_members : Sheet → ℕ → List ℕ
 held_members s a = option_map_or (λ (x : Nest). x.members) (row_at s.nests a) []
 
+-- the members of all that stand in an action
+abbrev pub held_under : Sheet → ℕ → List ℕ
+held_under s a = option_map_or (λ (x : Nest). x.under) (row_at s.nests a) []
+
 -- whether a clerk has that number
 abbrev pub held_clerk : Sheet → ℕ → Bool
 held_clerk s n = nat_lt 0 n && nat_le n s.state.clerks

@@ -7,7 +7,7 @@ use Rattle.std.specs.declared.hash.FoldHasher.{FoldHasher}
 use Rattle.std.specs.declared.hash.BuildHasherDefault.{BuildHasherDefault}
 use Rattle.lra_timers.specs.declared.deadline.Deadline.{Deadline}
 use Rattle.lra_timers.specs.Moments.{Moments, moments_code}
-use Rattle.lra_timers.specs.inner.Order.{node}
+use Rattle.lra_timers.specs.Order.{node}
 
 -- moments by number, and how many more numbers fit
 pub record Timetable : Type 0 where

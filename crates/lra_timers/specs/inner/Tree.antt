@@ -1,7 +1,13 @@
 -- A tree of winners in a list: the deadlines from place `width` on, and at each place i from 1 below it the winner of those at 2i and 2i + 1.
-use Rattle.std.specs.Prelude.{◌≡◌, ℕ, ◌+◌, ◌*◌, ◌≤◌, ◌<◌, List, length, drop}
+use Rattle.std.specs.Prelude.{◌≡◌, ◌⊎◌, ℕ, ◌+◌, ◌*◌, ◌≤◌, ◌<◌, List, length, drop}
 use Rattle.lra_timers.specs.declared.deadline.Deadline.{Deadline}
-use Rattle.lra_timers.specs.inner.Order.{IsNotAfter, IsWinner, node, last}
+use Rattle.lra_timers.specs.Order.{IsNotAfter, node, last}
+
+-- the one of a and b that isn't after the other
+pub record IsWinner (winner a b : Deadline) : Type 0 where
+  pub one_of : (winner ≡ a) ⊎ (winner ≡ b)
+  pub first : IsNotAfter winner a
+  pub second : IsNotAfter winner b
 
 -- the match at a place was won by what stands there
 abbrev pub IsWonAt : List Deadline → ℕ → Type 0
@@ -18,8 +24,3 @@ pub record IsTree (nodes : List Deadline) (width len : ℕ) : Type 0 where
   pub won : IsWon nodes width
   pub free : (i : ℕ) → len ≤ i → node (drop width nodes) i ≡ last
   pub in_range : (i : ℕ) → IsNotAfter (node (drop width nodes) i) last
-
--- a list of deadlines, and how many more fit
-pub record Entrants : Type 0 where
-  pub items : List Deadline
-  pub room : ℕ

@@ -1,6 +1,6 @@
 use Rattle.std.proofs.Common.{◌<◌, ◌/◌, ◌∙◌, length, arith, length-set}
 use Rattle.std.proofs.lemmas.List.{drop-set-add, drop-set-lt, get_or_default}
-use Rattle.lra_timers.specs.inner.Order.{last}
+use Rattle.lra_timers.specs.Order.{last}
 use Rattle.lra_timers.specs.declared.deadline.Deadline.{Deadline}
 use Rattle.lra_timers.proofs.Orders.{deadline_from_eq}
 use Rattle.lra_timers.proofs.Matches.{IsWonBut-leaf, IsWonBut-up, IsWon-found}

@@ -3,7 +3,8 @@ use Rattle.std.proofs.lemmas.List.{length-map}
 use Rattle.lra_model.specs.History.{members}
 use Rattle.lra_laws.specs.Rows.{member_row}
 use Rattle.lra_laws.specs.Sheets.{Sheet}
+use Rattle.lra_rows.specs.Rowed.{Rowed}
 use Rattle.lra_rows.proofs.rows.Rows.count_members.Goals as goal
 
 pub returns : goal.returns
-returns c = λ J h. c.len.ensures ∙ c.self.inside.members.ok.0 ∙ ap (λ (s : Sheet). length s.state.members) (c.self.view_is ∙ h.sheet) ∙ length-map (members J) (member_row J)
+returns c = λ J h. c.len.ensures ∙ c.self.inside.members.ok.0 ∙ ap (λ (s : Sheet). length s.state.members) (ap (λ (r : Rowed). r.sheet) c.self.view_is ∙ h.sheet) ∙ length-map (members J) (member_row J)

@@ -1,5 +1,5 @@
 use Rattle.std.proofs.Common.{ap, ◌∙◌}
-use Rattle.lra_timers.specs.inner.Order.{node}
+use Rattle.lra_timers.specs.Order.{node}
 use Rattle.lra_timers.proofs.Lookups.{same_moments, same_moment}
 use Rattle.lra_timers.proofs.schedule.Schedule.reserve.Goals as goal
 

@@ -1,6 +1,6 @@
 use Rattle.std.proofs.Common.{◌≡◌, ◌<◌, ◌∙◌, length, sym, arith}
 use Rattle.std.proofs.lemmas.List.{get_or_default}
-use Rattle.lra_timers.specs.inner.Order.{node, last}
+use Rattle.lra_timers.specs.Order.{node, last}
 use Rattle.lra_timers.proofs.Root.{IsFirstOf-root}
 use Rattle.lra_timers.proofs.tournament.Tournament.first.Goals as goal
 

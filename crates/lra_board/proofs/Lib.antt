@@ -1,0 +1,5 @@
+pub mod Boards
+pub mod Grown
+pub mod Marked
+pub mod Settles
+pub mod Trails

@@ -1,0 +1,12 @@
+use Rattle.std.proofs.Common.{◌<◌, length, arith}
+use Rattle.lra_board.proofs.Marked.{member_absent}
+use Rattle.lra_board.proofs.ready.Ready.mark_member.Goals as goal
+use Rattle.lra_board.proofs.ready.Ready.mark_member.Goals.{else-member-gt0-via-then-member-gt0+else-member-len, else-member-gt0-via-else-member-gt0}
+
+pub returns-else-member-gt0-clause-marked : goal.returns-else-member-gt0-clause-marked
+returns-else-member-gt0-clause-marked c =
+    let past : 0 < c.args.member → length c.args.self.now.skips.marked < c.args.member = elim c.else-member-gt0.branch [
+      | else-member-gt0-via-then-member-gt0+else-member-len w ↦ λ some. omega arith
+      | else-member-gt0-via-else-member-gt0 w ↦ λ some. absurd (omega arith)
+    ] in
+    member_absent c.args.rows.now.sheet.state c.args.self.now c.args.member past

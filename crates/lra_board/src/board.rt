@@ -1,0 +1,146 @@
+//! The rows of a history with what settles it next.
+
+ghost use Rattle.std.specs.Prelude.{◌≡◌, option_map};
+ghost use Rattle.std.specs.Option.{option_or, option_and_then};
+ghost use Rattle.lra_model.specs.declared.entry.Deed.TheVariants as deeds;
+ghost use Rattle.lra_laws.specs.Settles.{turn_by, end_by};
+
+use crate::ready::Ready;
+use lra_model::{Deed, Entry, Memory, Uris};
+use lra_rows::{Rows, Step};
+use std::alloc::Global;
+use std::marker::Model;
+
+/// The rows of a history, and what settles it next, which is known without a walk.
+#[derive(Drop)]
+pub struct Board {
+    rows: Rows,
+    ready: Ready,
+}
+
+impl Model for Board {
+    ghost use Rattle.std.specs.Prelude.{[]};
+    ghost use Rattle.lra_board.specs.Boarded.{Boarded};
+    ghost use Rattle.lra_board.specs.inner.Ready.{MarkedBut};
+
+    ghost Value = { Boarded };
+
+    ghost view = { λ b. record { rows = b.rows; skips = b.ready.skips.room; turns = b.ready.turns.room; ends = b.ready.ends.room } };
+
+    ghost invariant = { λ b. MarkedBut b.rows.sheet.state b.ready [] [] };
+}
+
+/// What its parent does to the action, if there is one.
+fn turned(rows: &Rows, action: Option<u64>) -> Option<Deed>
+    ensures { result ≡ option_and_then (turn_by rows.now.sheet.state) action }
+{
+    match action {
+        Some(action) => rows.by_parent(action),
+        None => None,
+    }
+}
+
+/// The end of the action, if there is one.
+fn ended(rows: &Rows, action: Option<u64>) -> Option<Deed>
+    ensures { result ≡ option_and_then (end_by rows.now.sheet.state) action }
+{
+    match action {
+        Some(action) => rows.end(action),
+        None => None,
+    }
+}
+
+/// The skip of a member; else what its parent does to an action; else the end of an action.
+fn choose(rows: &Rows, skip: Option<u64>, turn: Option<u64>, end: Option<u64>) -> Option<Deed>
+    ensures { result ≡ option_or (option_map deeds.Skip skip) (option_or (option_and_then (turn_by rows.now.sheet.state) turn) (option_and_then (end_by rows.now.sheet.state) end)) }
+{
+    if let Some(member) = skip {
+        return Some(Deed::Skip { member });
+    }
+    match turned(rows, turn) {
+        Some(deed) => Some(deed),
+        None => ended(rows, end),
+    }
+}
+
+impl Board {
+    ghost use Rattle.std.specs.Prelude.{◌≡◌, ◌++◌, ◌∷◌, [], true, false, OnOk, OnErr};
+    ghost use Rattle.lra_model.specs.declared.entry.Entry.{Entry as EntryValue};
+    ghost use Rattle.lra_model.specs.History.{History};
+    ghost use Rattle.lra_model.specs.Rules.{allows};
+    ghost use Rattle.lra_model.specs.Settling.{next_settling};
+    ghost use Rattle.lra_laws.specs.Sheets.{StandsFor, Follows};
+    ghost use Rattle.lra_rows.specs.Rowed.{addresses_joined};
+    ghost use Rattle.lra_rows.specs.Steps.{addresses_back};
+    ghost use Rattle.lra_board.specs.Boarded.{has_room, carried, uncarried, CameBy};
+
+    /// Of no entries.
+    pub fn empty(alloc: Global) -> Board
+        ensures { StandsFor result.rows.sheet [] }
+    {
+        Board {
+            rows: Rows::empty(alloc),
+            ready: Ready::new(alloc),
+        }
+    }
+
+    pub fn rows(&self) -> &Rows
+        ensures { result.now ≡ self.now.rows }
+    {
+        &self.rows
+    }
+
+    /// Makes room for one more entry: it can then be carried out with no memory. What could be before still can.
+    pub fn reserve(&mut self, entry: &Entry) -> Result<(), Memory>
+        ensures same { self.new.rows.sheet ≡ self.old.rows.sheet }
+        ensures ok { OnOk result (has_room entry.now self.new ≡ true) }
+        ensures err { OnErr result (has_room entry.now self.old ≡ false) }
+        ensures kept { (e : EntryValue) → has_room e self.old ≡ true → has_room e self.new ≡ true }
+    {
+        self.rows.reserve(entry)?;
+        self.ready.reserve(&entry.deed)
+    }
+
+    /// One more entry, which is allowed after those that the board stands for, and has room: it takes no memory. The addresses
+    /// of a member that joins are handed in.
+    pub fn carry(&mut self, entry: &Entry, uris: Option<Uris>) -> Step
+        requires follows { Follows self.old.rows.sheet entry.now }
+        requires room { has_room entry.now self.old ≡ true }
+        requires uris { uris ≡ addresses_joined entry.now.deed }
+        ensures carried { self.new ≡ carried entry.now self.old }
+        ensures stands { (J : History) (h : StandsFor self.old.rows.sheet J) → allows h.version h.is_address J entry.now ≡ true → StandsFor self.new.rows.sheet (J ++ entry.now ∷ []) }
+        ensures back { uncarried entry.now result self.new ≡ self.old }
+        ensures uris { addresses_back result self.new.rows ≡ addresses_joined entry.now.deed }
+    {
+        let step = self.rows.carry(entry, uris);
+        self.ready.grow(&entry.deed);
+        self.ready.mark(&self.rows, &entry.deed);
+        step
+    }
+
+    /// Takes the entry that was carried out last back, by its step, and gives the addresses of the member that joined by it: the
+    /// board is as before it, and has the room that it had. This takes no memory.
+    pub fn take_back(&mut self, entry: &Entry, step: Step) -> Option<Uris>
+        requires { CameBy entry.now step self.old }
+        ensures back { self.new ≡ uncarried entry.now step self.old }
+        ensures uris { result ≡ addresses_back step self.old.rows }
+    {
+        let uris = self.rows.take_back(step);
+        self.ready.shrink(&entry.deed);
+        self.ready.mark(&self.rows, &entry.deed);
+        uris
+    }
+
+    /// What a coordinator does next of itself: the skip of the least member that may be skipped; else what its parent does to the
+    /// least action to which it does anything; else the end of the greatest action that may end.
+    pub fn next_settling(&self) -> Option<Deed>
+        ensures { (J : History) → StandsFor self.now.rows.sheet J → result ≡ next_settling J }
+    {
+        choose(
+            &self.rows,
+            self.ready.skips.first(),
+            self.ready.turns.first(),
+            self.ready.ends.first(),
+        )
+    }
+}

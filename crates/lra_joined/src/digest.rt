@@ -1,0 +1,38 @@
+//! Digests of an action and five addresses.
+
+ghost use Rattle.std.specs.Prelude.{◌≡◌};
+ghost use Rattle.lra_model.specs.Addresses.{text_of};
+ghost use Rattle.lra_joined.specs.Digests as words;
+
+use lra_model::Uris;
+use std::hash::{DefaultHasher, Hasher};
+
+/// The hasher is fed an address, or that there is none.
+fn feed(state: &mut DefaultHasher, text: &Option<String>)
+    ensures { state.new ≡ words.fed (text_of text.now) state.old }
+{
+    match text {
+        Some(text) => {
+            state.write_u8(1);
+            state.write(text.as_bytes());
+            state.write_u8(255);
+        }
+        None => state.write_u8(0),
+    }
+}
+
+/// The digest of an action and addresses under a key.
+#[tactic(auto, unfolding(crate::specs::Digests::digest_of))]
+pub(crate) fn digest_of(key: u128, action: u64, uris: &Uris) -> u64
+    ensures { result ≡ words.digest_of key action uris.now }
+{
+    let mut state = DefaultHasher::new();
+    state.write_u128(key);
+    state.write_u64(action);
+    feed(&mut state, &uris.compensate);
+    feed(&mut state, &uris.complete);
+    feed(&mut state, &uris.status);
+    feed(&mut state, &uris.forget);
+    feed(&mut state, &uris.after);
+    state.finish()
+}

@@ -1,0 +1,41 @@
+-- Whose wants, and whose deadlines, an entry may change.
+use Rattle.std.specs.Prelude.{ℕ, List, [], ◌∷◌, cond, is_some}
+use Rattle.std.specs.Option.{option_map_or}
+use Rattle.std.specs.List.{flat_map}
+use Rattle.lra_model.specs.declared.entry.Deed.{Deed}
+use Rattle.lra_model.specs.declared.entry.Deed.TheVariants.{Start, Join, Leave, Close, Cancel, Skip, Ask, Reply, Report, End, Restart, Renew}
+use Rattle.lra_model.specs.declared.entry.Entry.{Entry}
+use Rattle.lra_model.specs.History.{History, members}
+use Rattle.lra_model.specs.Actions.{parent, members_of}
+use Rattle.lra_model.specs.Members.{Asked, ask_of, members_under}
+
+-- the members whose wants may differ after a deed: the one that it speaks of; all of an action that it closes, cancels or ends, and where
+-- that is an outermost one that ends, all below it as well; after a restart all
+abbrev pub members_changed : History → Deed → List ℕ
+members_changed J (Join p a uris) = p ∷ []
+members_changed J (Leave p) = p ∷ []
+members_changed J (Close a cause) = members_of J a
+members_changed J (Cancel a cause) = members_of J a
+members_changed J (Skip p) = p ∷ []
+members_changed J (Ask n p kind) = p ∷ []
+members_changed J (Reply n o) = option_map_or (λ (x : Asked). x.member ∷ []) (ask_of J n) []
+members_changed J (Report p o) = p ∷ []
+members_changed J (End a status) = cond (is_some (parent J a)) (members_of J a) (members_under J a)
+members_changed J Restart = members J
+members_changed J _ = []
+
+-- the actions whose deadlines may differ after a deed
+abbrev pub actions_changed : Deed → List ℕ
+actions_changed (Start a parent limit) = a ∷ []
+actions_changed (Close a cause) = a ∷ []
+actions_changed (Cancel a cause) = a ∷ []
+actions_changed (End a status) = a ∷ []
+actions_changed (Renew a limit) = a ∷ []
+actions_changed _ = []
+
+-- those of several entries, each by the history before all of them
+abbrev pub members_changed_by : History → List Entry → List ℕ
+members_changed_by J es = flat_map (λ (e : Entry). members_changed J e.deed) es
+
+abbrev pub actions_changed_by : List Entry → List ℕ
+actions_changed_by es = flat_map (λ (e : Entry). actions_changed e.deed) es

@@ -1,0 +1,81 @@
+-- What rows are: the sheet of a history, and how much each list takes with no more memory.
+use Rattle.std.specs.Prelude.{ℕ, ◌^◌, ◌&&◌, nat_lt, Bool, true, List, [], ◌∷◌, ◌++◌, length, Option, Some, None}
+use Rattle.std.specs.Option.{option_map_or}
+use Rattle.lra_model.specs.declared.entry.Deed.{Deed}
+use Rattle.lra_model.specs.declared.entry.Deed.TheVariants.{Start, Join, Ask}
+use Rattle.lra_model.specs.declared.entry.Entry.{Entry}
+use Rattle.lra_model.specs.Addresses.{Addresses}
+use Rattle.lra_laws.specs.Rows.{row_at}
+use Rattle.lra_laws.specs.Sheets.{Nest, Sheet, top_at, sheet_after}
+
+-- how many numbers the lists of an action hold with no more memory (this project's choice)
+pub record NestCapacity : Type 0 where
+  pub children : ℕ
+  pub members : ℕ
+  pub under : ℕ
+
+-- what the lists of a new action hold: nothing yet (this project's choice)
+abbrev pub no_capacity : NestCapacity
+no_capacity = record { children = 0; members = 0; under = 0 }
+
+-- how many rows each list holds with no more memory, and how many numbers the lists of each action do (this project's choice)
+pub record Capacity : Type 0 where
+  pub actions : ℕ
+  pub members : ℕ
+  pub nests : ℕ
+  pub contacts : ℕ
+  pub asks : ℕ
+  pub lists : List NestCapacity
+
+-- rows: the sheet that they have, and what they hold with no more memory (this project's choice)
+pub record Rowed : Type 0 where
+  pub sheet : Sheet
+  pub capacity : Capacity
+
+-- what the lists hold after one more deed: one that starts an action brings lists of its own (this project's choice)
+abbrev pub capacity_after : Deed → Capacity → Capacity
+capacity_after (Start a parent limit) c = record c { lists = c.lists ++ no_capacity ∷ [] }
+capacity_after d c = c
+
+-- whether a list takes one more with no more memory (this project's choice)
+abbrev pub takes_one : {X : Type 0} → List X → ℕ → Bool
+takes_one xs capacity = nat_lt (length xs) capacity
+
+-- whether a list of an action does, where the action is there (this project's choice)
+abbrev pub list_takes_one : (Nest → List ℕ) → (NestCapacity → ℕ) → Rowed → ℕ → Bool
+list_takes_one list capacity r a =
+    option_map_or (λ (n : Nest). option_map_or (λ (c : NestCapacity). takes_one (list n) (capacity c)) (row_at r.capacity.lists a) true) (row_at r.sheet.nests a) true
+
+-- whether an action's list of children takes one more (this project's choice)
+abbrev pub takes_child : Rowed → ℕ → Bool
+takes_child r a = list_takes_one (λ (n : Nest). n.children) (λ (c : NestCapacity). c.children) r a
+
+-- whether an action's list of members does (this project's choice)
+abbrev pub takes_member : Rowed → ℕ → Bool
+takes_member r a = list_takes_one (λ (n : Nest). n.members) (λ (c : NestCapacity). c.members) r a
+
+-- whether the list of the members of all that stand in an action does (this project's choice)
+abbrev pub takes_under : Rowed → ℕ → Bool
+takes_under r a = list_takes_one (λ (n : Nest). n.under) (λ (c : NestCapacity). c.under) r a
+
+-- whether each list that a deed adds to takes one more (this project's choice)
+abbrev pub deed_has_room : Deed → Rowed → Bool
+deed_has_room (Start a parent limit) r = takes_one r.sheet.state.actions r.capacity.actions && takes_one r.sheet.nests r.capacity.nests && option_map_or (takes_child r) parent true
+deed_has_room (Join p a uris) r =
+    takes_one r.sheet.state.members r.capacity.members && takes_one r.sheet.contacts r.capacity.contacts && takes_member r a && takes_under r (top_at r.sheet.state a)
+deed_has_room (Ask n p kind) r = takes_one r.sheet.asks r.capacity.asks
+deed_has_room _ r = true
+
+-- whether an entry can be carried out with no memory: each list that it adds to takes one more, and so do the counts, which are less
+-- than 2^64 (this project's choice)
+abbrev pub has_room : Entry → Rowed → Bool
+has_room e r = nat_lt r.sheet.entries (2 ^ 63) && deed_has_room e.deed r
+
+-- the addresses that a deed lets a member join with (this project's journal)
+abbrev pub addresses_joined : Deed → Option Addresses
+addresses_joined (Join p a uris) = Some uris
+addresses_joined d = None
+
+-- the rows after one more entry that has room and is allowed (this project's choice)
+abbrev pub carried : Entry → Rowed → Rowed
+carried e r = record { sheet = sheet_after e r.sheet; capacity = capacity_after e.deed r.capacity }

@@ -1,0 +1,158 @@
+//! What settles next.
+
+ghost use Rattle.std.specs.Prelude.{◌≡◌, ◌&&◌, ◌==◌, not};
+ghost use Rattle.lra_model.specs.Words as words;
+ghost use Rattle.lra_model.specs.Tests as tests;
+ghost use Rattle.lra_laws.specs.inner.RowFacts.{settled_by, right_end_by};
+
+use crate::lists::at;
+use crate::rows::Rows;
+use crate::state::{ActionState, MemberState};
+use lra_model::{ActionStatus, Cause, Deed, MemberStatus};
+
+fn is_cancellable(status: ActionStatus) -> bool
+    ensures { result ≡ words.is_cancellable status }
+{
+    matches!(
+        status,
+        ActionStatus::Active | ActionStatus::Closed | ActionStatus::FailedToClose
+    )
+}
+
+/// Whether an action may end, by its counts.
+fn is_settled(row: &ActionState) -> bool
+    ensures { result ≡ settled_by row.now }
+{
+    match row.status {
+        ActionStatus::Closing => row.completing == 0 && row.unended == 0,
+        ActionStatus::Cancelling => row.compensating == 0 && row.uncancelled == 0,
+        _ => false,
+    }
+}
+
+/// The status that an action ends with, by its counts.
+fn right_end(row: &ActionState) -> ActionStatus
+    ensures { result ≡ right_end_by row.now }
+{
+    match row.status {
+        ActionStatus::Closing => {
+            if row.uncompleted == 0 && row.failed == 0 {
+                ActionStatus::Closed
+            } else {
+                ActionStatus::FailedToClose
+            }
+        }
+        _ => {
+            if row.uncompensated == 0 && row.failed == 0 {
+                ActionStatus::Cancelled
+            } else {
+                ActionStatus::FailedToCancel
+            }
+        }
+    }
+}
+
+impl Rows {
+    ghost use Rattle.std.specs.Prelude.{◌≡◌};
+    ghost use Rattle.lra_model.specs.Words as words;
+    ghost use Rattle.lra_model.specs.Tests as tests;
+    ghost use Rattle.lra_model.specs.History.{History};
+    ghost use Rattle.lra_model.specs.Settling.{may_be_skipped, by_parent};
+    ghost use Rattle.lra_laws.specs.Settles.{may_skip_by, turn_by, end_by};
+    ghost use Rattle.lra_laws.specs.Sheets.{StandsFor};
+    ghost use Rattle.lra_rows.specs.Found.{found_end};
+    ghost use Rattle.lra_laws.specs.inner.RowFacts.{action_by, facts_by, member_by};
+
+    fn may_skip(&self, row: &MemberState) -> bool
+        ensures { result ≡ tests.may_skip (facts_by self.now.sheet.state) (member_by self.now.sheet.state row.now) }
+    {
+        self.is_closing(row.action)
+            && matches!(row.status, MemberStatus::Active)
+            && !row.addresses.complete
+            && row.addresses.compensate
+    }
+
+    fn held_skip(&self, member: u64) -> bool
+        ensures { result ≡ may_skip_by self.now.sheet.state member }
+    {
+        match at(&self.members, member) {
+            Some(row) => self.may_skip(&row),
+            None => false,
+        }
+    }
+
+    /// Whether a member may be completed without being asked.
+    pub fn may_be_skipped(&self, member: u64) -> bool
+        ensures state { result ≡ may_skip_by self.now.sheet.state member }
+        ensures history { (J : History) → StandsFor self.now.sheet J → result ≡ may_be_skipped J member }
+    {
+        self.held_skip(member)
+    }
+
+    fn may_close_with_parent(&self, row: &ActionState) -> bool
+        ensures { result ≡ tests.may_close_with_parent (facts_by self.now.sheet.state) (action_by self.now.sheet.state row.now) }
+    {
+        match row.parent {
+            Some(parent) => matches!(row.status, ActionStatus::Active) && self.is_closing(parent),
+            None => false,
+        }
+    }
+
+    fn may_cancel_with_parent(&self, row: &ActionState) -> bool
+        ensures { result ≡ tests.may_cancel_with_parent (facts_by self.now.sheet.state) (action_by self.now.sheet.state row.now) }
+    {
+        match row.parent {
+            Some(parent) => is_cancellable(row.status) && self.is_cancelling(parent),
+            None => false,
+        }
+    }
+
+    fn held_turn(&self, action: u64) -> Option<Deed>
+        ensures { result ≡ turn_by self.now.sheet.state action }
+    {
+        let row = at(&self.actions, action)?;
+        if self.may_close_with_parent(&row) {
+            return Some(Deed::Close {
+                action,
+                cause: Cause::Parent,
+            });
+        }
+        if self.may_cancel_with_parent(&row) {
+            return Some(Deed::Cancel {
+                action,
+                cause: Cause::Parent,
+            });
+        }
+        None
+    }
+
+    /// What its parent does to an action, where it does anything: closes it, or cancels it.
+    pub fn by_parent(&self, action: u64) -> Option<Deed>
+        ensures state { result ≡ turn_by self.now.sheet.state action }
+        ensures history { (J : History) → StandsFor self.now.sheet J → result ≡ by_parent J action }
+    {
+        self.held_turn(action)
+    }
+
+    fn held_end(&self, action: u64) -> Option<Deed>
+        ensures { result ≡ end_by self.now.sheet.state action }
+    {
+        let row = at(&self.actions, action)?;
+        if is_settled(&row) {
+            Some(Deed::End {
+                action,
+                status: right_end(&row),
+            })
+        } else {
+            None
+        }
+    }
+
+    /// The end of an action, where it may end.
+    pub fn end(&self, action: u64) -> Option<Deed>
+        ensures state { result ≡ end_by self.now.sheet.state action }
+        ensures history { (J : History) → StandsFor self.now.sheet J → result ≡ found_end J action }
+    {
+        self.held_end(action)
+    }
+}

@@ -1,0 +1,132 @@
+//! What was carried out, taken back.
+
+ghost use Rattle.std.specs.Prelude.{◌≡◌, length, option_map, vec_capacity};
+ghost use Rattle.lra_laws.specs.Rows.{change_row, row_at};
+ghost use Rattle.lra_laws.specs.Sheets as sheets;
+ghost use Rattle.lra_rows.specs.Steps.{repeats_back, without_last};
+ghost use Rattle.lra_rows.specs.inner.Nested.{without_number};
+
+use crate::contact::Contact;
+use crate::lists::{place_of, remove_last, restore};
+use crate::nest::{Listed, Nest};
+use crate::rows::Rows;
+use crate::step::{Added, Counts, Repeated, Step, Writes};
+use lra_model::Uris;
+
+/// Removes the last number of a list of an action, if the action is there.
+fn remove_at(nests: &mut Vec<Nest>, list: Listed, action: u64)
+    ensures items { nests.new.items ≡ change_row (without_number list) action nests.old.items }
+    ensures capacity { vec_capacity nests.new ≡ vec_capacity nests.old }
+{
+    let Some(place) = place_of(action) else {
+        return;
+    };
+    if let Some(nest) = nests.get_mut(place) {
+        nest.remove(list);
+    }
+}
+
+/// Puts a member's repeats back as they were.
+fn restore_repeats(contacts: &mut Vec<Contact>, repeated: Option<Repeated>)
+    ensures items { contacts.new.items ≡ repeats_back repeated contacts.old.items }
+    ensures capacity { vec_capacity contacts.new ≡ vec_capacity contacts.old }
+{
+    let Some(repeated) = repeated else {
+        return;
+    };
+    let Some(place) = place_of(repeated.member) else {
+        return;
+    };
+    if let Some(contact) = contacts.get_mut(place) {
+        contact.restore(repeated.stage, repeated.repeats);
+    }
+}
+
+/// Removes the last member's contact, and gives its addresses.
+fn remove_contact(contacts: &mut Vec<Contact>) -> Option<Uris>
+    ensures items { contacts.new.items ≡ without_last contacts.old.items }
+    ensures uris { result ≡ option_map (λ (c : sheets.Contact). c.addresses) (row_at contacts.old.items (length contacts.old.items)) }
+    ensures capacity { vec_capacity contacts.new ≡ vec_capacity contacts.old }
+{
+    match contacts.pop() {
+        Some(contact) => Some(contact.uris),
+        None => None,
+    }
+}
+
+impl Rows {
+    ghost use Rattle.std.specs.Prelude.{◌≡◌};
+    ghost use Rattle.lra_rows.specs.declared.step.Added.TheVariants as kinds;
+    ghost use Rattle.lra_rows.specs.Steps.{taken_back, addresses_back, with_counts, without_added, rewritten, added_addresses};
+
+    fn remove_action(&mut self, parent: Option<u64>)
+        ensures { self.new ≡ without_added (kinds.Action parent) self.old }
+    {
+        remove_last(&mut self.actions);
+        remove_last(&mut self.nests);
+        if let Some(parent) = parent {
+            remove_at(&mut self.nests, Listed::Children, parent);
+        }
+    }
+
+    fn remove_member(&mut self, action: u64, top: u64) -> Option<Uris>
+        ensures rows { self.new ≡ without_added (kinds.Member action top) self.old }
+        ensures uris { result ≡ added_addresses (kinds.Member action top) self.old.sheet.contacts }
+    {
+        remove_last(&mut self.members);
+        remove_at(&mut self.nests, Listed::Under, top);
+        remove_at(&mut self.nests, Listed::Members, action);
+        remove_contact(&mut self.contacts)
+    }
+
+    /// Removes what was added last.
+    fn remove(&mut self, added: Added) -> Option<Uris>
+        ensures rows { self.new ≡ without_added added self.old }
+        ensures uris { result ≡ added_addresses added self.old.sheet.contacts }
+    {
+        match added {
+            Added::Nothing => None,
+            Added::Action { parent } => {
+                self.remove_action(parent);
+                None
+            }
+            Added::Member { action, top } => self.remove_member(action, top),
+            Added::Ask => {
+                remove_last(&mut self.asks);
+                None
+            }
+        }
+    }
+
+    /// Puts each row that was written over back as it was.
+    fn rewrite(&mut self, writes: Writes)
+        ensures { self.new ≡ rewritten writes self.old }
+    {
+        restore(&mut self.actions, writes.parent);
+        restore(&mut self.actions, writes.action);
+        restore(&mut self.members, writes.member);
+        restore_repeats(&mut self.contacts, writes.repeats);
+    }
+
+    fn set_counts(&mut self, counts: Counts)
+        ensures { self.new ≡ with_counts counts self.old }
+    {
+        self.entries = counts.entries;
+        self.moment = counts.moment;
+        self.clerks = counts.clerks;
+        self.asked = counts.asked;
+        self.void = counts.void;
+    }
+
+    /// Takes the last entry that was carried out back, by its step, and gives the addresses of the member that joined by it: the
+    /// rows are as before it, and have the room that they had. This takes no memory.
+    pub fn take_back(&mut self, step: Step) -> Option<Uris>
+        ensures rows { self.new ≡ taken_back step self.old }
+        ensures uris { result ≡ addresses_back step self.old }
+    {
+        let uris = self.remove(step.writes.added);
+        self.rewrite(step.writes);
+        self.set_counts(step.before);
+        uris
+    }
+}

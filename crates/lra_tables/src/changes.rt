@@ -1,0 +1,111 @@
+//! Whose wants and whose deadlines entries may change.
+
+ghost use Rattle.std.specs.Prelude.{◌≡◌, ◌++◌, OnOk, IfOk, cond, is_some};
+ghost use Rattle.lra_model.specs.declared.entry.Entry.{Entry as EntryValue};
+ghost use Rattle.lra_model.specs.History as history;
+ghost use Rattle.lra_model.specs.History.{History};
+ghost use Rattle.lra_model.specs.Actions.{parent, members_of};
+ghost use Rattle.lra_model.specs.Members.{members_under};
+ghost use Rattle.lra_model.specs.Settling.{with_settling};
+ghost use Rattle.lra_laws.specs.Sheets.{StandsFor, Follows};
+ghost use Rattle.lra_laws.specs.inner.Changes.{members_changed, members_changed_by, actions_changed, actions_changed_by};
+ghost use Rattle.lra_tables.specs.Plans.{CoversWants, CoversLimits};
+
+use lra_model::{Deed, Entry, Memory};
+use lra_rows::Rows;
+use std::alloc::Global;
+
+/// The members whose wants entries may change, and the actions whose deadlines they may change.
+#[derive(Drop)]
+pub(crate) struct Changes {
+    pub(crate) members: Vec<u64>,
+    pub(crate) actions: Vec<u64>,
+}
+
+/// All members there are.
+fn add_all(rows: &Rows, members: &mut Vec<u64>) -> Result<(), Memory>
+    ensures { OnOk result ((J : History) → StandsFor rows.now.sheet J → members.new.items ≡ members.old.items ++ history.members J) }
+{
+    for place in 0..rows.count_members() {
+        members.push(place + 1)?;
+    }
+    Ok(())
+}
+
+/// Whether an action is nested in another.
+fn is_nested(rows: &Rows, action: u64) -> bool
+    ensures { (J : History) → StandsFor rows.now.sheet J → result ≡ is_some (parent J action) }
+{
+    match rows.action(action) {
+        Some(row) => row.parent.is_some(),
+        None => false,
+    }
+}
+
+/// The members of an action that ends, and of all below it where it is an outermost one.
+fn ended(rows: &Rows, action: u64) -> &[u64]
+    ensures { (J : History) → StandsFor rows.now.sheet J → result.now ≡ cond (is_some (parent J action)) (members_of J action) (members_under J action) }
+{
+    if is_nested(rows, action) {
+        rows.members(action)
+    } else {
+        rows.under(action)
+    }
+}
+
+/// The members whose wants a deed may change.
+fn add_members(rows: &Rows, deed: &Deed, members: &mut Vec<u64>) -> Result<(), Memory>
+    ensures { OnOk result ((J : History) → StandsFor rows.now.sheet J → members.new.items ≡ members.old.items ++ members_changed J deed.now) }
+{
+    match deed {
+        Deed::Join { member, .. } => members.push(*member)?,
+        Deed::Leave { member } => members.push(*member)?,
+        Deed::Close { action, .. } => members.extend_from_slice(rows.members(*action))?,
+        Deed::Cancel { action, .. } => members.extend_from_slice(rows.members(*action))?,
+        Deed::Skip { member } => members.push(*member)?,
+        Deed::Ask { member, .. } => members.push(*member)?,
+        Deed::Reply { ask, .. } => {
+            if let Some(asked) = rows.ask(*ask) {
+                members.push(asked.member)?;
+            }
+        }
+        Deed::Report { member, .. } => members.push(*member)?,
+        Deed::End { action, .. } => members.extend_from_slice(ended(rows, *action))?,
+        Deed::Restart => return add_all(rows, members),
+        Deed::Enrol | Deed::Start { .. } | Deed::Renew { .. } => {}
+    }
+    Ok(())
+}
+
+/// The actions whose deadlines a deed may change.
+fn add_actions(deed: &Deed, actions: &mut Vec<u64>) -> Result<(), Memory>
+    ensures { OnOk result (actions.new.items ≡ actions.old.items ++ actions_changed deed.now) }
+{
+    match deed {
+        Deed::Start { action, .. } => actions.push(*action)?,
+        Deed::Close { action, .. } => actions.push(*action)?,
+        Deed::Cancel { action, .. } => actions.push(*action)?,
+        Deed::End { action, .. } => actions.push(*action)?,
+        Deed::Renew { action, .. } => actions.push(*action)?,
+        _ => {}
+    }
+    Ok(())
+}
+
+impl Changes {
+    /// What entries change that are to come after those of the rows, in time linear in what is listed: a number may come twice.
+    pub(crate) fn of(alloc: Global, rows: &Rows, entries: &[Entry]) -> Result<Changes, Memory>
+        ensures members { IfOk result (λ c. (J : History) → StandsFor rows.now.sheet J → c.members.items ≡ members_changed_by J entries.now) }
+        ensures actions { IfOk result (λ c. c.actions.items ≡ actions_changed_by entries.now) }
+        ensures wants { IfOk result (λ c. (e : EntryValue) (J : History) → Follows rows.now.sheet e → StandsFor rows.now.sheet J → entries.now ≡ with_settling J e → CoversWants c.members.items J (J ++ entries.now)) }
+        ensures limits { IfOk result (λ c. (J : History) → CoversLimits c.actions.items J (J ++ entries.now)) }
+    {
+        let mut members = Vec::new(alloc);
+        let mut actions = Vec::new(alloc);
+        for entry in entries {
+            add_members(rows, &entry.deed, &mut members)?;
+            add_actions(&entry.deed, &mut actions)?;
+        }
+        Ok(Changes { members, actions })
+    }
+}

@@ -1,0 +1,112 @@
+//! Who has joined an action with the same addresses already.
+
+ghost use Rattle.std.specs.Prelude.{◌≡◌, ◌+◌, ◌≤◌, ◌&&◌, not};
+ghost use Rattle.lra_model.specs.declared.entry.Deed.TheVariants as deeds;
+ghost use Rattle.lra_model.specs.declared.entry.Entry.{Entry as EntryValue};
+ghost use Rattle.lra_model.specs.Addresses.{text_of};
+ghost use Rattle.lra_model.specs.History.{History};
+ghost use Rattle.lra_model.specs.Joins as words;
+ghost use Rattle.lra_model.specs.Joins.{already_member};
+ghost use Rattle.lra_laws.specs.Sheets.{StandsFor};
+ghost use Rattle.lra_tables.specs.inner.Kept.{IsKept, IsKeptBefore, TakesOne};
+ghost use Rattle.lra_tables.specs.inner.Same.{found_same};
+
+use lra_joined::Index;
+use lra_model::{Deed, Entry, MemberStatus, Uris};
+use lra_rows::Rows;
+
+/// Whether two addresses are the same, or both absent.
+fn is_same_address(left: &Option<String>, right: &Option<String>) -> bool
+    ensures { result ≡ words.same_address (text_of left.now) (text_of right.now) }
+{
+    match (left, right) {
+        (Some(left), Some(right)) => left.as_bytes() == right.as_bytes(),
+        (None, None) => true,
+        _ => false,
+    }
+}
+
+/// Whether two members have the same five addresses.
+fn are_same_addresses(left: &Uris, right: &Uris) -> bool
+    ensures { result ≡ words.same_addresses left.now right.now }
+{
+    is_same_address(&left.compensate, &right.compensate)
+        && is_same_address(&left.complete, &right.complete)
+        && is_same_address(&left.status, &right.status)
+        && is_same_address(&left.forget, &right.forget)
+        && is_same_address(&left.after, &right.after)
+}
+
+/// Whether a member of the action is there, hasn't left, and has these addresses.
+fn is_same_member(rows: &Rows, number: u64, action: u64, uris: &Uris) -> bool
+    ensures { (J : History) → StandsFor rows.now.sheet J → result ≡ found_same J action uris.now number }
+{
+    let Some(row) = rows.member(number) else {
+        return false;
+    };
+    let Some(addresses) = rows.addresses(number) else {
+        return false;
+    };
+    row.action == action
+        && !matches!(row.status, MemberStatus::Left)
+        && are_same_addresses(addresses, uris)
+}
+
+/// The least member of an action that hasn't left and has these addresses already, found among those whose digest is the same.
+pub(crate) fn find_joined(index: &Index, rows: &Rows, action: u64, uris: &Uris) -> Option<u64>
+    requires { IsKept index.now rows.now.sheet }
+    ensures { (J : History) → StandsFor rows.now.sheet J → result ≡ already_member J action uris.now }
+{
+    let digest = index.digest(action, uris);
+    for rank in 0..u64::MAX {
+        match index.number(digest, rank) {
+            Some(number) => {
+                if is_same_member(rows, number, action, uris) {
+                    return Some(number);
+                }
+            }
+            None => return None,
+        }
+    }
+    None
+}
+
+/// Takes a member that has left away from the index.
+fn forget(index: &mut Index, rows: &Rows, member: u64)
+    requires { (e : EntryValue) × IsKeptBefore index.old e rows.now.sheet × (e.deed ≡ deeds.Leave member) }
+    ensures kept { IsKept index.new rows.now.sheet }
+    ensures room { index.old.room ≤ index.new.room }
+{
+    let row = match rows.member(member) {
+        Some(row) => row,
+        None => return,
+    };
+    let addresses = match rows.addresses(member) {
+        Some(addresses) => addresses,
+        None => return,
+    };
+    let digest = index.digest(row.action, addresses);
+    index.remove(digest, member);
+}
+
+/// Keeps the index with an entry that the rows have already: it adds the member that joins, for which there is room, and takes
+/// away the one that leaves.
+pub(crate) fn keep(index: &mut Index, rows: &Rows, entry: &Entry)
+    requires before { IsKeptBefore index.old entry.now rows.now.sheet }
+    requires room { TakesOne entry.now.deed index.old }
+    ensures kept { IsKept index.new rows.now.sheet }
+    ensures room { index.old.room ≤ index.new.room + 1 }
+{
+    match &entry.deed {
+        Deed::Join {
+            member,
+            action,
+            uris,
+        } => {
+            let digest = index.digest(*action, uris);
+            index.add(digest, *member);
+        }
+        Deed::Leave { member } => forget(index, rows, *member),
+        _ => {}
+    }
+}
