@@ -1,0 +1,93 @@
+//! The moments at which a coordinator acts by itself.
+
+ghost use Rattle.std.specs.Prelude.{◌≡◌, ◌+◌, ◌≤◌, ◌<◌, [], OnOk, OnErr, IsOk, length};
+ghost use Rattle.lra_model.specs.History.{History};
+ghost use Rattle.lra_laws.specs.Sheets.{StandsFor};
+ghost use Rattle.lra_tables.specs.Plans.{CoversWants, CoversLimits};
+ghost use Rattle.lra_commands.specs.declared.limits.Limits.{Limits as LimitsValue};
+ghost use Rattle.lra_commands.specs.Due.{due, late};
+ghost use Rattle.lra_schedule.specs.Schedules.{IsScheduleOf};
+ghost use Rattle.lra_schedule.specs.inner.Renewals.{renew};
+
+use crate::moments::{limit_of, retry_of};
+use lra_commands::Limits;
+use lra_tables::Tables;
+use lra_timers::{Agenda, Memory};
+use std::alloc::Global;
+use std::marker::Model;
+
+/// When the want of each member is due, and when the limit of each action passes, in milliseconds.
+#[derive(Drop)]
+pub struct Schedule {
+    agenda: Agenda,
+}
+
+impl Model for Schedule {
+    ghost use Rattle.lra_timers.specs.Planned.{Planned, planned_code};
+
+    ghost Value = { Planned };
+
+    ghost coded = { planned_code };
+
+    ghost view = { λ s. s.agenda };
+}
+
+impl Schedule {
+    /// Of no entries.
+    pub fn new(alloc: Global) -> Schedule
+        ensures { (l : LimitsValue) → IsScheduleOf l result [] }
+    {
+        Schedule {
+            agenda: Agenda::new(alloc),
+        }
+    }
+
+    /// Makes room for so many members and actions in calls of `refresh`. After `Memory` there may be more room, or none.
+    pub fn room(&mut self, n: usize) -> Result<(), Memory>
+        ensures room { OnOk result (n ≤ self.new.room) }
+        ensures succeeds { n ≤ self.old.room → IsOk result }
+        ensures kept { self.old.room ≤ self.new.room }
+        ensures limits { self.new.limits ≡ self.old.limits }
+        ensures retries { self.new.retries ≡ self.old.retries }
+    {
+        self.agenda.room(n)
+    }
+
+    /// The member whose want is due now: the one that is due since longest, and of these the least.
+    pub fn due(&self, now: u64) -> Option<u64>
+        ensures { (l : LimitsValue) (J : History) → IsScheduleOf l self.now J → result ≡ due l J now }
+    {
+        self.agenda.next_retry(now)
+    }
+
+    /// The action whose limit has passed: the one whose limit passed first, and of these the least.
+    pub fn late(&self, now: u64) -> Option<u64>
+        ensures { (l : LimitsValue) (J : History) → IsScheduleOf l self.now J → result ≡ late J now }
+    {
+        self.agenda.first_due(now)
+    }
+
+    fn put_retry(&mut self, member: u64, moment: Option<u64>)
+        requires { 0 < self.old.room }
+        ensures retries { self.new.retries ≡ renew self.old.retries member moment }
+        ensures limits { self.new.limits ≡ self.old.limits }
+        ensures room { self.old.room ≤ self.new.room + 1 }
+    {
+        match moment {
+            Some(moment) => self.agenda.set_retry(member, moment).unwrap(),
+            None => self.agenda.drop_retry(member),
+        }
+    }
+
+    fn put_limit(&mut self, action: u64, moment: Option<u64>)
+        requires { 0 < self.old.room }
+        ensures limits { self.new.limits ≡ renew self.old.limits action moment }
+        ensures retries { self.new.retries ≡ self.old.retries }
+        ensures room { self.old.room ≤ self.new.room + 1 }
+    {
+        match moment {
+            Some(moment) => self.agenda.set_limit(action, moment).unwrap(),
+            None => self.agenda.drop_limit(action),
+        }
+    }
+}
