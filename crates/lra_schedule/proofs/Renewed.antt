@@ -1,7 +1,8 @@
 -- Moments that are brought up to date are those of the longer history.
-use Rattle.std.proofs.Common.{◌≡◌, ◌≢◌, ℕ, zero, suc, ◌+◌, ◌≤◌, ◌<◌, Bool, true, false, List, [], ◌∷◌, ◌++◌, length, Option, Some, None, refl, sym, ap, ◌∙◌, cond, arith, subst, inl, inr, eq-eqb}
+use Rattle.std.proofs.Common.{◌≡◌, ◌≢◌, ℕ, zero, suc, ◌+◌, ◌≤◌, ◌<◌, Bool, true, false, List, [], ◌∷◌, ◌++◌, length, Option, Some, None, refl, sym, ap, ◌∙◌, cond, arith, subst, inl, inr, eq-eqb, take, get_or}
 use Rattle.std.proofs.Math.Bool.{or-false, or-true}
 use Rattle.std.proofs.lemmas.Bool.{cases_eq, ne_eqb}
+use Rattle.std.proofs.lemmas.List.{take_more}
 use Rattle.std.proofs.lemmas.List.FromFn.{map-range_with_len_more}
 use Rattle.std.specs.Prelude.{◌==◌, ◌||◌, ◌&&◌, not, map, option_map}
 use Rattle.std.specs.List.{range_with_len}
@@ -66,6 +67,13 @@ renewed_more given old now ns n o h is q = elim (cases_eq n q) [ inl same ↦ he
     there other =
         renewed_other now n o q other ∙ h q
         ∙ sym (ap (λ (b : Bool). cond b (given q) (finite.get old q)) (among false (ne_eqb n q other) ∙ or-false (is_among ns q)))
+
+-- the next of those listed
+pub renewed_next : (given : ℕ → Option ℕ) (old now after : Moments) (ns : List ℕ) (i : ℕ) (o : Option ℕ) → i < length ns → AreRenewed given old now (take i ns) → o ≡ given (get_or ns i 0) → after ≡ renew now (get_or ns i 0) o
+    → AreRenewed given old after (take (i + 1) ns)
+renewed_next given old now after ns i o lt h is e q =
+    ap (λ (m : Moments). finite.get m q) e ∙ renewed_more given old now (take i ns) (get_or ns i 0) o h is q
+    ∙ ap (λ (ms : List ℕ). cond (is_among ms q) (given q) (finite.get old q)) (sym (take_more ns i 0 lt))
 
 map_self : (ns : List ℕ) → map (λ (n : ℕ). n) ns ≡ ns
 map_self [] = refl

@@ -7,7 +7,7 @@ ghost use Rattle.lra_tables.specs.Plans.{CoversWants, CoversLimits};
 ghost use Rattle.lra_commands.specs.declared.limits.Limits.{Limits as LimitsValue};
 ghost use Rattle.lra_commands.specs.Due.{due, late};
 ghost use Rattle.lra_schedule.specs.Schedules.{IsScheduleOf};
-ghost use Rattle.lra_schedule.specs.inner.Renewals.{renew};
+ghost use Rattle.lra_schedule.specs.inner.Renewals.{renew, AreRenewed, retry_in, limit_in};
 
 use crate::moments::{limit_of, retry_of};
 use lra_commands::Limits;
@@ -89,5 +89,37 @@ impl Schedule {
             Some(moment) => self.agenda.set_limit(action, moment).unwrap(),
             None => self.agenda.drop_limit(action),
         }
+    }
+
+    fn refresh_members(&mut self, limits: &Limits, tables: &Tables, members: &[u64])
+        requires { length members.now ≤ self.old.room }
+        ensures retries { (K : History) → StandsFor tables.now.sheet K → AreRenewed (retry_in limits.now K) self.old.retries self.new.retries members.now }
+        ensures limits { self.new.limits ≡ self.old.limits }
+        ensures room { self.old.room ≤ self.new.room + length members.now }
+    {
+        for member in members {
+            self.put_retry(*member, retry_of(limits, tables, *member));
+        }
+    }
+
+    fn refresh_actions(&mut self, tables: &Tables, actions: &[u64])
+        requires { length actions.now ≤ self.old.room }
+        ensures limits { (K : History) → StandsFor tables.now.sheet K → AreRenewed (limit_in K) self.old.limits self.new.limits actions.now }
+        ensures retries { self.new.retries ≡ self.old.retries }
+        ensures room { self.old.room ≤ self.new.room + length actions.now }
+    {
+        for action in actions {
+            self.put_limit(*action, limit_of(tables, *action));
+        }
+    }
+
+    /// Brings these members and actions up to date with the tables, by limits that are the same in each call. This takes no memory.
+    pub fn refresh(&mut self, limits: &Limits, tables: &Tables, members: &[u64], actions: &[u64])
+        requires { length members.now + length actions.now ≤ self.old.room }
+        ensures schedule { (J K : History) → IsScheduleOf limits.now self.old J → StandsFor tables.now.sheet K → CoversWants members.now J K → CoversLimits actions.now J K → IsScheduleOf limits.now self.new K }
+        ensures room { self.old.room ≤ self.new.room + (length members.now + length actions.now) }
+    {
+        self.refresh_members(limits, tables, members);
+        self.refresh_actions(tables, actions);
     }
 }
