@@ -49,10 +49,7 @@ renewed_other : (moments : Moments) (n : ℕ) (o : Option ℕ) (q : ℕ) → n �
 renewed_other moments n None q other = get-remove nat_cmp_total moments n q ∙ ap (λ (b : Bool). cond b None (finite.get moments q)) (not_tied q n other)
 renewed_other moments n (Some x) q other = get-insert nat_cmp_total moments n x q ∙ ap (λ (b : Bool). cond b (Some x) (finite.get moments q)) (not_tied q n other)
 
-pub renewed_none : (given : ℕ → Option ℕ) (moments : Moments) → AreRenewed given moments moments []
-renewed_none given moments q = refl
-
-pub renewed_more : (given : ℕ → Option ℕ) (old now : Moments) (ns : List ℕ) (n : ℕ) (o : Option ℕ) → AreRenewed given old now ns → o ≡ given n → AreRenewed given old (renew now n o) (ns ++ n ∷ [])
+renewed_more : (given : ℕ → Option ℕ) (old now : Moments) (ns : List ℕ) (n : ℕ) (o : Option ℕ) → AreRenewed given old now ns → o ≡ given n → AreRenewed given old (renew now n o) (ns ++ n ∷ [])
 renewed_more given old now ns n o h is q = elim (cases_eq n q) [ inl same ↦ here same | inr other ↦ there other ]
   where
     among : (b : Bool) → (n == q) ≡ b → is_among (ns ++ n ∷ []) q ≡ (is_among ns q || b)
@@ -80,11 +77,18 @@ map_self [] = refl
 map_self (n ∷ ns) = ap (λ (ms : List ℕ). n ∷ ms) (map_self ns)
 
 -- the numbers from 1 on, and the next
-pub range_more : (k n : ℕ) → 1 + k ≡ n → range_with_len 1 (k + 1) ≡ range_with_len 1 k ++ n ∷ []
+range_more : (k n : ℕ) → 1 + k ≡ n → range_with_len 1 (k + 1) ≡ range_with_len 1 k ++ n ∷ []
 range_more k n e =
     sym (map_self (range_with_len 1 (k + 1))) ∙ map-range_with_len_more (λ (m : ℕ). m) 1 k n e ∙ ap (λ (ms : List ℕ). ms ++ n ∷ []) (map_self (range_with_len 1 k))
 
--- ---- what the tables' users are told of changes is enough
+-- the next of those from 1 on
+pub renewed_counted : (given : ℕ → Option ℕ) (old now after : Moments) (k n : ℕ) (o : Option ℕ) → 1 + k ≡ n → AreRenewed given old now (range_with_len 1 k) → o ≡ given n → after ≡ renew now n o
+    → AreRenewed given old after (range_with_len 1 (k + 1))
+renewed_counted given old now after k n o next h is e q =
+    ap (λ (m : Moments). finite.get m q) e ∙ renewed_more given old now (range_with_len 1 k) n o h is q
+    ∙ ap (λ (ms : List ℕ). cond (is_among ms q) (given q) (finite.get old q)) (sym (range_more k n next))
+
+-- ---- what is told of changes is enough
 
 abbrev retry_wanted : Limits → Wanting → Option ℕ
 retry_wanted l w = option_map (λ (kind : AskKind). due_after l w.count w.last) w.want

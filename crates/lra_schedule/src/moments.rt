@@ -18,7 +18,8 @@ fn due_after(limits: &Limits, k: u64, last: Option<u64>) -> u64
     if k == 0 {
         return 0;
     }
-    last.unwrap_or(0).saturating_add(pause(limits.retry_base, limits.retry_cap, k))
+    last.unwrap_or(0)
+        .saturating_add(pause(limits.retry_base, limits.retry_cap, k))
 }
 
 /// When the want of a member is due, if it wants anything.
