@@ -38,12 +38,11 @@ impl Schedule {
     pub fn new(alloc: Global) -> Schedule
         ensures { (l : LimitsValue) → IsScheduleOf l result [] }
     {
-        Schedule {
-            agenda: Agenda::new(alloc),
-        }
+        let agenda = Agenda::new(alloc);
+        Schedule { agenda }
     }
 
-    /// Makes room for so many members and actions in calls of `refresh`. After `Memory` there may be more room, or none.
+    /// Makes room for so many members and actions in the next call of `refresh`. After `Memory` there may be more room than before.
     pub fn room(&mut self, n: usize) -> Result<(), Memory>
         ensures room { OnOk result (n ≤ self.new.room) }
         ensures succeeds { n ≤ self.old.room → IsOk result }
@@ -114,7 +113,7 @@ impl Schedule {
         }
     }
 
-    /// Brings these members and actions up to date with the tables, by limits that are the same in each call. This takes no memory.
+    /// Brings these members and actions up to date with the tables, by the same limits as before. This takes no memory.
     pub fn refresh(&mut self, limits: &Limits, tables: &Tables, members: &[u64], actions: &[u64])
         requires { length members.now + length actions.now ≤ self.old.room }
         ensures schedule { (J K : History) → IsScheduleOf limits.now self.old J → StandsFor tables.now.sheet K → CoversWants members.now J K → CoversLimits actions.now J K → IsScheduleOf limits.now self.new K }
