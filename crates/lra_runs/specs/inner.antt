@@ -4,3 +4,4 @@ pub mod Details
 pub mod Headed
 pub mod Paging
 pub mod ScriptReading
+pub mod RequestReading
