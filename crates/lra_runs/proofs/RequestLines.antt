@@ -7,7 +7,7 @@ use Rattle.std.specs.Str.{bytes_eq, is_utf8}
 use Rattle.std.proofs.lemmas.Bool.{eqb-true, false≢true}
 use Rattle.std.proofs.lemmas.List.{append-nil}
 use Rattle.std.proofs.lemmas.List.Splits.{join_with_byte-slice_split}
-use Rattle.std.proofs.lemmas.Option.{none-some, same_Some, cond_some}
+use Rattle.std.proofs.lemmas.Option.{same_Some, cond_some}
 use Rattle.std.proofs.lemmas.Slice.Eq.{bytes_eq-Decides}
 use Rattle.lra_model.specs.declared.asks.Outcome.{Outcome}
 use Rattle.lra_model.specs.declared.asks.Outcome.TheVariants as outcome
@@ -18,7 +18,7 @@ use Rattle.lra_model.specs.Names.{outcome_name, ending_name}
 use Rattle.lra_laws.proofs.Tested.{both}
 use Rattle.lra_journal.specs.Line.{or_star}
 use Rattle.lra_journal.specs.Fields.{split_words}
-use Rattle.lra_journal.specs.Reading.{◌>>=◌, Words, number_or_star_of, named, next_of, number_at, whole_of, unended}
+use Rattle.lra_journal.specs.Reading.{◌>>=◌, Words, number_or_star_of, named, next_of, number_at, unended}
 use Rattle.lra_journal.proofs.LineFeeds.{unended_push, unended_is}
 use Rattle.lra_journal.proofs.Splitting.{Lacks, split_words_at, split_words_none}
 use Rattle.lra_journal.proofs.Plain.{Plain, lacks_from, decimal_plain}
