@@ -1,10 +1,10 @@
 -- The lines of a script's requests, whole: what is spelled so is read, and what is read is spelled so.
-use Rattle.std.proofs.Common.{◌≡◌, ℕ, ◌<◌, ◌^◌, Bool, true, false, eqb, cond, List, [], ◌∷◌, ◌++◌, Option, Some, None, refl, sym, ap, subst, ◌∙◌, inl, inr, ◌⊎◌, arith}
-use Rattle.std.specs.Prelude.{◌==◌, ◌&&◌, not, codes, option_map, IfSome}
+use Rattle.std.proofs.Common.{◌≡◌, ℕ, ◌<◌, ◌≤◌, ◌^◌, Bool, true, false, eqb, cond, List, [], ◌∷◌, ◌++◌, Option, Some, None, refl, sym, ap, subst, ◌∙◌, inl, inr, ◌⊎◌, arith}
+use Rattle.std.specs.Prelude.{◌==◌, ◌&&◌, not, nat_le, codes, option_map, IfSome}
 use Rattle.std.specs.Fmt.{decimal}
 use Rattle.std.specs.List.{join_with_byte, list_all}
 use Rattle.std.specs.Str.{bytes_eq, is_utf8}
-use Rattle.std.proofs.lemmas.Bool.{eqb-true, false≢true}
+use Rattle.std.proofs.lemmas.Bool.{eqb-true, false≢true, leb-true, ne_eqb}
 use Rattle.std.proofs.lemmas.List.{append-nil}
 use Rattle.std.proofs.lemmas.List.Splits.{join_with_byte-slice_split}
 use Rattle.std.proofs.lemmas.Option.{same_Some, cond_some}
@@ -15,13 +15,14 @@ use Rattle.lra_model.specs.declared.status.Ending.{Ending}
 use Rattle.lra_model.specs.declared.status.Ending.TheVariants as ending
 use Rattle.lra_model.specs.Addresses.{Addresses}
 use Rattle.lra_model.specs.Names.{outcome_name, ending_name}
-use Rattle.lra_laws.proofs.Tested.{both}
-use Rattle.lra_journal.specs.Line.{or_star}
+use Rattle.std.proofs.lemmas.List.Folds.{list_all-append}
+use Rattle.lra_laws.proofs.Tested.{both, and_intro}
+use Rattle.lra_journal.specs.Line.{is_visible, or_star}
 use Rattle.lra_journal.specs.Fields.{split_words}
 use Rattle.lra_journal.specs.Reading.{◌>>=◌, Words, number_or_star_of, named, next_of, number_at, unended}
 use Rattle.lra_journal.proofs.LineFeeds.{unended_push, unended_is}
 use Rattle.lra_journal.proofs.Splitting.{Lacks, split_words_at, split_words_none}
-use Rattle.lra_journal.proofs.Plain.{Plain, lacks_from, decimal_plain}
+use Rattle.lra_journal.proofs.Plain.{lacks_from, decimal_plain}
 use Rattle.lra_journal.proofs.Spelled.{bind_some, map_some, next_is, number_takes, named_takes, star_takes}
 use Rattle.lra_journal.proofs.ReadBack.{next_again, number_next, star_next}
 use Rattle.lra_journal.proofs.EntryLines.{whole_is}
@@ -33,61 +34,95 @@ use Rattle.lra_runs.specs.declared.requests.RequestLine.{RequestLine}
 use Rattle.lra_runs.specs.Requests.{request_words, words_of_request_line, request_line, is_script_address, HasScriptWord, HaveScriptWords, HasFields, IsRequestLine}
 use Rattle.lra_runs.specs.inner.RequestReading.{request_name, request_names, outcomes, endings, address_field, address_at, addresses_at, start_at, join_at, pair_at, reply_at, report_at, fields_at, request_at, request_line_at, text_of, request_line_of}
 
--- ---- no word has a space
+-- ---- no word has a space or a line feed
 
-abbrev AllLack : Words → Type 0
-AllLack [] = Unit {0}
-AllLack (w ∷ ws) = Lacks 32 w × AllLack ws
+-- neither a space nor a line feed
+abbrev unbroken : ℕ → Bool
+unbroken b = not (b == 32) && not (b == 10)
 
-plain_lacks : (w : List ℕ) → Plain w → Lacks 32 w
-plain_lacks w h = lacks_from _ 32 w h refl
+abbrev Whole : List ℕ → Type 0
+Whole w = list_all unbroken w ≡ true
 
-number_lacks : (n : ℕ) → n < 2 ^ 64 → Lacks 32 (decimal n)
-number_lacks n lt = plain_lacks (decimal n) (decimal_plain n lt)
+abbrev AllWhole : Words → Type 0
+AllWhole [] = Unit {0}
+AllWhole (w ∷ ws) = Whole w × AllWhole ws
 
-star_lacks : (o : Option ℕ) → IfSome o (λ n. n < 2 ^ 64) → Lacks 32 (or_star (option_map decimal o))
-star_lacks None h = plain_lacks (codes "*") refl
-star_lacks (Some n) h = number_lacks n h
+weaker : (p q : ℕ → Bool) (w : List ℕ) → ((b : ℕ) → p b ≡ true → q b ≡ true) → list_all p w ≡ true → list_all q w ≡ true
+weaker p q [] f h = refl
+weaker p q (b ∷ w) f h = let k = both (p b) (list_all p w) h in and_intro (q b) (list_all q w) (f b k.0) (weaker p q w f k.1)
 
-address_lacks : (o : Option (List ℕ)) → HasScriptWord o → Lacks 32 (or_star o)
-address_lacks None h = plain_lacks (codes "*") refl
-address_lacks (Some w) h = lacks_from (λ b. not (b == 32) && not (b == 10)) 32 w (both (list_all (λ b. not (b == 32) && not (b == 10)) w) (not (bytes_eq w (codes "*"))) h).0 refl
+visible_unbroken : (b : ℕ) → is_visible b ≡ true → unbroken b ≡ true
+visible_unbroken b h =
+    let k = both (nat_le 33 b) (nat_le b 126) h in
+    let low : 33 ≤ b = leb-true 33 b k.0 in
+    and_intro (not (b == 32)) (not (b == 10)) (ap not (ne_eqb b 32 (λ e. omega arith))) (ap not (ne_eqb b 10 (λ e. omega arith)))
 
-outcome_lacks : (o : Outcome) → Lacks 32 (outcome_name o)
-outcome_lacks outcome.Done = plain_lacks (codes "done") refl
-outcome_lacks outcome.Accepted = plain_lacks (codes "accepted") refl
-outcome_lacks outcome.Failed = plain_lacks (codes "failed") refl
-outcome_lacks outcome.Silent = plain_lacks (codes "silent") refl
+number_whole : (n : ℕ) → n < 2 ^ 64 → Whole (decimal n)
+number_whole n lt = weaker is_visible unbroken (decimal n) visible_unbroken (decimal_plain n lt)
 
-ending_lacks : (e : Ending) → Lacks 32 (ending_name e)
-ending_lacks ending.Completed = plain_lacks (codes "Completed") refl
-ending_lacks ending.FailedToComplete = plain_lacks (codes "FailedToComplete") refl
-ending_lacks ending.Compensated = plain_lacks (codes "Compensated") refl
-ending_lacks ending.FailedToCompensate = plain_lacks (codes "FailedToCompensate") refl
+star_whole : (o : Option ℕ) → IfSome o (λ n. n < 2 ^ 64) → Whole (or_star (option_map decimal o))
+star_whole None h = refl
+star_whole (Some n) h = number_whole n h
 
-request_lacks : (by : ℕ) (r : Request) → HasFields by r → AllLack (request_words r)
-request_lacks by request.Enrol h = (plain_lacks (codes "enrol") refl, tt)
-request_lacks by (request.Start p l) h = (plain_lacks (codes "start") refl, (star_lacks p h.0, (number_lacks l h.1, tt)))
-request_lacks by (request.Join a u) h =
-    (plain_lacks (codes "join") refl, (number_lacks a h.0, (address_lacks u.compensate h.1.compensate, (address_lacks u.complete h.1.complete, (address_lacks u.status h.1.status, (address_lacks u.forget h.1.forget, (address_lacks u.after h.1.after, tt)))))))
-request_lacks by (request.Leave a m) h = (plain_lacks (codes "leave") refl, (number_lacks a h.0, (number_lacks m h.1, tt)))
-request_lacks by (request.Close a) h = (plain_lacks (codes "close") refl, (number_lacks a h, tt))
-request_lacks by (request.Cancel a) h = (plain_lacks (codes "cancel") refl, (number_lacks a h, tt))
-request_lacks by request.Tick h = (plain_lacks (codes "tick") refl, tt)
-request_lacks by request.Ask h = (plain_lacks (codes "ask") refl, tt)
-request_lacks by (request.Reply a o) h = (plain_lacks (codes "reply") refl, (number_lacks a h, (outcome_lacks o, tt)))
-request_lacks by (request.Report m e) h = (plain_lacks (codes "report") refl, (number_lacks m h, (ending_lacks e, tt)))
-request_lacks by request.Restart h = (plain_lacks (codes "restart") refl, tt)
-request_lacks by (request.Renew a l) h = (plain_lacks (codes "renew") refl, (number_lacks a h.0, (number_lacks l h.1, tt)))
-request_lacks by (request.Status a) h = (plain_lacks (codes "status") refl, (number_lacks a h, tt))
-request_lacks by (request.Member m) h = (plain_lacks (codes "member") refl, (number_lacks m h, tt))
+address_whole : (o : Option (List ℕ)) → HasScriptWord o → Whole (or_star o)
+address_whole None h = refl
+address_whole (Some w) h = (both (list_all unbroken w) (not (bytes_eq w (codes "*"))) h).0
 
-line_lacks : (l : RequestLine) → IsRequestLine l → AllLack (words_of_request_line l)
-line_lacks l h = (number_lacks l.by (omega (arith, h.by)), (number_lacks l.moment h.moment, request_lacks l.by l.request h.request))
+outcome_whole : (o : Outcome) → Whole (outcome_name o)
+outcome_whole outcome.Done = refl
+outcome_whole outcome.Accepted = refl
+outcome_whole outcome.Failed = refl
+outcome_whole outcome.Silent = refl
 
-split_joined : (w : List ℕ) (ws : Words) → AllLack (w ∷ ws) → split_words (join_with_byte 32 (w ∷ ws)) ≡ w ∷ ws
-split_joined w [] h = split_words_none w h.0
-split_joined w (x ∷ ws) h = split_words_at w (join_with_byte 32 (x ∷ ws)) h.0 ∙ ap (λ l. w ∷ l) (split_joined x ws h.1)
+ending_whole : (e : Ending) → Whole (ending_name e)
+ending_whole ending.Completed = refl
+ending_whole ending.FailedToComplete = refl
+ending_whole ending.Compensated = refl
+ending_whole ending.FailedToCompensate = refl
+
+request_whole : (by : ℕ) (r : Request) → HasFields by r → AllWhole (request_words r)
+request_whole by request.Enrol h = (refl, tt)
+request_whole by (request.Start p l) h = (refl, (star_whole p h.0, (number_whole l h.1, tt)))
+request_whole by (request.Join a u) h =
+    (refl, (number_whole a h.0, (address_whole u.compensate h.1.compensate, (address_whole u.complete h.1.complete, (address_whole u.status h.1.status, (address_whole u.forget h.1.forget, (address_whole u.after h.1.after, tt)))))))
+request_whole by (request.Leave a m) h = (refl, (number_whole a h.0, (number_whole m h.1, tt)))
+request_whole by (request.Close a) h = (refl, (number_whole a h, tt))
+request_whole by (request.Cancel a) h = (refl, (number_whole a h, tt))
+request_whole by request.Tick h = (refl, tt)
+request_whole by request.Ask h = (refl, tt)
+request_whole by (request.Reply a o) h = (refl, (number_whole a h, (outcome_whole o, tt)))
+request_whole by (request.Report m e) h = (refl, (number_whole m h, (ending_whole e, tt)))
+request_whole by request.Restart h = (refl, tt)
+request_whole by (request.Renew a l) h = (refl, (number_whole a h.0, (number_whole l h.1, tt)))
+request_whole by (request.Status a) h = (refl, (number_whole a h, tt))
+request_whole by (request.Member m) h = (refl, (number_whole m h, tt))
+
+line_whole : (l : RequestLine) → IsRequestLine l → AllWhole (words_of_request_line l)
+line_whole l h = (number_whole l.by (omega (arith, h.by)), (number_whole l.moment h.moment, request_whole l.by l.request h.request))
+
+lacks_space : (w : List ℕ) → Whole w → Lacks 32 w
+lacks_space w h = lacks_from unbroken 32 w h refl
+
+split_joined : (w : List ℕ) (ws : Words) → AllWhole (w ∷ ws) → split_words (join_with_byte 32 (w ∷ ws)) ≡ w ∷ ws
+split_joined w [] h = split_words_none w (lacks_space w h.0)
+split_joined w (x ∷ ws) h = split_words_at w (join_with_byte 32 (x ∷ ws)) (lacks_space w h.0) ∙ ap (λ l. w ∷ l) (split_joined x ws h.1)
+
+-- not a line feed
+abbrev goes_on : ℕ → Bool
+goes_on b = not (b == 10)
+
+whole_goes_on : (w : List ℕ) → Whole w → list_all goes_on w ≡ true
+whole_goes_on w h = weaker unbroken goes_on w (λ b e. (both (not (b == 32)) (goes_on b) e).1) h
+
+joined_goes_on : (ws : Words) → AllWhole ws → list_all goes_on (join_with_byte 32 ws) ≡ true
+joined_goes_on [] h = refl
+joined_goes_on (w ∷ []) h = whole_goes_on w h.0
+joined_goes_on (w ∷ x ∷ ws) h =
+    list_all-append goes_on w (32 ∷ join_with_byte 32 (x ∷ ws)) ∙ and_intro (list_all goes_on w) (list_all goes_on (join_with_byte 32 (x ∷ ws))) (whole_goes_on w h.0) (joined_goes_on (x ∷ ws) h.1)
+
+-- a line has its line feed at its end alone
+pub lacks_feed : (l : RequestLine) → IsRequestLine l → Lacks 10 (join_with_byte 32 (words_of_request_line l))
+lacks_feed l h = lacks_from goes_on 10 (join_with_byte 32 (words_of_request_line l)) (joined_goes_on (words_of_request_line l) (line_whole l h)) refl
 
 -- ---- what is spelled so is read
 
@@ -201,7 +236,7 @@ line_again l h =
 pub request_line_of-line : (l : RequestLine) → IsRequestLine l → request_line_of (request_line l) ≡ Some l
 unfolding request_line_of text_of
 request_line_of-line l h =
-    rw (unended_push (join_with_byte 32 (words_of_request_line l)), h.text, split_joined (decimal l.by) _ (line_lacks l h), line_again l h) refl
+    rw (unended_push (join_with_byte 32 (words_of_request_line l)), h.text, split_joined (decimal l.by) _ (line_whole l h), line_again l h) refl
 
 -- ---- what is read is spelled so
 
