@@ -64,6 +64,10 @@ addresses_at words = do
   after ← address_at forget.1
   Some (record { compensate = compensate.0; complete = complete.0; status = status.0; forget = forget.0; after = after.0 }, after.1)
 
+-- who enrols has no number yet, which is written 0
+abbrev pub enrol_at : ℕ → Words → Option (Request × Words)
+enrol_at by words = if by == 0 then Some (request.Enrol, words) else None
+
 -- the fields of `start`
 unfoldable pub start_at : Words → Option (Request × Words)
 start_at words = do
@@ -101,7 +105,7 @@ report_at words = do
 
 -- the fields behind the word of a request that a clerk makes
 unfoldable pub fields_at : ℕ → RequestName → Words → Option (Request × Words)
-fields_at by name.Enrol words = if by == 0 then Some (request.Enrol, words) else None
+fields_at by name.Enrol words = enrol_at by words
 fields_at by name.Start words = start_at words
 fields_at by name.Join words = join_at words
 fields_at by name.Leave words = option_map (λ x. (request.Leave x.0.0 x.0.1, x.1)) (pair_at words)
