@@ -8,6 +8,7 @@ mod decision;
 mod errand;
 mod judge;
 mod members;
+mod stored;
 
 pub use decision::Decision;
 pub use errand::{Carried, Carries};

@@ -1,0 +1,97 @@
+-- What settles a history adds no clerk, no action and no member.
+use Rattle.std.proofs.Common.{◌≡◌, ℕ, zero, suc, Bool, true, false, List, [], ◌∷◌, ◌++◌, Option, Some, None, refl, sym, ap, ◌∙◌, append_assoc, append-nil, cond}
+use Rattle.std.specs.Prelude.{option_map, option_to_list}
+use Rattle.std.specs.Option.{option_or, option_map_or}
+use Rattle.std.specs.List.{filter_map, cons_option, find}
+use Rattle.lra_model.specs.declared.asks.Cause.TheVariants as cause
+use Rattle.lra_model.specs.declared.entry.Deed.{Deed}
+use Rattle.lra_model.specs.declared.entry.Deed.TheVariants.{Start, Join, Close, Cancel, Skip, End}
+use Rattle.lra_model.specs.declared.entry.Entry.{Entry}
+use Rattle.lra_model.specs.History.{History, first, last, enrolled_by, started_by, joined_by, clerks, actions, members}
+use Rattle.lra_model.specs.Ends.{is_settled, right_end}
+use Rattle.lra_model.specs.Facts.{facts_of}
+use Rattle.lra_model.specs.Tests.{at_action, may_close_with_parent, may_cancel_with_parent}
+use Rattle.lra_model.specs.Settling.{is_settling, may_be_skipped, by_parent, next_settling, settling_within}
+use Rattle.lra_laws.proofs.Push.{clerks_push, actions_push, members_push}
+
+-- the same clerks, actions and members
+pub record SameCounts (J K : History) : Type 0 where
+  pub clerks : clerks K ≡ clerks J
+  pub actions : actions K ≡ actions J
+  pub members : members K ≡ members J
+
+-- an entry that adds none
+pub record AddsNone (e : Entry) : Type 0 where
+  pub clerk : enrolled_by e ≡ None
+  pub action : started_by e.deed ≡ None
+  pub member : joined_by e.deed ≡ None
+
+nothing_more : (ns : List ℕ) (o : Option ℕ) → o ≡ None → ns ++ option_to_list o ≡ ns
+nothing_more ns None h = append-nil ns
+nothing_more ns (Some n) h = absurd cc
+
+pub push_same : (J : History) (e : Entry) → AddsNone e → SameCounts J (J ++ e ∷ [])
+push_same J e h = record {
+  clerks = clerks_push J e ∙ nothing_more (clerks J) (enrolled_by e) h.clerk;
+  actions = actions_push J e ∙ nothing_more (actions J) (started_by e.deed) h.action;
+  members = members_push J e ∙ nothing_more (members J) (joined_by e.deed) h.member;
+}
+
+settling_adds_none : (by m : ℕ) (d : Deed) → is_settling d ≡ true → AddsNone (record { by = by; moment = m; deed = d })
+settling_adds_none by m (Close a cause.Parent) h = record { clerk = refl; action = refl; member = refl }
+settling_adds_none by m (Cancel a cause.Parent) h = record { clerk = refl; action = refl; member = refl }
+settling_adds_none by m (Skip p) h = record { clerk = refl; action = refl; member = refl }
+settling_adds_none by m (End a status) h = record { clerk = refl; action = refl; member = refl }
+settling_adds_none by m _ h = absurd cc
+
+-- what comes next settles
+next_settles : (J : History) (d : Deed) → next_settling J ≡ Some d → is_settling d ≡ true
+unfolding next_settling
+next_settles J d h =
+    ap (λ (o : Option Deed). option_map_or is_settling o true) (sym h)
+    ∙ either (option_map Skip (find (may_be_skipped J) (members J))) _ (skips (find (may_be_skipped J) (members J)))
+    (either (first (filter_map (by_parent J) (actions J))) _ (turns (actions J)) (ends (last (filter_map (λ a. cond (is_settled J a) (Some a) None) (actions J)))))
+  where
+    either : (o n : Option Deed) → option_map_or is_settling o true ≡ true → option_map_or is_settling n true ≡ true → option_map_or is_settling (option_or o n) true ≡ true
+    either None n f g = g
+    either (Some x) n f g = f
+
+    skips : (o : Option ℕ) → option_map_or is_settling (option_map Skip o) true ≡ true
+    skips None = refl
+    skips (Some p) = refl
+
+    ends : (o : Option ℕ) → option_map_or is_settling (option_map (λ a. End a (right_end J a)) o) true ≡ true
+    ends None = refl
+    ends (Some a) = refl
+
+    turned : (close cancel : Bool) (a : ℕ) → option_map_or is_settling (cond close (Some (Close a cause.Parent)) (cond cancel (Some (Cancel a cause.Parent)) None)) true ≡ true
+    turned true cancel a = refl
+    turned false true a = refl
+    turned false false a = refl
+
+    one : (o : Option Deed) (ds : List Deed) → option_map_or is_settling o true ≡ true → option_map_or is_settling (first ds) true ≡ true → option_map_or is_settling (first (cons_option o ds)) true ≡ true
+    one None ds f g = g
+    one (Some x) ds f g = f
+
+    turns : (ns : List ℕ) → option_map_or is_settling (first (filter_map (by_parent J) ns)) true ≡ true
+    turns [] = refl
+    turns (n ∷ ns) = one (by_parent J n) (filter_map (by_parent J) ns) (turned (at_action (may_close_with_parent (facts_of J)) (facts_of J) n) (at_action (may_cancel_with_parent (facts_of J)) (facts_of J) n) n) (turns ns)
+
+same_on : (J K L : History) → SameCounts J K → SameCounts K L → SameCounts J L
+same_on J K L h k = record { clerks = k.clerks ∙ h.clerks; actions = k.actions ∙ h.actions; members = k.members ∙ h.members }
+
+same_as : (J K L : History) → K ≡ L → SameCounts J L → SameCounts J K
+same_as J K L e h = record { clerks = ap clerks e ∙ h.clerks; actions = ap actions e ∙ h.actions; members = ap members e ∙ h.members }
+
+pub settling_same : (n by m : ℕ) (J : History) → SameCounts J (J ++ settling_within n by m J)
+settling_same zero by m J = record { clerks = ap clerks (append-nil J); actions = ap actions (append-nil J); members = ap members (append-nil J) }
+settling_same (suc n) by m J = next (next_settling J) refl (λ K. settling_same n by m K)
+  where
+    next : (o : Option Deed) → next_settling J ≡ o → ((K : History) → SameCounts K (K ++ settling_within n by m K))
+        → SameCounts J (J ++ option_map_or (λ (d : Deed). (let e : Entry = record { by = by; moment = m; deed = d } in e) ∷ settling_within n by m (J ++ (let e : Entry = record { by = by; moment = m; deed = d } in e) ∷ [])) o [])
+    next None g rest = record { clerks = ap clerks (append-nil J); actions = ap actions (append-nil J); members = ap members (append-nil J) }
+    next (Some d) g rest =
+        let e : Entry = record { by = by; moment = m; deed = d } in
+        let K : History = J ++ e ∷ [] in
+        let es : List Entry = settling_within n by m K in
+        same_as J (J ++ (e ∷ es)) (K ++ es) (sym (append_assoc J (e ∷ []) es)) (same_on J K (K ++ es) (push_same J e (settling_adds_none by m d (next_settles J d g))) (rest K))
