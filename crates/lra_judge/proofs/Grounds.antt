@@ -1,5 +1,5 @@
 -- From the grounds that hold to what is decided, whichever the command.
-use Rattle.std.proofs.Common.{◌≡◌, ℕ, ◌+◌, ◌≤◌, ◌<◌, Bool, true, false, List, [], ◌∷◌, ◌++◌, length, Option, Some, None, Ok, Err, refl, sym, ap, ◌∙◌, append_assoc, inl, arith, cond, max}
+use Rattle.std.proofs.Common.{◌≡◌, ℕ, zero, suc, ◌+◌, ◌≤◌, ◌<◌, Bool, true, false, List, [], ◌∷◌, ◌++◌, length, Option, Some, None, Ok, Err, refl, sym, ap, ◌∙◌, append_assoc, inl, arith, cond, max}
 use Rattle.std.proofs.lemmas.Bool.{lt-ltb, le-ltb}
 use Rattle.std.specs.Prelude.{◌&&◌, not, nat_lt, option_map, Result}
 use Rattle.std.specs.Option.{option_map_or}
@@ -72,6 +72,24 @@ known s J c h = fails refusal.NoSuchClerk (is_stranger J c.by c.command) (comman
 -- a ground of the command holds
 pub held : (s : Terms) (J : History) (c : Call) (r : Refusal) → is_stranger J c.by c.command ≡ false → first_ground (command_grounds s J (moment_of J c) c.command) ≡ Some r → IsDecided s J c (Err r)
 held s J c r here h = inl (answers_err s J c r (known s J c here ∙ first_of_both (command_grounds s J (moment_of J c) c.command) (full_grounds s J c) r h))
+
+-- the ground of that place is the first that holds
+abbrev pub IsFirst : ℕ → List Ground → Refusal → Type 0
+IsFirst n [] q = ⊥
+IsFirst zero ((r, b) ∷ gs) q = (b ≡ true) × (r ≡ q)
+IsFirst (suc n) ((r, b) ∷ gs) q = (b ≡ false) × IsFirst n gs q
+
+first_is : (n : ℕ) (gs : List Ground) (q : Refusal) → IsFirst n gs q → first_ground gs ≡ Some q
+first_is zero [] q h = absurd h
+first_is (suc n) [] q h = absurd h
+first_is zero ((r, true) ∷ gs) q h = ap Some h.1
+first_is zero ((r, false) ∷ gs) q h = let k = h.0 in absurd cc
+first_is (suc n) ((r, true) ∷ gs) q h = let k = h.0 in absurd cc
+first_is (suc n) ((r, false) ∷ gs) q h = first_is n gs q h.1
+
+-- it decides
+pub first_decides : (s : Terms) (J : History) (c : Call) (n : ℕ) (r : Refusal) → is_stranger J c.by c.command ≡ false → IsFirst n (command_grounds s J (moment_of J c) c.command) r → IsDecided s J c (Err r)
+first_decides s J c n r here h = held s J c r here (first_is n (command_grounds s J (moment_of J c) c.command) r h)
 
 -- no ground holds but what there may be too much of
 pub record IsFree (s : Terms) (J : History) (c : Call) : Type 0 where

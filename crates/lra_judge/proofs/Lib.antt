@@ -1,2 +1,4 @@
 pub mod Counts
 pub mod Grounds
+pub mod OnActions
+pub mod Passing

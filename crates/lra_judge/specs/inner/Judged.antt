@@ -23,6 +23,7 @@ use Rattle.lra_rows.specs.declared.found.ActionRow.{ActionRow}
 use Rattle.lra_rows.specs.declared.found.MemberRow.{MemberRow}
 use Rattle.lra_rows.specs.declared.found.AskRow.{AskRow}
 use Rattle.lra_rows.specs.Found.{found_action, found_member, found_ask}
+use Rattle.lra_commands.specs.declared.command.Told.{Told}
 use Rattle.lra_commands.specs.declared.command.Told.TheVariants as told
 use Rattle.lra_commands.specs.declared.limits.Limits.{Limits}
 use Rattle.lra_commands.specs.declared.refusal.Resource.TheVariants as resource
@@ -79,6 +80,10 @@ near m limit = required (is_moment (m + limit)) refusal.LimitTooFar
 abbrev pub written : ℕ → ℕ → Deed → Decision
 written by m d = decision.Write (record { by = by; moment = m; deed = d })
 
+-- a command writes nothing, and is told so
+abbrev pub told_so : Told → Judged
+told_so t = Ok (decision.Told t)
+
 -- ---- clerks
 
 -- the number of a new clerk
@@ -121,9 +126,9 @@ start l J by m parent limit = do
 -- a close, by the action's status
 abbrev pub close_at : ℕ → ℕ → ℕ → ActionStatus → Judged
 close_at by m a action.Active = Ok (written by m (deed.Close a cause.Client))
-close_at by m a action.Closing = Ok (decision.Told (told.Already action.Closing))
-close_at by m a action.Closed = Ok (decision.Told (told.Already action.Closed))
-close_at by m a action.FailedToClose = Ok (decision.Told (told.Already action.FailedToClose))
+close_at by m a action.Closing = told_so (told.Already action.Closing)
+close_at by m a action.Closed = told_so (told.Already action.Closed)
+close_at by m a action.FailedToClose = told_so (told.Already action.FailedToClose)
 close_at by m a status = Err (refusal.NotActive status)
 
 -- a close
@@ -148,7 +153,7 @@ cancel_at by m a action.Active back = Ok (written by m (deed.Cancel a cause.Clie
 cancel_at by m a action.Closed back = cond back (Ok (written by m (deed.Cancel a cause.Client))) (Err (refusal.NotActive action.Closed))
 cancel_at by m a action.Closing back = Err (refusal.NotActive action.Closing)
 cancel_at by m a action.FailedToClose back = Err (refusal.NotActive action.FailedToClose)
-cancel_at by m a status back = Ok (decision.Told (told.Already status))
+cancel_at by m a status back = told_so (told.Already status)
 
 -- a cancel
 abbrev pub cancel : Version → History → ℕ → ℕ → ℕ → Judged
@@ -182,7 +187,7 @@ abbrev pub status : History → ℕ → ℕ → Judged
 status J by a = do
   _ ← known_clerk J by
   r ← known_action J a
-  Ok (decision.Told (told.ActionIs r.status))
+  told_so (told.ActionIs r.status)
 
 -- ---- members
 
@@ -200,7 +205,7 @@ joinable J by a = do
 -- a join of an action that is Active, with addresses as they are stored
 abbrev pub join_with : Limits → History → ℕ → ℕ → ℕ → Addresses → Judged
 join_with l J by m a u =
-    option_map_or (λ p. Ok (decision.Told (told.AlreadyMember p))) (already_member J a u) (new_member l J >>= λ p. Ok (written by m (deed.Join p a u)))
+    option_map_or (λ p. told_so (told.AlreadyMember p)) (already_member J a u) (new_member l J >>= λ p. Ok (written by m (deed.Join p a u)))
 
 -- that a member is the action's
 abbrev pub own : ℕ → ℕ → Result (Unit {0}) Refusal
@@ -253,7 +258,7 @@ is_awaited status ending.FailedToCompensate = is_compensating status
 -- a report of a member that hasn't left
 abbrev pub report_at : ℕ → ℕ → ℕ → Ending → MemberStatus → Bool → Judged
 report_at by m p e status completed =
-    cond (has_told status completed e) (Ok (decision.Told (told.MemberAlready status)))
+    cond (has_told status completed e) (told_so (told.MemberAlready status))
     (cond (is_awaited status e) (Ok (written by m (deed.Report p (outcome_told e)))) (Err refusal.NotAsked))
 
 -- a report
@@ -269,7 +274,7 @@ abbrev pub member_status : History → ℕ → ℕ → Judged
 member_status J by p = do
   _ ← known_clerk J by
   x ← known_member J p
-  Ok (decision.Told (told.MemberIs x.status))
+  told_so (told.MemberIs x.status)
 
 -- ---- asks
 
