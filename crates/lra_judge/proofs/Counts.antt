@@ -26,6 +26,9 @@ pub record AddsNone (e : Entry) : Type 0 where
   pub action : started_by e.deed ≡ None
   pub member : joined_by e.deed ≡ None
 
+pub adds_none : (e : Entry) → enrolled_by e ≡ None → started_by e.deed ≡ None → joined_by e.deed ≡ None → AddsNone e
+adds_none e a b d = record { clerk = a; action = b; member = d }
+
 nothing_more : (ns : List ℕ) (o : Option ℕ) → o ≡ None → ns ++ option_to_list o ≡ ns
 nothing_more ns None h = append-nil ns
 nothing_more ns (Some n) h = absurd cc

@@ -34,13 +34,9 @@ use Rattle.lra_judge.specs.declared.decision.Decision.TheVariants as decision
 use Rattle.lra_judge.specs.Decisions.{IsDecided}
 use Rattle.lra_judge.specs.inner.Judged as judged
 use Rattle.lra_judge.specs.inner.Judged.{◌>>=◌}
-use Rattle.lra_judge.proofs.Counts.{AddsNone}
+use Rattle.lra_judge.proofs.Counts.{adds_none}
 use Rattle.lra_judge.proofs.Grounds.{first_decides, only_told, written_own, few_of_same}
 use Rattle.lra_judge.proofs.Passing.{call, row_of, past_clerk, past_action, past_open, past_required, free_from, may, opened}
-
--- what of a deed that adds no clerk, no action and no member
-adds_none : (e : Entry) → enrolled_by e ≡ None → started_by e.deed ≡ None → joined_by e.deed ≡ None → AddsNone e
-adds_none e a b d = record { clerk = a; action = b; member = d }
 
 -- ---- Close
 

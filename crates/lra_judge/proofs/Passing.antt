@@ -1,5 +1,5 @@
 -- What is looked at first by most commands: the clerk, the action, the member.
-use Rattle.std.proofs.Common.{◌≡◌, ℕ, ◌<◌, ◌^◌, Bool, true, false, List, [], ◌∷◌, Option, Some, None, Ok, Err, refl, sym, ap, ◌∙◌, arith, max}
+use Rattle.std.proofs.Common.{◌≡◌, ℕ, ◌<◌, ◌≤◌, ◌^◌, Bool, true, false, List, [], ◌∷◌, Option, Some, None, Ok, Err, refl, sym, ap, ◌∙◌, arith, max}
 use Rattle.std.proofs.lemmas.Bool.{lt-ltb, ltb-true}
 use Rattle.std.specs.Prelude.{not, is_some, unwrap_or, option_map, cond, Result}
 use Rattle.std.specs.Option.{option_map_or, option_and_then}
@@ -11,6 +11,7 @@ use Rattle.lra_model.specs.Words.{is_active}
 use Rattle.lra_model.specs.History.{History, clerks, actions, members, is_among, last_moment}
 use Rattle.lra_model.specs.Actions.{parent, action_status, limit_in_force, depth}
 use Rattle.lra_model.specs.Members.{action_of, member_status, last_reply, ask_direction, outstanding_ask}
+use Rattle.lra_model.specs.Rules.{is_number}
 use Rattle.lra_model.specs.Wants.{wants, stage_of, repeat_count, last_repeat}
 use Rattle.lra_laws.proofs.Legal.{status_is_there}
 use Rattle.lra_laws.proofs.Ranges.{last_moment_in_range}
@@ -101,11 +102,16 @@ none_first ((r, false) ∷ gs) h = none_first gs h.1
 pub free_from : (s : Terms) (J : History) (c : Call) → is_stranger J c.by c.command ≡ false → NoneHolds (command_grounds s J (moment_of J c) c.command) → IsFree s J c
 free_from s J c here h = record { here = here; free = none_first (command_grounds s J (moment_of J c) c.command) h }
 
+-- the moment of what is written isn't before the last one, and is a number
+pub later : (J : History) (h : ℕ) → last_moment J ≤ max h (last_moment J)
+later J h = omega arith
+
+pub fits : (s : Terms) (J : History) (h : ℕ) → IsLawful s J → h < 2 ^ 64 → is_number (max h (last_moment J)) ≡ true
+fits s J h k f = let low = ltb-true (last_moment J) (2 ^ 64) (last_moment_in_range s.version is_address J k.legal) in lt-ltb (max h (last_moment J)) (2 ^ 64) (omega arith)
+
 -- an enrolled clerk may write
 pub may : (s : Terms) (J : History) (by h : ℕ) → IsLawful s J → h < 2 ^ 64 → is_among (clerks J) by ≡ true → Writes s J by (max h (last_moment J))
-may s J by h k f here =
-    let low = ltb-true (last_moment J) (2 ^ 64) (last_moment_in_range s.version is_address J k.legal) in
-    record { legal = k.legal; clerk = here; moment = omega arith; fits = lt-ltb (max h (last_moment J)) (2 ^ 64) (omega arith) }
+may s J by h k f here = record { legal = k.legal; clerk = here; moment = later J h; fits = fits s J h k f }
 
 -- whether an action that is there is Active
 pub opened : (s : Terms) (J : History) (a : ℕ) → IsLawful s J → is_among (actions J) a ≡ true → is_open J a ≡ is_active (status_at J a)
