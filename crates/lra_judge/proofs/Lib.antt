@@ -2,5 +2,6 @@ pub mod Counts
 pub mod Grounds
 pub mod OnActions
 pub mod OnAsks
+pub mod OnMembers
 pub mod OnStart
 pub mod Passing
