@@ -151,7 +151,7 @@ pub record IsOwn (s : Terms) (J : History) (c : Call) (d : Deed) : Type 0 where
 
 refused_full : (s : Terms) (J : History) (c : Call) (d : Deed) → IsOwn s J c d
     → refused s J c ≡ first_ground (four s.limits (nat_lt s.limits.clerks (length (clerks (J ++ entry_of J c d ∷ [])))) (nat_lt s.limits.actions (length (actions (J ++ entry_of J c d ∷ []))))
-      (nat_lt s.limits.members (length (members (J ++ entry_of J c d ∷ [])))) (passes s.limits resource.Entries (J ++ with_settling J (entry_of J c d))))
+    (nat_lt s.limits.members (length (members (J ++ entry_of J c d ∷ [])))) (passes s.limits resource.Entries (J ++ with_settling J (entry_of J c d))))
 refused_full s J c d o =
     let e : Entry = entry_of J c d in
     let k = block_same J e in

@@ -1,4 +1,5 @@
 pub mod Counts
+pub mod EachCommand
 pub mod Grounds
 pub mod OnActions
 pub mod OnAsks

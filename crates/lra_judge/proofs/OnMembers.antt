@@ -1,5 +1,5 @@
 -- What is decided on commands on members.
-use Rattle.std.proofs.Common.{◌≡◌, ℕ, ◌+◌, ◌≤◌, ◌<◌, ◌^◌, Bool, true, false, List, [], ◌∷◌, ◌++◌, length, Option, Some, None, Ok, Err, Bor, refl, sym, ap, ◌∙◌, append-nil, arith, max, cond, inr, eqb-true, length-append}
+use Rattle.std.proofs.Common.{◌≡◌, ℕ, ◌+◌, ◌≤◌, ◌<◌, ◌^◌, Bool, true, false, List, [], ◌∷◌, ◌++◌, length, Option, Some, None, Ok, Err, Bor, Result, refl, sym, ap, ◌∙◌, subst, append-nil, arith, max, cond, inr, eqb-true, length-append}
 use Rattle.std.proofs.Math.Bool.{and-false}
 use Rattle.std.proofs.lemmas.Bool.{leb-true, leb-false, not-false, not-true}
 use Rattle.std.specs.Prelude.{◌&&◌, ◌==◌, not, is_some, nat_le}
@@ -23,6 +23,7 @@ use Rattle.lra_model.specs.Joins.{already_member}
 use Rattle.lra_model.specs.Tests.{addresses_fit}
 use Rattle.lra_laws.proofs.Push.{clerks_push, actions_push, members_push}
 use Rattle.lra_laws.proofs.Rests.{decided_is_decisive}
+use Rattle.lra_laws.proofs.Tested.{and_intro}
 use Rattle.lra_rows.specs.declared.found.ActionRow.{ActionRow}
 use Rattle.lra_rows.specs.declared.found.MemberRow.{MemberRow}
 use Rattle.lra_commands.specs.declared.command.Command.TheVariants as command
@@ -41,9 +42,10 @@ use Rattle.lra_commands.proofs.KeepsOwn.{Unheld, join_allowed, leave_allowed, re
 use Rattle.lra_judge.specs.Decisions.{IsDecided}
 use Rattle.lra_judge.specs.inner.Judged as judged
 use Rattle.lra_judge.specs.inner.Judged.{Judged, ◌>>=◌}
+use Rattle.lra_judge.specs.inner.Stored.{IsReading}
 use Rattle.lra_judge.proofs.Counts.{adds_none}
-use Rattle.lra_judge.proofs.Grounds.{first_decides, only_told, written_own, few_of_same, full_members}
-use Rattle.lra_judge.proofs.Passing.{call, past_clerk, past_action, past_member, past_open, past_required, free_from, may, opened}
+use Rattle.lra_judge.proofs.Grounds.{first_decides, only_told, written_own, few_of_same, full_members, stranger}
+use Rattle.lra_judge.proofs.Passing.{call, row_of, past_clerk, past_action, past_member, past_open, past_required, free_from, may, opened}
 
 -- ---- the status of a member, by what bears on it
 
@@ -227,3 +229,91 @@ leave_decides s J by h a p k f =
 
     here_from : not (has_gone (member_status J p)) ≡ true → has_left J p ≡ false
     here_from g = sym (gone_is J p) ∙ not-true (has_gone (member_status J p)) g
+
+-- ---- Join
+
+one_longer : (ns : List ℕ) (n : ℕ) → length (ns ++ n ∷ []) ≡ length ns + 1
+one_longer ns n = length-append ns (n ∷ [])
+
+-- a join of an action that is Active, with addresses that fit
+joins : (s : Terms) (J : History) (by h a : ℕ) (uris : Bor Addresses) → AreKeepable s.limits → IsLawful s J → h < 2 ^ 64 → are_texts uris.now ≡ true → is_among (clerks J) by ≡ true → Unheld s J (max h (last_moment J)) (command.Join a uris)
+    → IsDecided s J (call by h (command.Join a uris)) (judged.join_with s.limits J by (max h (last_moment J)) a (stored_addresses uris.now))
+joins s J by h a uris l k f texts here u = at_joined (already_member J a w) refl
+  where
+    c : Call
+    c = call by h (command.Join a uris)
+
+    m : ℕ
+    m = max h (last_moment J)
+
+    n : ℕ
+    n = length (members J) + 1
+
+    w : Addresses
+    w = stored_addresses uris.now
+
+    d : Deed
+    d = deed.Join n a w
+
+    e : Entry
+    e = entry_of J c d
+
+    clerks_now : length (clerks (J ++ e ∷ [])) ≡ length (clerks J)
+    clerks_now = ap (λ (ns : List ℕ). length ns) (clerks_push J e ∙ append-nil (clerks J))
+
+    actions_now : length (actions (J ++ e ∷ [])) ≡ length (actions J)
+    actions_now = ap (λ (ns : List ℕ). length ns) (actions_push J e ∙ append-nil (actions J))
+
+    members_now : length (members (J ++ e ∷ [])) ≡ n
+    members_now = ap (λ (ns : List ℕ). length ns) (members_push J e) ∙ one_longer (members J) n
+
+    at_room : already_member J a w ≡ None → (b : Bool) → nat_le s.limits.members (length (members J)) ≡ b
+        → IsDecided s J c (cond b (Err (refusal.Full resource.Members)) (Ok n) >>= λ p. Ok (judged.written by m (deed.Join p a w)))
+    at_room new true g =
+        let many = leb-true s.limits.members (length (members J)) g in
+        full_members s J c d (record { free = free_from s J c (ap not here) u; own = ap (λ (o : Option ℕ). cond (is_some o) None (Some d)) new }) (rw clerks_now k.within.clerks) (rw actions_now k.within.actions) (rw members_now (omega arith))
+    at_room new false g =
+        let few = leb-false s.limits.members (length (members J)) g in
+        let low = l.members in
+        written_own s J c d (record { free = free_from s J c (ap not here) u; own = ap (λ (o : Option ℕ). cond (is_some o) None (Some d)) new })
+        (join_allowed s J by m a uris.now (may s J by h k f here) (not-false _ u.0) (not-false _ u.1.0) (not-false _ u.1.1.0) texts (omega arith))
+        (record { clerks = rw clerks_now k.within.clerks; actions = rw actions_now k.within.actions; members = rw members_now (omega arith) })
+
+    at_joined : (o : Option ℕ) → already_member J a w ≡ o
+        → IsDecided s J c (option_map_or (λ p. judged.told_so (told.AlreadyMember p)) o (judged.new_member s.limits J >>= λ p. Ok (judged.written by m (deed.Join p a w))))
+    at_joined (Some p) g =
+        only_told s J c (told.AlreadyMember p) (free_from s J c (ap not here) u) (ap (λ (o : Option ℕ). cond (is_some o) None (Some d)) g)
+        (ap (λ (o : Option ℕ). option_map_or told.AlreadyMember o (told.Member (length (members (J ++ block s J c))))) g)
+    at_joined None g = at_room g (nat_le s.limits.members (length (members J))) refl
+
+pub join_decides : (s : Terms) (J : History) (by h a : ℕ) (uris : Bor Addresses) (result : Judged) → AreKeepable s.limits → IsLawful s J → h < 2 ^ 64 → are_texts uris.now ≡ true
+    → judged.IsJoin s.limits J by (max h (last_moment J)) a uris.now result (judged.joinable J by a) → IsDecided s J (call by h (command.Join a uris)) result
+join_decides s J by h a uris result l k f texts joined = at_tests (is_among (clerks J) by) refl (is_among (actions J) a) refl joined
+  where
+    c : Call
+    c = call by h (command.Join a uris)
+
+    m : ℕ
+    m = max h (last_moment J)
+
+    by_read : is_among (clerks J) by ≡ true → is_among (actions J) a ≡ true → is_active (status_at J a) ≡ true → (read : Result Addresses Refusal) → IsReading uris.now read → IsDecided s J c (judged.join_read s.limits J by m a read)
+    by_read here there active (Ok own) is =
+        let u : Unheld s J m c.command = (ap not there, (ap not (opened s J a k there ∙ active), (ap not is.1, tt))) in
+        subst (λ (x : Addresses). IsDecided s J c (judged.join_with s.limits J by m a x)) (sym is.0) (joins s J by h a uris l k f texts here u)
+    by_read here there active (Err refusal.Memory) is = inr (record { memory = refl; reads = and_intro (is_among (clerks J) by) (is_open J a) here (opened s J a k there ∙ active) })
+    by_read here there active (Err r) is =
+        let bad = is (λ e. cc) in
+        first_decides s J c 2 r (ap not here) (ap not there, (ap not (opened s J a k there ∙ active), (ap not bad.1, sym bad.0)))
+
+    at_open : is_among (clerks J) by ≡ true → is_among (actions J) a ≡ true → (y : Bool) → is_active (status_at J a) ≡ y
+        → judged.IsJoin s.limits J by m a uris.now result ((judged.required y (refusal.NotActive (status_at J a)) >>= λ _. Ok (row_of J a)) >>= λ r. Ok (let t : Unit {0} = tt in t)) → IsDecided s J c result
+    at_open here there false j is = subst (λ (r : Judged). IsDecided s J c r) (sym is) (first_decides s J c 1 (refusal.NotActive (status_at J a)) (ap not here) (ap not there, (ap not (opened s J a k there ∙ j), refl)))
+    at_open here there true j is = subst (λ (r : Judged). IsDecided s J c r) (sym is.2) (by_read here there j is.0 is.1)
+
+    at_tests : (b : Bool) → is_among (clerks J) by ≡ b → (x : Bool) → is_among (actions J) a ≡ x
+        → judged.IsJoin s.limits J by m a uris.now result
+        (judged.required b refusal.NoSuchClerk >>= λ _. (option_map_or Ok (cond x (Some (row_of J a)) None) (Err refusal.NoSuchAction) >>= λ r. judged.required (is_active r.status) (refusal.NotActive r.status) >>= λ _. Ok r) >>= λ r. Ok (let t : Unit {0} = tt in t))
+        → IsDecided s J c result
+    at_tests false g x i is = subst (λ (r : Judged). IsDecided s J c r) (sym is) (stranger s J c (ap not g))
+    at_tests true g false i is = subst (λ (r : Judged). IsDecided s J c r) (sym is) (first_decides s J c 0 refusal.NoSuchAction (ap not g) (ap not i, refl))
+    at_tests true g true i is = at_open g i (is_active (status_at J a)) refl is

@@ -1,8 +1,10 @@
 -- What a decision on a call says.
-use Rattle.std.specs.Prelude.{◌≡◌, ◌⊎◌, Bool, true, false, ◌&&◌, [], ◌++◌, Some, Result, Ok, Err}
+use Rattle.std.specs.Prelude.{◌≡◌, ◌⊎◌, ℕ, is_some, Bool, true, false, ◌&&◌, [], ◌++◌, Some, Result, Ok, Err}
+use Rattle.lra_model.specs.declared.asks.Direction.TheVariants.{Completion}
 use Rattle.lra_model.specs.declared.entry.Entry.{Entry}
 use Rattle.lra_model.specs.Words.{when}
 use Rattle.lra_model.specs.History.{History, clerks, is_among}
+use Rattle.lra_model.specs.Members.{decided}
 use Rattle.lra_model.specs.Rules.{allows}
 use Rattle.lra_model.specs.Settling.{with_settling}
 use Rattle.lra_ids.specs.Addresses.{is_address}
@@ -17,8 +19,17 @@ use Rattle.lra_commands.specs.Deeds.{is_open, own_entry}
 use Rattle.lra_commands.specs.Blocks.{block}
 use Rattle.lra_commands.specs.Refusals.{passes, refused}
 use Rattle.lra_commands.specs.Answers.{answer}
+use Rattle.lra_commands.specs.Due.{due, late}
+use Rattle.lra_judge.specs.declared.beside.Beside.{Beside}
 use Rattle.lra_judge.specs.declared.decision.Decision.{Decision}
 use Rattle.lra_judge.specs.declared.decision.Decision.TheVariants as decision
+
+-- what a command reads beside the tables is what the history says at the moment of what it writes
+abbrev pub IsBeside : Terms → History → ℕ → Command → Beside → Type 0
+IsBeside s J m command.NextAsk x = x.due ≡ due s.limits J m
+IsBeside s J m command.Tick x = x.late ≡ late J m
+IsBeside s J m (command.Report p e) x = x.completed ≡ is_some (decided J p Completion)
+IsBeside s J m _ x = Unit {0}
 
 -- a call is told so, and appends nothing
 pub record IsTold (s : Terms) (J : History) (c : Call) (t : Told) : Type 0 where

@@ -3,12 +3,16 @@
 
 mod actions;
 mod asks;
+mod beside;
 mod clerks;
+mod deciding;
 mod decision;
 mod errand;
 mod judge;
 mod members;
 mod stored;
 
+pub use beside::Beside;
+pub use deciding::decide;
 pub use decision::Decision;
 pub use errand::{Carried, Carries};

@@ -6,8 +6,10 @@ ghost use Rattle.lra_commands.specs.Deeds.{outcome_told};
 
 use crate::decision::Decision;
 use crate::judge::{Judge, require_open};
+use crate::stored::stored;
 use lra_commands::{Refusal, Resource, Told};
 use lra_model::{Deed, Ending, MemberStatus, Outcome, Uris};
+use std::alloc::Global;
 
 /// That a member hasn't left.
 fn require_here(status: MemberStatus) -> Result<(), Refusal>
@@ -105,6 +107,32 @@ impl Judge<'_> {
         }))
     }
 
+    /// That the clerk may let members join an action.
+    fn require_joinable(&self, action: u64) -> Result<(), Refusal>
+        ensures { (J : History) → StandsFor self.now.tables.now.sheet J → result ≡ judged.joinable J self.now.by action }
+    {
+        self.require_clerk()?;
+        self.open_action(action)?;
+        Ok(())
+    }
+
+    /// A join of an action that is Active, once the addresses are read.
+    fn join_read(&self, action: u64, read: Result<Uris, Refusal>) -> Result<Decision, Refusal>
+        ensures { (J : History) → StandsFor self.now.tables.now.sheet J → result ≡ judged.join_read self.now.terms.limits J self.now.by self.now.moment action read }
+    {
+        self.join_with(action, read?)
+    }
+
+    /// The join of a member: a repeat where one with the same addresses has joined. Reading the addresses takes memory.
+    pub(crate) fn join(&self, alloc: Global, action: u64, uris: &Uris) -> Result<Decision, Refusal>
+        ensures { (J : History) → StandsFor self.now.tables.now.sheet J → judged.IsJoin self.now.terms.limits J self.now.by self.now.moment action uris.now result (judged.joinable J self.now.by action) }
+    {
+        if let Err(refusal) = self.require_joinable(action) {
+            return Err(refusal);
+        }
+        self.join_read(action, stored(alloc, uris))
+    }
+
     /// The leave of a member.
     pub(crate) fn leave(&self, action: u64, member: u64) -> Result<Decision, Refusal>
         ensures { (J : History) → StandsFor self.now.tables.now.sheet J → result ≡ judged.leave J self.now.by self.now.moment action member }
@@ -119,7 +147,12 @@ impl Judge<'_> {
     }
 
     /// What a member tells of itself: taken where it is asked for that, and a repeat where that direction is decided.
-    pub(crate) fn report(&self, member: u64, ending: Ending, completed: bool) -> Result<Decision, Refusal>
+    pub(crate) fn report(
+        &self,
+        member: u64,
+        ending: Ending,
+        completed: bool,
+    ) -> Result<Decision, Refusal>
         ensures { (J : History) → StandsFor self.now.tables.now.sheet J → result ≡ judged.report J self.now.by self.now.moment member ending completed }
     {
         self.require_clerk()?;

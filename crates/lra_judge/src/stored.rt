@@ -3,8 +3,8 @@
 ghost use Rattle.std.specs.Prelude.{◌≡◌, ◌≢◌, ◌&&◌, ◌||◌, IfOk, IfErr, Ok, true, false, string_bytes, option_map, is_some, is_none};
 ghost use Rattle.lra_model.specs.Addresses.{text_of};
 ghost use Rattle.lra_ids.specs.Addresses.{address_of};
-ghost use Rattle.lra_commands.specs.Deeds.{stored, stored_addresses};
-ghost use Rattle.lra_judge.specs.inner.Stored.{is_readable, reads, are_readable, has_enough};
+ghost use Rattle.lra_commands.specs.Deeds.{stored};
+ghost use Rattle.lra_judge.specs.inner.Stored.{is_readable, reads, has_enough, IsReading};
 
 use lra_commands::Refusal;
 use lra_ids::{UriFault, address};
@@ -50,8 +50,7 @@ fn has_enough(uris: &Uris) -> bool
 
 /// The addresses of a member, as they are stored. They are `BadAddresses` where they don't fit.
 pub(crate) fn stored(alloc: Global, uris: &Uris) -> Result<Uris, Refusal>
-    ensures ok { IfOk result (λ own. (own ≡ stored_addresses uris.now) × (are_readable uris.now ≡ true)) }
-    ensures err { IfErr result (λ r. r ≢ Refusal.Memory → (r ≡ Refusal.BadAddresses) × (are_readable uris.now ≡ false)) }
+    ensures { IsReading uris.now result }
 {
     if !has_enough(uris) {
         return Err(Refusal::BadAddresses);

@@ -1,5 +1,5 @@
 -- What the code decides on each command, by what it finds of a history.
-use Rattle.std.specs.Prelude.{ℕ, ◌+◌, ◌-◌, ◌^◌, ◌==◌, min, nat_le, Bool, true, false, ◌&&◌, not, cond, length, Option, Some, None, Result, Ok, Err}
+use Rattle.std.specs.Prelude.{◌≡◌, ℕ, ◌+◌, ◌-◌, ◌^◌, ◌==◌, min, nat_le, Bool, true, false, ◌&&◌, not, cond, length, Option, Some, None, Result, Ok, Err}
 use Rattle.std.specs.Option.{option_map_or, option_and_then}
 use Rattle.lra_model.specs.declared.version.Version.{Version}
 use Rattle.lra_model.specs.declared.version.Version.TheVariants as version
@@ -30,16 +30,21 @@ use Rattle.lra_commands.specs.declared.refusal.Resource.TheVariants as resource
 use Rattle.lra_commands.specs.declared.refusal.Refusal.{Refusal}
 use Rattle.lra_commands.specs.declared.refusal.Refusal.TheVariants as refusal
 use Rattle.lra_commands.specs.Deeds.{outcome_told}
+use Rattle.lra_commands.specs.declared.command.Command.TheVariants as command
+use Rattle.lra_commands.specs.declared.limits.Terms.{Terms}
+use Rattle.lra_commands.specs.Calls.{Command}
+use Rattle.lra_judge.specs.declared.beside.Beside.{Beside}
 use Rattle.lra_judge.specs.declared.errand.Carried.{Carried}
 use Rattle.lra_judge.specs.declared.decision.Decision.{Decision}
 use Rattle.lra_judge.specs.declared.decision.Decision.TheVariants as decision
+use Rattle.lra_judge.specs.Spoken.{carried_of}
+use Rattle.lra_judge.specs.inner.Stored.{IsReading}
 
 -- what is decided on a command
 abbrev pub Judged : Type 0
 Judged = Result Decision Refusal
 
 infixl 10 ◌>>=◌
-
 -- what comes next, unless it is refused
 abbrev pub ◌>>=◌ : {X Y : Type 0} → Result X Refusal → (X → Result Y Refusal) → Result Y Refusal
 (Ok x) >>= next = next x
@@ -207,6 +212,15 @@ abbrev pub join_with : Limits → History → ℕ → ℕ → ℕ → Addresses 
 join_with l J by m a u =
     option_map_or (λ p. told_so (told.AlreadyMember p)) (already_member J a u) (new_member l J >>= λ p. Ok (written by m (deed.Join p a u)))
 
+-- the same, by what reading the addresses comes to
+abbrev pub join_read : Limits → History → ℕ → ℕ → ℕ → Result Addresses Refusal → Judged
+join_read l J by m a read = read >>= join_with l J by m a
+
+-- a join, by whether the clerk may let members join, and what reading the addresses comes to
+abbrev pub IsJoin : Limits → History → ℕ → ℕ → ℕ → Addresses → Judged → Result (Unit {0}) Refusal → Type 0
+IsJoin l J by m a u result (Err r) = result ≡ Err r
+IsJoin l J by m a u result (Ok x) = (read : Result Addresses Refusal) × IsReading u read × (result ≡ join_read l J by m a read)
+
 -- that a member is the action's
 abbrev pub own : ℕ → ℕ → Result (Unit {0}) Refusal
 own of a = required (of == a) refusal.WrongAction
@@ -317,3 +331,22 @@ abbrev pub restart : History → ℕ → ℕ → Judged
 restart J by m = do
   _ ← known_clerk J by
   Ok (written by m deed.Restart)
+
+-- ---- every command
+
+-- what is decided on a command
+abbrev pub IsJudged : Terms → History → ℕ → ℕ → Beside → Command → Judged → Type 0
+IsJudged s J by m x command.Enrol result = result ≡ enrol s.limits J m
+IsJudged s J by m x (command.Start parent limit) result = result ≡ start s.limits J by m parent limit
+IsJudged s J by m x (command.Join a uris) result = IsJoin s.limits J by m a uris.now result (joinable J by a)
+IsJudged s J by m x (command.Leave a p) result = result ≡ leave J by m a p
+IsJudged s J by m x (command.Close a) result = result ≡ close J by m a
+IsJudged s J by m x (command.Cancel a) result = result ≡ cancel s.version J by m a
+IsJudged s J by m x command.Tick result = result ≡ tick J by m x.late
+IsJudged s J by m x command.NextAsk result = result ≡ next_ask J by m x.due
+IsJudged s J by m x (command.Record errand o) result = result ≡ reply J by m (carried_of errand.now) o
+IsJudged s J by m x (command.Report p e) result = result ≡ report J by m p e x.completed
+IsJudged s J by m x command.Restart result = result ≡ restart J by m
+IsJudged s J by m x (command.Renew a limit) result = result ≡ renew s.version J by m a limit
+IsJudged s J by m x (command.Status a) result = result ≡ status J by a
+IsJudged s J by m x (command.MemberStatus p) result = result ≡ member_status J by p
