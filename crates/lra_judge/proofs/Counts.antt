@@ -1,5 +1,5 @@
 -- What settles a history adds no clerk, no action and no member.
-use Rattle.std.proofs.Common.{◌≡◌, ℕ, zero, suc, Bool, true, false, List, [], ◌∷◌, ◌++◌, Option, Some, None, refl, sym, ap, ◌∙◌, append_assoc, append-nil, cond}
+use Rattle.std.proofs.Common.{◌≡◌, ℕ, zero, suc, Bool, true, false, List, [], ◌∷◌, ◌++◌, Option, Some, None, refl, sym, ap, ◌∙◌, subst, append_assoc, append-nil, cond}
 use Rattle.std.specs.Prelude.{option_map, option_to_list}
 use Rattle.std.specs.Option.{option_or, option_map_or}
 use Rattle.std.specs.List.{filter_map, cons_option, find}
@@ -7,12 +7,12 @@ use Rattle.lra_model.specs.declared.asks.Cause.TheVariants as cause
 use Rattle.lra_model.specs.declared.entry.Deed.{Deed}
 use Rattle.lra_model.specs.declared.entry.Deed.TheVariants.{Start, Join, Close, Cancel, Skip, End}
 use Rattle.lra_model.specs.declared.entry.Entry.{Entry}
-use Rattle.lra_model.specs.History.{History, first, last, enrolled_by, started_by, joined_by, clerks, actions, members}
+use Rattle.lra_model.specs.History.{History, first, last, enrolled_by, started_by, joined_by, asked_by, clerks, actions, members, asks}
 use Rattle.lra_model.specs.Ends.{is_settled, right_end}
 use Rattle.lra_model.specs.Facts.{facts_of}
 use Rattle.lra_model.specs.Tests.{at_action, may_close_with_parent, may_cancel_with_parent}
 use Rattle.lra_model.specs.Settling.{is_settling, may_be_skipped, by_parent, next_settling, settling_within}
-use Rattle.lra_laws.proofs.Push.{clerks_push, actions_push, members_push}
+use Rattle.lra_laws.proofs.Push.{clerks_push, actions_push, members_push, asks_push}
 
 -- the same clerks, actions and members
 pub record SameCounts (J K : History) : Type 0 where
@@ -80,21 +80,34 @@ next_settles J d h =
     turns [] = refl
     turns (n ∷ ns) = one (by_parent J n) (filter_map (by_parent J) ns) (turned (at_action (may_close_with_parent (facts_of J)) (facts_of J) n) (at_action (may_cancel_with_parent (facts_of J)) (facts_of J) n) n) (turns ns)
 
+-- what every entry that settles keeps, all that settle a history keep
+pub settling_keeps : (P : History → Type 0) → ((K : History) (by m : ℕ) (d : Deed) → is_settling d ≡ true → P K → P (K ++ record { by = by; moment = m; deed = d } ∷ [])) → (n by m : ℕ) (J : History) → P J
+    → P (J ++ settling_within n by m J)
+settling_keeps P step zero by m J h = subst P (sym (append-nil J)) h
+settling_keeps P step (suc n) by m J h = next (next_settling J) refl (λ K. settling_keeps P step n by m K)
+  where
+    next : (o : Option Deed) → next_settling J ≡ o → ((K : History) → P K → P (K ++ settling_within n by m K))
+        → P (J ++ option_map_or (λ (d : Deed). (let e : Entry = record { by = by; moment = m; deed = d } in e) ∷ settling_within n by m (J ++ (let e : Entry = record { by = by; moment = m; deed = d } in e) ∷ [])) o [])
+    next None g rest = subst P (sym (append-nil J)) h
+    next (Some d) g rest =
+        let e : Entry = record { by = by; moment = m; deed = d } in
+        subst P (append_assoc J (e ∷ []) (settling_within n by m (J ++ e ∷ []))) (rest (J ++ e ∷ []) (step J by m d (next_settles J d g) h))
+
 same_on : (J K L : History) → SameCounts J K → SameCounts K L → SameCounts J L
 same_on J K L h k = record { clerks = k.clerks ∙ h.clerks; actions = k.actions ∙ h.actions; members = k.members ∙ h.members }
 
-same_as : (J K L : History) → K ≡ L → SameCounts J L → SameCounts J K
-same_as J K L e h = record { clerks = ap clerks e ∙ h.clerks; actions = ap actions e ∙ h.actions; members = ap members e ∙ h.members }
-
+-- they add no clerk, no action and no member
 pub settling_same : (n by m : ℕ) (J : History) → SameCounts J (J ++ settling_within n by m J)
-settling_same zero by m J = record { clerks = ap clerks (append-nil J); actions = ap actions (append-nil J); members = ap members (append-nil J) }
-settling_same (suc n) by m J = next (next_settling J) refl (λ K. settling_same n by m K)
+settling_same n by m J =
+    settling_keeps (SameCounts J) (λ K b t d s h. same_on J K _ h (push_same K _ (settling_adds_none b t d s))) n by m J (record { clerks = refl; actions = refl; members = refl })
+
+-- and no ask
+pub settling_asks : (n by m : ℕ) (J : History) → asks (J ++ settling_within n by m J) ≡ asks J
+settling_asks n by m J = settling_keeps (λ K. asks K ≡ asks J) (λ K b t d s h. asks_push K _ ∙ nothing_more (asks K) (asked_by d) (asks_none d s) ∙ h) n by m J refl
   where
-    next : (o : Option Deed) → next_settling J ≡ o → ((K : History) → SameCounts K (K ++ settling_within n by m K))
-        → SameCounts J (J ++ option_map_or (λ (d : Deed). (let e : Entry = record { by = by; moment = m; deed = d } in e) ∷ settling_within n by m (J ++ (let e : Entry = record { by = by; moment = m; deed = d } in e) ∷ [])) o [])
-    next None g rest = record { clerks = ap clerks (append-nil J); actions = ap actions (append-nil J); members = ap members (append-nil J) }
-    next (Some d) g rest =
-        let e : Entry = record { by = by; moment = m; deed = d } in
-        let K : History = J ++ e ∷ [] in
-        let es : List Entry = settling_within n by m K in
-        same_as J (J ++ (e ∷ es)) (K ++ es) (sym (append_assoc J (e ∷ []) es)) (same_on J K (K ++ es) (push_same J e (settling_adds_none by m d (next_settles J d g))) (rest K))
+    asks_none : (d : Deed) → is_settling d ≡ true → asked_by d ≡ None
+    asks_none (Close a cause.Parent) h = refl
+    asks_none (Cancel a cause.Parent) h = refl
+    asks_none (Skip p) h = refl
+    asks_none (End a status) h = refl
+    asks_none _ h = absurd cc

@@ -21,6 +21,7 @@ use Rattle.lra_model.specs.History.{History, clerks, actions, members, is_among,
 use Rattle.lra_model.specs.Members.{action_of, has_left, was_asked, decided, by_decision, member_status}
 use Rattle.lra_model.specs.Joins.{already_member}
 use Rattle.lra_model.specs.Tests.{addresses_fit}
+use Rattle.lra_laws.proofs.GoodStatus.{status_by}
 use Rattle.lra_laws.proofs.Push.{clerks_push, actions_push, members_push}
 use Rattle.lra_laws.proofs.Rests.{decided_is_decisive}
 use Rattle.lra_laws.proofs.Tested.{and_intro}
@@ -48,12 +49,6 @@ use Rattle.lra_judge.proofs.Grounds.{first_decides, only_told, written_own, few_
 use Rattle.lra_judge.proofs.Passing.{call, row_of, past_clerk, past_action, past_member, past_open, past_required, free_from, may, opened}
 
 -- ---- the status of a member, by what bears on it
-
--- the status by whether the member left, what decides compensation, whether it was asked to compensate, what decides completion, and whether
--- it was asked to complete
-abbrev status_by : Bool → Option Outcome → Bool → Option Outcome → Bool → MemberStatus
-status_by l dc wc dp wp =
-    cond l member.Left (by_decision dc member.Compensated member.FailedToCompensate (cond wc member.Compensating (by_decision dp member.Completed member.FailedToComplete (cond wp member.Completing member.Active))))
 
 -- what decides a direction, where it is decisive
 abbrev IsDecisive : Option Outcome → Type 0
