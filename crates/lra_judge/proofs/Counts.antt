@@ -5,7 +5,7 @@ use Rattle.std.specs.Option.{option_or, option_map_or}
 use Rattle.std.specs.List.{filter_map, cons_option, find}
 use Rattle.lra_model.specs.declared.asks.Cause.TheVariants as cause
 use Rattle.lra_model.specs.declared.entry.Deed.{Deed}
-use Rattle.lra_model.specs.declared.entry.Deed.TheVariants.{Start, Join, Close, Cancel, Skip, End}
+use Rattle.lra_model.specs.declared.entry.Deed.TheVariants.{Close, Cancel, Skip, End}
 use Rattle.lra_model.specs.declared.entry.Entry.{Entry}
 use Rattle.lra_model.specs.History.{History, first, last, enrolled_by, started_by, joined_by, asked_by, clerks, actions, members, asks}
 use Rattle.lra_model.specs.Ends.{is_settled, right_end}

@@ -1,5 +1,5 @@
 -- What is decided on every command.
-use Rattle.std.proofs.Common.{◌≡◌, ℕ, Bor, ap, ◌∙◌, subst, sym, max}
+use Rattle.std.proofs.Common.{◌≡◌, ℕ, subst, sym, max}
 use Rattle.lra_model.specs.History.{History, last_moment}
 use Rattle.lra_commands.specs.declared.command.Command.TheVariants as command
 use Rattle.lra_commands.specs.declared.limits.Terms.{Terms}

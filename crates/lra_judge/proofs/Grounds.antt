@@ -1,36 +1,29 @@
 -- From the grounds that hold to what is decided, whichever the command.
-use Rattle.std.proofs.Common.{◌≡◌, ℕ, zero, suc, ◌+◌, ◌≤◌, ◌<◌, Bool, true, false, List, [], ◌∷◌, ◌++◌, length, Option, Some, None, Ok, Err, refl, sym, ap, ◌∙◌, append_assoc, inl, arith, cond, max}
+use Rattle.std.proofs.Common.{◌≡◌, ℕ, zero, suc, ◌≤◌, ◌<◌, Bool, true, false, List, [], ◌∷◌, ◌++◌, length, Option, Some, None, Ok, Err, refl, sym, ap, ◌∙◌, append_assoc, inl}
 use Rattle.std.proofs.lemmas.Bool.{lt-ltb, le-ltb}
-use Rattle.std.specs.Prelude.{◌&&◌, not, nat_lt, option_map, Result}
+use Rattle.std.specs.Prelude.{◌&&◌, nat_lt, option_map}
 use Rattle.std.specs.Option.{option_map_or}
 use Rattle.lra_model.specs.declared.entry.Deed.{Deed}
 use Rattle.lra_model.specs.declared.entry.Entry.{Entry}
 use Rattle.lra_model.specs.Words.{when}
-use Rattle.lra_model.specs.History.{History, clerks, actions, members, is_among}
-use Rattle.lra_model.specs.Rules.{allows}
+use Rattle.lra_model.specs.History.{History, clerks, actions, members}
 use Rattle.lra_model.specs.Settling.{most_settling, settling, with_settling}
 use Rattle.lra_laws.proofs.Legal.{Allowed, allows_from}
-use Rattle.lra_rows.specs.declared.found.ActionRow.{ActionRow}
-use Rattle.lra_rows.specs.declared.found.MemberRow.{MemberRow}
-use Rattle.lra_rows.specs.Found.{found_action, found_member}
 use Rattle.lra_ids.specs.Addresses.{is_address}
 use Rattle.lra_commands.specs.declared.command.Told.{Told}
 use Rattle.lra_commands.specs.declared.limits.Limits.{Limits}
 use Rattle.lra_commands.specs.declared.limits.Terms.{Terms}
-use Rattle.lra_commands.specs.declared.refusal.Resource.{Resource}
 use Rattle.lra_commands.specs.declared.refusal.Resource.TheVariants as resource
 use Rattle.lra_commands.specs.declared.refusal.Refusal.{Refusal}
 use Rattle.lra_commands.specs.declared.refusal.Refusal.TheVariants as refusal
-use Rattle.lra_commands.specs.Calls.{Command, Call, moment_of}
-use Rattle.lra_commands.specs.Deeds.{own_deed, entry_of, own_entry}
+use Rattle.lra_commands.specs.Calls.{Call, moment_of}
+use Rattle.lra_commands.specs.Deeds.{own_deed, entry_of}
 use Rattle.lra_commands.specs.Blocks.{block}
-use Rattle.lra_commands.specs.Refusals.{Ground, passes, is_filled, overfills, full_grounds, command_grounds, is_stranger, first_ground, refused}
+use Rattle.lra_commands.specs.Refusals.{Ground, passes, is_filled, full_grounds, command_grounds, is_stranger, first_ground, refused}
 use Rattle.lra_commands.specs.Answers.{told_of, answer}
 use Rattle.lra_commands.specs.Runs.{IsWithin}
-use Rattle.lra_judge.specs.declared.decision.Decision.{Decision}
 use Rattle.lra_judge.specs.declared.decision.Decision.TheVariants as decision
-use Rattle.lra_judge.specs.Decisions.{IsTold, IsWritten, IsDecided}
-use Rattle.lra_judge.specs.inner.Judged.{Judged, ◌>>=◌, required, known_clerk, known_action, known_member}
+use Rattle.lra_judge.specs.Decisions.{IsDecided}
 use Rattle.lra_judge.proofs.Counts.{AddsNone, SameCounts, push_same, settling_same}
 
 -- ---- grounds, one by one
@@ -57,7 +50,7 @@ pub answers_err : (s : Terms) (J : History) (c : Call) (r : Refusal) → refused
 unfolding answer
 answers_err s J c r h = ap (λ (o : Option Refusal). option_map_or Err o (Ok (told_of s J c))) h
 
-answers_ok : (s : Terms) (J : History) (c : Call) → refused s J c ≡ None → answer s J c ≡ Ok (told_of s J c)
+pub answers_ok : (s : Terms) (J : History) (c : Call) → refused s J c ≡ None → answer s J c ≡ Ok (told_of s J c)
 unfolding answer
 answers_ok s J c h = ap (λ (o : Option Refusal). option_map_or Err o (Ok (told_of s J c))) h
 
@@ -101,7 +94,7 @@ only_full s J c f = known s J c f.here ∙ first_past (command_grounds s J (mome
 
 -- ---- nothing is written
 
-block_of : (s : Terms) (J : History) (c : Call) (o : Option Deed) → own_deed s J (moment_of J c) c.command ≡ o → block s J c ≡ option_map_or (with_settling J) (option_map (entry_of J c) o) []
+pub block_of : (s : Terms) (J : History) (c : Call) (o : Option Deed) → own_deed s J (moment_of J c) c.command ≡ o → block s J c ≡ option_map_or (with_settling J) (option_map (entry_of J c) o) []
 unfolding block
 block_of s J c o h = ap (λ (x : Option Deed). option_map_or (with_settling J) (option_map (entry_of J c) x) []) h
 
@@ -131,7 +124,7 @@ few_of_same l J e w a =
     record { clerks = rw k.clerks w.clerks; actions = rw k.actions w.actions; members = rw k.members w.members }
 
 -- one thing after an entry, of which there are no more after all that settles
-block_same : (J : History) (e : Entry) → SameCounts (J ++ e ∷ []) (J ++ with_settling J e)
+pub block_same : (J : History) (e : Entry) → SameCounts (J ++ e ∷ []) (J ++ with_settling J e)
 block_same J e =
     let K : History = J ++ e ∷ [] in
     let es : List Entry = settling e.by e.moment K in

@@ -1,5 +1,7 @@
+pub mod AfterBlocks
 pub mod Counts
 pub mod EachCommand
+pub mod ForCallers
 pub mod Grounds
 pub mod OnActions
 pub mod OnAsks

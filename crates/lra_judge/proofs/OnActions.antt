@@ -1,5 +1,5 @@
 -- What is decided on commands on actions.
-use Rattle.std.proofs.Common.{◌≡◌, ℕ, ◌+◌, ◌≤◌, ◌<◌, ◌^◌, Bool, true, false, List, [], ◌∷◌, ◌++◌, length, Option, Some, None, Ok, Err, refl, sym, ap, ◌∙◌, arith, max, cond}
+use Rattle.std.proofs.Common.{◌≡◌, ℕ, ◌+◌, ◌<◌, ◌^◌, Bool, true, false, ◌++◌, Option, Some, None, Ok, Err, refl, sym, ap, ◌∙◌, max, cond}
 use Rattle.std.proofs.Math.Bool.{and-false}
 use Rattle.std.specs.Prelude.{◌&&◌, ◌||◌, not, option_map}
 use Rattle.std.specs.Option.{option_map_or}
@@ -10,24 +10,21 @@ use Rattle.lra_model.specs.declared.status.ActionStatus.TheVariants as action
 use Rattle.lra_model.specs.declared.asks.Cause.TheVariants as cause
 use Rattle.lra_model.specs.declared.entry.Deed.{Deed}
 use Rattle.lra_model.specs.declared.entry.Deed.TheVariants as deed
-use Rattle.lra_model.specs.declared.entry.Entry.{Entry}
 use Rattle.lra_model.specs.Words.{when, is_active, is_closed}
-use Rattle.lra_model.specs.History.{History, enrolled_by, started_by, joined_by, clerks, actions, is_among, last_moment}
-use Rattle.lra_model.specs.Actions.{parent, depth}
+use Rattle.lra_model.specs.History.{History, clerks, actions, is_among, last_moment}
+use Rattle.lra_model.specs.Actions.{parent}
 use Rattle.lra_model.specs.Facts.{ActionFacts, action_facts, facts_of}
 use Rattle.lra_model.specs.Tests.{at_action, is_moment, status_is, may_cancel_as_client}
 use Rattle.lra_rows.specs.declared.found.ActionRow.{ActionRow}
-use Rattle.lra_rows.specs.Found.{found_action}
 use Rattle.lra_commands.specs.declared.command.Command.TheVariants as command
 use Rattle.lra_commands.specs.declared.command.Told.TheVariants as told
 use Rattle.lra_commands.specs.declared.limits.Terms.{Terms}
-use Rattle.lra_commands.specs.declared.refusal.Refusal.{Refusal}
 use Rattle.lra_commands.specs.declared.refusal.Refusal.TheVariants as refusal
-use Rattle.lra_commands.specs.Calls.{Command, Call}
+use Rattle.lra_commands.specs.Calls.{Call}
 use Rattle.lra_commands.specs.Due.{late}
 use Rattle.lra_commands.specs.Deeds.{is_open, may_be_cancelled}
 use Rattle.lra_commands.specs.Blocks.{block}
-use Rattle.lra_commands.specs.Refusals.{no_action, status_at, is_old, is_past_closing, is_past_cancelling, is_stranger}
+use Rattle.lra_commands.specs.Refusals.{status_at, is_old, is_past_closing, is_past_cancelling, is_stranger}
 use Rattle.lra_commands.specs.Runs.{IsLawful}
 use Rattle.lra_commands.proofs.KeepsOwn.{Unheld, close_allowed, cancel_allowed, tick_allowed, renew_allowed}
 use Rattle.lra_judge.specs.declared.decision.Decision.TheVariants as decision

@@ -1,7 +1,7 @@
 -- What is decided on commands on asks.
-use Rattle.std.proofs.Common.{◌≡◌, ℕ, zero, suc, ◌+◌, ◌-◌, ◌≤◌, ◌<◌, ◌^◌, Bool, true, false, List, [], ◌∷◌, ◌++◌, length, Option, Some, None, Ok, Err, Bor, refl, sym, ap, ◌∙◌, subst, arith, max, cond}
+use Rattle.std.proofs.Common.{◌≡◌, ℕ, suc, ◌+◌, ◌≤◌, ◌<◌, ◌^◌, Bool, true, false, List, [], ◌∷◌, ◌++◌, length, Option, Some, None, Ok, Bor, refl, sym, ap, ◌∙◌, subst, arith, max, cond}
 use Rattle.std.proofs.Math.Bool.{and-false}
-use Rattle.std.specs.Prelude.{◌&&◌, not, nat_le, min, is_some, option_map}
+use Rattle.std.specs.Prelude.{◌&&◌, not, nat_le, is_some, option_map}
 use Rattle.std.specs.Option.{option_map_or, option_and_then}
 use Rattle.std.specs.List.{filter_map, cons_option}
 use Rattle.lra_model.specs.declared.asks.AskKind.{AskKind}
@@ -12,7 +12,7 @@ use Rattle.lra_model.specs.declared.entry.Entry.{Entry}
 use Rattle.lra_model.specs.Words.{when, outcome_suits}
 use Rattle.lra_model.specs.History.{History, enrolled_by, asked_by, clerks, members, asks, is_among, last_moment}
 use Rattle.lra_model.specs.Members.{Asked, is_outstanding, ask_of}
-use Rattle.lra_model.specs.Facts.{MemberFacts, member_facts, facts_of}
+use Rattle.lra_model.specs.Facts.{member_facts, facts_of}
 use Rattle.lra_model.specs.Wants.{wanted, wants, repeat_count, last_repeat}
 use Rattle.lra_rows.specs.declared.found.MemberRow.{MemberRow}
 use Rattle.lra_rows.specs.declared.found.AskRow.{AskRow}
@@ -21,16 +21,15 @@ use Rattle.lra_commands.specs.declared.command.Command.TheVariants as command
 use Rattle.lra_commands.specs.declared.command.Told.TheVariants as told
 use Rattle.lra_commands.specs.declared.limits.Limits.{Limits}
 use Rattle.lra_commands.specs.declared.limits.Terms.{Terms}
-use Rattle.lra_commands.specs.declared.refusal.Refusal.{Refusal}
 use Rattle.lra_commands.specs.declared.refusal.Refusal.TheVariants as refusal
 use Rattle.lra_commands.specs.Errands.{Asking}
 use Rattle.lra_commands.specs.Terms.{AreKeepable}
-use Rattle.lra_commands.specs.Calls.{Command, Call}
+use Rattle.lra_commands.specs.Calls.{Call}
 use Rattle.lra_commands.specs.Due.{Timed, earlier, earliest, due_after, stage_wanted, want_of, due}
 use Rattle.lra_commands.specs.Blocks.{block}
 use Rattle.lra_commands.specs.Refusals.{is_of, is_asked, is_stranger}
 use Rattle.lra_commands.specs.Runs.{IsLawful}
-use Rattle.lra_commands.proofs.KeepsOwn.{Unheld, ask_allowed, reply_allowed, restart_allowed}
+use Rattle.lra_commands.proofs.KeepsOwn.{ask_allowed, reply_allowed, restart_allowed}
 use Rattle.lra_judge.specs.declared.decision.Decision.TheVariants as decision
 use Rattle.lra_judge.specs.Spoken.{carried_of}
 use Rattle.lra_judge.specs.Decisions.{IsDecided}

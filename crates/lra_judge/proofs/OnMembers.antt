@@ -1,11 +1,9 @@
 -- What is decided on commands on members.
-use Rattle.std.proofs.Common.{◌≡◌, ℕ, ◌+◌, ◌≤◌, ◌<◌, ◌^◌, Bool, true, false, List, [], ◌∷◌, ◌++◌, length, Option, Some, None, Ok, Err, Bor, Result, refl, sym, ap, ◌∙◌, subst, append-nil, arith, max, cond, inr, eqb-true, length-append}
+use Rattle.std.proofs.Common.{◌≡◌, ℕ, ◌+◌, ◌<◌, ◌^◌, Bool, true, false, List, [], ◌∷◌, ◌++◌, length, Option, Some, None, Ok, Err, Bor, Result, refl, sym, ap, ◌∙◌, subst, append-nil, arith, max, cond, inr, length-append}
 use Rattle.std.proofs.Math.Bool.{and-false}
 use Rattle.std.proofs.lemmas.Bool.{leb-true, leb-false, not-false, not-true}
 use Rattle.std.specs.Prelude.{◌&&◌, ◌==◌, not, is_some, nat_le}
 use Rattle.std.specs.Option.{option_map_or}
-use Rattle.lra_model.specs.declared.status.MemberStatus.{MemberStatus}
-use Rattle.lra_model.specs.declared.status.MemberStatus.TheVariants as member
 use Rattle.lra_model.specs.declared.status.Ending.{Ending}
 use Rattle.lra_model.specs.declared.status.Ending.TheVariants as ending
 use Rattle.lra_model.specs.declared.asks.AskKind.TheVariants as ask
@@ -18,9 +16,8 @@ use Rattle.lra_model.specs.declared.entry.Entry.{Entry}
 use Rattle.lra_model.specs.Addresses.{Addresses}
 use Rattle.lra_model.specs.Words.{when, is_active, has_gone, is_decisive}
 use Rattle.lra_model.specs.History.{History, clerks, actions, members, is_among, last_moment}
-use Rattle.lra_model.specs.Members.{action_of, has_left, was_asked, decided, by_decision, member_status}
+use Rattle.lra_model.specs.Members.{action_of, has_left, was_asked, decided, member_status}
 use Rattle.lra_model.specs.Joins.{already_member}
-use Rattle.lra_model.specs.Tests.{addresses_fit}
 use Rattle.lra_laws.proofs.GoodStatus.{status_by}
 use Rattle.lra_laws.proofs.Push.{clerks_push, actions_push, members_push}
 use Rattle.lra_laws.proofs.Rests.{decided_is_decisive}
@@ -46,7 +43,7 @@ use Rattle.lra_judge.specs.inner.Judged.{Judged, ◌>>=◌}
 use Rattle.lra_judge.specs.inner.Stored.{IsReading}
 use Rattle.lra_judge.proofs.Counts.{adds_none}
 use Rattle.lra_judge.proofs.Grounds.{first_decides, only_told, written_own, few_of_same, full_members, stranger}
-use Rattle.lra_judge.proofs.Passing.{call, row_of, past_clerk, past_action, past_member, past_open, past_required, free_from, may, opened}
+use Rattle.lra_judge.proofs.Passing.{call, row_of, past_clerk, past_action, past_member, past_required, free_from, may, opened}
 
 -- ---- the status of a member, by what bears on it
 
@@ -128,7 +125,7 @@ told_is J p ending.FailedToComplete h = has_completed_is J p h
 told_is J p ending.Compensated h = has_compensated_is J p h
 told_is J p ending.FailedToCompensate h = has_compensated_is J p h
 
-awaited_is : (J : History) (p : ℕ) (e : Ending) → judged.is_awaited (member_status J p) e ≡ is_asked_for J p e
+pub awaited_is : (J : History) (p : ℕ) (e : Ending) → judged.is_awaited (member_status J p) e ≡ is_asked_for J p e
 awaited_is J p ending.Completed = refl
 awaited_is J p ending.FailedToComplete = refl
 awaited_is J p ending.Compensated = refl

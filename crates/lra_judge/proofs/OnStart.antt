@@ -1,18 +1,16 @@
 -- What is decided on commands that add a clerk or an action.
-use Rattle.std.proofs.Common.{◌≡◌, ℕ, ◌+◌, ◌≤◌, ◌<◌, ◌^◌, Bool, true, false, List, [], ◌∷◌, ◌++◌, length, Option, Some, None, Ok, Err, Result, refl, sym, ap, ◌∙◌, subst, append-nil, arith, max, cond, length-append}
+use Rattle.std.proofs.Common.{◌≡◌, ℕ, ◌+◌, ◌<◌, ◌^◌, Bool, true, false, List, [], ◌∷◌, ◌++◌, length, Option, Some, None, Ok, Err, Result, refl, sym, ap, ◌∙◌, subst, append-nil, arith, max, cond, length-append}
 use Rattle.std.proofs.lemmas.Bool.{lt-ltb, le-ltb, leb-true, leb-false}
 use Rattle.std.specs.Prelude.{not, nat_le, nat_lt}
 use Rattle.std.specs.Option.{option_map_or}
 use Rattle.lra_model.specs.declared.entry.Deed.{Deed}
 use Rattle.lra_model.specs.declared.entry.Deed.TheVariants as deed
 use Rattle.lra_model.specs.declared.entry.Entry.{Entry}
-use Rattle.lra_model.specs.Words.{is_active}
 use Rattle.lra_model.specs.History.{History, clerks, actions, members, is_among, last_moment}
 use Rattle.lra_model.specs.Actions.{depth}
 use Rattle.lra_model.specs.Tests.{is_moment, each_parent}
 use Rattle.lra_laws.proofs.Push.{clerks_push, actions_push, members_push}
 use Rattle.lra_laws.proofs.Writes.{may_enrol}
-use Rattle.lra_rows.specs.declared.found.ActionRow.{ActionRow}
 use Rattle.lra_ids.specs.Addresses.{is_address}
 use Rattle.lra_commands.specs.declared.command.Command.TheVariants as command
 use Rattle.lra_commands.specs.declared.limits.Terms.{Terms}
@@ -28,7 +26,7 @@ use Rattle.lra_commands.proofs.KeepsOwn.{Unheld, start_allowed}
 use Rattle.lra_judge.specs.Decisions.{IsDecided}
 use Rattle.lra_judge.specs.inner.Judged as judged
 use Rattle.lra_judge.specs.inner.Judged.{Judged, ◌>>=◌}
-use Rattle.lra_judge.proofs.Grounds.{first_decides, IsOwn, HasFew, written_own, full_clerks, full_actions}
+use Rattle.lra_judge.proofs.Grounds.{first_decides, IsOwn, written_own, full_clerks, full_actions}
 use Rattle.lra_judge.proofs.Passing.{call, past_clerk, past_open, past_required, free_from, may, later, fits, opened}
 
 one_longer : (ns : List ℕ) (n : ℕ) → length (ns ++ n ∷ []) ≡ length ns + 1

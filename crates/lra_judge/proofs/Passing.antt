@@ -1,7 +1,7 @@
 -- What is looked at first by most commands: the clerk, the action, the member.
-use Rattle.std.proofs.Common.{◌≡◌, ℕ, ◌<◌, ◌≤◌, ◌^◌, Bool, true, false, List, [], ◌∷◌, Option, Some, None, Ok, Err, refl, sym, ap, ◌∙◌, arith, max}
+use Rattle.std.proofs.Common.{◌≡◌, ℕ, ◌<◌, ◌≤◌, ◌^◌, Bool, true, false, List, [], ◌∷◌, Option, Some, None, Ok, Err, refl, ap, ◌∙◌, arith, max}
 use Rattle.std.proofs.lemmas.Bool.{lt-ltb, ltb-true}
-use Rattle.std.specs.Prelude.{not, is_some, unwrap_or, option_map, cond, Result}
+use Rattle.std.specs.Prelude.{not, is_some, unwrap_or, cond}
 use Rattle.std.specs.Option.{option_map_or, option_and_then}
 use Rattle.lra_model.specs.declared.status.ActionStatus.{ActionStatus}
 use Rattle.lra_model.specs.declared.status.ActionStatus.TheVariants as action
@@ -17,7 +17,6 @@ use Rattle.lra_laws.proofs.Legal.{status_is_there}
 use Rattle.lra_laws.proofs.Ranges.{last_moment_in_range}
 use Rattle.lra_rows.specs.declared.found.ActionRow.{ActionRow}
 use Rattle.lra_rows.specs.declared.found.MemberRow.{MemberRow}
-use Rattle.lra_rows.specs.Found.{found_action, found_member}
 use Rattle.lra_ids.specs.Addresses.{is_address}
 use Rattle.lra_commands.specs.declared.limits.Terms.{Terms}
 use Rattle.lra_commands.specs.declared.refusal.Refusal.{Refusal}

@@ -1,5 +1,5 @@
 -- What a decision on a call says.
-use Rattle.std.specs.Prelude.{◌≡◌, ◌⊎◌, ℕ, is_some, Bool, true, false, ◌&&◌, [], ◌++◌, Some, Result, Ok, Err}
+use Rattle.std.specs.Prelude.{◌≡◌, ◌⊎◌, ℕ, is_some, Bool, true, false, ◌&&◌, List, [], ◌++◌, ◌≢◌, Some, None, Result, Ok, Err}
 use Rattle.lra_model.specs.declared.asks.Direction.TheVariants.{Completion}
 use Rattle.lra_model.specs.declared.entry.Entry.{Entry}
 use Rattle.lra_model.specs.Words.{when}
@@ -65,3 +65,9 @@ abbrev pub IsDecided : Terms → History → Call → Result Decision Refusal �
 IsDecided s J c (Ok (decision.Told t)) = IsTold s J c t
 IsDecided s J c (Ok (decision.Write e)) = IsWritten s J c e
 IsDecided s J c (Err r) = IsRefused s J c r
+
+-- entries are what a call that isn't refused appends, where it writes
+pub record IsAppended (s : Terms) (J : History) (c : Call) (entries : List Entry) : Type 0 where
+  pub refused : refused s J c ≡ None
+  pub block : block s J c ≡ entries
+  pub filled : entries ≢ []

@@ -11,8 +11,10 @@ mod errand;
 mod judge;
 mod members;
 mod stored;
+mod telling;
 
 pub use beside::Beside;
 pub use deciding::decide;
 pub use decision::Decision;
 pub use errand::{Carried, Carries};
+pub use telling::told;

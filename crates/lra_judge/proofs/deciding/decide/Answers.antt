@@ -1,4 +1,4 @@
-use Rattle.std.proofs.Common.{ℕ, max, ap, ◌∙◌, subst, ltb-true}
+use Rattle.std.proofs.Common.{ℕ, max, ap, ◌∙◌, subst}
 use Rattle.lra_commands.specs.Calls.{Command}
 use Rattle.lra_judge.specs.Spoken.{spoken}
 use Rattle.lra_judge.specs.inner.Judged.{IsJudged}
