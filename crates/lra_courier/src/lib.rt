@@ -2,7 +2,10 @@
 #![tactic(auto)]
 
 mod callback;
+mod fault;
 mod reply;
+mod send;
 
 pub use callback::Callback;
+pub use fault::SendFault;
 pub use reply::classify;
