@@ -2,10 +2,15 @@
 #![tactic(auto)]
 
 mod callback;
+mod carrying;
+mod courier;
 mod fault;
+mod reading;
 mod reply;
-mod send;
+mod writing;
 
 pub use callback::Callback;
+pub use carrying::{exchange, receive, send};
+pub use courier::Courier;
 pub use fault::SendFault;
 pub use reply::classify;

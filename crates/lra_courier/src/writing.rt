@@ -62,14 +62,13 @@ fn write<W: Write>(
     }
 }
 
-/// Writes the request of a callback. Where memory was refused, or the address isn't one as it stands, nothing was written.
-pub(crate) fn send<W: Write>(
-    alloc: Global,
-    writer: &mut W,
-    callback: &Callback<'_>,
-) -> Result<(), SendFault>
-    ensures { Posts (W.contents writer.old) (W.contents writer.new) callback.now result }
-{
-    let to = own_address(alloc, callback.address)?;
-    write(alloc, writer, callback, &to)
+impl<'a> Callback<'a> {
+    /// Writes the request. Where memory was refused, or the address isn't one as it stands, nothing was written; where the
+    /// writer failed, a front of the request was.
+    pub fn send<W: Write>(&self, alloc: Global, writer: &mut W) -> Result<(), SendFault>
+        ensures { Posts (W.contents writer.old) (W.contents writer.new) self.now result }
+    {
+        let to = own_address(alloc, self.address)?;
+        write(alloc, writer, self, &to)
+    }
 }

@@ -1,6 +1,6 @@
 use Rattle.std.proofs.Common.{sym}
 use Rattle.lra_courier.proofs.SendLemmas.{refused_is_none, other_is_none}
-use Rattle.lra_courier.proofs.send.own_address.Goals as goal
+use Rattle.lra_courier.proofs.writing.own_address.Goals as goal
 
 pub returns-else-eq-clause-err : goal.returns-else-eq-clause-err
 returns-else-eq-clause-err c _ = other_is_none _ _ _ c.in-Ok.ensures.ok c.as_str.ensures.value (sym c.if-eq.ensures)
