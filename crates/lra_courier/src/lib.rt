@@ -7,6 +7,7 @@ mod courier;
 mod fault;
 mod reading;
 mod reply;
+mod tcp;
 mod writing;
 
 pub use callback::Callback;
@@ -14,3 +15,4 @@ pub use carrying::{exchange, receive, send};
 pub use courier::Courier;
 pub use fault::SendFault;
 pub use reply::classify;
+pub use tcp::TcpCourier;
