@@ -5,7 +5,7 @@ use Rattle.std.specs.List.{flat_map}
 use Rattle.lra_ids.specs.declared.fault.UriFault.{UriFault}
 use Rattle.lra_ids.specs.Addresses.{address_of, is_address, is_own, target_of}
 use Rattle.lra_wire.specs.Writing.{field_line, message_text}
-use Rattle.lra_courier.specs.Callbacks.{Calling, Field, lent, method_of, body_of, fields_of, callback_bytes}
+use Rattle.lra_courier.specs.Callbacks.{Calling, Field, lent, method_of, body_of, fields_of, request_bytes}
 use Rattle.lra_courier.specs.inner.Fields.{seen}
 
 -- a text that is refused is no address
@@ -27,6 +27,6 @@ lines_seen (field ∷ fields) = ap (λ text. field_line field ++ text) (lines_se
 -- a request of these parts is the callback's
 pub parts_are : (method target body : List ℕ) (fields : List (Bor (List ℕ) × Bor (List ℕ))) (c : Calling)
     → method ≡ method_of c.kind → target ≡ target_of c.address → seen fields ≡ fields_of c → body ≡ body_of c.kind c.ended
-    → message_text (method ++ (codes " " ++ (target ++ codes " HTTP/1.1"))) fields body ≡ callback_bytes c
-unfolding callback_bytes
+    → message_text (method ++ (codes " " ++ (target ++ codes " HTTP/1.1"))) fields body ≡ request_bytes c
+unfolding request_bytes
 parts_are method target body fields c m t f b = rw (m, t, b, lines_seen fields, f) refl

@@ -90,10 +90,6 @@ request_of c = record {
   body = lent (body_of c.kind c.ended);
 }
 
--- the bytes of a callback's request
-unfoldable pub callback_bytes : Calling → List ℕ
-callback_bytes c = request_text (request_of c)
-
--- the bytes of an errand's request
-abbrev pub request_bytes : Asking → List ℕ
-request_bytes e = callback_bytes (calling_of e)
+-- the bytes of that request
+unfoldable pub request_bytes : Calling → List ℕ
+request_bytes c = request_text (request_of c)

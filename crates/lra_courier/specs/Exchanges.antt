@@ -9,14 +9,14 @@ use Rattle.lra_wire.specs.Writing.{AppendsFront}
 use Rattle.lra_courier.specs.declared.fault.SendFault.{SendFault}
 use Rattle.lra_courier.specs.declared.fault.SendFault.TheVariants.{BadAddress, Io, Memory}
 use Rattle.lra_courier.specs.Replies.{classify}
-use Rattle.lra_courier.specs.Callbacks.{Calling, callback_bytes}
+use Rattle.lra_courier.specs.Callbacks.{Calling, request_bytes}
 
 -- All of the request went out. Or none of it, since the address is none or memory was refused. Or a proper front, since the writer failed or took nothing.
 abbrev pub Posts : Option (List ℕ) → Option (List ℕ) → Calling → Result (Unit {0}) SendFault → Type 0
-Posts old new c (Ok u) = Appends old new (callback_bytes c)
+Posts old new c (Ok u) = Appends old new (request_bytes c)
 Posts old new c (Err BadAddress) = Keeps old new × (is_address c.address ≡ false)
 Posts old new c (Err Memory) = Keeps old new
-Posts old new c (Err Io) = AppendsFront old new (callback_bytes c)
+Posts old new c (Err Io) = AppendsFront old new (request_bytes c)
 
 -- the bytes are a response and then the rest, and this is what the response comes to
 pub record IsAnswer (c : Calling) (bytes rest : List ℕ) (outcome : Outcome) : Type 0 where
@@ -31,6 +31,6 @@ AppendsSome old new text = (front : List ℕ) × (rest : List ℕ) × (text ≡ 
 
 -- A request and its response, over streams that may be known: some front of the request went out. The outcome is Silent, or all of the request went out, and the outcome is that of the response which the bytes begin with.
 pub record Exchanges (old new stream : Option (List ℕ)) (c : Calling) (outcome : Outcome) : Type 0 where
-  pub front : AppendsSome old new (callback_bytes c)
-  pub whole : outcome ≢ Silent → Appends old new (callback_bytes c)
+  pub front : AppendsSome old new (request_bytes c)
+  pub whole : outcome ≢ Silent → Appends old new (request_bytes c)
   pub answer : outcome ≢ Silent → IfSome stream (λ bytes. (rest : List ℕ) × IsAnswer c bytes rest outcome)

@@ -1,0 +1,4 @@
+//! Callbacks: what is written, what replies come to, and streams that fail.
+mod replies;
+mod streams;
+mod tcp;
