@@ -12,7 +12,7 @@ use lra_wire::Inbox;
 use std::alloc::Global;
 use std::io;
 use std::io::{ErrorKind, Read, Write};
-use std::net::{Net, OpenStream, TcpStream, ToSocketAddrs};
+use std::net::{Net, OpenStream, SocketAddr, TcpStream, ToSocketAddrs};
 use std::time::{Clock, Duration, Instant};
 
 /// How many seconds a member has to take the connection.
@@ -105,23 +105,33 @@ impl<R: Net + Clock> TcpCourier<R> {
         callback.receive(self.alloc, &mut inbox).ok()
     }
 
-    /// A connection to the host of an address, at port 80 where it names none.
+    /// A connection to the host of an address.
     fn connect(&self, to: &str) -> Option<R::Stream> {
         let end = seconds_on(&self.rt, CONNECT_SECS)?;
-        let to = address(self.alloc, to).ok()?;
-        let (host, port) = (to.authority(), to.port());
-        let host = match port {
-            Some(_) => format!(in self.alloc; "{host}").ok()?,
-            None => format!(in self.alloc; "{host}:80").ok()?,
-        };
+        let host = self.host(to)?;
         for addr in host.as_str().to_socket_addrs(&self.rt).ok()? {
-            let left = time_until(&self.rt, end).ok()?;
-            if let Ok(stream) = TcpStream::connect_timeout(&self.rt, &addr, left) {
-                stream.set_nodelay(true).ok()?;
+            if let Some(stream) = self.open(&addr, end) {
                 return Some(stream);
             }
         }
         None
+    }
+
+    /// Host, `:` and port of an address: port 80 where it names none.
+    fn host(&self, to: &str) -> Option<String> {
+        let to = address(self.alloc, to).ok()?;
+        let host = to.authority();
+        match to.port() {
+            Some(_) => String::from_str(self.alloc, host).ok(),
+            None => format!(in self.alloc; "{host}:80").ok(),
+        }
+    }
+
+    fn open(&self, addr: &SocketAddr, end: Instant) -> Option<R::Stream> {
+        let left = time_until(&self.rt, end).ok()?;
+        let stream = TcpStream::connect_timeout(&self.rt, addr, left).ok()?;
+        stream.set_nodelay(true).ok()?;
+        Some(stream)
     }
 }
 
