@@ -10,3 +10,4 @@ pub mod PieceLemmas
 pub mod ChunksLemmas
 pub mod ResponseLemmas
 pub mod RequestsLemmas
+pub mod HeadLemmas

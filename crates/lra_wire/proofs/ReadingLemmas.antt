@@ -1,11 +1,11 @@
 -- From the spans of a head to the request that the stream begins with.
-use Rattle.std.proofs.Common.{◌≡◌, ℕ, ◌+◌, ◌-◌, ◌<◌, ◌≤◌, ◌||◌, ◌==◌, Bool, true, false, cond, List, [], ◌∷◌, ◌++◌, length, map, take, drop, refl, sym, ap, subst, ◌∙◌, arith, append_assoc, Option, Some, None, Result, Ok, Err, inl, inr}
+use Rattle.std.proofs.Common.{◌≡◌, ℕ, ◌+◌, ◌-◌, ◌<◌, ◌≤◌, ◌||◌, ◌==◌, Bool, true, false, cond, List, [], ◌++◌, length, map, take, drop, sym, ap, subst, ◌∙◌, arith, append_assoc, Option, Some, None, Result, Ok, Err, inl, inr}
 use Rattle.std.specs.Prelude.{◌⊎◌, nat_le, slice_range, IfSome}
 use Rattle.std.specs.Io.KnownBytes.{Keeps, prepend_known, IsAtEnd}
 use Rattle.std.proofs.lemmas.List.{take-append-drop, drop-append-le, length-append, length-take, length-drop, drop-drop, append-nil}
 use Rattle.httparse.specs.declared.spans.HeaderSpan.{HeaderSpan}
 use Rattle.httparse.specs.declared.spans.RequestSpans.{RequestSpans}
-use Rattle.httparse.specs.Grammar.{ReadsRequest, HasNoRequest, MayBecomeRequest}
+use Rattle.httparse.specs.Grammar.{ReadsRequest}
 use Rattle.httparse.specs.Spans.{header_bytes}
 use Rattle.httparse.proofs.GrammarLemmas.{ReadsRequest-append}
 use Rattle.lra_wire.specs.declared.fault.WireFault.{WireFault}
@@ -15,7 +15,7 @@ use Rattle.lra_wire.specs.declared.fields.Stated.TheVariants.{Nothing, Length, M
 use Rattle.lra_wire.specs.declared.inbox.Inbox.{Inbox}
 use Rattle.lra_wire.specs.declared.request.RequestRead.{RequestRead}
 use Rattle.lra_wire.specs.Fields.{is_coded, stated_of, stated_body, body_length_of, lists_close}
-use Rattle.lra_wire.specs.inner.Heads.{IsHeadAt, FindsHead}
+use Rattle.lra_wire.specs.inner.Heads.{IsHeadAt}
 use Rattle.lra_wire.specs.Inbox.{kept_bytes, stream_of, IsOutside, AsksAt}
 use Rattle.lra_wire.specs.inner.Growth.{Grows, FillsTo, LacksBytes}
 use Rattle.lra_wire.specs.inner.Reading.{request_at}
@@ -171,18 +171,8 @@ pub asks_body : {R : Type 0} (old mid new : Inbox R) (headers : List HeaderSpan)
     → AsksAt AwaitsRequest old mid → AsksAt (LacksBytes (spans.len + size) (kept_bytes mid)) mid new → AsksAt AwaitsRequest old new
 asks_body old mid new headers spans size at stated first then =
     asks_on AwaitsRequest (LacksBytes (spans.len + size) (kept_bytes mid)) AwaitsRequest old mid new first then (λ bytes p. p)
-    (λ bytes short. subst AwaitsRequest (sym short.front) (inr (inr (lacks_body (kept_bytes mid) short.more headers spans size at stated
-    (subst (λ (bs : List ℕ). length bs < spans.len + size) short.front short.few)))))
-
--- more is asked for before a head, or in it
-awaits_head : (bytes : List ℕ) → HasNoRequest bytes → MayBecomeRequest bytes → AwaitsRequest bytes
-awaits_head [] none open_head = inl refl
-awaits_head (b ∷ bytes) none open_head = inr (inl (record { begun = λ e. cc; open_head = none; lawful = open_head }))
-
-pub head_awaits : (bytes kept : List ℕ) (headers : List HeaderSpan) (found : Option RequestSpans) → bytes ≡ kept → found ≡ None → FindsHead bytes headers (Ok found) → AwaitsRequest kept
-head_awaits bytes kept headers found same is finds =
-    let none = subst (λ (o : Option RequestSpans). FindsHead bytes headers (Ok o)) is finds in
-    subst AwaitsRequest same (awaits_head bytes none.0 none.1)
+    (λ bytes short. subst AwaitsRequest (sym short.front) (inr (lacks_body (kept_bytes mid) short.more headers spans size at stated
+    (subst (λ (bs : List ℕ). length bs < spans.len + size) short.front short.few))))
 
 -- the request, and the inbox behind it
 pub found_request : {R : Type 0} (remaining : R → Option (List ℕ)) (old mid full new : Inbox R) (headers : List HeaderSpan) (spans : RequestSpans) (size : ℕ) (read : RequestRead)

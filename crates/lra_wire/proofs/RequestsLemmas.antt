@@ -77,14 +77,14 @@ some_bytes head rest is e = omega (arith, is.method.0, simp length-append at (ap
 
 -- where more of a request is asked for, none has come
 pub awaits_none : (bytes : List ℕ) (request : Request) (rest : List ℕ) → AwaitsRequest bytes → ¬ (IsRequest bytes request rest)
-awaits_none bytes request rest (inl none) is = some_bytes is.head (request.body ++ rest) is.found.reads.0 (sym is.found.reads.1 ∙ none)
-awaits_none bytes request rest (inr cut) is = exclusive bytes request rest Cut (λ h. h) is cut
+awaits_none bytes request rest (inl open_head) is = open_head.0 is.head (request.body ++ rest) is.found.reads
+awaits_none bytes request rest (inr ends) is = exclusive bytes request rest Cut (λ h. h) is (inr ends)
 
 -- a short head that is lawful
-example : RequestHead
+pub example : RequestHead
 example = record { blank = []; method = 65 ∷ []; target = 47 ∷ []; minor = 0; line_end = crlf; fields = []; last = crlf }
 
-example_is : IsRequestHead example
+pub example_is : IsRequestHead example
 unfolding example
 example_is = record {
   method = (omega arith, All-cons (λ b. IsTrue (is_token_byte b)) 65 [] letter_is_token (All-nil (λ b. IsTrue (is_token_byte b))));

@@ -20,11 +20,11 @@ use Rattle.lra_wire.specs.Chunks.{content_of, RefusesLine, RefusesTrailer, Refus
 use Rattle.lra_wire.specs.Fields.{is_alike, values_of, stated_of}
 use Rattle.lra_wire.specs.Inbox.{kept_bytes, stream_of, IsOutside, AsksAt}
 use Rattle.lra_wire.specs.inner.Growth.{Grows, FillsTo, LacksBytes, Lacks}
-use Rattle.lra_wire.specs.Response.{IsShort, HasResponse, NeverShort, is_interim, IsInterim, Skips, HasFinal, fields_in, stated_framing, coded_framing, framing_of, IsResponse, RefusesFramed, RefusesRest, RefusesResponse, AwaitsBody, AwaitsResponse}
-use Rattle.lra_wire.specs.inner.Steps.{IsHeadOf, FindsResponse, ReadsHeadAt, FindsBody, LacksBody, ReadsToTheEnd, AsksBehind, IsOpenHead}
+use Rattle.lra_wire.specs.Response.{IsShort, HasResponse, NeverShort, is_interim, IsInterim, Skips, HasFinal, fields_in, stated_framing, coded_framing, framing_of, IsResponse, RefusesFramed, RefusesRest, RefusesResponse, AwaitsBody, IsOpenResponse, AwaitsResponse}
+use Rattle.lra_wire.specs.inner.Steps.{IsHeadOf, ReadsHeadAt, FindsBody, LacksBody, ReadsToTheEnd, AsksBehind}
 use Rattle.lra_wire.specs.Streams.{IfBothKnown}
 use Rattle.lra_wire.proofs.InboxLemmas.{Grows_refl, Grows_trans, asks_on, asks_weaker}
-use Rattle.lra_wire.proofs.StreamLemmas.{on_stream, on_stream_end, some_weaker, some_both, grown, drop_more_bytes, known, behind_in}
+use Rattle.lra_wire.proofs.StreamLemmas.{on_stream, on_stream_end, some_weaker, some_both, grown, drop_more_bytes, known}
 
 -- ---- heads
 
@@ -45,13 +45,6 @@ never_after_open bytes none long more head rest found =
 NeverShort-append : (text rest : List ℕ) → NeverShort text → NeverShort (text ++ rest)
 NeverShort-append text rest never more head behind found =
     never (rest ++ more) head behind (subst (λ (bs : List ℕ). HasResponse bs head behind) (append_assoc text rest more) found)
-
--- the head behind a place is open
-pub open_head : {R : Type 0} (remaining : R → Option (List ℕ)) (start : ℕ) (old mid : Inbox R) (bytes : List ℕ) (found : Option Head) → Grows remaining old mid
-    → bytes ≡ kept_bytes mid → found ≡ None → FindsResponse (slice_range bytes start (length bytes)) (Ok found) → Lacks IsOpenHead start (kept_bytes old) (kept_bytes mid)
-open_head remaining start old mid bytes found grows same is finds =
-    let none = subst (λ (o : Option Head). FindsResponse (slice_range bytes start (length bytes)) (Ok o)) is finds in
-    record { more = grows.more; front = grows.kept; there = subst IsOpenHead (behind_in start same) (none.0, none.1) }
 
 -- ---- bodies
 
@@ -192,15 +185,15 @@ head_known {R} {remaining} {old} {mid} {new} {start} {interim} {found} skipped r
 
 -- more is asked for in a head behind those that were skipped
 pub asks_head : {R : Type 0} (remaining : R → Option (List ℕ)) (old mid new : Inbox R) (start interim : ℕ) → Skipped remaining old mid start interim
-    → AsksBehind IsOpenHead start mid new → AsksAt AwaitsResponse old new
+    → AsksBehind IsOpenResponse start mid new → AsksAt AwaitsResponse old new
 asks_head remaining old mid new start interim skipped then =
-    asks_on AwaitsResponse (Lacks IsOpenHead start (kept_bytes mid)) AwaitsResponse old mid new skipped.asks then (λ bytes l. l)
+    asks_on AwaitsResponse (Lacks IsOpenResponse start (kept_bytes mid)) AwaitsResponse old mid new skipped.asks then (λ bytes l. l)
     (λ bytes l. let before = skips_in bytes l.more skipped l.front in
-    inl (record { interim = before.heads; rest = drop start bytes; skips = before.skips; open_head = l.there.0; lawful = l.there.1 }))
+    inl (record { interim = before.heads; rest = drop start bytes; skips = before.skips; open_head = l.there }))
 
 -- one more head was skipped
 pub skipped_more : {R : Type 0} (remaining : R → Option (List ℕ)) (old mid new : Inbox R) (start interim : ℕ) (found : Head) → Skipped remaining old mid start interim
-    → ReadsHeadAt remaining start mid new (Ok found) → AsksBehind IsOpenHead start mid new → is_interim found.code ≡ true → interim < 8
+    → ReadsHeadAt remaining start mid new (Ok found) → AsksBehind IsOpenResponse start mid new → is_interim found.code ≡ true → interim < 8
     → Skipped remaining old new (start + found.len) (interim + 1)
 skipped_more remaining old mid new start interim found skipped read asks status room =
     let kept : List ℕ = kept_bytes new in
@@ -299,7 +292,7 @@ final_known remaining old mid new start interim found skipped read status =
 
 -- more is asked for in the body behind a final head
 pub asks_rest : {R : Type 0} (remaining : R → Option (List ℕ)) (old mid headed new : Inbox R) (start interim : ℕ) (found : Head) (framing : Framing) → Skipped remaining old mid start interim
-    → ReadsHeadAt remaining start mid headed (Ok found) → AsksBehind IsOpenHead start mid headed → is_interim found.code ≡ false → found.framing ≡ Ok framing
+    → ReadsHeadAt remaining start mid headed (Ok found) → AsksBehind IsOpenResponse start mid headed → is_interim found.code ≡ false → found.framing ≡ Ok framing
     → AsksBehind (AwaitsBody framing) (start + found.len) headed new → AsksAt AwaitsResponse old new
 asks_rest remaining old mid headed new start interim found framing skipped read first status framed then =
     let place : ℕ = start + found.len in

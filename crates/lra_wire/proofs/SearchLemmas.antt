@@ -18,17 +18,17 @@ use Rattle.lra_wire.proofs.StreamLemmas.{behind_in}
 -- ---- line feeds
 
 -- the text ends in a line feed
-abbrev EndsLine : List ℕ → Type 0
+abbrev pub EndsLine : List ℕ → Type 0
 EndsLine text = (front : List ℕ) × (text ≡ front ++ 10 ∷ [])
 
-ends_behind : (a b : List ℕ) → EndsLine b → EndsLine (a ++ b)
+pub ends_behind : (a b : List ℕ) → EndsLine b → EndsLine (a ++ b)
 ends_behind a b (front, is) = (a ++ front, ap (λ bs. a ++ bs) is ∙ sym (append_assoc a front (10 ∷ [])))
 
 line_ends : (line : ChunkLine) → EndsLine (print_chunk_line line)
 unfolding print_chunk_line
 line_ends line = ends_behind (line.digits ++ line.pad ++ print_extension line.extension) crlf_bytes (13 ∷ [], refl)
 
-section_ends : (fields : List Field) (last : LineEnd) → EndsLine (print_section fields last)
+pub section_ends : (fields : List Field) (last : LineEnd) → EndsLine (print_section fields last)
 section_ends fields crlf = ends_behind (flat_map print_field fields) crlf_bytes (13 ∷ [], refl)
 section_ends fields lf = ends_behind (flat_map print_field fields) (10 ∷ []) ([], refl)
 
@@ -37,7 +37,7 @@ any_feed [] rest = refl
 any_feed (b ∷ front) rest = grind (arith, any_feed front rest)
 
 -- a text that ends in a line feed and begins the bytes, of which none comes behind a place, stands before it
-ends_before : (bytes text rest : List ℕ) (n : ℕ) → EndsLine text → n ≤ length bytes → bytes ≡ text ++ rest → list_any (λ b. b == 10) (drop n bytes) ≡ false
+pub ends_before : (bytes text rest : List ℕ) (n : ℕ) → EndsLine text → n ≤ length bytes → bytes ≡ text ++ rest → list_any (λ b. b == 10) (drop n bytes) ≡ false
     → (left : List ℕ) × (take n bytes ≡ text ++ left)
 ends_before bytes text rest n (front, ends) within is none = (drop m (take n bytes), sym (take-append-drop m (take n bytes)) ∙ ap (λ bs. bs ++ drop m (take n bytes)) same)
   where
@@ -60,7 +60,7 @@ ends_before bytes text rest n (front, ends) within is none = (drop m (take n byt
     same = sym (take-append-le m (take n bytes) (drop n bytes) before) ∙ ap (take m) (take-append-drop n bytes ∙ is) ∙ take_at text rest m refl
 
 -- none comes in what is new
-no_feed : (bytes : List ℕ) (n : ℕ) → list_any (λ b. b == 10) (slice_range bytes n (length bytes)) ≡ false → list_any (λ b. b == 10) (drop n bytes) ≡ false
+pub no_feed : (bytes : List ℕ) (n : ℕ) → list_any (λ b. b == 10) (slice_range bytes n (length bytes)) ≡ false → list_any (λ b. b == 10) (drop n bytes) ≡ false
 no_feed bytes n none = subst (λ (bs : List ℕ). list_any (λ b. b == 10) bs ≡ false) (behind_in n refl) none
 
 pub no_line : (bytes : List ℕ) (n : ℕ) → n ≤ length bytes → HasNoChunkLine (take n bytes) → list_any (λ b. b == 10) (slice_range bytes n (length bytes)) ≡ false → HasNoChunkLine bytes
@@ -73,7 +73,7 @@ no_section bytes n within none feed fields last rest reads =
     let there = ends_before bytes (print_section fields last) rest n (section_ends fields last) within reads.1 (no_feed bytes n feed) in
     none fields last there.0 (reads.0, there.1)
 
-ends_some : (text rest : List ℕ) → EndsLine text → ¬ ([] ≡ text ++ rest)
+pub ends_some : (text rest : List ℕ) → EndsLine text → ¬ ([] ≡ text ++ rest)
 ends_some text rest (front, ends) e = omega (arith, ap length e, length-append text rest, ap length ends, length-append front (10 ∷ []))
 
 pub no_line_yet : HasNoChunkLine []

@@ -6,6 +6,7 @@ use Rattle.lra_wire.specs.declared.fault.WireFault.{WireFault}
 use Rattle.lra_wire.specs.declared.fault.WireFault.TheVariants.{BadHead, Chunked, BadLength, TooLarge, Cut, Io, Memory}
 use Rattle.lra_wire.specs.declared.request.RequestRead.{RequestRead}
 use Rattle.lra_wire.specs.Fields.{values_of, body_length_of, lists_close}
+use Rattle.lra_wire.specs.Streams.{UpToLine}
 
 -- a request without where it lies in memory
 pub record Request : Type 0 where
@@ -89,6 +90,10 @@ abbrev pub GivesRequest : Option RequestRead → List ℕ → List ℕ → Type 
 GivesRequest None bytes rest = (bytes ≡ []) × (rest ≡ [])
 GivesRequest (Some read) bytes rest = IsRequest bytes (request_of read) rest
 
--- What came would be cut short if the stream ended there, or nothing came.
+-- a head isn't whole, and goes by the grammar so far, at least up to its last line feed
+abbrev pub IsOpenRequest : List ℕ → Type 0
+IsOpenRequest bytes = HasNoRequest bytes × UpToLine MayBecomeRequest bytes
+
+-- A request isn't whole: its head is open, or a lawful head stands there and not all of the body.
 abbrev pub AwaitsRequest : List ℕ → Type 0
-AwaitsRequest bytes = (bytes ≡ []) ⊎ RefusesRequest bytes Cut
+AwaitsRequest bytes = IsOpenRequest bytes ⊎ EndsInBody bytes

@@ -11,6 +11,7 @@ use Rattle.lra_wire.specs.declared.framing.Framing.{Framing}
 use Rattle.lra_wire.specs.declared.framing.Framing.TheVariants.{Sized, Chunks, ToTheEnd}
 use Rattle.lra_wire.specs.Chunks.{IsChunked, RefusesChunks, AwaitsChunks}
 use Rattle.lra_wire.specs.Fields.{is_alike, values_of, stated_of}
+use Rattle.lra_wire.specs.Streams.{UpToLine}
 
 -- the names and the values of a head's fields
 abbrev pub fields_in : ResponseHead → List (List ℕ × List ℕ)
@@ -142,6 +143,17 @@ pub record AwaitsRest (bytes : List ℕ) : Type 0 where
   pub framed : framing_of (status_code head) (fields_in head) ≡ Ok framing
   pub open_body : AwaitsBody framing behind
 
--- the bytes are an open response: in a head that goes by the grammar so far or before it, or in the body
+-- a head isn't whole, and goes by the grammar so far, at least up to its last line feed
+abbrev pub IsOpenResponse : List ℕ → Type 0
+IsOpenResponse bytes = HasNoResponse bytes × UpToLine MayBecomeResponse bytes
+
+-- behind interim heads a head is open
+pub record AwaitsHead (bytes : List ℕ) : Type 0 where
+  pub interim : List ResponseHead
+  pub rest : List ℕ
+  pub skips : Skips bytes interim rest
+  pub open_head : IsOpenResponse rest
+
+-- a response isn't whole: a head is open, or the body behind the final one
 abbrev pub AwaitsResponse : List ℕ → Type 0
-AwaitsResponse bytes = EndsInResponse bytes ⊎ AwaitsRest bytes
+AwaitsResponse bytes = AwaitsHead bytes ⊎ AwaitsRest bytes

@@ -1,8 +1,17 @@
--- Streams of bytes that may be known.
-use Rattle.std.specs.Prelude.{ℕ, List, Option, Some, None, ⊤}
+-- Streams of bytes that may be known, and bytes that are looked at line by line.
+use Rattle.std.specs.Prelude.{◌≡◌, ℕ, ◌==◌, false, List, ◌++◌, Option, Some, None, ⊤}
+use Rattle.std.specs.List.{list_any}
 
 -- A relation between the bytes of a stream before a call and after it, where they are known: a stream that was known stays so.
 abbrev pub IfBothKnown : Option (List ℕ) → Option (List ℕ) → (List ℕ → List ℕ → Type 0) → Type 0
 IfBothKnown None new P = ⊤
 IfBothKnown (Some xs) None P = ⊥
 IfBothKnown (Some xs) (Some ys) P = P xs ys
+
+-- Such a text is a front of the bytes, with their last line feed: none stands behind it.
+pub record UpToLine (P : List ℕ → Type 0) (bytes : List ℕ) : Type 0 where
+  pub front : List ℕ
+  pub back : List ℕ
+  pub whole : bytes ≡ front ++ back
+  pub none : list_any (λ b. b == 10) back ≡ false
+  pub there : P front

@@ -3,9 +3,9 @@ ghost use Rattle.std.specs.Prelude.{◌≡◌, ◌<◌, ◌≤◌, ◌+◌, ℕ,
 ghost use Rattle.httparse.specs.Spans.{IsHeaderWithin, header_bytes};
 ghost use Rattle.lra_wire.specs.declared.fault.WireFault.{WireFault};
 ghost use Rattle.lra_wire.specs.Fields.{body_length_of};
-ghost use Rattle.lra_wire.specs.inner.Heads.{has_host, IsHeadAt, FindsHead, ReadsHead};
+ghost use Rattle.lra_wire.specs.inner.Heads.{has_host, IsHeadAt, FindsHead, FindsNewHead, EndsHead, ReadsHead};
 ghost use Rattle.lra_wire.specs.Inbox.{stream_of, is_spent, AsksAt};
-ghost use Rattle.lra_wire.specs.Request.{Request, IsRequest, GivesRequest, RefusesRequest, AwaitsRequest, request_of};
+ghost use Rattle.lra_wire.specs.Request.{Request, IsRequest, GivesRequest, RefusesRequest, IsOpenRequest, AwaitsRequest, request_of};
 ghost use Rattle.lra_wire.specs.inner.Reading.{NextRequest, request_at};
 ghost use Rattle.lra_wire.specs.Requests.{Requests, EndsAlike};
 ghost use Rattle.lra_wire.specs.Streams.{IfBothKnown};
@@ -52,7 +52,8 @@ pub fn read_request<R: Read + Drop>(
     ensures ok { OnOk result (IsFalse (is_spent inbox.new)) }
     ensures err { OnErr result (IsTrue (is_spent inbox.new)) }
 
-    // Where the bytes that came spell a request, or none whatever follows, no more is asked for.
+    // More is asked for only where the bytes that came spell no request, and go by the grammar so far, at
+    // least up to their last line feed.
     ensures rests { AsksAt AwaitsRequest inbox.old inbox.new }
 {
     if inbox.spent {
@@ -96,8 +97,8 @@ fn next_request<R: Read + Drop>(
     Ok(Some(request))
 }
 
-/// Reads until there is a whole head, and writes where its fields are. What came is parsed anew
-/// with each piece: it is less than [`MAX_HEAD`] bytes until the last.
+/// Reads until there is a whole head, and writes where its fields are. What came is parsed anew with
+/// each piece that has a line feed: it is less than [`MAX_HEAD`] bytes until the last.
 fn next_head<R: Read + Drop>(
     inbox: &mut Inbox<R>,
     headers: &mut [HeaderSpan; MAX_FIELDS],
@@ -105,17 +106,50 @@ fn next_head<R: Read + Drop>(
     ensures reads { ReadsHead R.remaining inbox.old inbox.new headers.new result }
     ensures asks { AsksAt AwaitsRequest inbox.old inbox.new }
 {
+    let mut searched = 0;
     loop {
-        if let Some(head) = head_at(inbox.bytes(), headers)? {
+        if let Some(head) = new_head(inbox.bytes(), searched, headers)? {
             return Ok(Some(head));
         }
+        searched = inbox.bytes().len();
         if !inbox.fill()? {
-            if inbox.bytes().is_empty() {
-                return Ok(None);
-            }
-            return Err(WireFault::Cut);
+            return last_head(inbox.bytes(), headers);
         }
     }
+}
+
+/// The head at the front of the bytes, of which the first `searched` are known to have none. A head
+/// ends in a line feed: without a new one nothing is parsed, unless there are as many bytes as a head
+/// may have.
+fn new_head(
+    bytes: &[u8],
+    searched: usize,
+    headers: &mut [HeaderSpan; MAX_FIELDS],
+) -> Result<Option<RequestSpans>, WireFault>
+    requires within { searched ≤ length bytes.now }
+    requires searched { IsOpenRequest (take searched bytes.now) }
+    ensures { FindsNewHead bytes.now headers.new result }
+{
+    if bytes.len() < MAX_HEAD && !bytes[searched..].contains(&b'\n') {
+        return Ok(None);
+    }
+    head_at(bytes, headers)
+}
+
+/// The head at the front of all the bytes that there are, or none where there are no bytes.
+fn last_head(
+    bytes: &[u8],
+    headers: &mut [HeaderSpan; MAX_FIELDS],
+) -> Result<Option<RequestSpans>, WireFault>
+    ensures { EndsHead bytes.now headers.new result }
+{
+    if let Some(head) = head_at(bytes, headers)? {
+        return Ok(Some(head));
+    }
+    if bytes.is_empty() {
+        return Ok(None);
+    }
+    Err(WireFault::Cut)
 }
 
 /// The head at the front of the bytes, or none where more bytes may complete it.

@@ -1,8 +1,8 @@
 //! Responses, read.
-ghost use Rattle.std.specs.Prelude.{◌≡◌, ◌≤◌, length, IfOk, IfErr, IfSome, OnOk, OnErr, IsTrue, IsFalse, Err};
+ghost use Rattle.std.specs.Prelude.{◌≡◌, ◌≤◌, length, take, IfOk, IfErr, IfSome, OnOk, OnErr, IsTrue, IsFalse, Err};
 ghost use Rattle.lra_wire.specs.Inbox.{kept_bytes, stream_of, is_spent, AsksAt};
-ghost use Rattle.lra_wire.specs.Response.{is_interim, IsResponse, RefusesResponse, AwaitsBody, AwaitsResponse};
-ghost use Rattle.lra_wire.specs.inner.Steps.{FindsResponse, ReadsHeadAt, FindsBody, LacksBody, ReadsToTheEnd, IsSmall, NextResponse, AsksBehind, IsOpenHead};
+ghost use Rattle.lra_wire.specs.Response.{is_interim, IsResponse, RefusesResponse, AwaitsBody, IsOpenResponse, AwaitsResponse};
+ghost use Rattle.lra_wire.specs.inner.Steps.{FindsResponse, FindsNewResponse, EndsResponse, ReadsHeadAt, FindsBody, LacksBody, ReadsToTheEnd, IsSmall, NextResponse, AsksBehind};
 ghost use Rattle.lra_wire.specs.Streams.{IfBothKnown};
 
 use crate::chunks::next_chunks;
@@ -52,8 +52,8 @@ pub fn read_response<R: Read + Drop>(
     ensures ok { OnOk result (IsFalse (is_spent inbox.new)) }
     ensures err { OnErr result (IsTrue (is_spent inbox.new)) }
 
-    // Where the bytes that came spell a response, no more is asked for, unless its body ends with the
-    // stream.
+    // More is asked for only where the bytes that came spell no response, unless its body ends with the
+    // stream, and where their head goes by the grammar so far, at least up to its last line feed.
     ensures rests { AsksAt AwaitsResponse inbox.old inbox.new }
 {
     if inbox.spent {
@@ -98,20 +98,47 @@ fn is_interim(code: u16) -> bool
     100 <= code && code < 200
 }
 
-/// Reads until there is a whole head behind `start`. What came of it is parsed anew with each
-/// piece: it is less than [`MAX_HEAD`] bytes until the last.
+/// Reads until there is a whole head behind `start`. What came of it is parsed anew with each piece
+/// that has a line feed: it is less than [`MAX_HEAD`] bytes until the last.
 fn next_head<R: Read + Drop>(inbox: &mut Inbox<R>, start: usize) -> Result<Head, WireFault>
     requires { start ≤ length (kept_bytes inbox.old) }
     ensures reads { ReadsHeadAt R.remaining start inbox.old inbox.new result }
-    ensures asks { AsksBehind IsOpenHead start inbox.old inbox.new }
+    ensures asks { AsksBehind IsOpenResponse start inbox.old inbox.new }
 {
+    let mut searched = 0;
     loop {
-        if let Some(head) = head_at(&inbox.bytes()[start..])? {
+        let bytes = &inbox.bytes()[start..];
+        if let Some(head) = new_head(bytes, searched)? {
             return Ok(head);
         }
+        searched = bytes.len();
         if !inbox.fill()? {
-            return Err(WireFault::Cut);
+            return last_head(&inbox.bytes()[start..]);
         }
+    }
+}
+
+/// The head at the front of the bytes, of which the first `searched` are known to have none. A head
+/// ends in a line feed: without a new one nothing is parsed, unless there are as many bytes as a head
+/// may have.
+fn new_head(bytes: &[u8], searched: usize) -> Result<Option<Head>, WireFault>
+    requires within { searched ≤ length bytes.now }
+    requires searched { IsOpenResponse (take searched bytes.now) }
+    ensures { FindsNewResponse bytes.now result }
+{
+    if bytes.len() < MAX_HEAD && !bytes[searched..].contains(&b'\n') {
+        return Ok(None);
+    }
+    head_at(bytes)
+}
+
+/// The head at the front of all the bytes that there are.
+fn last_head(bytes: &[u8]) -> Result<Head, WireFault>
+    ensures { EndsResponse bytes.now result }
+{
+    match head_at(bytes)? {
+        Some(head) => Ok(head),
+        None => Err(WireFault::Cut),
     }
 }
 

@@ -11,7 +11,7 @@ use Rattle.lra_wire.specs.declared.inbox.Inbox.{Inbox}
 use Rattle.lra_wire.specs.Fields.{values_of}
 use Rattle.lra_wire.specs.Inbox.{kept_bytes, IsOutside}
 use Rattle.lra_wire.specs.inner.Growth.{Grows}
-use Rattle.lra_wire.specs.Request.{IsLawful, NeverLawful, EndsInHead}
+use Rattle.lra_wire.specs.Request.{IsLawful, NeverLawful, EndsInHead, IsOpenRequest}
 
 -- HTTP/1.0 asks for no Host, HTTP/1.1 for exactly one
 abbrev pub has_host : ℕ → List (List ℕ × List ℕ) → Bool
@@ -29,6 +29,18 @@ abbrev pub FindsHead : List ℕ → List HeaderSpan → Result (Option RequestSp
 FindsHead bytes headers (Ok (Some spans)) = IsHeadAt bytes headers spans
 FindsHead bytes headers (Ok None) = HasNoRequest bytes × MayBecomeRequest bytes × (length bytes < 8192)
 FindsHead bytes headers (Err fault) = (fault ≡ BadHead) × NeverLawful bytes
+
+-- the same of bytes that are looked at only where a head may end in them
+abbrev pub FindsNewHead : List ℕ → List HeaderSpan → Result (Option RequestSpans) WireFault → Type 0
+FindsNewHead bytes headers (Ok (Some spans)) = IsHeadAt bytes headers spans
+FindsNewHead bytes headers (Ok None) = IsOpenRequest bytes × (length bytes < 8192)
+FindsNewHead bytes headers (Err fault) = (fault ≡ BadHead) × NeverLawful bytes
+
+-- the same at the end of the stream: no head where there are no bytes, and else why there is none
+abbrev pub EndsHead : List ℕ → List HeaderSpan → Result (Option RequestSpans) WireFault → Type 0
+EndsHead bytes headers (Ok (Some spans)) = IsHeadAt bytes headers spans
+EndsHead bytes headers (Ok None) = bytes ≡ []
+EndsHead bytes headers (Err fault) = ((fault ≡ BadHead) × NeverLawful bytes) ⊎ ((fault ≡ Cut) × EndsInHead bytes)
 
 -- the same after reading as far as is needed, where no head is at the end of the stream alone
 abbrev pub ReadsHead : {R : Type 0} → (R → Option (List ℕ)) → Inbox R → Inbox R → List HeaderSpan → Result (Option RequestSpans) WireFault → Type 0

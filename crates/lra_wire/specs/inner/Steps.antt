@@ -16,7 +16,7 @@ use Rattle.lra_wire.specs.declared.response.ResponseRead.{ResponseRead}
 use Rattle.lra_wire.specs.Chunks.{Chunk, IsChunk, print_chunk, HasTrailer, HasLast, RefusesTrailer, RefusesContent, RefusesChunk}
 use Rattle.lra_wire.specs.Inbox.{kept_bytes, stream_of, IsOutside, AsksAt}
 use Rattle.lra_wire.specs.inner.Growth.{Grows, Lacks}
-use Rattle.lra_wire.specs.Response.{HasResponse, NeverShort, fields_in, framing_of, IsBody, RefusesFramed, IsResponse, RefusesResponse}
+use Rattle.lra_wire.specs.Response.{HasResponse, NeverShort, IsOpenResponse, fields_in, framing_of, IsBody, RefusesFramed, IsResponse, RefusesResponse}
 use Rattle.lra_wire.specs.Streams.{IfBothKnown}
 
 -- a head within the limits begins the bytes, and what it says
@@ -33,6 +33,17 @@ abbrev pub FindsResponse : List ℕ → Result (Option Head) WireFault → Type 
 FindsResponse bytes (Ok (Some found)) = IsHeadOf bytes found
 FindsResponse bytes (Ok None) = HasNoResponse bytes × MayBecomeResponse bytes × (length bytes < 8192)
 FindsResponse bytes (Err fault) = (fault ≡ BadHead) × NeverShort bytes
+
+-- the same of bytes that are looked at only where a head may end in them
+abbrev pub FindsNewResponse : List ℕ → Result (Option Head) WireFault → Type 0
+FindsNewResponse bytes (Ok (Some found)) = IsHeadOf bytes found
+FindsNewResponse bytes (Ok None) = IsOpenResponse bytes × (length bytes < 8192)
+FindsNewResponse bytes (Err fault) = (fault ≡ BadHead) × NeverShort bytes
+
+-- the same at the end of the stream
+abbrev pub EndsResponse : List ℕ → Result Head WireFault → Type 0
+EndsResponse bytes (Ok found) = IsHeadOf bytes found
+EndsResponse bytes (Err fault) = ((fault ≡ BadHead) × NeverShort bytes) ⊎ ((fault ≡ Cut) × HasNoResponse bytes × MayBecomeResponse bytes)
 
 -- the same after reading as far as is needed
 abbrev pub ReadsHeadAt : {R : Type 0} → (R → Option (List ℕ)) → ℕ → Inbox R → Inbox R → Result Head WireFault → Type 0
@@ -136,10 +147,6 @@ LacksBody remaining framing place old fault = IsOutside fault ⊎ IfSome (stream
 -- more was asked for only where an open text stood behind a place
 abbrev pub AsksBehind : {R : Type 0} → (List ℕ → Type 0) → ℕ → Inbox R → Inbox R → Type 0
 AsksBehind Open start old new = AsksAt (Lacks Open start (kept_bytes old)) old new
-
--- a head that isn't whole, and goes by the grammar so far
-abbrev pub IsOpenHead : List ℕ → Type 0
-IsOpenHead text = HasNoResponse text × MayBecomeResponse text
 
 -- reading to the end of the stream, or past the limit of a body
 abbrev pub ReadsToTheEnd : {R : Type 0} → (R → Option (List ℕ)) → ℕ → Inbox R → Inbox R → Result ℕ WireFault → Type 0

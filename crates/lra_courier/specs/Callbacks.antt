@@ -1,0 +1,95 @@
+-- The request of a callback (MicroProfile LRA 2.0, participant methods and context headers; RFC 9112, sections 3 to 6).
+use Rattle.std.specs.Prelude.{ℕ, List, [], ◌∷◌, ◌++◌, length, map, codes, decimal, Option, Some, None}
+use Rattle.std.specs.Option.{option_map_or}
+use Rattle.std.specs.Borrow.{Bor}
+use Rattle.lra_model.specs.declared.status.ActionStatus.{ActionStatus}
+use Rattle.lra_model.specs.declared.asks.AskKind.{AskKind}
+use Rattle.lra_model.specs.declared.asks.AskKind.TheVariants as ask
+use Rattle.lra_model.specs.declared.asks.Direction.{Direction}
+use Rattle.lra_model.specs.Names.{action_status_name}
+use Rattle.lra_ids.specs.Addresses.{authority_of, target_of}
+use Rattle.lra_commands.specs.Errands.{Asking}
+use Rattle.lra_wire.specs.declared.write.RequestWrite.{RequestWrite}
+use Rattle.lra_wire.specs.Writing.{request_text}
+
+-- what an errand says to its member, and in which direction: the errand without the numbers that the coordinator keeps
+pub record Calling : Type 0 where
+  pub kind : AskKind
+  pub direction : Direction
+  pub address : List ℕ
+  pub action_uri : List ℕ
+  pub parent_uri : Option (List ℕ)
+  pub recovery_uri : List ℕ
+  pub ended : Option ActionStatus
+
+-- what an errand says
+abbrev pub calling_of : Asking → Calling
+calling_of e = record {
+  kind = e.kind;
+  direction = e.direction;
+  address = e.address;
+  action_uri = e.action_uri;
+  parent_uri = e.parent_uri;
+  recovery_uri = e.recovery_uri;
+  ended = e.ended;
+}
+
+-- the method by kind (MicroProfile LRA 2.0: a status is asked for by GET, and a member is let forget by DELETE)
+abbrev pub method_of : AskKind → List ℕ
+method_of ask.Complete = codes "PUT"
+method_of ask.Compensate = codes "PUT"
+method_of ask.Status = codes "GET"
+method_of ask.Forget = codes "DELETE"
+method_of ask.After = codes "PUT"
+
+-- the body: an after notice has the name of the action's final state, the others have none (MicroProfile LRA 2.0, AfterLRA)
+abbrev pub body_of : AskKind → Option ActionStatus → List ℕ
+body_of ask.After ended = option_map_or action_status_name ended []
+body_of _ ended = []
+
+-- a field: its name and its value
+abbrev pub Field : Type 0
+Field = List ℕ × List ℕ
+
+-- the name of the field with the action's URI (MicroProfile LRA 2.0, context headers)
+abbrev pub context_name : AskKind → List ℕ
+context_name ask.After = codes "Long-Running-Action-Ended"
+context_name _ = codes "Long-Running-Action"
+
+-- the field with the parent's URI, where there is a parent (MicroProfile LRA 2.0, context headers)
+abbrev pub parent_fields : Option (List ℕ) → List Field
+parent_fields None = []
+parent_fields (Some uri) = (codes "Long-Running-Action-Parent", uri) ∷ []
+
+-- what a request says of its body, with that length: by PUT it has one, which may be empty (RFC 9110, section 8.6)
+abbrev pub content_fields : AskKind → List ℕ → List Field
+content_fields ask.After size = (codes "Content-Type", codes "text/plain") ∷ (codes "Content-Length", size) ∷ []
+content_fields ask.Complete size = (codes "Content-Length", size) ∷ []
+content_fields ask.Compensate size = (codes "Content-Length", size) ∷ []
+content_fields _ size = []
+
+-- the fields, in order; each request has a connection of its own (RFC 9112, sections 3.2 and 9.6)
+abbrev pub fields_of : Calling → List Field
+fields_of c =
+    ((codes "Host", authority_of c.address) ∷ (context_name c.kind, c.action_uri) ∷ [])
+    ++ (parent_fields c.parent_uri
+    ++ (((codes "Long-Running-Action-Recovery", c.recovery_uri) ∷ [])
+    ++ (content_fields c.kind (decimal (length (body_of c.kind c.ended)))
+    ++ ((codes "Connection", codes "close") ∷ []))))
+
+-- a value as a writer is lent it: where it lies says nothing
+abbrev pub lent : {X : Type 0} → X → Bor X
+lent x = record { ref_ptr = (0, 0); now = x }
+
+-- the request of a callback
+abbrev pub request_of : Calling → RequestWrite
+request_of c = record {
+  method = lent (method_of c.kind);
+  target = lent (target_of c.address);
+  fields = lent (map (λ (field : Field). (lent field.0, lent field.1)) (fields_of c));
+  body = lent (body_of c.kind c.ended);
+}
+
+-- the bytes of that request
+unfoldable pub request_bytes : Calling → List ℕ
+request_bytes c = request_text (request_of c)

@@ -1,0 +1,4 @@
+pub mod Replies
+pub mod Callbacks
+pub mod Exchanges
+pub mod inner

@@ -1,0 +1,166 @@
+//! An errand's request on the wire.
+
+ghost use Rattle.std.specs.Prelude.{◌≡◌, ◌∷◌, [], ◌++◌, length, decimal, option_map, OnOk, IfOk};
+ghost use Rattle.lra_ids.specs.Addresses.{authority_of};
+ghost use Rattle.lra_courier.specs.Callbacks as spec;
+ghost use Rattle.lra_courier.specs.inner.Fields.{seen};
+
+use lra_core::Errand;
+use lra_model::{ActionStatus, AskKind, Direction};
+use std::alloc::{AllocError, Global};
+use std::marker::Model;
+
+/// What an errand says to its member, and in which direction. A contract sees it without where its texts lie.
+#[derive(Debug, Drop)]
+pub struct Callback<'a> {
+    pub kind: AskKind,
+    pub direction: Direction,
+    /// Where the member is asked.
+    pub address: &'a str,
+    /// The URI of the member's action.
+    pub action_uri: &'a str,
+    /// The URI of that action's parent, where it has one.
+    pub parent_uri: Option<&'a str>,
+    /// The member's recovery URI.
+    pub recovery_uri: &'a str,
+    /// How the action ended, at an after notice.
+    pub ended: Option<ActionStatus>,
+}
+
+impl<'a> Model for Callback<'a> {
+    ghost use Rattle.std.specs.Prelude.{option_map};
+    ghost use Rattle.lra_courier.specs.Callbacks.{Calling};
+
+    ghost Value = { Calling };
+
+    ghost view = { λ c. record {
+      kind = c.kind;
+      direction = c.direction;
+      address = c.address.now;
+      action_uri = c.action_uri.now;
+      parent_uri = option_map (λ uri. uri.now) c.parent_uri;
+      recovery_uri = c.recovery_uri.now;
+      ended = c.ended;
+    } };
+}
+
+// The name of the field with the action's URI.
+fn context_name(kind: AskKind) -> &'static str
+    ensures { result.now ≡ spec.context_name kind }
+{
+    match kind {
+        AskKind::After => "Long-Running-Action-Ended",
+        _ => "Long-Running-Action",
+    }
+}
+
+// The method of a request.
+pub(crate) fn method_of(kind: AskKind) -> &'static str
+    ensures { result.now ≡ spec.method_of kind }
+{
+    match kind {
+        AskKind::Complete | AskKind::Compensate | AskKind::After => "PUT",
+        AskKind::Status => "GET",
+        AskKind::Forget => "DELETE",
+    }
+}
+
+// Adds a field.
+fn push<'a>(
+    fields: &mut Vec<(&'a str, &'a str)>,
+    name: &'a str,
+    value: &'a str,
+) -> Result<(), AllocError>
+    ensures { OnOk result (seen fields.new.items ≡ seen fields.old.items ++ (name.now, value.now) ∷ []) }
+{
+    fields.push((name, value))?;
+    Ok(())
+}
+
+// Adds what the request says of its body.
+fn push_content<'a>(
+    fields: &mut Vec<(&'a str, &'a str)>,
+    kind: AskKind,
+    size: &'a str,
+) -> Result<(), AllocError>
+    ensures { OnOk result (seen fields.new.items ≡ seen fields.old.items ++ spec.content_fields kind size.now) }
+{
+    match kind {
+        AskKind::Complete => push(fields, "Content-Length", size),
+        AskKind::Compensate => push(fields, "Content-Length", size),
+        AskKind::After => {
+            push(fields, "Content-Type", "text/plain")?;
+            push(fields, "Content-Length", size)?;
+            Ok(())
+        }
+        AskKind::Status | AskKind::Forget => Ok(()),
+    }
+}
+
+// Adds the field with the parent's URI, where there is one.
+fn push_parent<'a>(
+    fields: &mut Vec<(&'a str, &'a str)>,
+    parent_uri: Option<&'a str>,
+) -> Result<(), AllocError>
+    ensures { OnOk result (seen fields.new.items ≡ seen fields.old.items ++ spec.parent_fields (option_map (λ uri. uri.now) parent_uri.entry)) }
+{
+    match parent_uri {
+        Some(uri) => push(fields, "Long-Running-Action-Parent", uri),
+        None => Ok(()),
+    }
+}
+
+impl<'a> Callback<'a> {
+    /// What an errand says.
+    pub fn of(errand: &'a Errand) -> Callback<'a>
+        ensures { result ≡ spec.calling_of errand.now }
+    {
+        Callback {
+            kind: errand.kind(),
+            direction: errand.direction(),
+            address: errand.address(),
+            action_uri: errand.action_uri(),
+            parent_uri: errand.parent_uri(),
+            recovery_uri: errand.recovery_uri(),
+            ended: errand.ended(),
+        }
+    }
+
+    // The body of the request.
+    pub(crate) fn body(&self) -> &'static str
+        ensures { result.now ≡ spec.body_of self.now.kind self.now.ended }
+    {
+        match self.kind {
+            AskKind::After => match self.ended {
+                Some(status) => status.name(),
+                None => "",
+            },
+            _ => "",
+        }
+    }
+
+    // The fields of the request, where that is the host and that the length of the body.
+    pub(crate) fn fields<'b>(
+        &'b self,
+        alloc: Global,
+        host: &'b str,
+        size: &'b str,
+    ) -> Result<Vec<(&'b str, &'b str)>, AllocError>
+        requires host { host.now ≡ authority_of self.now.address }
+        requires size { size.now ≡ decimal (length (spec.body_of self.now.kind self.now.ended)) }
+        ensures { IfOk result (λ fields. seen fields.items ≡ spec.fields_of self.now) }
+    {
+        let mut fields = Vec::new(alloc);
+        push(&mut fields, "Host", host)?;
+        push(&mut fields, context_name(self.kind), self.action_uri)?;
+        push_parent(&mut fields, self.parent_uri)?;
+        push(
+            &mut fields,
+            "Long-Running-Action-Recovery",
+            self.recovery_uri,
+        )?;
+        push_content(&mut fields, self.kind, size)?;
+        push(&mut fields, "Connection", "close")?;
+        Ok(fields)
+    }
+}

@@ -1,0 +1,22 @@
+//! What carries errands to members.
+
+ghost use Rattle.std.specs.Prelude.{ℕ, ◌≡◌, true};
+ghost use Rattle.lra_model.specs.declared.asks.AskKind.{AskKind};
+ghost use Rattle.lra_model.specs.declared.asks.Outcome.{Outcome};
+ghost use Rattle.lra_model.specs.Words.{outcome_suits};
+
+use lra_core::Errand;
+use lra_model::Outcome;
+
+/// What carries errands to members.
+pub trait Courier {
+    // Which outcomes it may answer for an ask of this number and kind.
+    ghost gives: { ℕ → AskKind → Outcome → Type 0 };
+
+    /// Carries an errand out, and answers what came of it: where nothing did, [`Outcome::Silent`].
+    fn carry(&mut self, errand: &Errand) -> Outcome
+        ensures { gives errand.now.ask errand.now.kind result };
+
+    // Whatever it answers suits the kind.
+    ghost suits: { (ask : ℕ) (kind : AskKind) (outcome : Outcome) → gives ask kind outcome → outcome_suits kind outcome ≡ true };
+}

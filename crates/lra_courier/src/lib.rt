@@ -1,0 +1,18 @@
+//! Callbacks to members: an errand's request on the wire, and what the reply comes to.
+#![tactic(auto)]
+
+mod callback;
+mod carrying;
+mod courier;
+mod fault;
+mod reading;
+mod reply;
+mod tcp;
+mod writing;
+
+pub use callback::Callback;
+pub use carrying::{exchange, receive, send};
+pub use courier::Courier;
+pub use fault::SendFault;
+pub use reply::classify;
+pub use tcp::TcpCourier;
