@@ -1,0 +1,8 @@
+//! The coordinator's HTTP interface: requests in, the definitions' answers out, over any reader and writer.
+#![tactic(auto)]
+
+mod denial;
+mod route;
+
+pub use denial::Denial;
+pub use route::{Place, Route, Routes};
