@@ -1,1 +1,2 @@
 mod Routing
+mod Replying

@@ -1,8 +1,10 @@
 //! The coordinator's HTTP interface: requests in, the definitions' answers out, over any reader and writer.
 #![tactic(auto)]
 
+mod answer;
 mod denial;
 mod route;
 
+pub use answer::Answer;
 pub use denial::Denial;
-pub use route::{Place, Route, Routes};
+pub use route::{Place, Route, Routes, id_in};
