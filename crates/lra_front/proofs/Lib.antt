@@ -1,2 +1,3 @@
 mod Routing
 mod Replying
+mod Bodies

@@ -2,6 +2,7 @@
 #![tactic(auto)]
 
 mod answer;
+mod body;
 mod denial;
 mod route;
 
