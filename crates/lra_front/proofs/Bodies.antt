@@ -92,7 +92,7 @@ pub unread : (r : Route) (b : List ℕ) (v : Value) → reads_body r ≡ false �
 unread r b v e is = let blank = body_unread r b e in (blank ∙ rw is refl, some_of (body_of r b) (Some no_members) blank refl)
 
 pub read_denied : (r : Route) (b : List ℕ) (d : Denial) → reads_body r ≡ true → ReadsObject b (Err d) → ReadsBody r b (Err d)
-read_denied r b d e (inl memory) = inl memory
+read_denied r b d e (inl memory) = inl (e, memory)
 read_denied r b d e (inr (bad, none)) = inr (bad, body_read r b None e none)
 
 pub read_fits : (r : Route) (b : List ℕ) (v : Value) (t : Bool) → reads_body r ≡ true → ReadsObject b (Ok v)

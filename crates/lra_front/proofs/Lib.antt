@@ -1,3 +1,4 @@
 mod Routing
 mod Replying
 mod Bodies
+mod Wishing

@@ -1,4 +1,5 @@
 pub mod Routes
 pub mod Bodies
+pub mod Wishes
 pub mod Replies
 pub mod inner

@@ -1,2 +1,3 @@
 pub mod Seen
 pub mod Reads
+pub mod Finds

@@ -5,7 +5,9 @@ mod answer;
 mod body;
 mod denial;
 mod route;
+mod wish;
 
 pub use answer::Answer;
 pub use denial::Denial;
 pub use route::{Place, Route, Routes, id_in};
+pub use wish::Wish;

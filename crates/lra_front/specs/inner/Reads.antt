@@ -1,5 +1,5 @@
 -- What came of reading a body.
-use Rattle.std.specs.Prelude.{◌≡◌, ◌<◌, ◌⊎◌, ℕ, List, length, Option, None, IsSome, Result, Ok, Err}
+use Rattle.std.specs.Prelude.{◌≡◌, ◌<◌, ◌⊎◌, ℕ, List, length, true, Option, None, IsSome, Result, Ok, Err}
 use Rattle.serde_json.specs.declared.value.Value.{Value}
 use Rattle.serde_json.specs.Data.{Members}
 use Rattle.serde_json.specs.Find.{as_object}
@@ -14,13 +14,13 @@ use Rattle.lra_front.specs.Bodies.{object_in, body_of, reads_body}
 abbrev pub LacksMemory : List ℕ → Denial → Type 0
 LacksMemory body d = (d ≡ Refused refusal.Memory) × (0 < length body)
 
--- what a body's object came to
-abbrev pub ReadsMembers : List ℕ → Option Members → Result Value Denial → Type 0
-ReadsMembers body members (Ok value) = (members ≡ as_object (view value)) × IsSome members
-ReadsMembers body members (Err d) = LacksMemory body d ⊎ ((d ≡ BadBody) × (members ≡ None))
+-- what a body's members came to
+abbrev pub ReadsMembers : (Denial → Type 0) → Option Members → Result Value Denial → Type 0
+ReadsMembers Lacks members (Ok value) = (members ≡ as_object (view value)) × IsSome members
+ReadsMembers Lacks members (Err d) = Lacks d ⊎ ((d ≡ BadBody) × (members ≡ None))
 
 abbrev pub ReadsObject : List ℕ → Result Value Denial → Type 0
-ReadsObject body result = ReadsMembers body (object_in body) result
+ReadsObject body result = ReadsMembers (LacksMemory body) (object_in body) result
 
 abbrev pub ReadsBody : Route → List ℕ → Result Value Denial → Type 0
-ReadsBody r body result = ReadsMembers body (body_of r body) result
+ReadsBody r body result = ReadsMembers (λ d. (reads_body r ≡ true) × LacksMemory body d) (body_of r body) result
