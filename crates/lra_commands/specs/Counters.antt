@@ -1,10 +1,11 @@
 -- What a counter is told and what its callers know of the history behind it.
-use Rattle.std.specs.Prelude.{◌≡◌, ◌≢◌, ℕ, List, [], ◌++◌, Result, Ok, Err, IsOk, ⊤}
+use Rattle.std.specs.Prelude.{◌≡◌, ◌≢◌, ℕ, ◌≤◌, ◌<◌, ◌^◌, List, [], ◌++◌, Result, Ok, Err, IsOk, ⊤}
 use Rattle.lra_model.specs.declared.version.Version.{Version}
 use Rattle.lra_model.specs.History.{History}
 use Rattle.lra_commands.specs.declared.command.Command.{Command}
 use Rattle.lra_commands.specs.declared.command.Command.TheVariants as command
 use Rattle.lra_commands.specs.declared.command.Told.{Told}
+use Rattle.lra_commands.specs.declared.command.Told.TheVariants as told
 use Rattle.lra_commands.specs.declared.counter.Order.{Order}
 use Rattle.lra_commands.specs.declared.counter.Order.TheVariants as order
 use Rattle.lra_commands.specs.declared.counter.CounterFault.{CounterFault}
@@ -98,3 +99,31 @@ pub record OwnsHistory (before : Sight) (moment : ℕ) (o : Order) (reply : Resu
   pub same : IsSameCounter before after
   pub given : IsGivenAt before.setting before.seen (call_of before.number moment o) reply after.seen
   pub fresh : reply ≢ Err Worn
+
+-- a number that an identifier can have
+abbrev pub IsIdentifiable : ℕ → Type 0
+IsIdentifiable n = (1 ≤ n) × (n < 2 ^ 62)
+
+-- what an order can be told: one kind of answer, and numbers that identifiers can have
+abbrev pub CanTell : Order → Told → Type 0
+CanTell (order.Start parent limit) (told.Action n) = IsIdentifiable n
+CanTell (order.Join action uris) (told.Member n) = IsIdentifiable n
+CanTell (order.Join action uris) (told.AlreadyMember n) = IsIdentifiable n
+CanTell (order.Leave action member) told.Left = ⊤
+CanTell (order.Close action) (told.Now status) = ⊤
+CanTell (order.Close action) (told.Already status) = ⊤
+CanTell (order.Cancel action) (told.Now status) = ⊤
+CanTell (order.Cancel action) (told.Already status) = ⊤
+CanTell order.Tick (told.Fired action) = ⊤
+CanTell order.Tick told.Idle = ⊤
+CanTell (order.Report member ending) (told.MemberNow status) = ⊤
+CanTell (order.Report member ending) (told.MemberAlready status) = ⊤
+CanTell order.Restart told.Restarted = ⊤
+CanTell (order.Renew action limit) told.Renewed = ⊤
+CanTell (order.Status action) (told.ActionIs status) = ⊤
+CanTell (order.MemberStatus member) (told.MemberIs status) = ⊤
+CanTell _ _ = ⊥
+
+-- whatever a counter tells of an order is what such an order can be told
+abbrev pub CountersTell : Type 0
+CountersTell = (before after : Sight) (moment : ℕ) (o : Order) (t : Told) → KeepsHistory before moment o (Ok t) after → CanTell o t

@@ -10,6 +10,8 @@ mod refusal;
 
 pub use command::{Command, Told};
 pub use counter::{Counter, CounterFault, Order};
-pub use laws::{calls_leave_quiet_histories, commands_keep_histories, commands_make_histories};
+pub use laws::{
+    calls_leave_quiet_histories, commands_keep_histories, commands_make_histories, counters_tell,
+};
 pub use limits::{Limits, Terms};
 pub use refusal::{Refusal, Resource};
