@@ -2,3 +2,4 @@ mod Routing
 mod Replying
 mod Bodies
 mod Wishing
+mod Responding

@@ -2,4 +2,5 @@ pub mod Routes
 pub mod Bodies
 pub mod Wishes
 pub mod Replies
+pub mod Serving
 pub mod inner

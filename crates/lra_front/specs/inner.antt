@@ -1,3 +1,4 @@
 pub mod Seen
 pub mod Reads
 pub mod Finds
+pub mod Tellable

@@ -4,6 +4,7 @@
 mod answer;
 mod body;
 mod denial;
+mod respond;
 mod route;
 mod wish;
 
