@@ -3,3 +3,4 @@ mod Replying
 mod Bodies
 mod Wishing
 mod Responding
+mod Streaming

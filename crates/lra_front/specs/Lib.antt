@@ -3,4 +3,5 @@ pub mod Bodies
 pub mod Wishes
 pub mod Replies
 pub mod Serving
+pub mod Streams
 pub mod inner

@@ -2,3 +2,4 @@ pub mod Seen
 pub mod Reads
 pub mod Finds
 pub mod Tellable
+pub mod Sending

@@ -6,9 +6,11 @@ mod body;
 mod denial;
 mod respond;
 mod route;
+mod stream;
 mod wish;
 
 pub use answer::Answer;
 pub use denial::Denial;
 pub use route::{Place, Route, Routes, id_in};
+pub use stream::{Clock, Served, StreamEnd, serve_request};
 pub use wish::Wish;
