@@ -11,7 +11,6 @@ use Rattle.lra_front.specs.inner.Reads.{ReadsObject, ReadsBody}
 use Rattle.serde_json.specs.Read.{read}
 use Rattle.serde_json.specs.Find.{as_object}
 use Rattle.lra_front.specs.declared.route.Route.{Route}
-use Rattle.std.proofs.lemmas.Option.{none-some}
 use Rattle.lra_model.specs.declared.status.Ending.{Ending}
 use Rattle.lra_model.specs.declared.status.Ending.TheVariants as ending
 use Rattle.lra_model.specs.Names.{ending_name}

@@ -1,14 +1,12 @@
 -- The text of a reply, from its parts.
-use Rattle.std.proofs.Common.{◌≡◌, ℕ, ◌<◌, Bool, true, false, if◌then◌else◌, List, [], ◌∷◌, ◌++◌, length, map, refl, sym, ap, ◌∙◌, arith, Option, Err, decimal, codes}
-use Rattle.std.specs.Io.KnownBytes.{Appends}
+use Rattle.std.proofs.Common.{◌≡◌, ℕ, ◌<◌, Bool, if◌then◌else◌, List, [], ◌∷◌, ◌++◌, length, map, refl, ap, arith, Option, Err, decimal, codes}
 use Rattle.std.specs.List.{flat_map}
 use Rattle.std.proofs.KnownBytes.{Appends-nil}
-use Rattle.std.proofs.lemmas.List.{length-append}
 use Rattle.serde_json.specs.Written.{compact_text}
 use Rattle.lra_wire.specs.declared.fault.WireFault.TheVariants.{Memory}
 use Rattle.lra_wire.specs.Writing as wire
 use Rattle.lra_front.specs.declared.answer.Answer.{Answer}
-use Rattle.lra_front.specs.Replies.{Field, code_of, phrase_of, body_of, uri_of, fields_of, line_of, reply_text, reply_bytes}
+use Rattle.lra_front.specs.Replies.{code_of, phrase_of, body_of, uri_of, fields_of, line_of, reply_bytes}
 use Rattle.lra_front.specs.inner.Seen.{seen}
 use denote.Ref.{Bor}
 

@@ -1,5 +1,5 @@
 -- What is told of what was asked can be answered.
-use Rattle.std.proofs.Common.{◌≡◌, ℕ, List, ◌⊎◌, inl, inr, Option, Some, None, Result, Ok, Err, refl, sym, ap, subst}
+use Rattle.std.proofs.Common.{◌≡◌, ℕ, List, inl, inr, Option, Some, None, Result, Ok, Err, sym, ap, subst}
 use Rattle.std.specs.Prelude.{codes, unwrap_or, MatchOption, ⊤}
 use Rattle.std.specs.Result.{result_ok, MatchResult}
 use Rattle.serde_json.specs.Data.{Members}
@@ -7,7 +7,7 @@ use denote.Ref.{Bor}
 use Rattle.lra_model.specs.declared.status.Ending.{Ending}
 use Rattle.lra_model.specs.Addresses.{Addresses}
 use Rattle.lra_wire.specs.Request.{Request}
-use Rattle.lra_ids.specs.Identifiers.{id_text, action_uri, recovery_uri, IsSpelling}
+use Rattle.lra_ids.specs.Identifiers.{id_text, action_uri, recovery_uri}
 use Rattle.lra_commands.specs.declared.command.Told.{Told}
 use Rattle.lra_commands.specs.declared.command.Told.TheVariants as told
 use Rattle.lra_commands.specs.declared.counter.Order.{Order}
@@ -23,7 +23,7 @@ use Rattle.lra_front.specs.declared.wish.Wish.{Wish}
 use Rattle.lra_front.specs.declared.wish.Wish.TheVariants as wish
 use Rattle.lra_front.specs.Routes.{route_of, id_in}
 use Rattle.lra_front.specs.Bodies.{body_of, text_under}
-use Rattle.lra_front.specs.Wishes.{no_action, no_member, limit_in, IsNamed, IsStart, IsOfAction, IsOfMember, IsWish, Asks, MayAsk, IsOrder}
+use Rattle.lra_front.specs.Wishes.{no_action, no_member, limit_in, IsNamed, IsOfAction, IsOfMember, IsWish, MayAsk, IsOrder}
 use Rattle.lra_front.specs.inner.Tellable.{IsTellable, IsAnswerable}
 
 -- ---- the action of which the status is asked

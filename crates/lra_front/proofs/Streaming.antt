@@ -1,5 +1,5 @@
 -- What a stream does, put together.
-use Rattle.std.proofs.Common.{◌≡◌, ◌≢◌, ℕ, ◌<◌, Bool, true, false, List, [], ◌++◌, length, Option, Some, None, Result, Ok, Err, inl, inr, ap, subst, arith}
+use Rattle.std.proofs.Common.{◌≡◌, ℕ, zero, suc, ◌-◌, ◌<◌, Bool, true, false, List, ◌++◌, length, Option, Result, Err, inl, inr, ap, subst, arith}
 use Rattle.std.specs.Prelude.{unwrap_or}
 use Rattle.std.specs.Result.{result_err}
 use Rattle.std.proofs.lemmas.List.{length-append}
@@ -50,3 +50,25 @@ cut_ends v old new end fault e h =
     let same : fault ≡ Cut = ap (λ r. unwrap_or (result_err r) Cut) e in
     let P : WireFault → Type 0 = λ f. Denies v f old new end in
     ap Ended (cut_by v old new end (subst P same h))
+
+-- ---- one request after another
+
+module _ {K : Type 0} (gives : Sight → ℕ → Order → Result Told CounterFault → Sight → Type 0) (tells : K → ℕ → K → Type 0) where
+  pub ends_now : (n : ℕ) (s t : Standing K) (end : StreamEnd) → 0 < n → EndsAt gives tells false s end t → ServesUpTo gives tells n s end t
+  unfolding ServesUpTo
+  ends_now zero s t end some h = absurd (omega arith)
+  ends_now (suc n) s t end some h = inl h
+
+  pub goes_on : (n : ℕ) (s u t : Standing K) (end : StreamEnd) → 0 < n → Replied gives tells false false s u → ServesUpTo gives tells (n - 1) u end t
+      → ServesUpTo gives tells n s end t
+  unfolding ServesUpTo
+  goes_on zero s u t end some h rest = absurd (omega arith)
+  goes_on (suc n) s u t end some h rest =
+      let e : suc n - 1 ≡ n = omega arith in
+      let P : ℕ → Type 0 = λ m. ServesUpTo gives tells m u end t in
+      inr (u, h, subst P e rest)
+
+  pub ends_last : (n : ℕ) (s t : Standing K) (end : StreamEnd) → n ≡ 0 → EndsAt gives tells true s end t → ServesUpTo gives tells n s end t
+  unfolding ServesUpTo
+  ends_last zero s t end none h = h
+  ends_last (suc n) s t end none h = absurd (omega (arith, none))

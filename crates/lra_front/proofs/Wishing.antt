@@ -1,5 +1,5 @@
 -- What is asked for, from what was found.
-use Rattle.std.proofs.Common.{◌≡◌, ℕ, List, Bool, true, false, inl, inr, IsTrue, Option, Some, None, IfSome, Result, Ok, Err, refl, sym, ◌∙◌, true≢false}
+use Rattle.std.proofs.Common.{◌≡◌, ℕ, List, true, inl, inr, Option, Some, None, IfSome, Result, sym, true≢false}
 use Rattle.serde_json.specs.Data.{Members}
 use Rattle.lra_ids.specs.Identifiers.{id_text, IsSpelling}
 use Rattle.lra_front.specs.declared.route.Route.{Route}

@@ -1,14 +1,11 @@
 -- What one request does: what is given to the counter, and what is answered.
-use Rattle.std.specs.Prelude.{◌≡◌, ℕ, Bool, ◌||◌, ◌==◌, List, [], ◌∷◌, ◌++◌, bytes_eq, codes, Option, Some, None, Result, Ok, Err}
+use Rattle.std.specs.Prelude.{◌≡◌, ℕ, Result, Ok, Err}
 use Rattle.lra_wire.specs.Request.{Request}
-use Rattle.lra_wire.specs.declared.fault.WireFault.{WireFault}
-use Rattle.lra_wire.specs.declared.fault.WireFault.TheVariants as wire
 use Rattle.lra_commands.specs.declared.command.Told.{Told}
 use Rattle.lra_commands.specs.declared.command.Told.TheVariants as told
 use Rattle.lra_commands.specs.declared.counter.Order.{Order}
 use Rattle.lra_commands.specs.declared.counter.CounterFault.{CounterFault}
 use Rattle.lra_commands.specs.declared.counter.CounterFault.TheVariants.{Refused as CounterRefused, Worn as CounterWorn}
-use Rattle.lra_commands.specs.declared.refusal.Refusal.TheVariants as refusal
 use Rattle.lra_commands.specs.Counters.{Sight}
 use Rattle.lra_front.specs.declared.denial.Denial.{Denial}
 use Rattle.lra_front.specs.declared.denial.Denial.TheVariants as denial

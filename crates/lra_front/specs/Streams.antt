@@ -111,6 +111,16 @@ module _ {K : Type 0} (gives : Sight → ℕ → Order → Result Told CounterFa
   Serves last s (Ended end) t = EndsAt last s end t
 
   -- What a stream does, of which so many requests are taken and one more: the next one, and then the rest.
-  abbrev pub ServesUpTo : ℕ → Standing K → StreamEnd → Standing K → Type 0
+  unfoldable pub ServesUpTo : ℕ → Standing K → StreamEnd → Standing K → Type 0
   ServesUpTo zero s end t = EndsAt true s end t
   ServesUpTo (suc n) s end t = EndsAt false s end t ⊎ ((u : Standing K) × Replied false false s u × ServesUpTo n u end t)
+
+  -- Memory was refused before anything was read, and nothing is done.
+  pub record NotBegun (s : Standing K) (end : StreamEnd) (t : Standing K) : Type 0 where
+    pub memory : end ≡ Refused wire.Memory
+    pub rests : Rests s t
+    pub wrote : Keeps s.out t.out
+
+  -- what a stream does: at most 1,000 requests are taken of it (this project's limit)
+  abbrev pub ServesStream : Standing K → StreamEnd → Standing K → Type 0
+  ServesStream s end t = NotBegun s end t ⊎ ServesUpTo 999 s end t

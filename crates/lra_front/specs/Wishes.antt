@@ -1,5 +1,5 @@
 -- What a request asks of the coordinator.
-use Rattle.std.specs.Prelude.{◌≡◌, ◌⊎◌, ℕ, List, [], true, codes, Option, Some, None, MatchOption, unwrap_or, Result, Ok, Err}
+use Rattle.std.specs.Prelude.{◌≡◌, ◌⊎◌, ℕ, List, [], true, codes, Some, None, MatchOption, unwrap_or, Result, Ok, Err}
 use Rattle.std.specs.Result.{MatchResult}
 use Rattle.serde_json.specs.Data.{Members}
 use Rattle.lra_model.specs.declared.status.Ending.{Ending}

@@ -12,5 +12,5 @@ mod wish;
 pub use answer::Answer;
 pub use denial::Denial;
 pub use route::{Place, Route, Routes, id_in};
-pub use stream::{Clock, Served, StreamEnd, serve_request};
+pub use stream::{Clock, Served, StreamEnd, serve_request, serve_stream};
 pub use wish::Wish;

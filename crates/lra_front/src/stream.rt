@@ -1,7 +1,6 @@
 //! Streams of requests, answered one after another.
 
-ghost use Rattle.std.specs.Prelude.{◌≡◌, IsTrue, IsFalse, Ok, Err};
-ghost use Rattle.std.specs.Io.KnownBytes.{Appends, Keeps};
+ghost use Rattle.std.specs.Prelude.{◌≡◌, ℕ, List, Option, IsTrue, IsFalse};
 ghost use Rattle.lra_wire.specs.declared.fault.WireFault.TheVariants as wire;
 ghost use Rattle.lra_wire.specs.Inbox.{stream_of, is_spent};
 ghost use Rattle.lra_wire.specs.Request.{request_of};
@@ -141,4 +140,56 @@ pub fn serve_request<R: Read + Drop, W: Write, C: Counter, K: Clock>(
         Ok(None) => Served::Ended(StreamEnd::Done),
         Err(fault) => Served::Ended(refuse(alloc, writer, counter, fault)),
     }
+}
+
+/// How many requests are taken of a stream at most.
+const MOST_REQUESTS: u64 = 1000;
+
+/// Answers the requests of an inbox.
+fn serve_inbox<R: Read + Drop, W: Write, C: Counter, K: Clock>(
+    alloc: Global,
+    routes: &Routes,
+    inbox: &mut Inbox<R>,
+    writer: &mut W,
+    counter: &mut C,
+    clock: &mut K,
+) -> StreamEnd
+    requires { IsFalse (is_spent inbox.old) }
+    ensures { spec.ServesUpTo C.gives K.tells 999
+        (spec.standing (stream_of R.remaining inbox.old) (C.sight counter.old) clock.old (W.contents writer.old)) result
+        (spec.standing (stream_of R.remaining inbox.new) (C.sight counter.new) clock.new (W.contents writer.new)) }
+{
+    let mut others = MOST_REQUESTS - 1;
+    while others > 0 {
+        match serve_request(alloc, routes, inbox, writer, counter, clock, false) {
+            Served::Ended(end) => return end,
+            Served::Going => others -= 1,
+        }
+    }
+    match serve_request(alloc, routes, inbox, writer, counter, clock, true) {
+        Served::Ended(end) => end,
+        Served::Going => unreachable!(),
+    }
+}
+
+/// Answers the requests that a reader gives, one after another: up to its end, to one after which the stream is closed, to
+/// a fault, or to the 1,000th. What was asked for stands, whether or not its reply could be written.
+pub fn serve_stream<R: Read + Drop, W: Write, C: Counter, K: Clock>(
+    alloc: Global,
+    reader: R,
+    writer: &mut W,
+    counter: &mut C,
+    clock: &mut K,
+) -> StreamEnd
+    ensures { (rest : Option (List ℕ)) × spec.ServesStream C.gives K.tells
+        (spec.standing (R.remaining reader) (C.sight counter.old) clock.old (W.contents writer.old)) result
+        (spec.standing rest (C.sight counter.new) clock.new (W.contents writer.new)) }
+{
+    let Ok(routes) = Routes::new(alloc) else {
+        return StreamEnd::Refused(WireFault::Memory);
+    };
+    let Ok(mut inbox) = Inbox::new(alloc, reader) else {
+        return StreamEnd::Refused(WireFault::Memory);
+    };
+    serve_inbox(alloc, &routes, &mut inbox, writer, counter, clock)
 }

@@ -1,5 +1,5 @@
-use Rattle.std.proofs.Common.{rules, inr, refl, sym, ◌∙◌, ◌<◌, ℕ, length, arith}
-use Rattle.lra_front.proofs.Bodies.{found_empty, found_object, found_other, object_err}
+use Rattle.std.proofs.Common.{rules, inr, refl, sym, ◌∙◌}
+use Rattle.lra_front.proofs.Bodies.{found_empty, found_object, object_err}
 use Rattle.lra_front.proofs.body.object_in.Goals as goal
 
 pub returns-then-is_empty : goal.returns-then-is_empty

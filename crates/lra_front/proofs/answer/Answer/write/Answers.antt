@@ -1,7 +1,5 @@
-use Rattle.std.proofs.Common.{rules, subst, ◌∙◌, ap, ℕ, List}
-use Rattle.serde_json.specs.Written.{compact_text}
+use Rattle.std.proofs.Common.{rules, subst, ℕ, List}
 use Rattle.lra_wire.specs.Writing.{Sends}
-use Rattle.lra_front.specs.Replies.{body_of, uri_of}
 use Rattle.lra_front.proofs.Replying.{none_sent, same_text}
 use Rattle.lra_front.proofs.answer.Answer.write.Goals as goal
 

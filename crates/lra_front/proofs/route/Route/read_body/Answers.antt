@@ -1,4 +1,4 @@
-use Rattle.std.proofs.Common.{rules, sym, ◌∙◌}
+use Rattle.std.proofs.Common.{rules}
 use Rattle.lra_front.proofs.Bodies.{unread, read_denied, read_fits, read_unfit}
 use Rattle.lra_front.proofs.route.Route.read_body.Goals as goal
 

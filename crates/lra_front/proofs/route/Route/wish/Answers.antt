@@ -1,7 +1,6 @@
-use Rattle.std.proofs.Common.{rules, ◌≡◌, true}
+use Rattle.std.proofs.Common.{rules}
 use Rattle.serde_json.specs.Find.{as_object}
 use Rattle.serde_json.specs.View.{view}
-use Rattle.lra_front.specs.inner.Finds.{is_of_action}
 use Rattle.lra_front.proofs.Wishing.{wish_of_action}
 use Rattle.lra_front.proofs.route.Route.wish.Goals as goal
 

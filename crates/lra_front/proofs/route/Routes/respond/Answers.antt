@@ -1,4 +1,3 @@
-use Rattle.std.proofs.Common.{rules}
 use Rattle.lra_wire.specs.Request.{request_of}
 use Rattle.lra_front.proofs.Responding.{answerable}
 use Rattle.lra_front.proofs.route.Routes.respond.Goals as goal
