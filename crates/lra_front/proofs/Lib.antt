@@ -4,3 +4,4 @@ mod Bodies
 mod Wishing
 mod Responding
 mod Streaming
+mod Transcribed

@@ -4,4 +4,5 @@ pub mod Wishes
 pub mod Replies
 pub mod Serving
 pub mod Streams
+pub mod Transcripts
 pub mod inner

@@ -4,6 +4,7 @@
 mod answer;
 mod body;
 mod denial;
+mod laws;
 mod respond;
 mod route;
 mod stream;
@@ -11,6 +12,7 @@ mod wish;
 
 pub use answer::Answer;
 pub use denial::Denial;
+pub use laws::streams_are_transcripts;
 pub use route::{Place, Route, Routes, id_in};
 pub use stream::{Clock, Served, StreamEnd, serve_request, serve_stream};
 pub use wish::Wish;
