@@ -1,5 +1,5 @@
 -- What a whole stream comes to, as lists: the requests that its bytes spell, the moments, the answers, and the bytes of the replies.
-use Rattle.std.specs.Prelude.{◌≡◌, ◌⊎◌, ℕ, zero, suc, ◌<◌, Bool, true, false, List, [], ◌∷◌, ◌++◌, length, Option, Some, Result, ⊤}
+use Rattle.std.specs.Prelude.{◌≡◌, ◌⊎◌, ℕ, zero, suc, ◌<◌, Bool, true, false, List, [], ◌∷◌, ◌++◌, length, Some, Result, ⊤}
 use Rattle.std.specs.Option.{option_map_or}
 use Rattle.lra_wire.specs.declared.fault.WireFault.{WireFault}
 use Rattle.lra_wire.specs.Request.{Request, IsRequest, RefusesRequest}

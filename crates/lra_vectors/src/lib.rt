@@ -6,6 +6,8 @@ mod auditor;
 #[cfg(test)]
 mod coordinator;
 #[cfg(test)]
+mod front;
+#[cfg(test)]
 mod ids;
 #[cfg(test)]
 mod journal;

@@ -1,7 +1,7 @@
 //! HTTP/1.1 messages, read in pieces and written by turns.
 mod faults;
 mod memory;
-mod pieces;
+pub(crate) mod pieces;
 mod requests;
 mod responses;
 mod writing;

@@ -6,10 +6,10 @@ use std::io::{Read, Write};
 
 /// Gives at most `size` bytes a call. At the end it fails, where it is told to.
 #[derive(Drop)]
-pub(super) struct Pieces<'a> {
-    rest: &'a [u8],
-    size: usize,
-    fails: bool,
+pub(crate) struct Pieces<'a> {
+    pub(crate) rest: &'a [u8],
+    pub(crate) size: usize,
+    pub(crate) fails: bool,
 }
 
 impl Read for Pieces<'_> {
@@ -37,10 +37,10 @@ pub(super) fn in_pieces(
 
 /// Takes at most `size` bytes a call, and `room` in all, and then fails.
 #[derive(Drop)]
-pub(super) struct Sink {
-    pub(super) taken: Vec<u8>,
-    pub(super) size: usize,
-    pub(super) room: usize,
+pub(crate) struct Sink {
+    pub(crate) taken: Vec<u8>,
+    pub(crate) size: usize,
+    pub(crate) room: usize,
 }
 
 impl Write for Sink {
