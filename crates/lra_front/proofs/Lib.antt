@@ -5,3 +5,4 @@ mod Wishing
 mod Responding
 mod Streaming
 mod Transcribed
+mod Worked

@@ -224,7 +224,7 @@ impl Route {
             Route::Start => start(instance, base, body),
             Route::MemberStatus | Route::Report => match find_member(id, instance) {
                 Ok(member) => Ok(self.of_member(member, body)),
-                Err(denial) => Err(denial),
+                Err(unread) => Err(unread),
             },
             _ => match find_action(id, instance) {
                 Ok(action) => self.of_action(alloc, instance, base, action, body),
