@@ -6,3 +6,4 @@ pub mod KeepsLate
 pub mod KeepsOwn
 pub mod Rests
 pub mod Worked
+pub mod Tells

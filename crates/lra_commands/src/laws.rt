@@ -1,5 +1,6 @@
 //! Laws of coordinators: public functions that do nothing, whose contracts say what holds whatever commands are given.
 
+ghost use Rattle.lra_commands.specs.Counters.{CountersTell};
 ghost use Rattle.lra_commands.specs.Runs.{CallsKeepHistories, CallsLeaveQuiet, CallsMakeHistories};
 
 /// Whatever commands are given to a coordinator, by any clerks, at any moments and in any order, refused ones among
@@ -17,4 +18,10 @@ pub fn commands_make_histories()
 /// follows by itself, however much that is.
 pub fn calls_leave_quiet_histories()
     ensures { CallsLeaveQuiet }
+{}
+
+/// Whatever a counter tells of an order is of the one kind that such an order is told, and a number in it is one that an
+/// identifier can have.
+pub fn counters_tell()
+    ensures { CountersTell }
 {}

@@ -8,6 +8,8 @@ mod coordinator;
 #[cfg(test)]
 mod courier;
 #[cfg(test)]
+mod front;
+#[cfg(test)]
 mod ids;
 #[cfg(test)]
 mod journal;

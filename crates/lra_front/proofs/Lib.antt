@@ -1,0 +1,8 @@
+mod Routing
+mod Replying
+mod Bodies
+mod Wishing
+mod Responding
+mod Streaming
+mod Transcribed
+mod Worked

@@ -1,0 +1,22 @@
+-- What a router has after each path.
+use Rattle.std.proofs.Common.{◌≡◌, ℕ, List, [], ◌∷◌, Result, Ok, Err, OnOk, refl}
+use Rattle.matchit.specs.Rows.{RowsOf}
+use Rattle.matchit.specs.Route.{Scan, parse_route}
+use Rattle.matchit.specs.Router.{RouteOf, InsertsRead}
+use Rattle.matchit.specs.declared.error.InsertError.{InsertError}
+use Rattle.lra_front.specs.declared.route.Place.{Place}
+use Rattle.lra_front.specs.Routes.{with_path, with_paths}
+
+pub inserted : (x : Result Scan InsertError) (p : Place) (old new : RowsOf (RouteOf Place)) (r : Result (Unit {0}) InsertError)
+    → InsertsRead x p old new r → OnOk r (new ≡ with_path x p old)
+inserted (Ok scan) p old new (Ok u) h = h.1
+inserted (Err error) p old new (Ok u) h = h.0
+inserted (Ok scan) p old new (Err e) h = tt
+inserted (Err error) p old new (Err e) h = tt
+
+-- seven paths, one after another
+pub seven : (a b c d e f g : List ℕ × Place) (r0 r1 r2 r3 r4 r5 r6 r7 : RowsOf (RouteOf Place))
+    → r0 ≡ [] → r1 ≡ with_path (parse_route a.0) a.1 r0 → r2 ≡ with_path (parse_route b.0) b.1 r1 → r3 ≡ with_path (parse_route c.0) c.1 r2
+    → r4 ≡ with_path (parse_route d.0) d.1 r3 → r5 ≡ with_path (parse_route e.0) e.1 r4 → r6 ≡ with_path (parse_route f.0) f.1 r5
+    → r7 ≡ with_path (parse_route g.0) g.1 r6 → r7 ≡ with_paths (a ∷ b ∷ c ∷ d ∷ e ∷ f ∷ g ∷ []) []
+seven a b c d e f g r0 r1 r2 r3 r4 r5 r6 r7 h0 h1 h2 h3 h4 h5 h6 h7 = rw (h7, h6, h5, h4, h3, h2, h1, h0) refl

@@ -1,0 +1,21 @@
+use Rattle.std.proofs.Common.{rules, subst, ℕ, List}
+use Rattle.lra_wire.specs.Writing.{Sends}
+use Rattle.lra_front.proofs.Replying.{none_sent, same_text}
+use Rattle.lra_front.proofs.answer.Answer.write.Goals as goal
+
+pub returns-in_default-clause-text : goal.returns-in_default-clause-text
+returns-in_default-clause-text g c =
+    none_sent (g.W.Write.contents c.args.writer.now) c.args.instance c.args.base.now c.args.self c.args.head c.args.close
+
+pub returns-in_default-fields-clause-text : goal.returns-in_default-fields-clause-text
+returns-in_default-fields-clause-text g c =
+    none_sent (g.W.Write.contents c.args.writer.now) c.args.instance c.args.base.now c.args.self c.args.head c.args.close
+
+pub returns-clause-text : goal.returns-clause-text
+returns-clause-text g c =
+    let P : List ℕ → Type 0 =
+    λ text. Sends (g.W.Write.contents c.args.writer.now) (g.W.Write.contents c.write_response.new.writer) text c.write_response.result in
+    subst P
+    (same_text c.args.instance c.args.base.now c.args.self c.args.head c.args.close _ _ _ _
+    (search rules) (search rules) (search rules) (search rules))
+    c.write_response.ensures.text

@@ -1,0 +1,10 @@
+use Rattle.std.proofs.Common.{rules}
+use Rattle.serde_json.specs.Find.{as_object}
+use Rattle.serde_json.specs.View.{view}
+use Rattle.lra_front.proofs.Wishing.{wish_of_action}
+use Rattle.lra_front.proofs.route.Route.wish.Goals as goal
+
+pub returns-in-Ok-find_action : goal.returns-in-Ok-find_action
+returns-in-Ok-find_action c =
+    wish_of_action c.args.instance c.args.base.now c.args.id.now (as_object (view c.args.body.now)) c.args.self c.in-Ok-find_action.action c.of_action.result
+    (search rules) c.in-Ok-find_action.ensures c.of_action.ensures

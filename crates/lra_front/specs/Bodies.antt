@@ -1,0 +1,101 @@
+-- What the body of a request says.
+use Rattle.std.specs.Prelude.{ℕ, Bool, true, false, ◌&&◌, is_some, if◌then◌else◌, List, [], ◌∷◌, codes, bytes_eq, Option, Some, None, option_and_then}
+use Rattle.std.specs.Option.{option_map_or}
+use Rattle.std.specs.List.{find}
+use Rattle.std.specs.Str.{is_utf8}
+use Rattle.serde_json.specs.Data.{Data, Members, no_members, member}
+use Rattle.serde_json.specs.Read.{read}
+use Rattle.serde_json.specs.Find.{get_member, as_object, as_str, as_number, as_u64}
+use Rattle.lra_model.specs.declared.status.Ending.{Ending}
+use Rattle.lra_model.specs.declared.status.Ending.TheVariants as ending
+use Rattle.lra_model.specs.Names.{ending_name}
+use Rattle.lra_model.specs.Addresses.{Addresses}
+use Rattle.lra_model.specs.Words.{when}
+use Rattle.lra_front.specs.declared.route.Route.{Route}
+use Rattle.lra_front.specs.declared.route.Route.TheVariants as route
+use Rattle.lra_front.specs.declared.body.Kind.{Kind}
+use Rattle.lra_front.specs.declared.body.Kind.TheVariants.{Text, Number}
+
+-- the keys that a route's body may have, each with the kind of its value (this project's own)
+abbrev pub keys : Route → List (List ℕ × Kind)
+keys route.Start = (codes "parent", Text) ∷ (codes "limit", Number) ∷ []
+keys route.Join =
+    (codes "compensate", Text) ∷ (codes "complete", Text) ∷ (codes "status", Text) ∷ (codes "forget", Text) ∷ (codes "after", Text) ∷ []
+keys route.Remove = (codes "recovery", Text) ∷ []
+keys route.Renew = (codes "limit", Number) ∷ []
+keys route.Report = (codes "status", Text) ∷ []
+keys _ = []
+
+-- the kind of a key's value, if it is among these keys
+abbrev pub kind_in : List ℕ → List (List ℕ × Kind) → Option Kind
+kind_in key [] = None
+kind_in key (k ∷ rest) = if bytes_eq key k.0 then Some k.1 else kind_in key rest
+
+-- a value is of a kind: a text, or a number in digits alone, below 2^64
+abbrev pub is_kind : Data → Kind → Bool
+is_kind value Text = is_some (as_str value)
+is_kind value Number = is_some (option_and_then as_u64 (as_number value))
+
+-- a route's body may have that value under that key
+abbrev pub member_fits : Route → List ℕ → Data → Bool
+member_fits r key value = option_map_or (is_kind value) (kind_in key (keys r)) false
+
+-- a route's body may have these members
+abbrev pub members_fit : Route → Members → Bool
+members_fit r no_members = true
+members_fit r (member key value rest) = member_fits r key value && members_fit r rest
+
+-- the text and the number under a key
+abbrev pub text_under : List ℕ → Members → Option (List ℕ)
+text_under key members = option_and_then as_str (get_member key members)
+
+abbrev pub number_under : List ℕ → Members → Option ℕ
+number_under key members = option_and_then as_u64 (option_and_then as_number (get_member key members))
+
+-- the ends of a member
+abbrev pub endings : List Ending
+endings = ending.Completed ∷ ending.FailedToComplete ∷ ending.Compensated ∷ ending.FailedToCompensate ∷ []
+
+-- the end of a member that has this name
+abbrev pub ending_named : List ℕ → Option Ending
+ending_named text = find (λ e. bytes_eq text (ending_name e)) endings
+
+-- the end that a member tells
+abbrev pub ending_told : Members → Option Ending
+ending_told members = option_and_then ending_named (text_under (codes "status") members)
+
+-- the addresses that a member gives
+abbrev pub addresses_given : Members → Addresses
+addresses_given members = record {
+  compensate = text_under (codes "compensate") members;
+  complete = text_under (codes "complete") members;
+  status = text_under (codes "status") members;
+  forget = text_under (codes "forget") members;
+  after = text_under (codes "after") members;
+}
+
+-- what a route's body needs is there
+abbrev pub has_needed : Route → Members → Bool
+has_needed route.Remove m = is_some (text_under (codes "recovery") m)
+has_needed route.Renew m = is_some (number_under (codes "limit") m)
+has_needed route.Report m = is_some (ending_told m)
+has_needed _ m = true
+
+-- the object that a body is; an empty body is one without members
+abbrev pub object_in : List ℕ → Option Members
+object_in [] = Some no_members
+object_in (b ∷ rest) = if is_utf8 (b ∷ rest) then option_and_then as_object (read (b ∷ rest)) else None
+
+-- whether a route reads its body: those that a GET asks for don't
+abbrev pub reads_body : Route → Bool
+reads_body route.Status = false
+reads_body route.MemberStatus = false
+reads_body _ = true
+
+-- the members, where they make a body that the route reads
+abbrev pub fitting : Route → Members → Option Members
+fitting r members = when (members_fit r members && has_needed r members) members
+
+-- what a body says, where it is one that the route reads
+unfoldable pub body_of : Route → List ℕ → Option Members
+body_of r body = if reads_body r then option_and_then (fitting r) (object_in body) else Some no_members

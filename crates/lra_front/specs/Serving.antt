@@ -1,0 +1,58 @@
+-- What one request does: what is given to the counter, and what is answered.
+use Rattle.std.specs.Prelude.{◌≡◌, ℕ, Result, Ok, Err}
+use Rattle.lra_wire.specs.Request.{Request}
+use Rattle.lra_commands.specs.declared.command.Told.{Told}
+use Rattle.lra_commands.specs.declared.command.Told.TheVariants as told
+use Rattle.lra_commands.specs.declared.counter.Order.{Order}
+use Rattle.lra_commands.specs.declared.counter.CounterFault.{CounterFault}
+use Rattle.lra_commands.specs.declared.counter.CounterFault.TheVariants.{Refused as CounterRefused, Worn as CounterWorn}
+use Rattle.lra_commands.specs.Counters.{Sight}
+use Rattle.lra_front.specs.declared.denial.Denial.{Denial}
+use Rattle.lra_front.specs.declared.denial.Denial.TheVariants as denial
+use Rattle.lra_front.specs.declared.wish.Wish.{Wish}
+use Rattle.lra_front.specs.declared.wish.Wish.TheVariants as wish
+use Rattle.lra_front.specs.declared.answer.Answer.{Answer}
+use Rattle.lra_front.specs.declared.answer.Answer.TheVariants as answer
+use Rattle.lra_front.specs.Wishes.{MayAsk, IsOrder}
+
+-- what is answered where something is told of what was asked: a repeat is answered as the first time
+abbrev pub TellsOf : Wish → Told → Answer → Type 0
+TellsOf (wish.Start parent limit) (told.Action n) a = a ≡ answer.Started n
+TellsOf (wish.Join action uris) (told.Member n) a = a ≡ answer.Joined n
+TellsOf (wish.Join action uris) (told.AlreadyMember n) a = a ≡ answer.Joined n
+TellsOf (wish.Leave action m) told.Left a = a ≡ answer.Left
+TellsOf (wish.Close action) (told.Now status) a = a ≡ answer.Turned status
+TellsOf (wish.Close action) (told.Already status) a = a ≡ answer.Turned status
+TellsOf (wish.Cancel action) (told.Now status) a = a ≡ answer.Turned status
+TellsOf (wish.Cancel action) (told.Already status) a = a ≡ answer.Turned status
+TellsOf (wish.Renew action limit) told.Renewed a = a ≡ answer.Renewed
+TellsOf (wish.Status action) (told.ActionIs status) a = a ≡ answer.Found action status
+TellsOf (wish.Report m e) (told.MemberNow status) a = a ≡ answer.Member status
+TellsOf (wish.Report m e) (told.MemberAlready status) a = a ≡ answer.Member status
+TellsOf (wish.MemberStatus m) (told.MemberIs status) a = a ≡ answer.Member status
+TellsOf _ _ a = ⊥
+
+-- what is answered to a counter's reply
+abbrev pub Answers : Wish → Result Told CounterFault → Answer → Type 0
+Answers w (Ok t) a = TellsOf w t a
+Answers w (Err (CounterRefused r)) a = a ≡ answer.Denied (denial.Refused r)
+Answers w (Err CounterWorn) a = a ≡ answer.Denied denial.Worn
+
+module _ (gives : Sight → ℕ → Order → Result Told CounterFault → Sight → Type 0) where
+  -- what is asked for is given to the counter as one order, and the reply is answered
+  pub record Gives (before : Sight) (moment : ℕ) (w : Wish) (after : Sight) (a : Answer) : Type 0 where
+    pub order : Order
+    pub asked : IsOrder w order
+    pub reply : Result Told CounterFault
+    pub given : gives before moment order reply after
+    pub answered : Answers w reply a
+
+  -- what is denied is given to nobody
+  abbrev pub Does : Sight → ℕ → Result Wish Denial → Sight → Answer → Type 0
+  Does before moment (Ok w) after a = Gives before moment w after a
+  Does before moment (Err d) after a = (a ≡ answer.Denied d) × (after ≡ before)
+
+  -- what a request does at a moment: one order at most, and its answer
+  abbrev pub Responds : Sight → ℕ → Request → Sight → Answer → Type 0
+  Responds before moment request after a =
+      (w : Result Wish Denial) × MayAsk before.setting.instance before.setting.base request w × Does before moment w after a

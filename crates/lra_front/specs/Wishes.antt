@@ -1,0 +1,96 @@
+-- What a request asks of the coordinator.
+use Rattle.std.specs.Prelude.{◌≡◌, ◌⊎◌, ℕ, List, [], true, codes, Some, None, MatchOption, unwrap_or, Result, Ok, Err}
+use Rattle.std.specs.Result.{MatchResult}
+use Rattle.serde_json.specs.Data.{Members}
+use Rattle.lra_model.specs.declared.status.Ending.{Ending}
+use Rattle.lra_model.specs.declared.status.Ending.TheVariants as ending
+use Rattle.lra_ids.specs.Identifiers.{id_text, action_uri, recovery_uri, IsSpelling}
+use Rattle.lra_wire.specs.Request.{Request}
+use Rattle.lra_commands.specs.declared.refusal.Refusal.TheVariants as refusal
+use Rattle.lra_commands.specs.declared.counter.Order.{Order}
+use Rattle.lra_commands.specs.declared.counter.Order.TheVariants as order
+use Rattle.lra_front.specs.declared.route.Route.{Route}
+use Rattle.lra_front.specs.declared.route.Route.TheVariants as route
+use Rattle.lra_front.specs.declared.denial.Denial.{Denial}
+use Rattle.lra_front.specs.declared.denial.Denial.TheVariants.{BadBody, Refused}
+use Rattle.lra_front.specs.declared.wish.Wish.{Wish}
+use Rattle.lra_front.specs.declared.wish.Wish.TheVariants as wish
+use Rattle.lra_front.specs.Routes.{route_of, id_in}
+use Rattle.lra_front.specs.Bodies.{body_of, reads_body, text_under, number_under, ending_told, addresses_given}
+
+-- a text that isn't the identifier of an action, or of a member
+abbrev pub no_action : Denial
+no_action = Refused refusal.NoSuchAction
+
+abbrev pub no_member : Denial
+no_member = Refused refusal.NoSuchMember
+
+-- The text is spelled from a number, and what is asked for goes on from it; or it is spelled from none, and that is denied.
+abbrev pub IsNamed : (ℕ → List ℕ) → List ℕ → Denial → (ℕ → Result Wish Denial → Type 0) → Result Wish Denial → Type 0
+IsNamed spelled text none Next w =
+    ((n : ℕ) × IsSpelling spelled text n × Next n w) ⊎ (((n : ℕ) → ¬ (IsSpelling spelled text n)) × (w ≡ Err none))
+
+-- the limit in a body: 0, which is none, where it has none
+abbrev pub limit_in : Members → ℕ
+limit_in ms = unwrap_or (number_under (codes "limit") ms) 0
+
+-- the end that a body tells; it is there where the body fits
+abbrev pub ending_in : Members → Ending
+ending_in ms = unwrap_or (ending_told ms) ending.Completed
+
+-- an action is started at the top, or under the parent of which the body has the URI
+abbrev pub IsStart : ℕ → List ℕ → Members → Result Wish Denial → Type 0
+IsStart i base ms w = MatchOption (text_under (codes "parent") ms)
+    (w ≡ Ok (wish.Start None (limit_in ms)))
+    (λ uri. IsNamed (action_uri i base) uri no_action (λ parent v. v ≡ Ok (wish.Start (Some parent) (limit_in ms))) w)
+
+-- what a route asks for of an action: a member leaves it by its recovery URI, which the body has
+abbrev pub IsOfAction : ℕ → List ℕ → Members → Route → ℕ → Result Wish Denial → Type 0
+IsOfAction i base ms route.Status action w = w ≡ Ok (wish.Status action)
+IsOfAction i base ms route.Join action w = w ≡ Ok (wish.Join action (addresses_given ms))
+IsOfAction i base ms route.Close action w = w ≡ Ok (wish.Close action)
+IsOfAction i base ms route.Cancel action w = w ≡ Ok (wish.Cancel action)
+IsOfAction i base ms route.Renew action w = w ≡ Ok (wish.Renew action (limit_in ms))
+IsOfAction i base ms route.Remove action w =
+    IsNamed (recovery_uri i base) (unwrap_or (text_under (codes "recovery") ms) []) no_member (λ m v. v ≡ Ok (wish.Leave action m)) w
+IsOfAction i base ms _ action w = ⊥
+
+-- what a route asks for of a member
+abbrev pub IsOfMember : Members → Route → ℕ → Result Wish Denial → Type 0
+IsOfMember ms route.MemberStatus m w = w ≡ Ok (wish.MemberStatus m)
+IsOfMember ms route.Report m w = w ≡ Ok (wish.Report m (ending_in ms))
+IsOfMember ms _ m w = ⊥
+
+-- What a route asks for, of a coordinator with that instance and base: the path's ID is looked at before the body's.
+abbrev pub IsWish : ℕ → List ℕ → List ℕ → Members → Route → Result Wish Denial → Type 0
+IsWish i base id ms route.Start w = IsStart i base ms w
+IsWish i base id ms route.MemberStatus w = IsNamed (id_text i) id no_member (IsOfMember ms route.MemberStatus) w
+IsWish i base id ms route.Report w = IsNamed (id_text i) id no_member (IsOfMember ms route.Report) w
+IsWish i base id ms r w = IsNamed (id_text i) id no_action (IsOfAction i base ms r) w
+
+-- What a request asks for: the path is looked at first, then the method, the body, and the identifiers.
+abbrev pub Asks : ℕ → List ℕ → Request → Result Wish Denial → Type 0
+Asks i base request w = MatchResult (route_of request.method request.target)
+    (λ r. MatchOption (body_of r request.body) (w ≡ Err BadBody) (λ ms. IsWish i base (id_in request.target) ms r w))
+    (λ d. w ≡ Err d)
+
+-- Memory was refused in reading what a request asks for: its path and its method are served, and its body is read.
+abbrev pub LacksMemory : Request → Type 0
+LacksMemory request = (r : Route) × (route_of request.method request.target ≡ Ok r) × (reads_body r ≡ true)
+
+-- what a request asks for, or that memory was refused in reading it
+abbrev pub MayAsk : ℕ → List ℕ → Request → Result Wish Denial → Type 0
+MayAsk i base request w = ((w ≡ Err (Refused refusal.Memory)) × LacksMemory request) ⊎ Asks i base request w
+
+-- the order that is given for what is asked
+abbrev pub IsOrder : Wish → Order → Type 0
+IsOrder (wish.Start parent limit) o = o ≡ order.Start parent limit
+IsOrder (wish.Join action uris) (order.Join a given) = (a ≡ action) × (given.now ≡ uris)
+IsOrder (wish.Join action uris) _ = ⊥
+IsOrder (wish.Leave action m) o = o ≡ order.Leave action m
+IsOrder (wish.Close action) o = o ≡ order.Close action
+IsOrder (wish.Cancel action) o = o ≡ order.Cancel action
+IsOrder (wish.Renew action limit) o = o ≡ order.Renew action limit
+IsOrder (wish.Status action) o = o ≡ order.Status action
+IsOrder (wish.Report m e) o = o ≡ order.Report m e
+IsOrder (wish.MemberStatus m) o = o ≡ order.MemberStatus m

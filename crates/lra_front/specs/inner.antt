@@ -1,0 +1,5 @@
+pub mod Seen
+pub mod Reads
+pub mod Finds
+pub mod Tellable
+pub mod Sending

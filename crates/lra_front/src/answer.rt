@@ -1,0 +1,262 @@
+//! What a request is answered, and the reply that tells it.
+
+ghost use Rattle.std.specs.Prelude.{◌≡◌, if◌then◌else◌, ℕ, List, [], map, length, decimal, IfOk, IsTrue, string_bytes, Err};
+ghost use Rattle.std.specs.Io.KnownBytes.{Keeps};
+ghost use Rattle.serde_json.specs.View.{view};
+ghost use Rattle.serde_json.specs.Written.{compact_text};
+ghost use Rattle.lra_ids.specs.Addresses.{is_base};
+ghost use Rattle.lra_wire.specs.Writing.{Sends};
+ghost use Rattle.lra_front.specs.Replies as spec;
+ghost use Rattle.lra_front.specs.inner.Seen.{seen, IsPartsOf};
+
+use crate::denial::Denial;
+use http::StatusCode;
+use lra_commands::Refusal;
+use lra_ids::{Address, Instance, spell_action, spell_recovery};
+use lra_model::{ActionStatus, MemberStatus, Memory};
+use lra_wire::{ReplyWrite, WireFault, write_response};
+use serde_json::{Value, json};
+use std::alloc::Global;
+use std::io::Write;
+
+/// What a request is answered.
+#[derive(Clone, Copy, Debug, PartialEq, Eq)]
+pub enum Answer {
+    /// The action that was started.
+    Started(u64),
+    /// An action, and its status.
+    Found { action: u64, status: ActionStatus },
+    /// The member that joined, now or before.
+    Joined(u64),
+    /// The action's status once its end was asked for, now or before.
+    Turned(ActionStatus),
+    /// The member has left.
+    Left,
+    /// The action's limit is set.
+    Renewed,
+    /// The member's status.
+    Member(MemberStatus),
+    /// It isn't done.
+    Denied(Denial),
+}
+
+/// What a reply is written from: the URI that its answer names, its body, and the body's length in digits.
+#[derive(Drop)]
+struct Parts {
+    uri: String,
+    text: String,
+    digits: String,
+}
+
+/// The status code of what the coordinator refuses.
+fn refusal_status(refusal: Refusal) -> StatusCode
+    ensures { result ≡ spec.refusal_code refusal }
+{
+    match refusal {
+        Refusal::NoSuchClerk => StatusCode::INTERNAL_SERVER_ERROR,
+        Refusal::NoSuchAction | Refusal::NoSuchMember => StatusCode::NOT_FOUND,
+        Refusal::OldJournal | Refusal::WrongAction | Refusal::TooDeep => StatusCode::CONFLICT,
+        Refusal::HasLeft => StatusCode::GONE,
+        Refusal::NotActive(_) | Refusal::NotAsked => StatusCode::PRECONDITION_FAILED,
+        Refusal::BadAddresses | Refusal::LimitTooFar => StatusCode::BAD_REQUEST,
+        Refusal::Full(_) | Refusal::Stopped | Refusal::Memory => StatusCode::SERVICE_UNAVAILABLE,
+    }
+}
+
+/// The body of a refusal.
+fn refusal_body(alloc: Global, refusal: Refusal) -> Result<Value, Memory>
+    ensures { IfOk result (λ body. view body ≡ spec.refusal_body refusal) }
+{
+    match refusal {
+        Refusal::NotActive(status) => {
+            json!(in alloc; {"error": "NotActive", "status": status.name()})
+        }
+        Refusal::Full(resource) => json!(in alloc; {"error": "Full", "which": resource.name()}),
+        _ => json!(in alloc; {"error": refusal.name()}),
+    }
+}
+
+impl Denial {
+    /// Its word in a body.
+    pub fn name(self) -> &'static str
+        ensures { result.now ≡ spec.denial_name self }
+    {
+        match self {
+            Denial::BadHead => "BadHead",
+            Denial::Chunked => "Chunked",
+            Denial::BadLength => "BadLength",
+            Denial::TooLarge => "TooLarge",
+            Denial::NoSuchPath => "NoSuchPath",
+            Denial::BadMethod(_) => "BadMethod",
+            Denial::BadBody => "BadBody",
+            Denial::Refused(refusal) => refusal.name(),
+            Denial::Worn => "Worn",
+        }
+    }
+
+    /// The status code of its reply.
+    pub fn status(self) -> StatusCode
+        ensures { result ≡ spec.denial_code self }
+    {
+        match self {
+            Denial::BadHead | Denial::BadLength | Denial::BadBody => StatusCode::BAD_REQUEST,
+            Denial::Chunked => StatusCode::NOT_IMPLEMENTED,
+            Denial::TooLarge => StatusCode::PAYLOAD_TOO_LARGE,
+            Denial::NoSuchPath => StatusCode::NOT_FOUND,
+            Denial::BadMethod(_) => StatusCode::METHOD_NOT_ALLOWED,
+            Denial::Refused(refusal) => refusal_status(refusal),
+            Denial::Worn => StatusCode::SERVICE_UNAVAILABLE,
+        }
+    }
+
+    fn body(self, alloc: Global) -> Result<Value, Memory>
+        ensures { IfOk result (λ body. view body ≡ spec.denial_body self) }
+    {
+        match self {
+            Denial::Refused(refusal) => refusal_body(alloc, refusal),
+            _ => json!(in alloc; {"error": self.name()}),
+        }
+    }
+}
+
+impl Answer {
+    /// The status code of its reply.
+    pub fn status(self) -> StatusCode
+        ensures { result ≡ spec.code_of self }
+    {
+        match self {
+            Answer::Started(_) => StatusCode::CREATED,
+            Answer::Turned(ActionStatus::Closing | ActionStatus::Cancelling) => {
+                StatusCode::ACCEPTED
+            }
+            Answer::Denied(denial) => denial.status(),
+            _ => StatusCode::OK,
+        }
+    }
+
+    /// The URI that it names, or nothing.
+    fn uri(self, alloc: Global, instance: Instance, base: &Address) -> Result<String, Memory>
+        requires numbers { spec.HasIdentifiers self }
+        requires base { IsTrue (is_base base.now) }
+        ensures { IfOk result (λ uri. string_bytes uri ≡ spec.uri_of instance base.now self) }
+    {
+        match self {
+            Answer::Started(action) => spell_action(alloc, instance, action, base),
+            Answer::Found { action, .. } => spell_action(alloc, instance, action, base),
+            Answer::Joined(member) => spell_recovery(alloc, instance, member, base),
+            _ => Ok(String::new(alloc)),
+        }
+    }
+
+    /// Its body, where it names that URI.
+    fn body(self, alloc: Global, uri: &str) -> Result<Value, Memory>
+        ensures { IfOk result (λ body. view body ≡ spec.body_of uri.now self) }
+    {
+        match self {
+            Answer::Started(_) => json!(in alloc; {"lra": uri}),
+            Answer::Found { status, .. } => {
+                json!(in alloc; {"lra": uri, "status": status.name()})
+            }
+            Answer::Joined(_) => json!(in alloc; {"recovery": uri}),
+            Answer::Turned(status) => json!(in alloc; {"status": status.name()}),
+            Answer::Left => json!(in alloc; {"status": "Left"}),
+            Answer::Renewed => json!(in alloc; {"status": "Active"}),
+            Answer::Member(status) => json!(in alloc; {"status": status.name()}),
+            Answer::Denied(denial) => denial.body(alloc),
+        }
+    }
+
+    /// The text of its body.
+    fn text(self, alloc: Global, uri: &str) -> Result<String, Memory>
+        ensures { IfOk result (λ text. string_bytes text ≡ compact_text (spec.body_of uri.now self)) }
+    {
+        self.body(alloc, uri)?.to_string(alloc)
+    }
+
+    /// All fields of its reply, where it names that URI, with a body of that length in digits.
+    fn fields<'a>(
+        self,
+        alloc: Global,
+        uri: &'a str,
+        digits: &'a str,
+        close: bool,
+    ) -> Result<Vec<(&'a str, &'a str)>, Memory>
+        ensures { IfOk result (λ fields. (text : List ℕ) → digits.now ≡ decimal (length text)
+            → map seen fields.items ≡ spec.fields_of uri.now self text close) }
+    {
+        let mut fields: Vec<(&'a str, &'a str)> = Vec::with_capacity(alloc, 5)?;
+        fields.push(("Content-Type", "application/json"))?;
+        fields.push(("Content-Length", digits))?;
+        match self {
+            Answer::Started(_) => {
+                fields.push(("Location", uri))?;
+                fields.push(("Long-Running-Action", uri))?;
+            }
+            Answer::Joined(_) => fields.push(("Long-Running-Action-Recovery", uri))?,
+            Answer::Denied(Denial::BadMethod(place)) => fields.push(("Allow", place.allowed()))?,
+            _ => {}
+        }
+        if close {
+            fields.push(("Connection", "close"))?;
+        }
+        Ok(fields)
+    }
+
+    /// What its reply is written from.
+    fn parts(self, alloc: Global, instance: Instance, base: &Address) -> Result<Parts, Memory>
+        requires numbers { spec.HasIdentifiers self }
+        requires base { IsTrue (is_base base.now) }
+        ensures { IfOk result (IsPartsOf instance base.now self) }
+    {
+        let uri = self.uri(alloc, instance, base)?;
+        let text = self.text(alloc, uri.as_str())?;
+        let digits = format!(in alloc; "{}", text.len())?;
+        Ok(Parts { uri, text, digits })
+    }
+
+    /// Writes its reply: the head alone where that was asked for, and that the stream is closed where it is.
+    pub fn write<W: Write>(
+        self,
+        alloc: Global,
+        writer: &mut W,
+        instance: Instance,
+        base: &Address,
+        head: bool,
+        close: bool,
+    ) -> Result<(), WireFault>
+        requires numbers { spec.HasIdentifiers self }
+        requires base { IsTrue (is_base base.now) }
+        ensures text { Sends (W.contents writer.old) (W.contents writer.new) (spec.reply_bytes instance base.now self head close) result }
+        // No memory, and nothing went out.
+        ensures memory { result ≡ Err WireFault.Memory → Keeps (W.contents writer.old) (W.contents writer.new) }
+    {
+        let Ok(parts) = self.parts(alloc, instance, base) else {
+            return Err(WireFault::Memory);
+        };
+        let Ok(fields) = self.fields(alloc, parts.uri.as_str(), parts.digits.as_str(), close) else {
+            return Err(WireFault::Memory);
+        };
+        let status = self.status();
+        let reply = ReplyWrite {
+            code: status.as_u16(),
+            phrase: phrase(status),
+            fields: fields.as_slice(),
+            body: content(parts.text.as_str(), head),
+        };
+        write_response(alloc, writer, &reply)
+    }
+}
+
+/// What follows the head of a reply: nothing where the head alone was asked for.
+fn content(text: &str, head: bool) -> &[u8]
+    ensures { result.now ≡ (if head then [] else text.now) }
+{
+    if head { b"" } else { text.as_bytes() }
+}
+
+/// The phrase of a status code.
+fn phrase(status: StatusCode) -> &'static str
+    ensures { result.now ≡ spec.phrase_of status }
+{
+    status.canonical_reason().unwrap_or("")
+}

@@ -1,0 +1,171 @@
+//! What the body of a request says.
+
+ghost use Rattle.std.specs.Prelude.{◌≡◌, ◌&&◌, is_some, option_map, IfSome};
+ghost use Rattle.serde_json.specs.Data.{object, no_members};
+ghost use Rattle.serde_json.specs.Find.{as_object};
+ghost use Rattle.serde_json.specs.View.{view, members_view};
+ghost use Rattle.lra_front.specs.Bodies as spec;
+ghost use Rattle.lra_front.specs.inner.Reads.{ReadsObject, ReadsBody};
+
+use crate::denial::Denial;
+use crate::route::Route;
+use lra_commands::Refusal;
+use lra_model::Ending;
+use serde_json::Value;
+use serde_json::value::Map;
+use std::alloc::Global;
+
+/// The kind of a value in a body.
+#[derive(Clone, Copy, Debug, PartialEq, Eq)]
+pub enum Kind {
+    Text,
+    /// Digits alone, below 2^64.
+    Number,
+}
+
+impl Kind {
+    fn fits(self, value: &Value) -> bool
+        ensures { result ≡ spec.is_kind (view value.now) self }
+    {
+        match self {
+            Kind::Text => value.as_str().is_some(),
+            Kind::Number => value.as_u64().is_some(),
+        }
+    }
+}
+
+impl Route {
+    /// The kind of the value that its body may have under a key.
+    fn kind(self, key: &str) -> Option<Kind>
+        ensures { result ≡ spec.kind_in key.now (spec.keys self) }
+    {
+        match self {
+            Route::Start if key == "parent" => Some(Kind::Text),
+            Route::Start | Route::Renew if key == "limit" => Some(Kind::Number),
+            Route::Join if is_address(key) => Some(Kind::Text),
+            Route::Remove if key == "recovery" => Some(Kind::Text),
+            Route::Report if key == "status" => Some(Kind::Text),
+            _ => None,
+        }
+    }
+
+    fn member_fits(self, key: &str, value: &Value) -> bool
+        ensures { result ≡ spec.member_fits self key.now (view value.now) }
+    {
+        match self.kind(key) {
+            Some(kind) => kind.fits(value),
+            None => false,
+        }
+    }
+
+    fn members_fit(self, members: &Map<String, Value>) -> bool
+        ensures { result ≡ spec.members_fit self (members_view members.now.entries) }
+    {
+        for (key, value) in members.iter() {
+            if !self.member_fits(key.as_str(), value) {
+                return false;
+            }
+        }
+        true
+    }
+
+    fn has_needed(self, body: &Value) -> bool
+        ensures { IfSome (as_object (view body.now)) (λ members. result ≡ spec.has_needed self members) }
+    {
+        match self {
+            Route::Remove => text_under(body, "recovery").is_some(),
+            Route::Renew => number_under(body, "limit").is_some(),
+            Route::Report => ending_told(body).is_some(),
+            _ => true,
+        }
+    }
+
+    /// Whether its body is read: those that a GET asks for don't read it.
+    fn reads_body(self) -> bool
+        ensures { result ≡ spec.reads_body self }
+    {
+        !matches!(self, Route::Status | Route::MemberStatus)
+    }
+}
+
+/// Whether a key is that of one of a member's addresses.
+fn is_address(key: &str) -> bool
+    ensures { result ≡ is_some (spec.kind_in key.now (spec.keys Route.Join)) }
+{
+    key == "compensate" || key == "complete" || key == "status" || key == "forget" || key == "after"
+}
+
+/// The text under a key of a body.
+pub(crate) fn text_under<'b>(body: &'b Value, key: &str) -> Option<&'b str>
+    ensures { IfSome (as_object (view body.now)) (λ members. option_map (λ text. text.now) result ≡ spec.text_under key.now members) }
+{
+    body.get(key)?.as_str()
+}
+
+/// The number under a key of a body.
+pub(crate) fn number_under(body: &Value, key: &str) -> Option<u64>
+    ensures { IfSome (as_object (view body.now)) (λ members. result ≡ spec.number_under key.now members) }
+{
+    body.get(key)?.as_u64()
+}
+
+/// The end that a member tells.
+pub(crate) fn ending_told(body: &Value) -> Option<Ending>
+    ensures { IfSome (as_object (view body.now)) (λ members. result ≡ spec.ending_told members) }
+{
+    ending_named(text_under(body, "status")?)
+}
+
+fn ending_named(text: &str) -> Option<Ending>
+    ensures { result ≡ spec.ending_named text.now }
+{
+    Ending::from_name(text.as_bytes())
+}
+
+/// An object without members.
+fn empty_object(alloc: Global) -> Value
+    ensures { view result ≡ object no_members }
+{
+    Value::Object(Map::new(alloc))
+}
+
+/// The object that a body is; an empty body is one without members.
+fn object_in(alloc: Global, body: &[u8]) -> Result<Value, Denial>
+    ensures { ReadsObject body.now result }
+{
+    if body.is_empty() {
+        return Ok(empty_object(alloc));
+    }
+    match Value::from_slice(alloc, body) {
+        Ok(value) if value.is_object() => Ok(value),
+        Ok(_) => Err(Denial::BadBody),
+        Err(error) if error.is_memory() => Err(Denial::Refused(Refusal::Memory)),
+        Err(_) => Err(Denial::BadBody),
+    }
+}
+
+impl Route {
+    /// What a body says, where it is one that the route reads.
+    pub(crate) fn read_body(self, alloc: Global, body: &[u8]) -> Result<Value, Denial>
+        ensures { ReadsBody self body.now result }
+    {
+        if !self.reads_body() {
+            return Ok(empty_object(alloc));
+        }
+        match object_in(alloc, body) {
+            Ok(value) if self.fits(&value) => Ok(value),
+            Ok(_) => Err(Denial::BadBody),
+            Err(denial) => Err(denial),
+        }
+    }
+
+    /// Whether its body may be this object.
+    fn fits(self, body: &Value) -> bool
+        ensures { IfSome (as_object (view body.now)) (λ members. result ≡ (spec.members_fit self members && spec.has_needed self members)) }
+    {
+        match body.as_object() {
+            Some(members) => self.members_fit(members) && self.has_needed(body),
+            None => false,
+        }
+    }
+}

@@ -1,0 +1,18 @@
+//! The coordinator's HTTP interface: requests in, the definitions' answers out, over any reader and writer.
+#![tactic(auto)]
+
+mod answer;
+mod body;
+mod denial;
+mod laws;
+mod respond;
+mod route;
+mod stream;
+mod wish;
+
+pub use answer::Answer;
+pub use denial::Denial;
+pub use laws::streams_are_transcripts;
+pub use route::{Place, Route, Routes, id_in};
+pub use stream::{Clock, Served, StreamEnd, serve_request, serve_stream};
+pub use wish::Wish;

@@ -1,0 +1,195 @@
+//! Streams of requests, answered one after another.
+
+ghost use Rattle.std.specs.Prelude.{◌≡◌, ℕ, List, Option, IsTrue, IsFalse};
+ghost use Rattle.lra_wire.specs.declared.fault.WireFault.TheVariants as wire;
+ghost use Rattle.lra_wire.specs.Inbox.{stream_of, is_spent};
+ghost use Rattle.lra_wire.specs.Request.{request_of};
+ghost use Rattle.lra_front.specs.Streams as spec;
+ghost use Rattle.lra_front.specs.inner.Sending.{Denies, Exchanges};
+
+use crate::answer::Answer;
+use crate::denial::Denial;
+use crate::route::Routes;
+use http::Method;
+use lra_commands::{Counter, Refusal};
+use lra_wire::{Inbox, RequestRead, WireFault, read_request};
+use std::alloc::Global;
+use std::io::{Read, Write};
+
+/// What gives the moments at which requests are answered.
+pub trait Clock {
+    ghost use Rattle.std.specs.Prelude.{ℕ};
+
+    // What a call may tell, and the clock after it.
+    ghost tells: { Self → ℕ → Self → Type 0 };
+
+    /// The moment, in milliseconds.
+    fn now(&mut self) -> u64
+        ensures { tells self.old result self.new };
+}
+
+/// How a stream ended.
+#[derive(Clone, Copy, Debug, PartialEq, Eq)]
+pub enum StreamEnd {
+    /// All requests were answered up to the end, or up to one after which the stream is closed.
+    Done,
+    /// A request couldn't be read. This is answered, unless the stream was cut or failed.
+    Refused(WireFault),
+    /// A reply couldn't be written.
+    WriteFault,
+}
+
+/// What became of a stream at its next request.
+#[derive(Clone, Copy, Debug, PartialEq, Eq)]
+pub enum Served {
+    /// It was answered, and the stream goes on.
+    Going,
+    /// The stream has ended.
+    Ended(StreamEnd),
+}
+
+/// What is answered to a fault of reading: nothing where the stream was cut or failed.
+fn fault_answer(fault: WireFault) -> Option<Answer>
+    ensures { result ≡ spec.fault_answer fault }
+{
+    match fault {
+        WireFault::BadHead => Some(Answer::Denied(Denial::BadHead)),
+        WireFault::Chunked => Some(Answer::Denied(Denial::Chunked)),
+        WireFault::BadLength => Some(Answer::Denied(Denial::BadLength)),
+        WireFault::TooLarge => Some(Answer::Denied(Denial::TooLarge)),
+        WireFault::Cut | WireFault::Io => None,
+        WireFault::Memory => Some(Answer::Denied(Denial::Refused(Refusal::Memory))),
+    }
+}
+
+/// Replies to a fault of reading, and closes the stream.
+fn refuse<W: Write, C: Counter>(
+    alloc: Global,
+    writer: &mut W,
+    counter: &C,
+    fault: WireFault,
+) -> StreamEnd
+    ensures { Denies (C.sight counter.now) fault (W.contents writer.old) (W.contents writer.new) result }
+{
+    let Some(answer) = fault_answer(fault) else {
+        return StreamEnd::Refused(fault);
+    };
+    match answer.write(
+        alloc,
+        writer,
+        counter.instance(),
+        counter.base(),
+        false,
+        true,
+    ) {
+        Ok(()) => StreamEnd::Refused(fault),
+        Err(_) => StreamEnd::WriteFault,
+    }
+}
+
+/// Answers a request, and closes the stream after it where it asks for that or is the last that is taken.
+fn exchange<W: Write, C: Counter, K: Clock>(
+    alloc: Global,
+    routes: &Routes,
+    writer: &mut W,
+    counter: &mut C,
+    clock: &mut K,
+    request: &RequestRead,
+    last: bool,
+) -> Served
+    ensures { Exchanges C.gives K.tells last (request_of request.now) (C.sight counter.old) (C.sight counter.new) clock.old clock.new (W.contents writer.old) (W.contents writer.new) result }
+{
+    let close = request.close || last;
+    let head = request.method.as_str() == Method::HEAD.as_str();
+    let moment = clock.now();
+    let answer = routes.respond(alloc, counter, moment, request);
+    match answer.write(
+        alloc,
+        writer,
+        counter.instance(),
+        counter.base(),
+        head,
+        close,
+    ) {
+        Ok(()) if close => Served::Ended(StreamEnd::Done),
+        Ok(()) => Served::Going,
+        Err(_) => Served::Ended(StreamEnd::WriteFault),
+    }
+}
+
+/// Answers the next request of an inbox, or tells how the stream ended. After the last request that is taken the stream is
+/// closed.
+pub fn serve_request<R: Read + Drop, W: Write, C: Counter, K: Clock>(
+    alloc: Global,
+    routes: &Routes,
+    inbox: &mut Inbox<R>,
+    writer: &mut W,
+    counter: &mut C,
+    clock: &mut K,
+    last: bool,
+) -> Served
+    ensures serves { IsFalse (is_spent inbox.old) → spec.Serves C.gives K.tells last
+        (spec.standing (stream_of R.remaining inbox.old) (C.sight counter.old) clock.old (W.contents writer.old)) result
+        (spec.standing (stream_of R.remaining inbox.new) (C.sight counter.new) clock.new (W.contents writer.new)) }
+    // The inbox goes on where the stream does, and after a fault it reads no more.
+    ensures goes { result ≡ Served.Going → IsFalse (is_spent inbox.new) }
+    ensures spent { IsTrue (is_spent inbox.old) → result ≡ Served.Ended (StreamEnd.Refused wire.Cut) }
+{
+    match read_request(alloc, inbox) {
+        Ok(Some(request)) => exchange(alloc, routes, writer, counter, clock, &request, last),
+        Ok(None) => Served::Ended(StreamEnd::Done),
+        Err(fault) => Served::Ended(refuse(alloc, writer, counter, fault)),
+    }
+}
+
+/// How many requests are taken of a stream at most.
+const MOST_REQUESTS: u64 = 1000;
+
+/// Answers the requests of an inbox.
+fn serve_inbox<R: Read + Drop, W: Write, C: Counter, K: Clock>(
+    alloc: Global,
+    routes: &Routes,
+    inbox: &mut Inbox<R>,
+    writer: &mut W,
+    counter: &mut C,
+    clock: &mut K,
+) -> StreamEnd
+    requires { IsFalse (is_spent inbox.old) }
+    ensures { spec.ServesUpTo C.gives K.tells 999
+        (spec.standing (stream_of R.remaining inbox.old) (C.sight counter.old) clock.old (W.contents writer.old)) result
+        (spec.standing (stream_of R.remaining inbox.new) (C.sight counter.new) clock.new (W.contents writer.new)) }
+{
+    let mut others = MOST_REQUESTS - 1;
+    while others > 0 {
+        match serve_request(alloc, routes, inbox, writer, counter, clock, false) {
+            Served::Ended(end) => return end,
+            Served::Going => others -= 1,
+        }
+    }
+    match serve_request(alloc, routes, inbox, writer, counter, clock, true) {
+        Served::Ended(end) => end,
+        Served::Going => unreachable!(),
+    }
+}
+
+/// Answers the requests that a reader gives, one after another: up to its end, to one after which the stream is closed, to
+/// a fault, or to the 1,000th. What was asked for stands, whether or not its reply could be written.
+pub fn serve_stream<R: Read + Drop, W: Write, C: Counter, K: Clock>(
+    alloc: Global,
+    reader: R,
+    writer: &mut W,
+    counter: &mut C,
+    clock: &mut K,
+) -> StreamEnd
+    ensures { (rest : Option (List ℕ)) × spec.ServesStream C.gives K.tells
+        (spec.standing (R.remaining reader) (C.sight counter.old) clock.old (W.contents writer.old)) result
+        (spec.standing rest (C.sight counter.new) clock.new (W.contents writer.new)) }
+{
+    let Ok(routes) = Routes::new(alloc) else {
+        return StreamEnd::Refused(WireFault::Memory);
+    };
+    let Ok(mut inbox) = Inbox::new(alloc, reader) else {
+        return StreamEnd::Refused(WireFault::Memory);
+    };
+    serve_inbox(alloc, &routes, &mut inbox, writer, counter, clock)
+}

@@ -1,0 +1,77 @@
+//! A counter at which nothing can be given, and a clock that stands still.
+ghost use Rattle.std.specs.Prelude.{◌≡◌, IsTrue};
+ghost use Rattle.lra_ids.specs.Addresses.{is_base};
+
+use lra_commands::{Counter, CounterFault, Order, Told};
+use lra_front::Clock;
+use lra_ids::{Address, Instance};
+
+#[derive(Drop)]
+pub(super) struct Worn {
+    instance: Instance,
+    base: Address,
+    ghost is_base: { IsTrue (is_base base) },
+}
+
+impl Worn {
+    /// A counter with that instance and base.
+    pub(super) fn new(instance: Instance, base: Address) -> Option<Worn> {
+        if base.is_base() {
+            Some(Worn { instance, base })
+        } else {
+            None
+        }
+    }
+}
+
+impl Counter for Worn {
+    ghost use Rattle.std.specs.Prelude.{◌≡◌, [], Result, Err};
+    ghost use Rattle.std.proofs.Common.{sym, ap, subst};
+    ghost use Rattle.lra_model.specs.declared.version.Version.TheVariants.{One};
+    ghost use Rattle.lra_commands.specs.declared.command.Told.{Told};
+    ghost use Rattle.lra_commands.specs.declared.counter.CounterFault.{CounterFault};
+    ghost use Rattle.lra_commands.specs.declared.counter.CounterFault.TheVariants as fault;
+    ghost use Rattle.lra_commands.specs.Terms.{usual};
+    ghost use Rattle.lra_commands.specs.Counters.{KeepsHistory};
+
+    ghost sight = { λ c. record {
+      setting = record { version = One; instance = c.instance; base = c.base; limits = usual };
+      number = 1;
+      seen = [];
+    } };
+
+    ghost gives = { λ before moment order reply after. (reply ≡ Err fault.Worn) × (after ≡ before) };
+
+    fn instance(&self) -> Instance {
+        self.instance
+    }
+
+    fn base(&self) -> &Address {
+        &self.base
+    }
+
+    fn give(&mut self, _moment: u64, _order: &Order<'_>) -> Result<Told, CounterFault> {
+        Err(CounterFault::Worn)
+    }
+
+    ghost keeps = { λ before after moment order reply h.
+        let P : Result Told CounterFault → Type 0 = λ r. KeepsHistory before moment order r after in
+        subst P (sym h.0) (record {
+          same = record { setting = ap (λ w. w.setting) h.1; number = ap (λ w. w.number) h.1 };
+          seen = ap (λ w. w.seen) h.1;
+        }) };
+}
+
+/// A clock that stands still.
+#[derive(Drop)]
+pub(super) struct Still;
+
+impl Clock for Still {
+    ghost use Rattle.std.specs.Prelude.{◌≡◌};
+
+    ghost tells = { λ before moment after. moment ≡ 5 };
+
+    fn now(&mut self) -> u64 {
+        5
+    }
+}
