@@ -27,7 +27,8 @@ use Rattle.lra_commands.specs.declared.counter.Order.TheVariants as order
 use Rattle.lra_commands.specs.Terms.{AreKeepable}
 use Rattle.lra_commands.specs.Calls.{Call, moment_of}
 use Rattle.lra_commands.specs.Due.{late}
-use Rattle.lra_commands.specs.Deeds.{stored_addresses, already_member, is_open, is_decided, may_be_cancelled}
+use Rattle.lra_model.specs.Joins.{already_member}
+use Rattle.lra_commands.specs.Deeds.{stored_addresses, is_open, is_decided, may_be_cancelled}
 use Rattle.lra_commands.specs.Blocks.{block}
 use Rattle.lra_commands.specs.Refusals.{refused}
 use Rattle.lra_commands.specs.Answers.{told_of, answer, growth, after_call}
