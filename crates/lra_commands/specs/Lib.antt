@@ -8,3 +8,5 @@ pub mod Refusals
 pub mod Answers
 pub mod Runs
 pub mod Names
+pub mod Counters
+pub mod inner

@@ -3,11 +3,13 @@
 #![tactic(auto)]
 
 mod command;
+mod counter;
 mod laws;
 mod limits;
 mod refusal;
 
 pub use command::{Command, Told};
+pub use counter::{Counter, CounterFault, Order};
 pub use laws::{calls_leave_quiet_histories, commands_keep_histories, commands_make_histories};
 pub use limits::{Limits, Terms};
 pub use refusal::{Refusal, Resource};

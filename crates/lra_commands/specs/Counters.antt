@@ -1,0 +1,100 @@
+-- What a counter is told and what its callers know of the history behind it.
+use Rattle.std.specs.Prelude.{◌≡◌, ◌≢◌, ℕ, List, [], ◌++◌, Result, Ok, Err, IsOk, ⊤}
+use Rattle.lra_model.specs.declared.version.Version.{Version}
+use Rattle.lra_model.specs.History.{History}
+use Rattle.lra_commands.specs.declared.command.Command.{Command}
+use Rattle.lra_commands.specs.declared.command.Command.TheVariants as command
+use Rattle.lra_commands.specs.declared.command.Told.{Told}
+use Rattle.lra_commands.specs.declared.counter.Order.{Order}
+use Rattle.lra_commands.specs.declared.counter.Order.TheVariants as order
+use Rattle.lra_commands.specs.declared.counter.CounterFault.{CounterFault}
+use Rattle.lra_commands.specs.declared.counter.CounterFault.TheVariants.{Refused, Worn}
+use Rattle.lra_commands.specs.declared.refusal.Refusal.{Refusal}
+use Rattle.lra_commands.specs.declared.refusal.Refusal.TheVariants as refusal
+use Rattle.lra_commands.specs.declared.limits.Limits.{Limits}
+use Rattle.lra_commands.specs.declared.limits.Terms.{Terms}
+use Rattle.lra_commands.specs.Terms.{AreKeepable}
+use Rattle.lra_commands.specs.Calls.{Call}
+use Rattle.lra_commands.specs.Blocks.{block}
+use Rattle.lra_commands.specs.Answers.{answer, after_call}
+use Rattle.lra_commands.specs.Runs.{IsLawful}
+
+-- what a coordinator is made with, and keeps
+pub record Setting : Type 0 where
+  pub version : Version
+  pub instance : ℕ
+  pub base : List ℕ
+  pub limits : Limits
+
+-- what its answers depend on beside the history
+abbrev pub terms_of : Setting → Terms
+terms_of s = record { version = s.version; limits = s.limits }
+
+-- what callers know of a counter: what the coordinator behind it was made with, the clerk's number, and the history that it has seen
+pub record Sight : Type 0 where
+  pub setting : Setting
+  pub number : ℕ
+  pub seen : History
+
+-- the command that an order is; none of them carries an errand
+abbrev pub command_of : {E : Type 0} → Order → Command E
+command_of (order.Start parent limit) = command.Start parent limit
+command_of (order.Join action uris) = command.Join action uris
+command_of (order.Leave action member) = command.Leave action member
+command_of (order.Close action) = command.Close action
+command_of (order.Cancel action) = command.Cancel action
+command_of order.Tick = command.Tick
+command_of (order.Report member ending) = command.Report member ending
+command_of order.Restart = command.Restart
+command_of (order.Renew action limit) = command.Renew action limit
+command_of (order.Status action) = command.Status action
+command_of (order.MemberStatus member) = command.MemberStatus member
+
+-- an order as a call of the counter's clerk
+abbrev pub call_of : ℕ → ℕ → Order → Call
+call_of number moment o = record { by = number; moment = moment; command = command_of o }
+
+-- why an order is refused at a history: the definitions refuse it; or what it would write can't be kept, or a growth was refused, of which they
+-- know nothing
+abbrev pub IsRefusedAt : Terms → History → Call → Refusal → Type 0
+IsRefusedAt s J c refusal.Stopped = IsOk (answer s J c) × (block s J c ≢ [])
+IsRefusedAt s J c refusal.Memory = ⊤
+IsRefusedAt s J c r = answer s J c ≡ Err r
+
+-- what is told of an order at a history, and the history after it: a reply of the definitions, or the order wasn't done
+abbrev pub IsToldAt : Terms → History → Call → Result Told CounterFault → History → Type 0
+IsToldAt s J c (Ok told) K = (answer s J c ≡ Ok told) × (K ≡ after_call s J c)
+IsToldAt s J c (Err (Refused r)) K = IsRefusedAt s J c r × (K ≡ J)
+IsToldAt s J c (Err Worn) K = K ≡ J
+
+-- the same at a history that a coordinator can have, as it can have the one after it
+pub record IsGivenAt (s : Setting) (J : History) (c : Call) (reply : Result Told CounterFault) (K : History) : Type 0 where
+  pub keepable : AreKeepable s.limits
+  pub lawful : IsLawful (terms_of s) J
+  pub told : IsToldAt (terms_of s) J c reply K
+  pub left : IsLawful (terms_of s) K
+
+-- some history began with what was seen, since others may have written meanwhile, and the order was given at it
+abbrev pub IsGivenSince : Setting → History → Call → Result Told CounterFault → History → Type 0
+IsGivenSince s seen c reply K = (since : History) × IsGivenAt s (seen ++ since) c reply K
+
+-- what is seen after an order: a counter that is worn tells nothing of the history
+abbrev pub IsSeenAfter : Setting → History → Call → Result Told CounterFault → History → Type 0
+IsSeenAfter s seen c (Err Worn) K = K ≡ seen
+IsSeenAfter s seen c reply K = IsGivenSince s seen c reply K
+
+-- nothing but the history changes
+pub record IsSameCounter (before after : Sight) : Type 0 where
+  pub setting : after.setting ≡ before.setting
+  pub number : after.number ≡ before.number
+
+-- what each counter keeps: an order is given once, at a history that begins with all that the counter had seen
+pub record KeepsHistory (before : Sight) (moment : ℕ) (o : Order) (reply : Result Told CounterFault) (after : Sight) : Type 0 where
+  pub same : IsSameCounter before after
+  pub seen : IsSeenAfter before.setting before.seen (call_of before.number moment o) reply after.seen
+
+-- what a counter of its own keeps, where nobody else writes: the order is given at the very history that it has seen, and it is never worn
+pub record OwnsHistory (before : Sight) (moment : ℕ) (o : Order) (reply : Result Told CounterFault) (after : Sight) : Type 0 where
+  pub same : IsSameCounter before after
+  pub given : IsGivenAt before.setting before.seen (call_of before.number moment o) reply after.seen
+  pub fresh : reply ≢ Err Worn
