@@ -11,4 +11,5 @@ pub mod Made
 pub mod Numbers
 pub mod Opened
 pub mod Performing
+pub mod Reopening
 pub mod Statuses

@@ -14,5 +14,6 @@ pub use Rattle.lra_commands.specs.Shortages
 pub mod Shape
 pub mod Prepares
 pub mod Performs
+pub mod Opens
 pub mod Texts
 pub mod inner

@@ -3,4 +3,5 @@ pub mod Decided
 pub mod Heard
 pub mod Kept
 pub mod Made
+pub mod Opened
 pub mod Spelled

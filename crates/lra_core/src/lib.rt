@@ -8,6 +8,7 @@ mod errand;
 mod heard;
 mod laws;
 mod making;
+mod opening;
 
 pub use block::{Block, Committed, Prepared};
 pub use coordinator::Coordinator;
@@ -18,4 +19,5 @@ pub use lra_commands::{
     commands_make_histories,
 };
 pub use lra_ids::{Address, Instance};
-pub use lra_model::{Memory, Version};
+pub use lra_model::{Memory, Rule, Version};
+pub use opening::OpenFault;
