@@ -5,3 +5,5 @@ pub mod Growths
 pub mod Playing
 pub mod ScriptLines
 pub mod Sourced
+pub mod RequestTexts
+pub mod RequestLines

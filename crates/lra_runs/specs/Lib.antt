@@ -1,6 +1,7 @@
 pub mod Report
 pub mod Faults
 pub mod Script
+pub mod Requests
 pub mod Play
 pub mod Show
 pub mod Upgrade

@@ -3,4 +3,5 @@ pub mod Causes
 pub mod Details
 pub mod Headed
 pub mod Paging
-pub mod ScriptReading
+pub mod Taken
+pub mod RequestReading

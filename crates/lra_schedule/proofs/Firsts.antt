@@ -1,5 +1,5 @@
 -- The first of some moments is what the history's words choose.
-use Rattle.std.proofs.Common.{◌≡◌, ℕ, zero, suc, ◌+◌, ◌≤◌, ◌<◌, Bool, true, false, List, [], ◌∷◌, length, Option, Some, None, refl, sym, ap, ◌∙◌, cond, arith, subst, inl, inr, ◌⊎◌}
+use Rattle.std.proofs.Common.{◌≡◌, ℕ, zero, suc, ◌+◌, ◌≤◌, ◌<◌, Bool, true, false, List, [], ◌∷◌, length, Option, Some, None, refl, sym, ap, ◌∙◌, cond, arith, subst, inl, inr}
 use Rattle.std.proofs.lemmas.Bool.{lt-leb, le-leb, cases_eq}
 use Rattle.std.specs.Prelude.{nat_le, ◌==◌, ◌&&◌, not, option_map, ◌↔◌, IsNone, IfSome}
 use Rattle.std.specs.List.{filter_map, cons_option, range_with_len}
@@ -21,9 +21,6 @@ use Rattle.lra_schedule.proofs.Found.{wants_there, limit_there}
 -- those whose moment has come
 abbrev come : ℕ → List Timed → List Timed
 come now xs = filter_map (λ (x : Timed). when (nat_le x.moment now) x) xs
-
-abbrev come_more : ℕ → Timed → List Timed → List Timed
-come_more now x rest = cons_option (when (nat_le x.moment now) x) rest
 
 module _ (f : ℕ → Option Timed) (now : ℕ) where
   -- where no moment has come, none is chosen

@@ -1,10 +1,9 @@
 -- The moments of a history are what its rows say.
-use Rattle.std.proofs.Common.{◌≡◌, ◌≢◌, ℕ, ◌+◌, ◌-◌, ◌≤◌, ◌<◌, ◌^◌, Bool, true, false, List, [], ◌∷◌, ◌++◌, Option, Some, None, refl, sym, ap, ◌∙◌, cond, arith, subst}
+use Rattle.std.proofs.Common.{◌≡◌, ℕ, ◌+◌, ◌-◌, ◌≤◌, ◌<◌, ◌^◌, Bool, true, false, List, [], Option, Some, None, refl, sym, ap, ◌∙◌, cond, arith}
 use Rattle.std.proofs.lemmas.Bool.{leb-true}
 use Rattle.std.specs.Prelude.{◌==◌, ◌&&◌, not, is_some, option_map, unwrap_or}
 use Rattle.std.specs.Option.{option_map_or, option_and_then}
 use Rattle.lra_model.specs.declared.status.ActionStatus.{ActionStatus}
-use Rattle.lra_model.specs.declared.status.ActionStatus.TheVariants as action
 use Rattle.lra_model.specs.declared.asks.AskKind.{AskKind}
 use Rattle.lra_model.specs.declared.version.Version.{Version}
 use Rattle.lra_model.specs.declared.entry.Deed.{Deed}
@@ -13,17 +12,16 @@ use Rattle.lra_model.specs.declared.entry.Entry.{Entry}
 use Rattle.lra_model.specs.Words.{when, is_active}
 use Rattle.lra_model.specs.History.{History, actions, members, is_among}
 use Rattle.lra_model.specs.Actions.{Limit, action_status, limit_given, limit_in_force}
-use Rattle.lra_model.specs.Facts.{Facts, MemberFacts, facts_of, member_facts}
+use Rattle.lra_model.specs.Facts.{facts_of, member_facts}
 use Rattle.lra_model.specs.Tests.{is_moment}
 use Rattle.lra_model.specs.Wants.{wants, wanted, repeat_count, last_repeat}
 use Rattle.lra_model.specs.Rules.{is_legal}
 use Rattle.lra_laws.proofs.Push.{limit_push}
 use Rattle.lra_laws.proofs.Legal.{Allowed, entry_kept, start_kept, renew_kept, legal_induction, status_is_there}
 use Rattle.lra_rows.specs.declared.found.ActionRow.{ActionRow}
-use Rattle.lra_rows.specs.declared.found.MemberRow.{MemberRow}
 use Rattle.lra_rows.specs.Found.{found_action, found_member}
 use Rattle.lra_commands.specs.declared.limits.Limits.{Limits}
-use Rattle.lra_commands.specs.Due.{Timed, due_after, stage_wanted, want_of, deadline_of}
+use Rattle.lra_commands.specs.Due.{Timed, due_after, stage_wanted}
 use Rattle.lra_schedule.specs.Schedules.{moment_of}
 use Rattle.lra_schedule.specs.inner.Renewals.{retry_by, limit_by, retry_in, limit_in}
 

@@ -1,5 +1,5 @@
 -- Moments that are brought up to date are those of the longer history.
-use Rattle.std.proofs.Common.{◌≡◌, ◌≢◌, ℕ, zero, suc, ◌+◌, ◌≤◌, ◌<◌, Bool, true, false, List, [], ◌∷◌, ◌++◌, length, Option, Some, None, refl, sym, ap, ◌∙◌, cond, arith, subst, inl, inr, eq-eqb, take, get_or}
+use Rattle.std.proofs.Common.{◌≡◌, ◌≢◌, ℕ, ◌+◌, ◌<◌, Bool, true, false, List, [], ◌∷◌, ◌++◌, length, Option, Some, None, refl, sym, ap, ◌∙◌, cond, inl, inr, eq-eqb, take, get_or}
 use Rattle.std.proofs.Math.Bool.{or-false, or-true}
 use Rattle.std.proofs.lemmas.Bool.{cases_eq, ne_eqb}
 use Rattle.std.proofs.lemmas.List.{take_more}
@@ -16,11 +16,10 @@ use Rattle.lra_model.specs.declared.version.Version.{Version}
 use Rattle.lra_model.specs.declared.version.Version.TheVariants as version
 use Rattle.lra_model.specs.Words.{when, is_active}
 use Rattle.lra_model.specs.History.{History, actions, members, is_among}
-use Rattle.lra_model.specs.Actions.{action_status}
 use Rattle.lra_model.specs.Rules.{is_legal}
 use Rattle.lra_laws.specs.Sheets.{Sheet, StandsFor}
 use Rattle.lra_laws.proofs.Push.{any_push}
-use Rattle.lra_laws.proofs.Legal.{IsNumbered, actions_numbered, members_numbered, legal_empty}
+use Rattle.lra_laws.proofs.Legal.{actions_numbered, members_numbered, legal_empty}
 use Rattle.lra_rows.specs.declared.found.ActionRow.{ActionRow}
 use Rattle.lra_rows.specs.declared.found.MemberRow.{MemberRow}
 use Rattle.lra_rows.specs.Found.{found_action, found_member}
@@ -31,7 +30,7 @@ use Rattle.lra_commands.specs.declared.limits.Limits.{Limits}
 use Rattle.lra_commands.specs.Due.{due_after}
 use Rattle.lra_schedule.specs.Schedules.{IsScheduleOf}
 use Rattle.lra_schedule.specs.inner.Renewals.{retry_by, limit_by, retry_in, limit_in, renew, AreRenewed}
-use Rattle.lra_schedule.proofs.Found.{no_want, no_retry, retry_found, limit_found, limit_there}
+use Rattle.lra_schedule.proofs.Found.{no_retry, retry_found, limit_found, limit_there}
 
 -- ---- one number more
 
