@@ -18,6 +18,14 @@ use lra_commands::{Command, Refusal, Terms};
 use lra_tables::Tables;
 use std::alloc::Global;
 
+/// The moment of what is written: the one handed in, but never before the last entry.
+fn moment_of(tables: &Tables, moment: u64) -> u64
+    ensures { (J : History) → StandsFor tables.now.sheet J → result ≡ max moment (last_moment J) }
+{
+    moment.max(tables.last_moment())
+}
+
+/// What is decided on a command, whatever is done to look at it.
 fn judge<E: Carries>(
     alloc: Global,
     judge: &Judge<'_>,
@@ -68,7 +76,7 @@ pub fn decide<E: Carries>(
         terms: *terms,
         tables,
         by,
-        moment: moment.max(tables.last_moment()),
+        moment: moment_of(tables, moment),
     };
     judge(alloc, &by_tables, beside, command)
 }
