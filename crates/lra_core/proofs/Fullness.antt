@@ -33,18 +33,19 @@ abbrev is_of_entries : Refusal → Bool
 is_of_entries (refusal.Full resource.Entries) = true
 is_of_entries _ = false
 
-abbrev names_entries : List Ground → Bool
-names_entries gs = list_any (λ (g : Ground). is_of_entries g.0) gs
+-- whether a refusal that a test knows is among grounds
+abbrev pub names : (Refusal → Bool) → List Ground → Bool
+names test gs = list_any (λ (g : Ground). test g.0) gs
 
--- where no ground is that, the first that holds isn't
-other_first : (gs : List Ground) → names_entries gs ≡ false → (r : Refusal) → first_ground gs ≡ Some r → is_of_entries r ≡ false
-other_first [] h r e = absurd cc
-other_first ((q, b) ∷ gs) h r e = one (is_of_entries q) refl h b e (λ i. other_first gs i r)
+-- where no ground is such, the first that holds isn't
+pub other_first : (test : Refusal → Bool) (gs : List Ground) → names test gs ≡ false → (r : Refusal) → first_ground gs ≡ Some r → test r ≡ false
+other_first test [] h r e = absurd cc
+other_first test ((q, b) ∷ gs) h r e = one (test q) refl h b e (λ i. other_first test gs i r)
   where
-    one : (x : Bool) → is_of_entries q ≡ x → (x || names_entries gs) ≡ false → (b : Bool) → first_ground ((q, b) ∷ gs) ≡ Some r → (names_entries gs ≡ false → first_ground gs ≡ Some r → is_of_entries r ≡ false)
-        → is_of_entries r ≡ false
+    one : (x : Bool) → test q ≡ x → (x || names test gs) ≡ false → (b : Bool) → first_ground ((q, b) ∷ gs) ≡ Some r → (names test gs ≡ false → first_ground gs ≡ Some r → test r ≡ false)
+        → test r ≡ false
     one true g i b e rest = absurd cc
-    one false g i true e rest = let same : q ≡ r = cc in ap is_of_entries (sym same) ∙ g
+    one false g i true e rest = let same : q ≡ r = cc in ap test (sym same) ∙ g
     one false g i false e rest = rest i e
 
 -- the grounds but for that of the entries
@@ -59,7 +60,7 @@ front s J c = (refusal.NoSuchClerk, is_stranger J c.by c.command) ∷ most_groun
 abbrev entries_ground : Terms → History → Call → List Ground
 entries_ground s J c = (refusal.Full resource.Entries, overfills s J c resource.Entries) ∷ []
 
-others : (s : Terms) (J : History) (by m : ℕ) (o : Command) → names_entries (front s J (record { by = by; moment = m; command = o })) ≡ false
+others : (s : Terms) (J : History) (by m : ℕ) (o : Command) → names is_of_entries (front s J (record { by = by; moment = m; command = o })) ≡ false
 others s J by m command.Enrol = refl
 others s J by m (command.Start parent limit) = refl
 others s J by m (command.Join a uris) = refl
@@ -93,7 +94,7 @@ mostly_free s J c h = cases (first_ground (front s J c)) refl
     cases None e = record { front = e; rest = refused_by s J c ∙ ap (λ (x : Option Refusal). option_or x (first_ground (entries_ground s J c))) e }
     cases (Some r) e =
         let full = h r (refused_by s J c ∙ ap (λ (x : Option Refusal). option_or x (first_ground (entries_ground s J c))) e) in
-        let other = other_first (front s J c) (others s J c.by c.moment c.command) r e in
+        let other = other_first is_of_entries (front s J c) (others s J c.by c.moment c.command) r e in
         absurd (let bad : true ≡ false = sym (ap is_of_entries full) ∙ other in cc)
 
 -- where what comes first holds against nothing, neither does its front

@@ -1,5 +1,6 @@
 mod Sounds
 pub mod Allowing
+pub mod AnsweredOnce
 pub mod Asking
 pub mod Assembling
 pub mod Carried
@@ -12,4 +13,5 @@ pub mod Numbers
 pub mod Opened
 pub mod Performing
 pub mod Reopening
+pub mod Replying
 pub mod Statuses

@@ -14,6 +14,8 @@ pub use Rattle.lra_commands.specs.Shortages
 pub mod Shape
 pub mod Prepares
 pub mod Performs
+pub mod Benches
+pub mod Laws
 pub mod Opens
 pub mod Texts
 pub mod inner

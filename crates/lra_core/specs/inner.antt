@@ -4,4 +4,5 @@ pub mod Heard
 pub mod Kept
 pub mod Made
 pub mod Opened
+pub mod Replied
 pub mod Spelled
