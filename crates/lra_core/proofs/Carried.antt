@@ -1,12 +1,12 @@
 -- Each errand is of an ask in the history.
-use Rattle.std.proofs.Common.{◌≡◌, ℕ, ◌+◌, Bool, true, false, List, [], ◌∷◌, ◌++◌, length, Option, Some, None, refl, sym, ap, ◌∙◌, subst, append_assoc, append-nil, eq-eqb}
+use Rattle.std.proofs.Common.{◌≡◌, ℕ, Bool, false, List, [], ◌∷◌, ◌++◌, Option, Some, None, refl, sym, ap, ◌∙◌, subst, append_assoc, append-nil, eq-eqb}
 use Rattle.std.specs.Prelude.{Ok, ◌==◌, is_some, option_map}
 use Rattle.std.specs.Option.{option_or, option_and_then, option_map_or}
 use Rattle.lra_model.specs.declared.entry.Deed.{Deed}
 use Rattle.lra_model.specs.declared.entry.Deed.TheVariants as deed
 use Rattle.lra_model.specs.declared.entry.Entry.{Entry}
 use Rattle.lra_model.specs.Words.{when}
-use Rattle.lra_model.specs.History.{History, Step, asks, asked_by, is_among}
+use Rattle.lra_model.specs.History.{History, asks}
 use Rattle.lra_model.specs.Members.{Asked, asked_at, ask_of}
 use Rattle.lra_laws.proofs.Push.{step, ask_of_push}
 use Rattle.lra_laws.proofs.Legal.{Allowed, allowed, asks_numbered, numbered_fresh, asked_number}

@@ -1,6 +1,6 @@
 -- A call that isn't refused but for its entries: where it is refused, and where memory may be.
-use Rattle.std.proofs.Common.{◌≡◌, ℕ, Bool, true, false, List, [], ◌∷◌, ◌++◌, length, Option, Some, None, refl, sym, ap, ◌∙◌, cond, subst, ◌<◌, ◌≤◌, append_assoc, inl, inr, arith}
-use Rattle.std.proofs.lemmas.Bool.{lt-ltb, le-ltb, ltb-true}
+use Rattle.std.proofs.Common.{◌≡◌, ℕ, Bool, true, false, List, [], ◌∷◌, ◌++◌, length, Option, Some, None, refl, sym, ap, ◌∙◌, ◌<◌, ◌≤◌, append_assoc}
+use Rattle.std.proofs.lemmas.Bool.{lt-ltb, le-ltb}
 use Rattle.std.specs.Prelude.{◌&&◌, ◌||◌, not, Ok, Err, nat_lt}
 use Rattle.std.specs.Option.{option_or, option_map_or}
 use Rattle.std.specs.List.{list_any}
@@ -12,15 +12,14 @@ use Rattle.lra_model.specs.Tests.{addresses_fit}
 use Rattle.lra_ids.specs.Addresses.{address_of}
 use Rattle.lra_commands.specs.declared.command.Command.TheVariants as command
 use Rattle.lra_commands.specs.declared.limits.Terms.{Terms}
-use Rattle.lra_commands.specs.declared.refusal.Resource.{Resource}
 use Rattle.lra_commands.specs.declared.refusal.Resource.TheVariants as resource
 use Rattle.lra_commands.specs.declared.refusal.Refusal.{Refusal}
 use Rattle.lra_commands.specs.declared.refusal.Refusal.TheVariants as refusal
 use Rattle.lra_commands.specs.Calls.{Command, Call, moment_of}
 use Rattle.lra_commands.specs.Blocks.{block}
-use Rattle.lra_commands.specs.Refusals.{Ground, is_filled, passes, overfills, full_grounds, command_grounds, is_stranger, grounds, first_ground, refused}
+use Rattle.lra_commands.specs.Refusals.{Ground, is_filled, passes, overfills, command_grounds, is_stranger, first_ground, refused}
 use Rattle.lra_commands.specs.Answers.{told_of, answer}
-use Rattle.lra_commands.specs.Shortages.{checks_before_growth, grounds_before_growth, has_addresses, MayRunOut, IsRefusal}
+use Rattle.lra_commands.specs.Shortages.{grounds_before_growth, has_addresses, MayRunOut}
 
 -- the first ground of two lists
 first_of_both : (gs hs : List Ground) → first_ground (gs ++ hs) ≡ option_or (first_ground gs) (first_ground hs)

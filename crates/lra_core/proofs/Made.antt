@@ -1,5 +1,5 @@
 -- How a coordinator and its blocks are made.
-use Rattle.std.proofs.Common.{◌≡◌, ℕ, ◌+◌, Bool, true, false, List, [], ◌∷◌, ◌++◌, length, Option, Some, None, refl, sym, ap, ◌∙◌, cond, subst}
+use Rattle.std.proofs.Common.{◌≡◌, ℕ, ◌+◌, Bool, true, false, [], length, Option, Some, None, refl, sym, ap, ◌∙◌, cond}
 use Rattle.std.specs.Prelude.{is_some, not, option_map}
 use Rattle.std.specs.Option.{option_and_then}
 use Rattle.lra_model.specs.declared.asks.AskKind.{AskKind}

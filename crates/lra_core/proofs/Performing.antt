@@ -1,6 +1,6 @@
 -- A command whose block is written at once.
-use Rattle.std.proofs.Common.{◌≡◌, ℕ, true, List, [], ◌∷◌, ◌++◌, Option, Some, None, refl, sym, ap, ◌∙◌, subst, append-nil}
-use Rattle.std.specs.Prelude.{Ok, IfSome, option_map}
+use Rattle.std.proofs.Common.{◌≡◌, ℕ, List, [], ◌++◌, Option, Some, None, refl, sym, ap, ◌∙◌, subst, append-nil}
+use Rattle.std.specs.Prelude.{Ok, IfSome}
 use Rattle.std.specs.Option.{option_and_then, option_map_or}
 use Rattle.lra_model.specs.declared.entry.Entry.{Entry}
 use Rattle.lra_model.specs.History.{History}
@@ -12,13 +12,13 @@ use Rattle.lra_commands.specs.Errands.{Asking}
 use Rattle.lra_commands.specs.Counters.{Setting, terms_of}
 use Rattle.lra_commands.specs.Deeds.{own_entry}
 use Rattle.lra_commands.specs.Blocks.{block}
-use Rattle.lra_commands.specs.Answers.{answer, after_call, IsQuietAfter}
+use Rattle.lra_commands.specs.Answers.{answer, after_call}
 use Rattle.lra_commands.specs.Given.{errand_for, errand_of, IsOfAsk}
 use Rattle.lra_ids.specs.Addresses.{is_address}
 use Rattle.lra_core.specs.declared.block.Committed.{Committed}
 use Rattle.lra_core.specs.Shape.{Shape, IsCoordinator, IsAtRest, IsSame, IsGrown}
 use Rattle.lra_core.specs.Prepares.{Written, IsBlockOf}
-use Rattle.lra_core.specs.Performs.{IsDone, IsCommitted}
+use Rattle.lra_core.specs.Performs.{IsCommitted}
 use Rattle.lra_core.proofs.Assembling.{grows}
 use Rattle.lra_core.proofs.Carried.{errand_carried}
 use Rattle.lra_core.proofs.Committing.{after_block}

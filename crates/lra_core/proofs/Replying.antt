@@ -1,5 +1,5 @@
 -- A coordinator of its own is a counter.
-use Rattle.std.proofs.Common.{◌≡◌, ℕ, Bool, true, false, ◌∷◌, ◌++◌, Option, Some, None, refl, sym, ap, ◌∙◌, inl, inr, subst}
+use Rattle.std.proofs.Common.{◌≡◌, ℕ, Bool, true, false, Option, Some, None, refl, ap, inl, inr, subst}
 use Rattle.std.specs.Prelude.{◌≢◌, Result, Ok, Err}
 use Rattle.std.specs.Option.{option_map_or}
 use Rattle.lra_model.specs.History.{History}
@@ -7,20 +7,18 @@ use Rattle.lra_commands.specs.declared.command.Command.TheVariants as command
 use Rattle.lra_commands.specs.declared.command.Told.{Told}
 use Rattle.lra_commands.specs.declared.counter.Order.{Order}
 use Rattle.lra_commands.specs.declared.counter.Order.TheVariants as order
-use Rattle.lra_commands.specs.declared.counter.CounterFault.{CounterFault}
-use Rattle.lra_commands.specs.declared.counter.CounterFault.TheVariants.{Refused, Worn}
+use Rattle.lra_commands.specs.declared.counter.CounterFault.TheVariants.{Worn}
 use Rattle.lra_commands.specs.declared.limits.Terms.{Terms}
 use Rattle.lra_commands.specs.declared.refusal.Refusal.{Refusal}
 use Rattle.lra_commands.specs.declared.refusal.Refusal.TheVariants as refusal
-use Rattle.lra_commands.specs.Errands.{Asking}
 use Rattle.lra_commands.specs.Calls.{Command, Call}
 use Rattle.lra_commands.specs.Refusals.{refused, grounds}
 use Rattle.lra_commands.specs.Answers.{told_of, answer}
-use Rattle.lra_commands.specs.Counters.{Setting, Sight, terms_of, command_of, call_of, IsRefusedAt, IsToldAt, IsGivenAt, IsSameCounter, OwnsHistory}
+use Rattle.lra_commands.specs.Counters.{Setting, terms_of, command_of, call_of, IsRefusedAt, IsToldAt, OwnsHistory}
 use Rattle.lra_commands.specs.Runs.{IsLawful}
 use Rattle.lra_commands.specs.Shortages.{IsRefusal}
 use Rattle.lra_core.specs.Shape.{Shape, IsCoordinator}
-use Rattle.lra_core.specs.Performs.{IsDone, IsRefused, Performs}
+use Rattle.lra_core.specs.Performs.{Performs}
 use Rattle.lra_core.specs.Prepares.{is_suited}
 use Rattle.lra_core.specs.Benches.{Benched, sight_of}
 use Rattle.lra_core.specs.inner.Replied.{replied}

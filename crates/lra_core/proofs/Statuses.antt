@@ -1,5 +1,5 @@
 -- The answers to the commands that only read, by what is found.
-use Rattle.std.proofs.Common.{◌≡◌, ℕ, Bool, true, false, ◌∷◌, ◌++◌, cond, Option, Some, None, refl, sym, ap, ◌∙◌}
+use Rattle.std.proofs.Common.{◌≡◌, ℕ, Bool, true, false, ◌∷◌, cond, Some, None, refl, sym, ap, ◌∙◌}
 use Rattle.std.specs.Prelude.{not, Result, Ok, Err}
 use Rattle.std.specs.Option.{option_map_or}
 use Rattle.lra_model.specs.History.{History, clerks, actions, members, is_among}

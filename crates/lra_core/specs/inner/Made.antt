@@ -12,7 +12,6 @@ use Rattle.lra_commands.specs.Calls.{Command, Call, IsCall}
 use Rattle.lra_commands.specs.Counters.{Setting, terms_of}
 use Rattle.lra_commands.specs.Errands.{Asking, asking_of}
 use Rattle.lra_commands.specs.Shortages.{IsRefusal}
-use Rattle.lra_core.specs.declared.block.Block.{Block}
 use Rattle.lra_core.specs.declared.making.Ask.{Ask}
 use Rattle.lra_core.specs.Shape.{Shape}
 use Rattle.lra_core.specs.Prepares.{Written, IsBlockOf, HasRoom}

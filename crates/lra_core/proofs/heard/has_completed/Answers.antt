@@ -13,8 +13,7 @@ loop-entry-preserved c =
     let p = c.args.member in
     let e = c.entry-item.result in
     let asked = c.loop-entry.invariant.0 in
-    let here = c.completes-completed.ensures J c.requires ∙ ap (λ (b : Bool). completes J p b e.deed) asked in
-    (
-        (λ i. asked i || c.asks_to_compensate-was_asked.ensures i) ∙ sym (asked_further J c.loop-entry.entry-index e p c.loop-entry-test.true c.entry-item.is),
-        (λ i. c.loop-entry.invariant.1 i || here i) ∙ sym (decided_further c.requires.version c.requires.is_address J c.loop-entry.entry-index e p c.requires.legal c.loop-entry-test.true c.entry-item.is),
+    let here = c.completes-completed.ensures J c.requires ∙ ap (λ (b : Bool). completes J p b e.deed) asked in (
+      (λ i. asked i || c.asks_to_compensate-was_asked.ensures i) ∙ sym (asked_further J c.loop-entry.entry-index e p c.loop-entry-test.true c.entry-item.is),
+      (λ i. c.loop-entry.invariant.1 i || here i) ∙ sym (decided_further c.requires.version c.requires.is_address J c.loop-entry.entry-index e p c.requires.legal c.loop-entry-test.true c.entry-item.is),
     )
