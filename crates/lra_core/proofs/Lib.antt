@@ -14,4 +14,5 @@ pub mod Opened
 pub mod Performing
 pub mod Reopening
 pub mod Replying
+pub mod StatusTells
 pub mod Statuses

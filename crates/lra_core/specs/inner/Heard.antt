@@ -1,6 +1,8 @@
 -- What decides completion for a member.
-use Rattle.std.specs.Prelude.{◌≡◌, ℕ, ◌==◌, Bool, false, ◌&&◌, not, is_some}
+use Rattle.std.specs.Prelude.{◌≡◌, ℕ, ◌==◌, Bool, true, false, ◌&&◌, not, is_some, Option, Some, None}
 use Rattle.std.specs.Option.{option_map_or}
+use Rattle.lra_model.specs.declared.status.MemberStatus.{MemberStatus}
+use Rattle.lra_model.specs.declared.status.MemberStatus.TheVariants as member
 use Rattle.lra_model.specs.declared.asks.Direction.TheVariants.{Completion}
 use Rattle.lra_model.specs.declared.entry.Deed.{Deed}
 use Rattle.lra_model.specs.declared.entry.Deed.TheVariants as deed
@@ -25,3 +27,11 @@ completes J p was_asked _ = false
 abbrev pub IsCompleted : History → Command → Bool → Type 0
 IsCompleted J (command.Report p e) b = b ≡ is_some (decided J p Completion)
 IsCompleted J _ b = Unit {0}
+
+-- whether completion is decided, as far as a status tells: once it is one of compensation it doesn't
+abbrev pub told_by_status : MemberStatus → Option Bool
+told_by_status member.Active = Some false
+told_by_status member.Completing = Some false
+told_by_status member.Completed = Some true
+told_by_status member.FailedToComplete = Some true
+told_by_status _ = None

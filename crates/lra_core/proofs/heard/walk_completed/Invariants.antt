@@ -3,7 +3,7 @@ use Rattle.std.specs.Prelude.{is_some}
 use Rattle.lra_model.specs.declared.asks.AskKind.TheVariants.{Compensate}
 use Rattle.lra_model.specs.declared.asks.Direction.TheVariants.{Completion}
 use Rattle.lra_model.specs.Members.{decided, was_asked}
-use Rattle.lra_core.proofs.heard.has_completed.Given as goal
+use Rattle.lra_core.proofs.heard.walk_completed.Given as goal
 
 abbrev pub invariant-loop-entry : goal.invariant-loop-entry
 invariant-loop-entry l =
