@@ -1,5 +1,5 @@
 -- What a call gives beside its answer: the errand of an ask.
-use Rattle.std.specs.Prelude.{◌≡◌, ℕ, ◌≤◌, List, Option, Some, option_map}
+use Rattle.std.specs.Prelude.{◌≡◌, Option, Some, option_map}
 use Rattle.std.specs.Option.{option_and_then}
 use Rattle.lra_model.specs.declared.entry.Entry.{Entry}
 use Rattle.lra_model.specs.History.{History}

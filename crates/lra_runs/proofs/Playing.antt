@@ -23,7 +23,6 @@ use Rattle.lra_commands.specs.Calls.{Call}
 use Rattle.lra_commands.specs.Blocks.{block}
 use Rattle.lra_commands.specs.Answers.{answer, growth, after_call}
 use Rattle.lra_commands.specs.Runs.{after_calls, answers}
-use Rattle.lra_core.specs.Prepares.{Written, IsBlockOf}
 use Rattle.lra_commands.specs.Counters.{terms_of}
 use Rattle.lra_core.specs.Shape.{Shape, IsSame, IsGrown}
 use Rattle.lra_runs.specs.declared.script.ScriptLine.{ScriptLine}
