@@ -9,4 +9,6 @@ pub mod Answers
 pub mod Runs
 pub mod Names
 pub mod Counters
+pub mod Given
+pub mod Shortages
 pub mod inner

@@ -1,4 +1,8 @@
 -- Words that private functions and proofs alone use.
-pub mod Drafts
-pub mod Plain
+pub mod Decided
+pub mod Heard
+pub mod Kept
+pub mod Made
+pub mod Opened
+pub mod Replied
 pub mod Spelled

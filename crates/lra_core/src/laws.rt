@@ -1,10 +1,27 @@
-//! A law of coordinators: a public function that does nothing, whose contract says what holds whatever commands are given.
+//! Laws of coordinators: public functions that do nothing, whose contracts say what holds whatever commands are given.
 
+ghost use Rattle.lra_core.specs.Laws.{AsksAreAnsweredOnce, ErrandsAreOfAsks};
+ghost use Rattle.lra_core.specs.Prepares.{BlocksFitOnce};
 ghost use Rattle.lra_core.specs.Texts.{CallsMakeSoundTexts};
 
-/// Whatever commands are given to a new coordinator, by any clerks, at any moments and in any order, refused ones among
-/// them: the text of its history has the verdict Sound, with the history's summary, and no other. So `audit` never
+/// Whatever commands are given to a new or a reopened coordinator, by any clerks, at any moments and in any order, refused
+/// ones among them: the text of its history has the verdict Sound, with the history's summary, and no other. So `audit` never
 /// refuses it, in either version of the journal.
 pub fn commands_make_sound_texts()
     ensures { CallsMakeSoundTexts }
+{}
+
+/// A block fits the history that it was made at alone, and so not the one after itself: it can be committed once.
+pub fn blocks_fit_once()
+    ensures { BlocksFitOnce }
+{}
+
+/// Each errand is of an ask in the history.
+pub fn errands_are_of_asks()
+    ensures { ErrandsAreOfAsks }
+{}
+
+/// In a legal history each ask has at most one reply, so that an errand is recorded once.
+pub fn asks_are_answered_once()
+    ensures { AsksAreAnsweredOnce }
 {}

@@ -1,20 +1,27 @@
 //! The coordinator of long running actions: commands in, entries of the journal out.
 #![tactic(auto)]
 
+mod bench;
 mod block;
+mod commands;
 mod coordinator;
 mod errand;
+mod heard;
 mod laws;
-mod ledger;
-mod walk;
+mod making;
+mod opening;
 
+pub use bench::Bench;
 pub use block::{Block, Committed, Prepared};
 pub use coordinator::Coordinator;
 pub use errand::{Command, Errand};
-pub use laws::commands_make_sound_texts;
+pub use laws::{
+    asks_are_answered_once, blocks_fit_once, commands_make_sound_texts, errands_are_of_asks,
+};
 pub use lra_commands::{
     Limits, Refusal, Resource, Told, calls_leave_quiet_histories, commands_keep_histories,
     commands_make_histories,
 };
 pub use lra_ids::{Address, Instance};
-pub use lra_model::{Memory, Version};
+pub use lra_model::{Memory, Rule, Version};
+pub use opening::OpenFault;

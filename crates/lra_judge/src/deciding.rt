@@ -69,8 +69,8 @@ pub fn decide<E: Carries>(
 ) -> Result<Decision, Refusal>
     requires keepable { AreKeepable terms.now.limits }
     requires fits { is_fitting (spoken E.asking command.now) ≡ true }
-    requires beside { (J : History) → StandsFor tables.now.sheet J → IsLawful terms.now J → IsBeside terms.now J (max moment (last_moment J)) (spoken E.asking command.now) beside.now }
-    ensures { (J : History) → StandsFor tables.now.sheet J → IsLawful terms.now J → IsDecided terms.now J (record { by = by; moment = moment; command = spoken E.asking command.now }) result }
+    ensures { (J : History) → StandsFor tables.now.sheet J → IsLawful terms.now J → IsBeside terms.now J (max moment (last_moment J)) (spoken E.asking command.now) beside.now
+        → IsDecided terms.now J (record { by = by; moment = moment; command = spoken E.asking command.now }) result }
 {
     let by_tables = Judge {
         terms: *terms,

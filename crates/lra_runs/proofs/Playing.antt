@@ -9,7 +9,7 @@ use Rattle.std.proofs.lemmas.List.{append-nil, length_push, length-append}
 use Rattle.std.proofs.lemmas.List.Elements.{All-nil, All-push}
 use Rattle.lra_model.specs.declared.entry.Entry.{Entry}
 use Rattle.lra_model.specs.History.{History}
-use Rattle.lra_model.specs.declared.version.Version.TheVariants.{One}
+use Rattle.lra_model.specs.declared.version.Version.TheVariants.{Two}
 use Rattle.lra_journal.specs.Line.{line, header}
 use Rattle.lra_journal.specs.Lines.{IsLine}
 use Rattle.lra_journal.proofs.Splitting.{Lacks}
@@ -23,8 +23,8 @@ use Rattle.lra_commands.specs.Calls.{Call}
 use Rattle.lra_commands.specs.Blocks.{block}
 use Rattle.lra_commands.specs.Answers.{answer, growth, after_call}
 use Rattle.lra_commands.specs.Runs.{after_calls, answers}
-use Rattle.lra_core.specs.Prepares.{Written, IsBlockOf}
-use Rattle.lra_core.specs.Shape.{Shape, terms_of, IsSame, IsGrown}
+use Rattle.lra_commands.specs.Counters.{terms_of}
+use Rattle.lra_core.specs.Shape.{Shape, IsSame, IsGrown}
 use Rattle.lra_runs.specs.declared.script.ScriptLine.{ScriptLine}
 use Rattle.lra_runs.specs.Script.{script_line, IsScriptLine, command_of, call_of, Begins, BeginsWithNone}
 use Rattle.lra_runs.specs.Play.{player, answer_line, marked, played_line, played_lines, played, Plays, PlaysUpToLine}
@@ -91,19 +91,23 @@ line_told s J l o t es p v e b =
     let made : block player J (call_of l) ≡ es = sym (λ i. block (p i) J (call_by l (v i))) ∙ b in
     line_by J l (Ok t) es here (growth_told player J (call_of l) t here ∙ made)
 
-pub same_terms : (c d : Shape) → IsSame c d → terms_of d ≡ terms_of c
-same_terms c d h = λ i. record { version = h.version i; limits = h.limits i }
+pub same_terms : (c d : Shape) → IsSame c d → terms_of d.setting ≡ terms_of c.setting
+same_terms c d h = ap terms_of h.setting
 
-pub block_kept : (c d : Shape) (k : Call) (b : Written) → IsSame c d → IsBlockOf (terms_of c) c.history k b → IsBlockOf (terms_of d) d.history k b
-block_kept c d k b h is = subst (λ (J : History). IsBlockOf (terms_of d) J k b) (sym h.history) (subst (λ (s : Terms). IsBlockOf s c.history k b) (sym (same_terms c d h)) is)
+-- what is answered and appended at a coordinator that is the same
+pub answer_before : (c d : Shape) (k : Call) (r : Result Told Refusal) → IsSame c d → answer (terms_of d.setting) d.history k ≡ r → answer (terms_of c.setting) c.history k ≡ r
+answer_before c d k r h e = (λ i. answer (terms_of (sym h.setting i)) (sym h.history i) k) ∙ e
+
+pub block_before : (c d : Shape) (k : Call) (es : List Entry) → IsSame c d → block (terms_of d.setting) d.history k ≡ es → block (terms_of c.setting) c.history k ≡ es
+block_before c d k es h e = (λ i. block (terms_of (sym h.setting i)) (sym h.history i) k) ∙ e
 
 -- grown so, after a step that grows nothing
 pub grown_after : (c m d : Shape) (K L : History) → IsSame c m → IsGrown m d K → K ≡ L → IsGrown c d L
 grown_after c m d K L h g e =
-    record { version = g.version ∙ h.version; instance = g.instance ∙ h.instance; base = g.base ∙ h.base; limits = g.limits ∙ h.limits; history = g.history ∙ e }
+    record { setting = g.setting ∙ h.setting; history = g.history ∙ e }
 
 pub grown_none : (c d : Shape) (L : History) → IsSame c d → c.history ≡ L → IsGrown c d L
-grown_none c d L h e = record { version = h.version; instance = h.instance; base = h.base; limits = h.limits; history = h.history ∙ e }
+grown_none c d L h e = record { setting = h.setting; history = h.history ∙ e }
 
 -- ---- what a script doesn't begin with
 
@@ -126,18 +130,18 @@ pub record IsPlayed (script : List ℕ) (before now : Option (List ℕ)) (c : Sh
   pub lines : List ScriptLine
   pub read : Begins script lines rest
   pub written : Appends before now (played lines)
-  pub terms : terms_of c ≡ player
+  pub terms : terms_of c.setting ≡ player
   pub history : c.history ≡ after_lines [] lines
   pub refused : is_refused ≡ some_refused [] lines
   pub counted : number ≡ length lines
   pub within : number + length rest ≤ length script
 
-pub played_none : (script : List ℕ) (before now : Option (List ℕ)) (c : Shape) → terms_of c ≡ player → c.history ≡ [] → Appends before now (marked (header One 7)) → IsPlayed script before now c false 0 script
+pub played_none : (script : List ℕ) (before now : Option (List ℕ)) (c : Shape) → terms_of c.setting ≡ player → c.history ≡ [] → Appends before now (marked (header Two 7)) → IsPlayed script before now c false 0 script
 played_none script before now c terms history written =
     record {
       lines = [];
       read = record { allowed = All-nil IsScriptLine; whole = refl };
-      written = subst (Appends before now) (sym (append-nil (marked (header One 7)))) written;
+      written = subst (Appends before now) (sym (append-nil (marked (header Two 7)))) written;
       terms = terms;
       history = history;
       refused = refl;
@@ -161,7 +165,7 @@ played_more script before now next c d b r n rest front others l p has parts is 
     }
   where
     whole : played (p.lines ++ l ∷ []) ≡ played p.lines ++ played_line (after_lines [] p.lines) l
-    whole = ap (λ (t : List ℕ). marked (header One 7) ++ t) (played_push [] p.lines l) ∙ sym (append_assoc (marked (header One 7)) (played_lines [] p.lines) (played_line (after_lines [] p.lines) l))
+    whole = ap (λ (t : List ℕ). marked (header Two 7) ++ t) (played_push [] p.lines l) ∙ sym (append_assoc (marked (header Two 7)) (played_lines [] p.lines) (played_line (after_lines [] p.lines) l))
 
 pub plays_whole : (script : List ℕ) (before now : Option (List ℕ)) (c : Shape) (b : Bool) (n status : ℕ) (rest : List ℕ) → IsPlayed script before now c b n rest → rest ≡ [] → status ≡ cond b 1 0 → Plays script status before now
 plays_whole script before now c b n status rest p end e =

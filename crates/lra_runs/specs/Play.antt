@@ -5,7 +5,7 @@ use Rattle.std.specs.List.{flat_map, list_any}
 use Rattle.std.specs.Result.{is_err}
 use Rattle.std.specs.Io.KnownBytes.{Appends}
 use Rattle.lra_model.specs.declared.entry.Entry.{Entry}
-use Rattle.lra_model.specs.declared.version.Version.TheVariants.{One}
+use Rattle.lra_model.specs.declared.version.Version.TheVariants.{Two}
 use Rattle.lra_model.specs.Names.{action_status_name, member_status_name}
 use Rattle.lra_model.specs.History.{History}
 use Rattle.lra_journal.specs.Line.{line, header}
@@ -22,9 +22,9 @@ use Rattle.lra_runs.specs.declared.script.ScriptLine.{ScriptLine}
 use Rattle.lra_runs.specs.Report.{joined, line_feed}
 use Rattle.lra_runs.specs.Script.{call_of, Begins, BeginsWithNone}
 
--- what the player's coordinator is made with: a journal of version 1, and the usual limits
+-- what the player's coordinator is made with: a journal of version 2, and the usual limits
 abbrev pub player : Terms
-player = record { version = One; limits = usual }
+player = record { version = Two; limits = usual }
 
 -- the words of what a command is told; of an ask its number alone, since no script asks for one so far
 abbrev pub told_text : Told → List ℕ
@@ -83,7 +83,7 @@ played_lines J (l ∷ ls) = played_line J l ++ played_lines (after_call player J
 
 -- the journal's header, and what is printed of the lines
 abbrev pub played : List ScriptLine → List ℕ
-played ls = marked (header One 7) ++ played_lines [] ls
+played ls = marked (header Two 7) ++ played_lines [] ls
 
 -- 1 where a command was refused, else 0
 abbrev pub play_status : List ScriptLine → ℕ

@@ -1,6 +1,7 @@
 //! The lines of a script that the coordinator takes so far.
 
-ghost use Rattle.std.specs.Prelude.{◌≡◌, IfSome, Some};
+ghost use Rattle.std.specs.Prelude.{◌≡◌, IfSome, Some, true};
+ghost use Rattle.lra_core.specs.Prepares.{is_suited};
 ghost use Rattle.lra_runs.specs.Script.{script_line, IsScriptLine, command_of};
 ghost use Rattle.lra_runs.specs.inner.Taken.{verb_of, script_line_of};
 ghost use Rattle.lra_runs.specs.declared.script.ScriptLine.{ScriptLine};
@@ -21,7 +22,8 @@ pub enum Verb {
 impl Verb {
     /// The command that it is.
     pub fn command(self) -> Command<'static>
-        ensures { result ≡ command_of self }
+        ensures value { result ≡ command_of self }
+        ensures suited { is_suited result ≡ true }
     {
         match self {
             Verb::Enrol => Command::Enrol,

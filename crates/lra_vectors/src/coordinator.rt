@@ -87,7 +87,7 @@ fn assert_answers(
 fn an_action_is_started_and_closed(rt: HostRuntime) -> Result<(), Fail> {
     let alloc = rt.alloc();
     let mut coordinator = coordinator(alloc, Limits::usual())?;
-    assert_eq!(rt; coordinator.version(), Version::One);
+    assert_eq!(rt; coordinator.version(), Version::Two);
     assert_answers(
         &rt,
         alloc,

@@ -17,7 +17,7 @@ const UPGRADED: &str = "lra-journal 2 7\n1 0 enrol\n1 0 start 1 * 0\n1 5 start 2
 const SCRIPT: &str = "0 0 enrol\n1 0 start * 9\n1 5 close 1\n1 7 status 2\n";
 
 const PLAYED: &str =
-    "+ lra-journal 1 7\nclerk 1\n+ 1 0 enrol\naction 1\n+ 1 0 start 1 * 9\nnow Closed\n+ 1 5 close 1 client\n+ 1 5 end 1 Closed\nrefused NoSuchAction\n";
+    "+ lra-journal 2 7\nclerk 1\n+ 1 0 enrol\naction 1\n+ 1 0 start 1 * 9\nnow Closed\n+ 1 5 close 1 client\n+ 1 5 end 1 Closed\nrefused NoSuchAction\n";
 
 /// A script whose second line is none.
 const BAD: &str = "0 0 enrol\n1 0 enrol\n1 0 start * 0\n";
@@ -38,7 +38,7 @@ const RUNS: [(Invocation<'static>, &str, Result<u8, RunFault>); 7] = [
     (Invocation::Play { script: "script" }, PLAYED, Ok(1)),
     (
         Invocation::Play { script: "bad" },
-        "+ lra-journal 1 7\nclerk 1\n+ 1 0 enrol\n",
+        "+ lra-journal 2 7\nclerk 1\n+ 1 0 enrol\n",
         Err(RunFault::Line(2)),
     ),
     (
