@@ -3,6 +3,7 @@ pub mod ActionWords
 pub mod Agree
 pub mod AskList
 pub mod AskWords
+pub mod Clerks
 pub mod Climbs
 pub mod Contacts
 pub mod GoodKept

@@ -1,0 +1,3 @@
+pub mod AtDesk
+pub mod Written
+pub mod AtLock

@@ -1,0 +1,60 @@
+-- What a clerk learns when it gives a call to an office.
+use Rattle.std.specs.Prelude.{◌≡◌, ◌≢◌, ℕ, List, [], ◌++◌, Option, Some, Result, Ok, Err}
+use mathlib.Core.List.{IsPrefix}
+use Rattle.lra_model.specs.declared.entry.Entry.{Entry}
+use Rattle.lra_model.specs.History.{History}
+use Rattle.lra_ticket.specs.declared.view.Place.TheVariants.{Idle, Looked}
+use Rattle.lra_ticket.specs.declared.view.View.{View}
+use Rattle.lra_ticket.specs.History.{entries_by, number_after}
+use Rattle.lra_ticket.specs.Views.{view, moved}
+use Rattle.lra_ticket.specs.Locks.{last_ticket}
+use Rattle.lra_commands.specs.declared.command.Told.{Told}
+use Rattle.lra_commands.specs.Errands.{Asking}
+use Rattle.lra_commands.specs.Calls.{Call}
+use Rattle.lra_commands.specs.Answers.{growth}
+use Rattle.lra_commands.specs.Counters.{Setting, terms_of}
+use Rattle.lra_core.specs.declared.block.Committed.{Committed}
+use Rattle.lra_office.specs.declared.fault.OfficeRefusal.{OfficeRefusal}
+use Rattle.lra_office.specs.declared.fault.OfficeRefusal.TheVariants.{Refused, Worn}
+use Rattle.lra_office.specs.Serves.{IsHeldBack, IsDone, IsKeptBy}
+
+-- the history that a call met: it begins with all that was seen before, has nothing more under the number, and can be a coordinator's
+pub record IsMet {O : Type 0} (g : Setting) (v : View O) (J : History) : Type 0 where
+  pub begins : IsPrefix v.seen J
+  pub own : entries_by v.number J ≡ v.mine
+  pub kept : IsKeptBy g J
+
+-- what is known after a call that met a history was done, and appended a block
+abbrev pub grown_view : {O : Type 0} → View O → History → List Entry → View O
+grown_view v J block = view (number_after v.number block) v.origin (J ++ block) (v.mine ++ block) v.tries Idle
+
+-- what is known after a call that met a history changed nothing
+abbrev pub met_view : {O : Type 0} → View O → History → View O
+met_view v J = record v { seen = J; place = Idle }
+
+-- a call was done
+pub record IsGrown {O : Type 0} (g : Setting) (v : View O) (c : Call) (t : Told) (e : Option Asking) (w : View O) : Type 0 where
+  pub history : History
+  pub met : IsMet g v history
+  pub done : IsDone g history c t e (history ++ growth (terms_of g) history c)
+  pub after : w ≡ grown_view v history (growth (terms_of g) history c)
+
+-- a call was refused, or the scribe has stopped, or no ticket was left
+abbrev pub IsNotGiven : {O : Type 0} → Setting → View O → Call → OfficeRefusal → View O → Type 0
+IsNotGiven g v c (Refused r) w = (J : History) × IsMet g v J × IsHeldBack (terms_of g) J c r × (w ≡ met_view v J)
+IsNotGiven g v c Worn w = w ≡ moved v (Looked last_ticket)
+
+-- a call that was given
+abbrev pub IsGiven : {O : Type 0} → Setting → View O → Call → Result Committed OfficeRefusal → View O → Type 0
+IsGiven g v c (Ok r) w = IsGrown g v c r.told r.errand w
+IsGiven g v c (Err r) w = IsNotGiven g v c r w
+
+-- a call that is told something, whatever errand it gave
+abbrev pub IsTold : {O : Type 0} → Setting → View O → Call → Result Told OfficeRefusal → View O → Type 0
+IsTold g v c (Ok t) w = (e : Option Asking) × IsGrown g v c t e w
+IsTold g v c (Err r) w = IsNotGiven g v c r w
+
+-- a call that asks for an errand, and gave one, or none
+abbrev pub IsErrand : {O : Type 0} → Setting → View O → Call → Result (Option Asking) OfficeRefusal → View O → Type 0
+IsErrand g v c (Ok e) w = (t : Told) × IsGrown g v c t e w
+IsErrand g v c (Err r) w = IsNotGiven g v c r w

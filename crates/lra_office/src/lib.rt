@@ -1,0 +1,14 @@
+//! One coordinator for many threads, its journal behind one lock.
+#![tactic(auto)]
+
+mod clerk;
+mod desk;
+mod fault;
+mod office;
+mod serving;
+
+pub use clerk::Clerk;
+pub use desk::Desk;
+pub use fault::OfficeRefusal;
+pub use office::Office;
+pub use serving::Serving;
