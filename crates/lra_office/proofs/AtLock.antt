@@ -6,7 +6,7 @@ use Rattle.lra_model.specs.declared.entry.Entry.{Entry}
 use Rattle.lra_model.specs.History.{History}
 use Rattle.lra_ticket.specs.declared.view.Place.TheVariants.{Idle}
 use Rattle.lra_ticket.specs.declared.view.View.{View}
-use Rattle.lra_ticket.specs.History.{entries_by, block_after, number_after, MayAdd}
+use Rattle.lra_ticket.specs.History.{block_after, number_after, MayAdd}
 use Rattle.lra_ticket.specs.Views.{view, taking, given}
 use Rattle.lra_ticket.specs.Locks.{HasTaken}
 use Rattle.lra_ticket.proofs.Histories.{block_after-append}

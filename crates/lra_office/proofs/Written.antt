@@ -1,13 +1,13 @@
 -- Whose entries a call writes, and that the lock takes them.
-use Rattle.std.proofs.Common.{◌≡◌, ◌≢◌, ℕ, zero, suc, ◌+◌, Bool, true, false, List, [], ◌∷◌, ◌++◌, length, Option, Some, None, Result, Ok, Err, refl, sym, ap, ◌∙◌, subst, append-nil, cond, arith, ne_eqb}
-use Rattle.std.specs.Prelude.{is_some, option_map, ◌==◌}
+use Rattle.std.proofs.Common.{◌≡◌, ◌≢◌, ℕ, zero, suc, ◌+◌, Bool, List, [], ◌∷◌, ◌++◌, length, Option, Some, None, Result, Ok, Err, refl, sym, ap, ◌∙◌, subst, append-nil, cond, arith, ne_eqb}
+use Rattle.std.specs.Prelude.{is_some, option_map}
 use Rattle.std.specs.Option.{option_map_or}
 use Rattle.std.specs.List.{All, AllByRecursion}
 use Rattle.std.proofs.lemmas.List.Elements.{All-from_recursion, All-nil}
 use Rattle.lra_model.specs.declared.entry.Deed.{Deed}
 use Rattle.lra_model.specs.declared.entry.Entry.{Entry}
 use Rattle.lra_model.specs.History.{History, clerks}
-use Rattle.lra_model.specs.Settling.{next_settling, settling_within, most_settling, settling, with_settling}
+use Rattle.lra_model.specs.Settling.{next_settling, settling_within, most_settling, with_settling}
 use Rattle.lra_ids.specs.Addresses.{is_address}
 use Rattle.lra_laws.proofs.Clerks.{none_by_next}
 use Rattle.lra_ticket.specs.History.{entries_by, block_after, first_by, number_after, MayAdd}
@@ -16,7 +16,7 @@ use Rattle.lra_commands.specs.declared.command.Command.TheVariants as command
 use Rattle.lra_commands.specs.declared.limits.Terms.{Terms}
 use Rattle.lra_commands.specs.declared.refusal.Refusal.{Refusal}
 use Rattle.lra_commands.specs.Calls.{Command, Call, moment_of}
-use Rattle.lra_commands.specs.Deeds.{own_deed, writer_of, entry_of, own_entry}
+use Rattle.lra_commands.specs.Deeds.{own_deed, writer_of, entry_of}
 use Rattle.lra_commands.specs.Blocks.{block}
 use Rattle.lra_commands.specs.Refusals.{refused}
 use Rattle.lra_commands.specs.Answers.{growth}

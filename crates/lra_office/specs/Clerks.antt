@@ -1,5 +1,5 @@
 -- What callers know of a clerk.
-use Rattle.std.specs.Prelude.{◌≡◌, ◌≢◌, ℕ, List, [], Option, Some, option_map}
+use Rattle.std.specs.Prelude.{◌≡◌, ◌≢◌, [], Some, option_map}
 use Rattle.std.specs.Option.{option_map_or}
 use Rattle.lra_ticket.specs.declared.kept.Kept.{Ghosts}
 use Rattle.lra_ticket.specs.declared.lock.Pass.{Pass}

@@ -1,5 +1,5 @@
 -- What a clerk learns when it gives a call to an office.
-use Rattle.std.specs.Prelude.{◌≡◌, ◌≢◌, ℕ, List, [], ◌++◌, Option, Some, Result, Ok, Err}
+use Rattle.std.specs.Prelude.{◌≡◌, ℕ, List, ◌++◌, Option, Result, Ok, Err, MatchResult}
 use mathlib.Core.List.{IsPrefix}
 use Rattle.lra_model.specs.declared.entry.Entry.{Entry}
 use Rattle.lra_model.specs.History.{History}
@@ -8,9 +8,11 @@ use Rattle.lra_ticket.specs.declared.view.View.{View}
 use Rattle.lra_ticket.specs.History.{entries_by, number_after}
 use Rattle.lra_ticket.specs.Views.{view, moved}
 use Rattle.lra_ticket.specs.Locks.{last_ticket}
+use Rattle.lra_model.specs.declared.asks.Outcome.{Outcome}
+use Rattle.lra_commands.specs.declared.command.Command.TheVariants.{Record}
 use Rattle.lra_commands.specs.declared.command.Told.{Told}
 use Rattle.lra_commands.specs.Errands.{Asking}
-use Rattle.lra_commands.specs.Calls.{Call}
+use Rattle.lra_commands.specs.Calls.{Call, Command}
 use Rattle.lra_commands.specs.Answers.{growth}
 use Rattle.lra_commands.specs.Counters.{Setting, terms_of}
 use Rattle.lra_core.specs.declared.block.Committed.{Committed}
@@ -58,3 +60,19 @@ IsTold g v c (Err r) w = IsNotGiven g v c r w
 abbrev pub IsErrand : {O : Type 0} → Setting → View O → Call → Result (Option Asking) OfficeRefusal → View O → Type 0
 IsErrand g v c (Ok e) w = (t : Told) × IsGrown g v c t e w
 IsErrand g v c (Err r) w = IsNotGiven g v c r w
+
+-- a command records what came of an errand's ask
+abbrev pub IsRecording : Asking → Outcome → Command → Type 0
+IsRecording e o (Record errand outcome) = (errand.now ≡ e) × (outcome ≡ o)
+IsRecording e o _ = ⊥
+
+-- a call records it, under a number and at a moment
+pub record IsRecordOf (c : Call) (number at : ℕ) (e : Asking) (o : Outcome) : Type 0 where
+  pub by : c.by ≡ number
+  pub moment : c.moment ≡ at
+  pub command : IsRecording e o c.command
+
+-- what came of an ask was recorded, or the errand came back
+abbrev pub IsRecorded : {O : Type 0} → Setting → View O → ℕ → ℕ → Asking → Outcome → Result Told (Asking × OfficeRefusal) → View O → Type 0
+IsRecorded g v number at e o result w =
+    (c : Call) × IsRecordOf c number at e o × MatchResult result (λ t. IsTold g v c (Ok t) w) (λ x. (x.0 ≡ e) × IsNotGiven g v c x.1 w)

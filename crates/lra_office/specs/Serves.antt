@@ -1,5 +1,5 @@
 -- What a command comes to at a desk.
-use Rattle.std.specs.Prelude.{◌≡◌, ◌≢◌, true, ◌⊎◌, [], IsOk, Option, None, Result, Ok, Err}
+use Rattle.std.specs.Prelude.{◌≡◌, ◌≢◌, true, ◌⊎◌, [], IsOk, Option, Result, Ok, Err}
 use Rattle.lra_model.specs.History.{History}
 use Rattle.lra_commands.specs.declared.command.Told.{Told}
 use Rattle.lra_commands.specs.declared.limits.Terms.{Terms}

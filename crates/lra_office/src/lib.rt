@@ -2,6 +2,7 @@
 #![tactic(auto)]
 
 mod clerk;
+mod commands;
 mod desk;
 mod fault;
 mod office;

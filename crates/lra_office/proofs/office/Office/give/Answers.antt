@@ -1,6 +1,4 @@
-use Rattle.std.proofs.Common.{◌≡◌, subst, ◌∙◌, sym, Ok, Err}
 use Rattle.lra_ticket.specs.Locks.{held_view, pass_view}
-use Rattle.lra_office.specs.Serves.{IsServed, IsKeptBy}
 use Rattle.lra_office.proofs.AtLock.{extends, may_add, grown, not_grown}
 use Rattle.lra_office.proofs.office.Office.give.Goals as goal
 
