@@ -3,11 +3,11 @@ use Rattle.std.specs.Prelude.{◌≡◌, ℕ, List, ◌++◌, Option, Result, Ok
 use mathlib.Core.List.{IsPrefix}
 use Rattle.lra_model.specs.declared.entry.Entry.{Entry}
 use Rattle.lra_model.specs.History.{History}
-use Rattle.lra_ticket.specs.declared.view.Place.TheVariants.{Idle, Looked}
+use Rattle.lra_ticket.specs.declared.view.Place.TheVariants.{Idle, Looked, Peeked}
 use Rattle.lra_ticket.specs.declared.view.View.{View}
 use Rattle.lra_ticket.specs.History.{entries_by, number_after}
 use Rattle.lra_ticket.specs.Views.{view, moved}
-use Rattle.lra_ticket.specs.Locks.{last_ticket}
+use Rattle.lra_ticket.specs.Locks.{last_ticket, tried, HasMissed}
 use Rattle.lra_model.specs.declared.asks.Outcome.{Outcome}
 use Rattle.lra_commands.specs.declared.command.Command.TheVariants.{Record}
 use Rattle.lra_commands.specs.declared.command.Told.{Told}
@@ -18,6 +18,8 @@ use Rattle.lra_commands.specs.Counters.{Setting, terms_of}
 use Rattle.lra_core.specs.declared.block.Committed.{Committed}
 use Rattle.lra_office.specs.declared.fault.OfficeRefusal.{OfficeRefusal}
 use Rattle.lra_office.specs.declared.fault.OfficeRefusal.TheVariants.{Refused, Worn}
+use Rattle.lra_office.specs.declared.fault.TryRefusal.{TryRefusal}
+use Rattle.lra_office.specs.declared.fault.TryRefusal.TheVariants as try
 use Rattle.lra_office.specs.Serves.{IsHeldBack, IsDone, IsKeptBy}
 
 -- the history that a call met: it begins with all that was seen before, has nothing more under the number, and can be a coordinator's
@@ -76,3 +78,14 @@ pub record IsRecordOf (c : Call) (number at : ℕ) (e : Asking) (o : Outcome) : 
 abbrev pub IsRecorded : {O : Type 0} → Setting → View O → ℕ → ℕ → Asking → Outcome → Result Told (Asking × OfficeRefusal) → View O → Type 0
 IsRecorded g v number at e o result w =
     (c : Call) × IsRecordOf c number at e o × MatchResult result (λ t. IsTold g v c (Ok t) w) (λ x. (x.0 ≡ e) × IsNotGiven g v c x.1 w)
+
+-- an order that doesn't wait, and wasn't done: it was refused, or the lock was another's, or no ticket was left
+abbrev pub IsNotTried : {O : Type 0} → Setting → View O → Call → TryRefusal → View O → Type 0
+IsNotTried g v c (try.Refused r) w = IsNotGiven g (tried v) c (Refused r) w
+IsNotTried g v c try.Busy w = HasMissed v w
+IsNotTried g v c try.Worn w = w ≡ moved (tried v) (Peeked last_ticket)
+
+-- an order that doesn't wait: it makes one try
+abbrev pub IsTried : {O : Type 0} → Setting → View O → Call → Result Told TryRefusal → View O → Type 0
+IsTried g v c (Ok t) w = (e : Option Asking) × IsGrown g (tried v) c t e w
+IsTried g v c (Err r) w = IsNotTried g v c r w

@@ -6,10 +6,12 @@ mod commands;
 mod desk;
 mod fault;
 mod office;
+mod passing;
 mod serving;
+mod trying;
 
 pub use clerk::Clerk;
 pub use desk::Desk;
-pub use fault::OfficeRefusal;
+pub use fault::{OfficeRefusal, TryRefusal};
 pub use office::Office;
 pub use serving::Serving;
