@@ -5,4 +5,5 @@ pub mod KeepsGrounds
 pub mod KeepsLate
 pub mod KeepsOwn
 pub mod Rests
+pub mod Stopping
 pub mod Worked

@@ -53,11 +53,12 @@ nothing_added v J = λ i. view (number_none v.number i) v.origin (append-nil J i
 
 -- the call was done
 pub grown : {O : Type 0} (set : O → Setting) (v w u : View O) (o : O) (J K : History) (c : Call) (r : Committed) → o ≡ v.origin → IsMet (set o) v J → HasTaken v J w
-    → IsServed (set o) J c (Ok r) K → u ≡ given w K → IsGrown (set v.origin) v c r.told r.errand u
-grown set v w u o J K c r same met h s e = subst (λ x. IsGrown (set x) v c r.told r.errand u) same (record {
+    → IsServed (set o) J c (Ok r) K → IsKeptBy (set o) K → u ≡ given w K → IsGrown (set v.origin) v c r.told r.errand u
+grown set v w u o J K c r same met h s k e = subst (λ x. IsGrown (set x) v c r.told r.errand u) same (record {
   history = J;
   met = met;
   done = subst (λ (L : History). IsDone (set o) J c r.told r.errand L) s.grown s;
+  kept = subst (IsKeptBy (set o)) s.grown k;
   after = given_after v w u J K (growth (terms_of (set o)) J c) h e s.grown;
 })
 

@@ -5,3 +5,4 @@ pub mod Serves
 pub mod Writers
 pub mod Orders
 pub mod Clerks
+pub mod Windows

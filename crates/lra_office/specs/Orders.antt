@@ -41,6 +41,7 @@ pub record IsGrown {O : Type 0} (g : Setting) (v : View O) (c : Call) (t : Told)
   pub history : History
   pub met : IsMet g v history
   pub done : IsDone g history c t e (history ++ growth (terms_of g) history c)
+  pub kept : IsKeptBy g (history ++ growth (terms_of g) history c)
   pub after : w ≡ grown_view v history (growth (terms_of g) history c)
 
 -- a call was refused, or the scribe has stopped, or no ticket was left

@@ -19,7 +19,7 @@ use std::sync::Wait;
 
 impl<V: Serving> Office<V> {
     /// Does a command that gives no errand.
-    fn tell<R: Wait>(
+    pub(crate) fn tell<R: Wait>(
         &self,
         rt: &R,
         clerk: &mut Clerk<V>,

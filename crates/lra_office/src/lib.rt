@@ -9,9 +9,11 @@ mod office;
 mod passing;
 mod serving;
 mod trying;
+mod window;
 
 pub use clerk::Clerk;
 pub use desk::Desk;
 pub use fault::{OfficeRefusal, TryRefusal};
 pub use office::Office;
 pub use serving::Serving;
+pub use window::Window;
