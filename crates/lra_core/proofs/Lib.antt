@@ -1,5 +1,14 @@
+mod Sounds
+pub mod Allowing
+pub mod Asking
+pub mod Assembling
+pub mod Carried
 pub mod Committing
-pub mod Judging
-pub mod Plain
-pub mod Sounds
-pub mod Walks
+pub mod Deciding
+pub mod Fullness
+pub mod Hearing
+pub mod Made
+pub mod Numbers
+pub mod Opened
+pub mod Performing
+pub mod Statuses

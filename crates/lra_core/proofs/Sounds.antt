@@ -7,7 +7,7 @@ use Rattle.lra_ids.specs.Addresses.{is_address}
 use Rattle.lra_journal.specs.Line.{text}
 use Rattle.lra_auditor.proofs.LegalTexts.{legal_has_text}
 use Rattle.lra_auditor.proofs.OneVerdict.{legal_text_sound}
-use Rattle.lra_commands.proofs.Keeps.{calls_make}
+use Rattle.lra_commands.proofs.Keeps.{calls_keep}
 use Rattle.lra_core.specs.Texts.{IsSoundAlone, CallsMakeSoundTexts}
 
 sound_alone : (v : Version) (i : ℕ) (J : History) → i < 2 ^ 60 → is_legal v is_address J ≡ true → IsSoundAlone (text v i J) J
@@ -17,4 +17,4 @@ sound_alone v i J h l = record {
 }
 
 pub calls_make_sound : CallsMakeSoundTexts
-calls_make_sound s i cs h l calls = sound_alone s.version i _ h (calls_make s cs l calls).legal
+calls_make_sound s i J cs h l k calls = sound_alone s.version i _ h (calls_keep s J cs l k calls).legal

@@ -8,6 +8,9 @@ pub use Rattle.lra_commands.specs.Refusals
 pub use Rattle.lra_commands.specs.Answers
 pub use Rattle.lra_commands.specs.Runs
 pub use Rattle.lra_commands.specs.Names
+pub use Rattle.lra_commands.specs.Counters
+pub use Rattle.lra_commands.specs.Given
+pub use Rattle.lra_commands.specs.Shortages
 pub mod Shape
 pub mod Prepares
 pub mod Performs

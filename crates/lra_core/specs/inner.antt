@@ -1,4 +1,6 @@
 -- Words that private functions and proofs alone use.
-pub mod Drafts
-pub mod Plain
+pub mod Decided
+pub mod Heard
+pub mod Kept
+pub mod Made
 pub mod Spelled

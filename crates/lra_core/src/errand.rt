@@ -2,46 +2,60 @@
 
 ghost use Rattle.std.specs.Prelude.{◌≡◌, option_map};
 
+use lra_judge::{Carried, Carries};
 use lra_model::{ActionStatus, AskKind, Direction};
 use std::marker::Model;
 
 /// What a clerk asks of the coordinator.
 pub type Command<'a> = lra_commands::Command<'a, Errand>;
 
-/// One request to a member. The coordinator alone makes errands, and each has to be spent: recorded, or discarded.
-#[derive(Debug)]
-pub struct Errand {
-    ask: u64,
-    member: u64,
-    action: u64,
-    kind: AskKind,
-    direction: Direction,
-    address: String,
-    action_uri: String,
-    parent_uri: Option<String>,
-    recovery_uri: String,
-    ended: Option<ActionStatus>,
+/// What an errand says. It is made with the block of its ask, and becomes an errand once that is committed.
+#[derive(Drop)]
+pub(crate) struct Request {
+    pub(crate) ask: u64,
+    pub(crate) member: u64,
+    pub(crate) action: u64,
+    pub(crate) kind: AskKind,
+    pub(crate) direction: Direction,
+    pub(crate) address: String,
+    pub(crate) action_uri: String,
+    pub(crate) parent_uri: Option<String>,
+    pub(crate) recovery_uri: String,
+    pub(crate) ended: Option<ActionStatus>,
 }
 
-impl Model for Errand {
+impl Model for Request {
     ghost use Rattle.std.specs.Prelude.{string_bytes};
     ghost use Rattle.lra_model.specs.Addresses.{text_of};
     ghost use Rattle.lra_commands.specs.Errands.{Asking};
 
     ghost Value = { Asking };
 
-    ghost view = { λ e. record {
-      ask = e.ask;
-      member = e.member;
-      action = e.action;
-      kind = e.kind;
-      direction = e.direction;
-      address = string_bytes e.address;
-      action_uri = string_bytes e.action_uri;
-      parent_uri = text_of e.parent_uri;
-      recovery_uri = string_bytes e.recovery_uri;
-      ended = e.ended;
+    ghost view = { λ r. record {
+      ask = r.ask;
+      member = r.member;
+      action = r.action;
+      kind = r.kind;
+      direction = r.direction;
+      address = string_bytes r.address;
+      action_uri = string_bytes r.action_uri;
+      parent_uri = text_of r.parent_uri;
+      recovery_uri = string_bytes r.recovery_uri;
+      ended = r.ended;
     } };
+}
+
+/// One request to a member. The coordinator alone makes errands, and each has to be spent: recorded, or discarded.
+pub struct Errand {
+    request: Request,
+}
+
+impl Model for Errand {
+    ghost use Rattle.lra_commands.specs.Errands.{Asking};
+
+    ghost Value = { Asking };
+
+    ghost view = { λ e. e.request };
 }
 
 impl Errand {
@@ -49,56 +63,56 @@ impl Errand {
     pub fn ask(&self) -> u64
         ensures { result ≡ self.now.ask }
     {
-        self.ask
+        self.request.ask
     }
 
     /// The number of the member that is asked.
     pub fn member(&self) -> u64
         ensures { result ≡ self.now.member }
     {
-        self.member
+        self.request.member
     }
 
     /// The number of the member's action.
     pub fn action(&self) -> u64
         ensures { result ≡ self.now.action }
     {
-        self.action
+        self.request.action
     }
 
     /// What the member is asked for.
     pub fn kind(&self) -> AskKind
         ensures { result ≡ self.now.kind }
     {
-        self.kind
+        self.request.kind
     }
 
     /// Which way the ask goes.
     pub fn direction(&self) -> Direction
         ensures { result ≡ self.now.direction }
     {
-        self.direction
+        self.request.direction
     }
 
     /// The address at which the member is asked.
     pub fn address(&self) -> &str
         ensures { result.now ≡ self.now.address }
     {
-        self.address.as_str()
+        self.request.address.as_str()
     }
 
     /// The URI of the action.
     pub fn action_uri(&self) -> &str
         ensures { result.now ≡ self.now.action_uri }
     {
-        self.action_uri.as_str()
+        self.request.action_uri.as_str()
     }
 
     /// The URI of the action's parent, where it has one.
     pub fn parent_uri(&self) -> Option<&str>
         ensures { option_map (λ uri. uri.now) result ≡ self.now.parent_uri }
     {
-        match &self.parent_uri {
+        match &self.request.parent_uri {
             Some(uri) => Some(uri.as_str()),
             None => None,
         }
@@ -108,29 +122,38 @@ impl Errand {
     pub fn recovery_uri(&self) -> &str
         ensures { result.now ≡ self.now.recovery_uri }
     {
-        self.recovery_uri.as_str()
+        self.request.recovery_uri.as_str()
     }
 
     /// How the action ended, at an after notice.
     pub fn ended(&self) -> Option<ActionStatus>
         ensures { result ≡ self.now.ended }
     {
-        self.ended
+        self.request.ended
+    }
+
+    /// The errand of a request whose ask is committed.
+    pub(crate) fn of(request: Request) -> Errand
+        ensures { result ≡ request }
+    {
+        Errand { request }
     }
 
     /// Spends the errand without an answer. Its ask stays outstanding until a restart.
     pub fn discard(self) {
-        let Errand {
-            ask: _,
-            member: _,
-            action: _,
-            kind: _,
-            direction: _,
-            address: _,
-            action_uri: _,
-            parent_uri: _,
-            recovery_uri: _,
-            ended: _,
-        } = self;
+        let Errand { request: _ } = self;
+    }
+}
+
+impl Carries for Errand {
+    ghost asking = { λ e. e };
+
+    fn carried(&self) -> Carried {
+        Carried {
+            ask: self.ask(),
+            member: self.member(),
+            kind: self.kind(),
+            direction: self.direction(),
+        }
     }
 }

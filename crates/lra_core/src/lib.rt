@@ -2,11 +2,12 @@
 #![tactic(auto)]
 
 mod block;
+mod commands;
 mod coordinator;
 mod errand;
+mod heard;
 mod laws;
-mod ledger;
-mod walk;
+mod making;
 
 pub use block::{Block, Committed, Prepared};
 pub use coordinator::Coordinator;

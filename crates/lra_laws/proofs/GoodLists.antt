@@ -1,5 +1,5 @@
 -- Tests of all or some of a list of numbers, by what is among them.
-use Rattle.std.proofs.Common.{◌≡◌, ℕ, Bool, true, false, List, [], ◌∷◌, Some, None, refl, sym, ap, ◌∙◌, cond, eqb-true, eq-eqb}
+use Rattle.std.proofs.Common.{◌≡◌, ℕ, Bool, true, false, List, [], ◌∷◌, Option, Some, None, refl, sym, ap, ◌∙◌, cond, eqb-true, eq-eqb}
 use Rattle.std.specs.Prelude.{◌==◌, ◌&&◌, ◌||◌, filter}
 use Rattle.std.specs.List.{list_all, list_any, find}
 use Rattle.std.proofs.Math.Bool.{and-false, or-true}
@@ -84,3 +84,8 @@ find_nothing f (x ∷ ns) n h k = either (f x) refl (x == n) refl h k (find_noth
     either true g b e i j rest = absurd cc
     either false g true e i j rest = ap f (sym (eqb-true x n e)) ∙ g
     either false g false e i j rest = rest i j
+
+-- tests that agree on what is among them find the same
+pub find_same : (f g : ℕ → Bool) (xs : List ℕ) → ((n : ℕ) → is_among xs n ≡ true → f n ≡ g n) → find f xs ≡ find g xs
+find_same f g [] h = refl
+find_same f g (x ∷ xs) h = ap (λ (b : Bool). cond b (Some x) (find f xs)) (h x (among_here x xs)) ∙ ap (λ (o : Option ℕ). cond (g x) (Some x) o) (find_same f g xs (λ n k. h n (among_there x xs n k)))

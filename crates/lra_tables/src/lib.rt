@@ -2,6 +2,7 @@
 //! what a command would append.
 #![tactic(auto)]
 
+mod joins;
 mod plan;
 mod tables;
 

@@ -1,0 +1,10 @@
+pub mod AfterBlocks
+pub mod Counts
+pub mod EachCommand
+pub mod ForCallers
+pub mod Grounds
+pub mod OnActions
+pub mod OnAsks
+pub mod OnMembers
+pub mod OnStart
+pub mod Passing

@@ -1,0 +1,4 @@
+-- Words that private functions and proofs alone use.
+pub mod Judged
+pub mod Stored
+pub mod Telling

@@ -1,0 +1,104 @@
+//! Commands on asks.
+
+ghost use Rattle.std.specs.Prelude.{◌≡◌};
+ghost use Rattle.lra_model.specs.Words as words;
+ghost use Rattle.lra_judge.specs.inner.Judged as judged;
+
+use crate::decision::Decision;
+use crate::errand::Carried;
+use crate::judge::Judge;
+use lra_commands::{Refusal, Told};
+use lra_model::{AskKind, Deed, Direction, Outcome};
+use lra_tables::AskRow;
+
+/// Whether two kinds are one.
+fn is_same_kind(left: AskKind, right: AskKind) -> bool
+    ensures { result ≡ words.same_kind left right }
+{
+    left == right
+}
+
+/// Whether two directions are one.
+fn is_same_direction(left: Direction, right: Direction) -> bool
+    ensures { result ≡ words.same_direction left right }
+{
+    left == right
+}
+
+/// Whether an ask is outstanding and the errand's.
+fn is_carried(errand: Carried, row: AskRow) -> bool
+    ensures { result ≡ judged.is_carried errand row }
+{
+    row.outstanding
+        && row.member == errand.member
+        && is_same_kind(row.kind, errand.kind)
+        && is_same_direction(row.direction, errand.direction)
+}
+
+impl Judge<'_> {
+    ghost use Rattle.std.specs.Prelude.{◌≡◌};
+    ghost use Rattle.lra_model.specs.History.{History};
+    ghost use Rattle.lra_laws.specs.Sheets.{StandsFor};
+    ghost use Rattle.lra_judge.specs.inner.Judged as judged;
+
+    /// What a member wants to be asked.
+    fn wanted_by(&self, member: u64) -> Option<AskKind>
+        ensures { (J : History) → StandsFor self.now.tables.now.sheet J → result ≡ judged.wanted_by J member }
+    {
+        self.tables.member(member)?.want
+    }
+
+    /// The ask of what the member wants whose want is due, if one is.
+    pub(crate) fn next_ask(&self, due: Option<u64>) -> Result<Decision, Refusal>
+        ensures { (J : History) → StandsFor self.now.tables.now.sheet J → result ≡ judged.next_ask J self.now.by self.now.moment due }
+    {
+        self.require_clerk()?;
+        Ok(match due {
+            Some(member) => self.ask_for(member, self.wanted_by(member)),
+            None => Decision::Told(Told::Idle),
+        })
+    }
+
+    fn ask_for(&self, member: u64, want: Option<AskKind>) -> Decision
+        ensures { (J : History) → StandsFor self.now.tables.now.sheet J → result ≡ judged.ask_for J self.now.by self.now.moment member want }
+    {
+        match want {
+            Some(kind) => self.write(Deed::Ask {
+                ask: self.tables.count_asks().saturating_add(1),
+                member,
+                kind,
+            }),
+            None => Decision::Told(Told::Idle),
+        }
+    }
+
+    /// That an ask is outstanding and the errand's.
+    fn require_awaited(&self, errand: Carried) -> Result<(), Refusal>
+        ensures { (J : History) → StandsFor self.now.tables.now.sheet J → result ≡ judged.awaited J errand }
+    {
+        match self.tables.ask(errand.ask) {
+            Some(row) if is_carried(errand, row) => Ok(()),
+            _ => Err(Refusal::NotAsked),
+        }
+    }
+
+    /// What came of an ask, where it is outstanding and the errand's.
+    pub(crate) fn record(&self, errand: Carried, outcome: Outcome) -> Result<Decision, Refusal>
+        ensures { (J : History) → StandsFor self.now.tables.now.sheet J → result ≡ judged.reply J self.now.by self.now.moment errand outcome }
+    {
+        self.require_clerk()?;
+        self.require_awaited(errand)?;
+        Ok(self.write(Deed::Reply {
+            ask: errand.ask,
+            outcome,
+        }))
+    }
+
+    /// A restart, which makes every outstanding ask void.
+    pub(crate) fn restart(&self) -> Result<Decision, Refusal>
+        ensures { (J : History) → StandsFor self.now.tables.now.sheet J → result ≡ judged.restart J self.now.by self.now.moment }
+    {
+        self.require_clerk()?;
+        Ok(self.write(Deed::Restart))
+    }
+}

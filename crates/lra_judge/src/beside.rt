@@ -1,0 +1,12 @@
+//! What is known of a history beside its tables.
+
+/// What is known of a history beside its tables.
+#[derive(Clone, Copy, Debug, PartialEq, Eq)]
+pub struct Beside {
+    /// The member whose want is due first at the moment of what is written; `next_ask` alone reads it.
+    pub due: Option<u64>,
+    /// The action whose limit has passed first by then; `tick` alone reads it.
+    pub late: Option<u64>,
+    /// Whether completion is decided for the member that reports; `report` alone reads it.
+    pub completed: bool,
+}

@@ -1,0 +1,36 @@
+//! The command of a new clerk.
+
+use crate::decision::Decision;
+use crate::judge::Judge;
+use lra_commands::{Refusal, Resource};
+use lra_model::{Deed, Entry};
+
+impl Judge<'_> {
+    ghost use Rattle.std.specs.Prelude.{◌≡◌};
+    ghost use Rattle.lra_model.specs.History.{History};
+    ghost use Rattle.lra_laws.specs.Sheets.{StandsFor};
+    ghost use Rattle.lra_judge.specs.inner.Judged as judged;
+
+    /// The number of a new clerk.
+    fn new_clerk(&self) -> Result<u32, Refusal>
+        ensures { (J : History) → StandsFor self.now.tables.now.sheet J → result ≡ judged.new_clerk self.now.terms.limits J }
+    {
+        let clerks = self.tables.count_clerks();
+        if u64::from(self.terms.limits.clerks) <= clerks {
+            return Err(Refusal::Full(Resource::Clerks));
+        }
+        Ok(clerks as u32 + 1)
+    }
+
+    /// The enrolment of a new clerk, whoever asks for it.
+    pub(crate) fn enrol(&self) -> Result<Decision, Refusal>
+        ensures { (J : History) → StandsFor self.now.tables.now.sheet J → result ≡ judged.enrol self.now.terms.limits J self.now.moment }
+    {
+        let by = self.new_clerk()?;
+        Ok(Decision::Write(Entry {
+            by,
+            moment: self.moment,
+            deed: Deed::Enrol,
+        }))
+    }
+}

@@ -1,0 +1,13 @@
+//! What is decided on a command before anything is made.
+
+use lra_commands::Told;
+use lra_model::Entry;
+
+/// What a command that isn't refused comes to.
+#[derive(Debug, Drop)]
+pub enum Decision {
+    /// It writes nothing, and this is what it is told.
+    Told(Told),
+    /// It writes this entry, and all that settles after it.
+    Write(Entry),
+}

@@ -1,0 +1,25 @@
+//! What is asked of an errand.
+
+ghost use Rattle.std.specs.Prelude.{◌≡◌};
+ghost use Rattle.lra_commands.specs.Errands.{Asking};
+ghost use Rattle.lra_judge.specs.Spoken.{carried_of};
+
+use lra_model::{AskKind, Direction};
+
+/// What of an errand decides whether its reply may come.
+#[derive(Clone, Copy, Debug, PartialEq, Eq)]
+pub struct Carried {
+    pub ask: u64,
+    pub member: u64,
+    pub kind: AskKind,
+    pub direction: Direction,
+}
+
+/// An errand: what a request to a member was carried by.
+pub trait Carries {
+    ghost asking: { Self → Asking };
+
+    /// The ask that it carries.
+    fn carried(&self) -> Carried
+        ensures { result ≡ carried_of (asking self.now) };
+}

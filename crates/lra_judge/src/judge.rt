@@ -1,0 +1,92 @@
+//! What each command is judged by.
+
+ghost use Rattle.std.specs.Prelude.{◌≡◌};
+ghost use Rattle.lra_judge.specs.inner.Judged as judged;
+
+use crate::decision::Decision;
+use lra_commands::{Refusal, Terms};
+use lra_model::{ActionStatus, Deed, Entry};
+use lra_tables::{ActionRow, MemberRow, Tables};
+
+/// A clerk's command is judged by these: the tables of the history before it, and the moment of what it writes.
+#[derive(Clone, Copy, Drop)]
+pub(crate) struct Judge<'a> {
+    pub(crate) terms: Terms,
+    pub(crate) tables: &'a Tables,
+    pub(crate) by: u32,
+    pub(crate) moment: u64,
+}
+
+impl Judge<'_> {
+    ghost use Rattle.std.specs.Prelude.{◌≡◌};
+    ghost use Rattle.lra_model.specs.History.{History};
+    ghost use Rattle.lra_laws.specs.Sheets.{StandsFor};
+    ghost use Rattle.lra_judge.specs.inner.Judged as judged;
+
+    /// That the clerk is enrolled.
+    pub(crate) fn require_clerk(&self) -> Result<(), Refusal>
+        ensures { (J : History) → StandsFor self.now.tables.now.sheet J → result ≡ judged.known_clerk J self.now.by }
+    {
+        if self.tables.is_clerk(self.by) {
+            Ok(())
+        } else {
+            Err(Refusal::NoSuchClerk)
+        }
+    }
+
+    /// The action, where it is there.
+    pub(crate) fn action(&self, action: u64) -> Result<ActionRow, Refusal>
+        ensures { (J : History) → StandsFor self.now.tables.now.sheet J → result ≡ judged.known_action J action }
+    {
+        self.tables.action(action).ok_or(Refusal::NoSuchAction)
+    }
+
+    /// The action, where it is there and Active.
+    pub(crate) fn open_action(&self, action: u64) -> Result<ActionRow, Refusal>
+        ensures { (J : History) → StandsFor self.now.tables.now.sheet J → result ≡ judged.open_action J action }
+    {
+        let row = self.action(action)?;
+        require_open(row.status)?;
+        Ok(row)
+    }
+
+    /// The member, where it is there.
+    pub(crate) fn member(&self, member: u64) -> Result<MemberRow, Refusal>
+        ensures { (J : History) → StandsFor self.now.tables.now.sheet J → result ≡ judged.known_member J member }
+    {
+        self.tables.member(member).ok_or(Refusal::NoSuchMember)
+    }
+
+    /// That a limit's end, counted from the moment of what is written, is a moment.
+    pub(crate) fn require_near(&self, limit: u64) -> Result<(), Refusal>
+        ensures { result ≡ judged.near self.now.moment limit }
+    {
+        if self.moment.checked_add(limit).is_some() {
+            Ok(())
+        } else {
+            Err(Refusal::LimitTooFar)
+        }
+    }
+
+    /// That the clerk writes a deed.
+    pub(crate) fn write(&self, deed: Deed) -> Decision
+        ensures { result ≡ judged.written self.now.by self.now.moment deed }
+    {
+        Decision::Write(Entry {
+            by: self.by,
+            moment: self.moment,
+            deed,
+        })
+    }
+}
+
+/// That an action is Active.
+pub(crate) fn require_open(status: ActionStatus) -> Result<(), Refusal>
+    ensures { result ≡ judged.still_open status }
+{
+    if status.is_active() {
+        Ok(())
+    } else {
+        Err(Refusal::NotActive(status))
+    }
+}

@@ -1,0 +1,204 @@
+//! Commands on members.
+
+ghost use Rattle.std.specs.Prelude.{◌≡◌};
+ghost use Rattle.lra_judge.specs.inner.Judged as judged;
+ghost use Rattle.lra_commands.specs.Deeds.{outcome_told};
+
+use crate::decision::Decision;
+use crate::judge::{Judge, require_open};
+use crate::stored::stored;
+use lra_commands::{Refusal, Resource, Told};
+use lra_model::{Deed, Ending, MemberStatus, Outcome, Uris};
+use std::alloc::Global;
+
+/// That a member hasn't left.
+fn require_here(status: MemberStatus) -> Result<(), Refusal>
+    ensures { result ≡ judged.here status }
+{
+    if status.has_gone() {
+        Err(Refusal::HasLeft)
+    } else {
+        Ok(())
+    }
+}
+
+/// Whether completion is decided; once the status is one of compensation, it doesn't say.
+fn has_completed(status: MemberStatus, completed: bool) -> bool
+    ensures { result ≡ judged.has_completed status completed }
+{
+    match status {
+        MemberStatus::Completed | MemberStatus::FailedToComplete => true,
+        MemberStatus::Compensating => completed,
+        MemberStatus::Compensated => completed,
+        MemberStatus::FailedToCompensate => completed,
+        MemberStatus::Active | MemberStatus::Completing | MemberStatus::Left => false,
+    }
+}
+
+/// Whether compensation is decided.
+fn has_compensated(status: MemberStatus) -> bool
+    ensures { result ≡ judged.has_compensated status }
+{
+    matches!(
+        status,
+        MemberStatus::Compensated | MemberStatus::FailedToCompensate
+    )
+}
+
+/// Whether the direction of an ending is decided.
+fn has_told(status: MemberStatus, completed: bool, ending: Ending) -> bool
+    ensures { result ≡ judged.has_told status completed ending }
+{
+    match ending {
+        Ending::Completed | Ending::FailedToComplete => has_completed(status, completed),
+        Ending::Compensated | Ending::FailedToCompensate => has_compensated(status),
+    }
+}
+
+/// Whether a member is being asked for what it tells.
+fn is_awaited(status: MemberStatus, ending: Ending) -> bool
+    ensures { result ≡ judged.is_awaited status ending }
+{
+    match ending {
+        Ending::Completed | Ending::FailedToComplete => status.is_completing(),
+        Ending::Compensated | Ending::FailedToCompensate => status.is_compensating(),
+    }
+}
+
+/// The outcome that an ending is.
+fn outcome_told(ending: Ending) -> Outcome
+    ensures { result ≡ outcome_told ending }
+{
+    match ending {
+        Ending::Completed | Ending::Compensated => Outcome::Done,
+        Ending::FailedToComplete | Ending::FailedToCompensate => Outcome::Failed,
+    }
+}
+
+impl Judge<'_> {
+    ghost use Rattle.std.specs.Prelude.{◌≡◌};
+    ghost use Rattle.lra_model.specs.History.{History};
+    ghost use Rattle.lra_laws.specs.Sheets.{StandsFor};
+    ghost use Rattle.lra_judge.specs.inner.Judged as judged;
+
+    /// The number of a new member.
+    fn new_member(&self) -> Result<u64, Refusal>
+        ensures { (J : History) → StandsFor self.now.tables.now.sheet J → result ≡ judged.new_member self.now.terms.limits J }
+    {
+        let members = self.tables.count_members();
+        if self.terms.limits.members <= members {
+            return Err(Refusal::Full(Resource::Members));
+        }
+        Ok(members + 1)
+    }
+
+    /// A join of an action that is Active, with addresses as they are stored.
+    fn join_with(&self, action: u64, uris: Uris) -> Result<Decision, Refusal>
+        ensures { (J : History) → StandsFor self.now.tables.now.sheet J → result ≡ judged.join_with self.now.terms.limits J self.now.by self.now.moment action uris }
+    {
+        if let Some(member) = self.tables.joined(action, &uris) {
+            return Ok(Decision::Told(Told::AlreadyMember(member)));
+        }
+        let member = self.new_member()?;
+        Ok(self.write(Deed::Join {
+            member,
+            action,
+            uris,
+        }))
+    }
+
+    /// That the clerk may let members join an action.
+    fn require_joinable(&self, action: u64) -> Result<(), Refusal>
+        ensures { (J : History) → StandsFor self.now.tables.now.sheet J → result ≡ judged.joinable J self.now.by action }
+    {
+        self.require_clerk()?;
+        self.open_action(action)?;
+        Ok(())
+    }
+
+    /// A join of an action that is Active, once the addresses are read.
+    fn join_read(&self, action: u64, read: Result<Uris, Refusal>) -> Result<Decision, Refusal>
+        ensures { (J : History) → StandsFor self.now.tables.now.sheet J → result ≡ judged.join_read self.now.terms.limits J self.now.by self.now.moment action read }
+    {
+        self.join_with(action, read?)
+    }
+
+    /// The join of a member: a repeat where one with the same addresses has joined. Reading the addresses takes memory.
+    pub(crate) fn join(&self, alloc: Global, action: u64, uris: &Uris) -> Result<Decision, Refusal>
+        ensures { (J : History) → StandsFor self.now.tables.now.sheet J → judged.IsJoin self.now.terms.limits J self.now.by self.now.moment action uris.now result (judged.joinable J self.now.by action) }
+    {
+        if let Err(refusal) = self.require_joinable(action) {
+            return Err(refusal);
+        }
+        self.join_read(action, stored(alloc, uris))
+    }
+
+    /// The leave of a member.
+    pub(crate) fn leave(&self, action: u64, member: u64) -> Result<Decision, Refusal>
+        ensures { (J : History) → StandsFor self.now.tables.now.sheet J → result ≡ judged.leave J self.now.by self.now.moment action member }
+    {
+        self.require_clerk()?;
+        let row = self.action(action)?;
+        let found = self.member(member)?;
+        require_own(found.action, action)?;
+        require_here(found.status)?;
+        require_open(row.status)?;
+        Ok(self.write(Deed::Leave { member }))
+    }
+
+    /// What a member tells of itself: taken where it is asked for that, and a repeat where that direction is decided.
+    pub(crate) fn report(
+        &self,
+        member: u64,
+        ending: Ending,
+        completed: bool,
+    ) -> Result<Decision, Refusal>
+        ensures { (J : History) → StandsFor self.now.tables.now.sheet J → result ≡ judged.report J self.now.by self.now.moment member ending completed }
+    {
+        self.require_clerk()?;
+        let found = self.member(member)?;
+        require_here(found.status)?;
+        self.report_at(member, ending, found.status, completed)
+    }
+
+    fn report_at(
+        &self,
+        member: u64,
+        ending: Ending,
+        status: MemberStatus,
+        completed: bool,
+    ) -> Result<Decision, Refusal>
+        ensures { result ≡ judged.report_at self.now.by self.now.moment member ending status completed }
+    {
+        if has_told(status, completed, ending) {
+            return Ok(Decision::Told(Told::MemberAlready(status)));
+        }
+        if !is_awaited(status, ending) {
+            return Err(Refusal::NotAsked);
+        }
+        Ok(self.write(Deed::Report {
+            member,
+            outcome: outcome_told(ending),
+        }))
+    }
+
+    /// The status of a member.
+    pub(crate) fn member_status(&self, member: u64) -> Result<Decision, Refusal>
+        ensures { (J : History) → StandsFor self.now.tables.now.sheet J → result ≡ judged.member_status J self.now.by member }
+    {
+        self.require_clerk()?;
+        let found = self.member(member)?;
+        Ok(Decision::Told(Told::MemberIs(found.status)))
+    }
+}
+
+/// That a member is the action's.
+fn require_own(of: u64, action: u64) -> Result<(), Refusal>
+    ensures { result ≡ judged.own of action }
+{
+    if of == action {
+        Ok(())
+    } else {
+        Err(Refusal::WrongAction)
+    }
+}

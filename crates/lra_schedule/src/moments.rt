@@ -1,0 +1,59 @@
+//! What a row says of moments, in milliseconds.
+
+ghost use Rattle.std.specs.Prelude.{◌≡◌, ◌+◌, ◌<◌, ◌^◌};
+ghost use Rattle.lra_model.specs.History.{History};
+ghost use Rattle.lra_laws.specs.Sheets.{StandsFor};
+ghost use Rattle.lra_commands.specs.Due.{due_after};
+ghost use Rattle.lra_schedule.specs.inner.Renewals.{retry_by, limit_by, retry_in, limit_in};
+
+use lra_commands::Limits;
+use lra_model::ActionStatus;
+use lra_tables::{ActionRow, MemberRow, Tables};
+use lra_timers::pause;
+
+/// When a want is due that was asked for k times in vain, the last time at that moment: at once, or after a pause.
+fn due_after(limits: &Limits, k: u64, last: Option<u64>) -> u64
+    ensures { result ≡ due_after limits.now k last }
+{
+    if k == 0 {
+        return 0;
+    }
+    last.unwrap_or(0)
+        .saturating_add(pause(limits.retry_base, limits.retry_cap, k))
+}
+
+/// When the want of a member is due, if it wants anything.
+fn retry_by(limits: &Limits, row: &MemberRow) -> Option<u64>
+    ensures { result ≡ retry_by limits.now row.now }
+{
+    match row.want {
+        Some(_) => Some(due_after(limits, row.k, row.last)),
+        None => None,
+    }
+}
+
+/// When the limit of an action passes, if it is Active and has one.
+fn limit_by(row: &ActionRow) -> Option<u64>
+    ensures { row.now.since + row.now.limit < 2 ^ 64 → result ≡ limit_by row.now }
+{
+    if row.status != ActionStatus::Active || row.limit == 0 {
+        return None;
+    }
+    row.since.checked_add(row.limit)
+}
+
+/// When the want of the member of that number is due, if it is there and wants anything.
+pub(crate) fn retry_of(limits: &Limits, tables: &Tables, member: u64) -> Option<u64>
+    ensures { (J : History) → StandsFor tables.now.sheet J → result ≡ retry_in limits.now J member }
+{
+    let row = tables.member(member)?;
+    retry_by(limits, &row)
+}
+
+/// When the limit of the action of that number passes, if it is there, Active and has one.
+pub(crate) fn limit_of(tables: &Tables, action: u64) -> Option<u64>
+    ensures { (J : History) → StandsFor tables.now.sheet J → result ≡ limit_in J action }
+{
+    let row = tables.action(action)?;
+    limit_by(&row)
+}

@@ -1,0 +1,165 @@
+//! The moments at which a coordinator acts by itself.
+
+ghost use Rattle.std.specs.Prelude.{◌≡◌, ◌+◌, ◌≤◌, ◌<◌, [], OnOk, OnErr, IsOk, length};
+ghost use Rattle.std.specs.List.{range_with_len};
+ghost use Rattle.lra_model.specs.History.{History};
+ghost use Rattle.lra_laws.specs.Sheets.{StandsFor};
+ghost use Rattle.lra_tables.specs.Plans.{CoversWants, CoversLimits};
+ghost use Rattle.lra_commands.specs.declared.limits.Limits.{Limits as LimitsValue};
+ghost use Rattle.lra_commands.specs.Due.{due, late};
+ghost use Rattle.lra_schedule.specs.Schedules.{IsScheduleOf};
+ghost use Rattle.lra_schedule.specs.inner.Renewals.{renew, AreRenewed, retry_in, limit_in};
+
+use crate::moments::{limit_of, retry_of};
+use lra_commands::Limits;
+use lra_tables::Tables;
+use lra_timers::{Agenda, Memory};
+use std::alloc::Global;
+use std::marker::Model;
+
+/// When the want of each member is due, and when the limit of each action passes, in milliseconds.
+#[derive(Drop)]
+pub struct Schedule {
+    agenda: Agenda,
+}
+
+impl Model for Schedule {
+    ghost use Rattle.lra_timers.specs.Planned.{Planned, planned_code};
+
+    ghost Value = { Planned };
+
+    ghost coded = { planned_code };
+
+    ghost view = { λ s. s.agenda };
+}
+
+impl Schedule {
+    /// Of no entries.
+    pub fn new(alloc: Global) -> Schedule
+        ensures { (l : LimitsValue) → IsScheduleOf l result [] }
+    {
+        let agenda = Agenda::new(alloc);
+        Schedule { agenda }
+    }
+
+    /// Makes room for so many members and actions in the next call of `refresh`. After `Memory` there may be more room than before.
+    pub fn room(&mut self, n: usize) -> Result<(), Memory>
+        ensures room { OnOk result (n ≤ self.new.room) }
+        ensures succeeds { n ≤ self.old.room → IsOk result }
+        ensures kept { self.old.room ≤ self.new.room }
+        ensures limits { self.new.limits ≡ self.old.limits }
+        ensures retries { self.new.retries ≡ self.old.retries }
+    {
+        self.agenda.room(n)
+    }
+
+    /// The member whose want is due now: the one that is due since longest, and of these the least.
+    pub fn due(&self, now: u64) -> Option<u64>
+        ensures { (l : LimitsValue) (J : History) → IsScheduleOf l self.now J → result ≡ due l J now }
+    {
+        self.agenda.next_retry(now)
+    }
+
+    /// The action whose limit has passed: the one whose limit passed first, and of these the least.
+    pub fn late(&self, now: u64) -> Option<u64>
+        ensures { (l : LimitsValue) (J : History) → IsScheduleOf l self.now J → result ≡ late J now }
+    {
+        self.agenda.first_due(now)
+    }
+
+    fn put_retry(&mut self, member: u64, moment: Option<u64>)
+        requires { 0 < self.old.room }
+        ensures retries { self.new.retries ≡ renew self.old.retries member moment }
+        ensures limits { self.new.limits ≡ self.old.limits }
+        ensures room { self.old.room ≤ self.new.room + 1 }
+    {
+        match moment {
+            Some(moment) => self.agenda.set_retry(member, moment).unwrap(),
+            None => self.agenda.drop_retry(member),
+        }
+    }
+
+    fn put_limit(&mut self, action: u64, moment: Option<u64>)
+        requires { 0 < self.old.room }
+        ensures limits { self.new.limits ≡ renew self.old.limits action moment }
+        ensures retries { self.new.retries ≡ self.old.retries }
+        ensures room { self.old.room ≤ self.new.room + 1 }
+    {
+        match moment {
+            Some(moment) => self.agenda.set_limit(action, moment).unwrap(),
+            None => self.agenda.drop_limit(action),
+        }
+    }
+
+    fn refresh_members(&mut self, limits: &Limits, tables: &Tables, members: &[u64])
+        requires { length members.now ≤ self.old.room }
+        ensures retries { (K : History) → StandsFor tables.now.sheet K → AreRenewed (retry_in limits.now K) self.old.retries self.new.retries members.now }
+        ensures limits { self.new.limits ≡ self.old.limits }
+        ensures room { self.old.room ≤ self.new.room + length members.now }
+    {
+        for member in members {
+            self.put_retry(*member, retry_of(limits, tables, *member));
+        }
+    }
+
+    fn refresh_actions(&mut self, tables: &Tables, actions: &[u64])
+        requires { length actions.now ≤ self.old.room }
+        ensures limits { (K : History) → StandsFor tables.now.sheet K → AreRenewed (limit_in K) self.old.limits self.new.limits actions.now }
+        ensures retries { self.new.retries ≡ self.old.retries }
+        ensures room { self.old.room ≤ self.new.room + length actions.now }
+    {
+        for action in actions {
+            self.put_limit(*action, limit_of(tables, *action));
+        }
+    }
+
+    /// Brings these members and actions up to date with the tables, by the same limits as before. This takes no memory.
+    pub fn refresh(&mut self, limits: &Limits, tables: &Tables, members: &[u64], actions: &[u64])
+        requires { length members.now + length actions.now ≤ self.old.room }
+        ensures schedule { (J K : History) → IsScheduleOf limits.now self.old J → StandsFor tables.now.sheet K → CoversWants members.now J K → CoversLimits actions.now J K → IsScheduleOf limits.now self.new K }
+        ensures room { self.old.room ≤ self.new.room + (length members.now + length actions.now) }
+    {
+        self.refresh_members(limits, tables, members);
+        self.refresh_actions(tables, actions);
+    }
+
+    fn fill_members(&mut self, limits: &Limits, tables: &Tables, count: u64)
+        requires { count ≤ self.old.room }
+        ensures retries { (K : History) → StandsFor tables.now.sheet K → AreRenewed (retry_in limits.now K) self.old.retries self.new.retries (range_with_len 1 count) }
+        ensures limits { self.new.limits ≡ self.old.limits }
+        ensures room { self.old.room ≤ self.new.room + count }
+    {
+        for place in 0..count {
+            self.put_retry(place + 1, retry_of(limits, tables, place + 1));
+        }
+    }
+
+    fn fill_actions(&mut self, tables: &Tables, count: u64)
+        requires { count ≤ self.old.room }
+        ensures limits { (K : History) → StandsFor tables.now.sheet K → AreRenewed (limit_in K) self.old.limits self.new.limits (range_with_len 1 count) }
+        ensures retries { self.new.retries ≡ self.old.retries }
+        ensures room { self.old.room ≤ self.new.room + count }
+    {
+        for place in 0..count {
+            self.put_limit(place + 1, limit_of(tables, place + 1));
+        }
+    }
+
+    /// Takes up all members and actions of the tables, where there were none before, as for a coordinator that is opened again. After `Memory`
+    /// there are still none.
+    pub fn fill(&mut self, limits: &Limits, tables: &Tables) -> Result<(), Memory>
+        ensures schedule { OnOk result ((K : History) → IsScheduleOf limits.now self.old [] → StandsFor tables.now.sheet K → IsScheduleOf limits.now self.new K) }
+        ensures limits { OnErr result (self.new.limits ≡ self.old.limits) }
+        ensures retries { OnErr result (self.new.retries ≡ self.old.retries) }
+    {
+        let members = tables.count_members();
+        let actions = tables.count_actions();
+        let Some(count) = members.checked_add(actions) else {
+            return Err(Memory);
+        };
+        self.room(count as usize)?;
+        self.fill_members(limits, tables, members);
+        self.fill_actions(tables, actions);
+        Ok(())
+    }
+}
