@@ -5,5 +5,6 @@ pub mod KeepsGrounds
 pub mod KeepsLate
 pub mod KeepsOwn
 pub mod Rests
+pub mod Stopping
 pub mod Worked
 pub mod Tells

@@ -5,6 +5,7 @@ pub mod AskList
 pub mod AskWords
 pub mod Changes
 pub mod ChangesBlock
+pub mod Clerks
 pub mod Climbs
 pub mod Contacts
 pub mod GoodKept

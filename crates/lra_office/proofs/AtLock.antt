@@ -1,0 +1,69 @@
+-- A command under the lock: what the one that gave it knows afterwards.
+use Rattle.std.specs.Prelude.{◌==◌}
+use Rattle.std.proofs.Common.{◌≡◌, ℕ, Bool, true, false, cond, eqb-true, List, [], ◌++◌, Ok, Err, Result, refl, sym, ap, ◌∙◌, subst, append-nil}
+use mathlib.Core.List.{IsPrefix}
+use Rattle.lra_model.specs.declared.entry.Entry.{Entry}
+use Rattle.lra_model.specs.History.{History}
+use Rattle.lra_ticket.specs.declared.view.Place.TheVariants.{Idle}
+use Rattle.lra_ticket.specs.declared.view.View.{View}
+use Rattle.lra_ticket.specs.History.{block_after, number_after, MayAdd}
+use Rattle.lra_ticket.specs.Views.{view, taking, given}
+use Rattle.lra_ticket.specs.Locks.{HasTaken}
+use Rattle.lra_ticket.proofs.Histories.{block_after-append}
+use Rattle.lra_commands.specs.declared.refusal.Refusal.{Refusal}
+use Rattle.lra_commands.specs.Calls.{Command, Call}
+use Rattle.lra_commands.specs.Answers.{growth}
+use Rattle.lra_commands.specs.Counters.{Setting, terms_of}
+use Rattle.lra_core.specs.declared.block.Committed.{Committed}
+use Rattle.lra_office.specs.declared.fault.OfficeRefusal.TheVariants.{Refused}
+use Rattle.lra_office.specs.Serves.{IsServed, IsDone, IsKeptBy}
+use Rattle.lra_office.specs.Writers.{IsNumberOf}
+use Rattle.lra_office.specs.Orders.{IsMet, grown_view, met_view, IsGrown, IsNotGiven}
+use Rattle.lra_office.proofs.Written.{add_served}
+
+-- a call only adds to the history
+growing : (g : Setting) (J K : History) (c : Call) (r : Result Committed Refusal) → IsServed g J c r K → IsPrefix J K
+growing g J K c (Ok x) s = (growth (terms_of g) J c, sym s.grown)
+growing g J K c (Err x) s = ([], append-nil J ∙ sym s.1)
+
+pub extends : {O : Type 0} (v w : View O) (g : Setting) (J K : History) (c : Call) (r : Result Committed Refusal) → HasTaken v J w → IsServed g J c r K → IsPrefix w.seen K
+extends v w g J K c r h s =
+    let p = growing g J K c r s in
+    (p.0, ap (λ (u : View _). u.seen ++ p.0) h.2 ∙ p.1)
+
+pub may_add : {O : Type 0} (v w : View O) (g : Setting) (J K : History) (by m : ℕ) (c : Command) (r : Result Committed Refusal) → HasTaken v J w → IsKeptBy g J → IsNumberOf c by v.number
+    → IsServed g J (record { by = by; moment = m; command = c }) r K → MayAdd w.number w.seen (block_after w.seen K)
+may_add v w g J K by m c r h k n s = subst (λ (u : View _). MayAdd u.number u.seen (block_after u.seen K)) (sym h.2) (add_served g J K by m v.number c r k n s)
+
+-- what is known once the lock is given back
+given_after : {O : Type 0} (v w u : View O) (J K B : History) → HasTaken v J w → u ≡ given w K → K ≡ J ++ B → u ≡ grown_view v J B
+given_after v w u J K B h e k =
+    e ∙ ap (λ (x : View _). given x K) h.2 ∙ ap (λ (L : History). given (taking v h.0 J) L) k
+    ∙ ap (λ (x : List Entry). view (number_after v.number x) v.origin (J ++ B) (v.mine ++ x) v.tries Idle) (block_after-append J B)
+
+number_none : (n : ℕ) → number_after n [] ≡ n
+number_none n = decide (n == 0) refl
+  where
+    decide : (b : Bool) → (n == 0) ≡ b → cond b 0 n ≡ n
+    decide true e = sym (eqb-true n 0 e)
+    decide false e = refl
+
+nothing_added : {O : Type 0} (v : View O) (J : History) → grown_view v J [] ≡ met_view v J
+nothing_added v J = λ i. view (number_none v.number i) v.origin (append-nil J i) (append-nil v.mine i) v.tries Idle
+
+-- the call was done
+pub grown : {O : Type 0} (set : O → Setting) (v w u : View O) (o : O) (J K : History) (c : Call) (r : Committed) → o ≡ v.origin → IsMet (set o) v J → HasTaken v J w
+    → IsServed (set o) J c (Ok r) K → IsKeptBy (set o) K → u ≡ given w K → IsGrown (set v.origin) v c r.told r.errand u
+grown set v w u o J K c r same met h s k e = subst (λ x. IsGrown (set x) v c r.told r.errand u) same (record {
+  history = J;
+  met = met;
+  done = subst (λ (L : History). IsDone (set o) J c r.told r.errand L) s.grown s;
+  kept = subst (IsKeptBy (set o)) s.grown k;
+  after = given_after v w u J K (growth (terms_of (set o)) J c) h e s.grown;
+})
+
+-- it wasn't
+pub not_grown : {O : Type 0} (set : O → Setting) (v w u : View O) (o : O) (J K : History) (c : Call) (r : Refusal) → o ≡ v.origin → IsMet (set o) v J → HasTaken v J w
+    → IsServed (set o) J c (Err r) K → u ≡ given w K → IsNotGiven (set v.origin) v c (Refused r) u
+not_grown set v w u o J K c r same met h s e = subst (λ x. IsNotGiven (set x) v c (Refused r) u) same
+    (J, met, s.0, given_after v w u J K [] h e (s.1 ∙ sym (append-nil J)) ∙ nothing_added v J)

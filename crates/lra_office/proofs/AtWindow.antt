@@ -1,0 +1,66 @@
+-- A window keeps what a counter keeps.
+use Rattle.std.proofs.Common.{◌≡◌, ℕ, Ok, Err, inl, inr, Result, refl, sym, ap, subst}
+use mathlib.Core.List.{IsPrefix}
+use Rattle.lra_model.specs.History.{History}
+use Rattle.lra_ticket.specs.declared.view.View.{View}
+use Rattle.lra_commands.specs.declared.command.Told.{Told}
+use Rattle.lra_commands.specs.declared.counter.Order.{Order}
+use Rattle.lra_commands.specs.declared.counter.CounterFault.{CounterFault}
+use Rattle.lra_commands.specs.declared.counter.CounterFault.TheVariants as counter
+use Rattle.lra_commands.specs.declared.refusal.Refusal.{Refusal}
+use Rattle.lra_commands.specs.declared.limits.Terms.{Terms}
+use Rattle.lra_commands.specs.Calls.{Call}
+use Rattle.lra_commands.specs.Counters.{Setting, Sight, terms_of, call_of, IsRefusedAt, IsGivenAt, IsGivenSince, IsSeenAfter, KeepsHistory}
+use Rattle.lra_commands.proofs.Stopping.{refused_at}
+use Rattle.lra_office.specs.declared.fault.OfficeRefusal.{OfficeRefusal}
+use Rattle.lra_office.specs.declared.fault.OfficeRefusal.TheVariants as office
+use Rattle.lra_office.specs.Serves.{IsHeldBack}
+use Rattle.lra_office.specs.Orders.{IsGrown, IsNotGiven}
+use Rattle.lra_office.specs.Windows.{fault_of}
+
+-- what holds a command back is a refusal of a counter
+held_at : (s : Terms) (J : History) (c : Call) (r : Refusal) → IsHeldBack s J c r → IsRefusedAt s J c r
+held_at s J c r (inl h) = refused_at s J c r h
+held_at s J c r (inr h) = subst (λ (x : Refusal). IsRefusedAt s J c x) (sym h.0) (h.1.told, h.1.writes)
+
+-- since what was seen, others may have written
+since : (g : Setting) (seen J : History) (c : Call) (reply : Result Told CounterFault) (K : History) → IsPrefix seen J → IsGivenAt g J c reply K → IsGivenSince g seen c reply K
+since g seen J c reply K p h = (p.0, subst (λ (L : History). IsGivenAt g L c reply K) (sym p.1) h)
+
+told_seen : {O : Type 0} (g : Setting) (v w : View O) (c : Call) (t : Told) (e : _) → IsGrown g v c t e w → IsGivenSince g v.seen c (Ok t) w.seen
+told_seen g v w c t e h =
+    let seen = ap (λ (x : View _). x.seen) h.after in
+    subst (λ (K : History). IsGivenSince g v.seen c (Ok t) K) (sym seen)
+    (since g v.seen h.history c (Ok t) _ h.met.begins (record { keepable = h.met.kept.limits; lawful = h.met.kept.lawful; told = (h.done.answered, h.done.grown); left = h.kept.lawful }))
+
+refused_seen : {O : Type 0} (g : Setting) (v w : View O) (c : Call) (r : OfficeRefusal) → IsNotGiven g v c r w → IsSeenAfter g v.seen c (Err (fault_of r)) w.seen
+refused_seen g v w c (office.Refused r) h =
+    let seen = ap (λ (x : View _). x.seen) h.3 in
+    subst (λ (K : History). IsGivenSince g v.seen c (Err (counter.Refused r)) K) (sym seen)
+    (since g v.seen h.0 c (Err (counter.Refused r)) h.0 h.1.begins (record { keepable = h.1.kept.limits; lawful = h.1.kept.lawful; told = (held_at (terms_of g) h.0 c r h.2, refl); left = h.1.kept.lawful }))
+refused_seen g v w c office.Worn h = ap (λ (x : View _). x.seen) h
+
+-- commands keep the origin
+told_origin : {O : Type 0} (g : Setting) (v w : View O) (c : Call) (t : Told) (e : _) → IsGrown g v c t e w → w.origin ≡ v.origin
+told_origin g v w c t e h = ap (λ (x : View _). x.origin) h.after
+
+refused_origin : {O : Type 0} (g : Setting) (v w : View O) (c : Call) (r : OfficeRefusal) → IsNotGiven g v c r w → w.origin ≡ v.origin
+refused_origin g v w c (office.Refused r) h = ap (λ (x : View _). x.origin) h.3
+refused_origin g v w c office.Worn h = ap (λ (x : View _). x.origin) h
+
+abbrev sight : Setting → ℕ → History → Sight
+sight g n seen = record { setting = g; number = n; seen = seen }
+
+pub window_told : {O : Type 0} (set : O → Setting) (v w : View O) (n k m : ℕ) (o : Order) (t : Told) (e : _) → k ≡ n → IsGrown (set v.origin) v (call_of n m o) t e w
+    → KeepsHistory (sight (set v.origin) n v.seen) m o (Ok t) (sight (set w.origin) k w.seen)
+window_told set v w n k m o t e number h = record {
+  same = record { setting = ap set (told_origin (set v.origin) v w (call_of n m o) t e h); number = number };
+  seen = told_seen (set v.origin) v w (call_of n m o) t e h;
+}
+
+pub window_refused : {O : Type 0} (set : O → Setting) (v w : View O) (n k m : ℕ) (o : Order) (r : OfficeRefusal) → k ≡ n → IsNotGiven (set v.origin) v (call_of n m o) r w
+    → KeepsHistory (sight (set v.origin) n v.seen) m o (Err (fault_of r)) (sight (set w.origin) k w.seen)
+window_refused set v w n k m o r number h = record {
+  same = record { setting = ap set (refused_origin (set v.origin) v w (call_of n m o) r h); number = number };
+  seen = refused_seen (set v.origin) v w (call_of n m o) r h;
+}

@@ -1,0 +1,4 @@
+pub mod AtDesk
+pub mod Written
+pub mod AtLock
+pub mod AtWindow

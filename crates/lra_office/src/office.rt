@@ -1,0 +1,86 @@
+//! The office: one coordinator for many threads.
+
+ghost use Rattle.std.specs.Prelude.{◌≡◌, ◌≢◌, ◌⊎◌, true, IfOk, IfErr, Ok, Err};
+ghost use Rattle.lra_ticket.specs.Locks.{lock_id, pass_id, pass_view};
+ghost use Rattle.lra_commands.specs.Calls.{is_fitting};
+ghost use Rattle.lra_core.specs.Prepares.{is_suited};
+ghost use Rattle.lra_office.specs.Clerks.{clerk_view, IsClerkOf};
+ghost use Rattle.lra_office.specs.Orders.{IsGiven};
+ghost use Rattle.lra_office.specs.Writers.{IsNumberOf};
+
+use crate::clerk::Clerk;
+use crate::fault::OfficeRefusal;
+use crate::serving::Serving;
+use lra_core::{Command, Committed};
+use lra_ids::{Address, Instance};
+use lra_ticket::{Pass, TicketLock, Worn};
+use std::sync::Wait;
+
+/// One coordinator for many threads, its journal behind one lock.
+#[derive(Drop)]
+pub struct Office<V: Serving> {
+    pub(crate) lock: TicketLock<V>,
+    pub(crate) instance: Instance,
+    pub(crate) base: Address,
+}
+
+impl<V: Serving> Office<V> {
+    /// Waits for the lock, and does a command under the number of the pass.
+    pub(crate) fn give<R: Wait>(
+        &self,
+        rt: &R,
+        pass: Pass<V>,
+        by: u32,
+        moment: u64,
+        command: &Command<'_>,
+    ) -> Result<(Pass<V>, Committed), (Pass<V>, OfficeRefusal)>
+        requires lock { pass_id pass ≡ lock_id self.now.lock }
+        requires suited { is_suited command.now ≡ true }
+        requires number { IsNumberOf command.now by (pass_view pass).number }
+        ensures lock { IfOk result (λ r. pass_id r.0 ≡ lock_id self.now.lock) }
+        ensures refused_lock { IfErr result (λ r. pass_id r.0 ≡ lock_id self.now.lock) }
+        ensures given { IfOk result (λ r. IsGiven (V.setting (pass_view pass).origin) (pass_view pass) (record { by = by; moment = moment; command = command.now }) (Ok r.1) (pass_view r.0)) }
+        ensures refused { IfErr result (λ r. IsGiven (V.setting (pass_view pass).origin) (pass_view pass) (record { by = by; moment = moment; command = command.now }) (Err r.1) (pass_view r.0)) }
+    {
+        let (held, mut value) = match self.lock.take(rt, pass) {
+            Ok(taken) => taken,
+            Err((pass, Worn)) => return Err((pass, OfficeRefusal::Worn)),
+        };
+        let served = value.serve(by, moment, command);
+        let pass = self.lock.give(held, value);
+        match served {
+            Ok(committed) => Ok((pass, committed)),
+            Err(refusal) => Err((pass, OfficeRefusal::Refused(refusal))),
+        }
+    }
+
+    /// Waits for the lock, and does a command of a clerk.
+    pub(crate) fn serve<R: Wait>(
+        &self,
+        rt: &R,
+        clerk: &mut Clerk<V>,
+        moment: u64,
+        command: &Command<'_>,
+    ) -> Result<Committed, OfficeRefusal>
+        requires clerk { IsClerkOf self.now.lock clerk.old }
+        requires suited { is_suited command.now ≡ true }
+        requires other { IsNumberOf command.now clerk.old.number clerk.old.number }
+        ensures clerk { IsClerkOf self.now.lock clerk.new }
+        ensures number { clerk.new.number ≡ clerk.old.number }
+        ensures given { IsGiven (V.setting (clerk_view clerk.old).origin) (clerk_view clerk.old) (record { by = clerk.old.number; moment = moment; command = command.now }) result (clerk_view clerk.new) }
+    {
+        let Some(pass) = clerk.pass.take() else {
+            unreachable!();
+        };
+        match self.give(rt, pass, clerk.number, moment, command) {
+            Ok((pass, committed)) => {
+                clerk.pass = Some(pass);
+                Ok(committed)
+            }
+            Err((pass, refusal)) => {
+                clerk.pass = Some(pass);
+                Err(refusal)
+            }
+        }
+    }
+}

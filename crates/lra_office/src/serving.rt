@@ -1,0 +1,28 @@
+//! What stands behind the lock, as offices see it.
+
+ghost use Rattle.std.specs.Prelude.{◌≡◌, true};
+
+use lra_commands::Refusal;
+use lra_core::{Command, Committed};
+use lra_ticket::Kept;
+
+/// A kept value at which the commands of clerks are done.
+pub trait Serving: Kept {
+    ghost use Rattle.lra_core.specs.Prepares.{is_suited};
+    ghost use Rattle.lra_commands.specs.Counters.{Setting};
+    ghost use Rattle.lra_office.specs.Serves.{IsServed, IsKeptBy};
+
+    // What the coordinator behind an origin was made with.
+    ghost setting: { Self.Origin → Setting };
+
+    /// Does a command of a clerk, and gives what it is told, or changes nothing.
+    fn serve(&mut self, by: u32, moment: u64, command: &Command<'_>) -> Result<Committed, Refusal>
+        requires suited { is_suited command.now ≡ true }
+        requires lawful { Self.lawful self.old }
+        ensures lawful { Self.lawful self.new }
+        ensures origin { Self.origin self.new ≡ Self.origin self.old }
+        ensures served { IsServed (setting (Self.origin self.old)) (Self.history self.old) (record { by = by; moment = moment; command = command.now }) result (Self.history self.new) };
+
+    // What its laws say of its history.
+    ghost tells: { (x : Self) → Self.Kept.lawful x → IsKeptBy (setting (Self.Kept.origin x)) (Self.Kept.history x) };
+}

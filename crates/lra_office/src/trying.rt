@@ -1,0 +1,121 @@
+//! Commands that don't wait for the lock.
+
+ghost use Rattle.std.specs.Prelude.{◌≡◌, true, IfOk, IfErr, Ok, Err};
+ghost use Rattle.lra_commands.specs.declared.command.Command.TheVariants as Command;
+ghost use Rattle.lra_core.specs.Prepares.{is_suited};
+ghost use Rattle.lra_ticket.specs.Locks.{lock_id, pass_id, pass_view};
+ghost use Rattle.lra_office.specs.Clerks.{clerk_view, IsClerkOf};
+ghost use Rattle.lra_office.specs.Orders.{IsTried};
+ghost use Rattle.lra_office.specs.Writers.{IsNumberOf, refusal_of};
+
+use crate::clerk::Clerk;
+use crate::fault::TryRefusal;
+use crate::office::Office;
+use crate::serving::Serving;
+use lra_commands::Told;
+use lra_core::{Command, Committed};
+use lra_ticket::{Pass, TryFault};
+
+/// A fault of the lock, as one of a command.
+fn refusal_of(fault: TryFault) -> TryRefusal
+    ensures { result ≡ refusal_of fault }
+{
+    match fault {
+        TryFault::Busy => TryRefusal::Busy,
+        TryFault::Worn => TryRefusal::Worn,
+    }
+}
+
+/// What is told, where the errand is let go.
+fn told_alone(committed: Committed) -> Told
+    ensures { result ≡ committed.told }
+{
+    let Committed { told, errand } = committed;
+    if let Some(errand) = errand {
+        errand.discard();
+    }
+    told
+}
+
+impl<V: Serving> Office<V> {
+    /// Does a command under the number of the pass, if the lock is free.
+    fn try_give(
+        &self,
+        pass: Pass<V>,
+        by: u32,
+        moment: u64,
+        command: &Command<'_>,
+    ) -> Result<(Pass<V>, Told), (Pass<V>, TryRefusal)>
+        requires lock { pass_id pass ≡ lock_id self.now.lock }
+        requires suited { is_suited command.now ≡ true }
+        requires number { IsNumberOf command.now by (pass_view pass).number }
+        ensures lock { IfOk result (λ r. pass_id r.0 ≡ lock_id self.now.lock) }
+        ensures refused_lock { IfErr result (λ r. pass_id r.0 ≡ lock_id self.now.lock) }
+        ensures given { IfOk result (λ r. IsTried (V.setting (pass_view pass).origin) (pass_view pass) (record { by = by; moment = moment; command = command.now }) (Ok r.1) (pass_view r.0)) }
+        ensures refused { IfErr result (λ r. IsTried (V.setting (pass_view pass).origin) (pass_view pass) (record { by = by; moment = moment; command = command.now }) (Err r.1) (pass_view r.0)) }
+    {
+        let (held, mut value) = match self.lock.try_take(pass) {
+            Ok(taken) => taken,
+            Err((pass, fault)) => return Err((pass, refusal_of(fault))),
+        };
+        let served = value.serve(by, moment, command);
+        let pass = self.lock.give(held, value);
+        match served {
+            Ok(committed) => Ok((pass, told_alone(committed))),
+            Err(refusal) => Err((pass, TryRefusal::Refused(refusal))),
+        }
+    }
+
+    fn try_tell(
+        &self,
+        clerk: &mut Clerk<V>,
+        moment: u64,
+        command: &Command<'_>,
+    ) -> Result<Told, TryRefusal>
+        requires clerk { IsClerkOf self.now.lock clerk.old }
+        requires suited { is_suited command.now ≡ true }
+        requires other { IsNumberOf command.now clerk.old.number clerk.old.number }
+        ensures clerk { IsClerkOf self.now.lock clerk.new }
+        ensures number { clerk.new.number ≡ clerk.old.number }
+        ensures tried { IsTried (V.setting (clerk_view clerk.old).origin) (clerk_view clerk.old) (record { by = clerk.old.number; moment = moment; command = command.now }) result (clerk_view clerk.new) }
+    {
+        let Some(pass) = clerk.pass.take() else {
+            unreachable!();
+        };
+        match self.try_give(pass, clerk.number, moment, command) {
+            Ok((pass, told)) => {
+                clerk.pass = Some(pass);
+                Ok(told)
+            }
+            Err((pass, refusal)) => {
+                clerk.pass = Some(pass);
+                Err(refusal)
+            }
+        }
+    }
+
+    /// Tells the status of an action, if the lock is free.
+    pub fn try_status(&self, clerk: &mut Clerk<V>, action: u64) -> Result<Told, TryRefusal>
+        requires { IsClerkOf self.now.lock clerk.old }
+        ensures clerk { IsClerkOf self.now.lock clerk.new }
+        ensures number { clerk.new.number ≡ clerk.old.number }
+        ensures tried { IsTried (V.setting (clerk_view clerk.old).origin) (clerk_view clerk.old) (record { by = clerk.old.number; moment = 0; command = Command.Status action }) result (clerk_view clerk.new) }
+    {
+        self.try_tell(clerk, 0, &Command::Status { action })
+    }
+
+    /// Closes an action, if the lock is free.
+    pub fn try_close(
+        &self,
+        clerk: &mut Clerk<V>,
+        moment: u64,
+        action: u64,
+    ) -> Result<Told, TryRefusal>
+        requires { IsClerkOf self.now.lock clerk.old }
+        ensures clerk { IsClerkOf self.now.lock clerk.new }
+        ensures number { clerk.new.number ≡ clerk.old.number }
+        ensures tried { IsTried (V.setting (clerk_view clerk.old).origin) (clerk_view clerk.old) (record { by = clerk.old.number; moment = moment; command = Command.Close action }) result (clerk_view clerk.new) }
+    {
+        self.try_tell(clerk, moment, &Command::Close { action })
+    }
+}

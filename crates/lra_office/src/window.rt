@@ -1,0 +1,82 @@
+//! An office with one of its clerks, as a counter.
+
+ghost use Rattle.std.specs.Prelude.{◌≡◌};
+ghost use Rattle.lra_commands.specs.Counters.{Setting};
+ghost use Rattle.lra_office.specs.Clerks.{clerk_view, IsClerkOf};
+ghost use Rattle.lra_office.specs.Windows.{IsOfficeOf, fault_of};
+
+use crate::clerk::Clerk;
+use crate::fault::OfficeRefusal;
+use crate::office::Office;
+use crate::serving::Serving;
+use lra_commands::{Counter, CounterFault, Order, Told};
+use lra_ids::{Address, Instance};
+use std::sync::Wait;
+
+/// An office with one of its clerks: where orders are given as at a counter of one's own.
+pub struct Window<'a, V: Serving, R> {
+    rt: &'a R,
+    office: &'a Office<V>,
+    clerk: Clerk<V>,
+    ghost there: { IsClerkOf office.now.lock clerk },
+    ghost made: { IsOfficeOf (V.setting (clerk_view clerk).origin) office.now },
+}
+
+impl<'a, V: Serving, R> Window<'a, V, R> {
+    /// A window of an office, for a clerk of it.
+    pub fn new(rt: &'a R, office: &'a Office<V>, clerk: Clerk<V>) -> Window<'a, V, R>
+        requires there { IsClerkOf office.now.lock clerk }
+        requires made { IsOfficeOf (V.setting (clerk_view clerk).origin) office.now }
+        ensures { result.clerk ≡ clerk }
+    {
+        Window { rt, office, clerk }
+    }
+
+    /// Its clerk, with what that has seen by now.
+    pub fn into_clerk(self) -> Clerk<V>
+        ensures clerk { result ≡ self.entry.clerk }
+        ensures there { IsClerkOf self.entry.office.now.lock result }
+    {
+        let Window {
+            rt: _,
+            office: _,
+            clerk,
+        } = self;
+        clerk
+    }
+}
+
+fn fault_of(refusal: OfficeRefusal) -> CounterFault
+    ensures { result ≡ fault_of refusal }
+{
+    match refusal {
+        OfficeRefusal::Refused(refusal) => CounterFault::Refused(refusal),
+        OfficeRefusal::Worn => CounterFault::Worn,
+    }
+}
+
+impl<V: Serving, R: Wait> Counter for Window<'_, V, R> {
+    ghost use Rattle.lra_commands.specs.Counters.{Sight, KeepsHistory};
+    ghost use Rattle.lra_office.specs.Clerks.{clerk_view};
+
+    ghost sight = { λ w. record { setting = V.setting (clerk_view w.clerk).origin; number = w.clerk.number; seen = (clerk_view w.clerk).seen } };
+
+    ghost gives = { KeepsHistory };
+
+    ghost keeps = { λ before after moment o reply given. given };
+
+    fn instance(&self) -> Instance {
+        self.office.instance
+    }
+
+    fn base(&self) -> &Address {
+        &self.office.base
+    }
+
+    fn give(&mut self, moment: u64, order: &Order<'_>) -> Result<Told, CounterFault> {
+        match self.office.tell(self.rt, &mut self.clerk, moment, &order.command()) {
+            Ok(told) => Ok(told),
+            Err(refusal) => Err(fault_of(refusal)),
+        }
+    }
+}
