@@ -1,6 +1,10 @@
 -- A script that is played line by line.
-use Rattle.std.proofs.Common.{◌≡◌, ◌≢◌, ℕ, ◌+◌, ◌<◌, ◌≤◌, Bool, true, false, cond, ◌||◌, List, [], ◌∷◌, ◌++◌, length, map, Option, refl, sym, ap, subst, ◌∙◌, append_assoc, arith}
-use Rattle.std.specs.Prelude.{All, Result, Ok, Err}
+use Rattle.std.proofs.Common.{◌≡◌, ◌≢◌, ℕ, ◌+◌, ◌<◌, ◌≤◌, Bool, true, false, cond, ◌||◌, List, [], ◌∷◌, ◌++◌, length, map, Option, Some, None, refl, sym, ap, subst, ◌∙◌, append_assoc, arith}
+use Rattle.std.specs.Prelude.{All, Result, Ok, Err, IfErr}
+use Rattle.std.specs.Result.{IsErrAnd}
+use Rattle.lra_runs.specs.declared.fault.RunFault.{RunFault}
+use Rattle.lra_runs.specs.declared.fault.RunFault.TheVariants as fault
+use Rattle.lra_runs.specs.inner.Causes.{IsOfOutput, IsOfPlay}
 use Rattle.std.specs.List.{flat_map, join_with_byte, list_any}
 use Rattle.std.specs.Result.{is_err}
 use Rattle.std.specs.Io.KnownBytes.{Appends}
@@ -179,3 +183,20 @@ plays_whole script before now c b n status rest p end e =
 pub stops_here : (script : List ℕ) (before now : Option (List ℕ)) (c : Shape) (b : Bool) (n : ℕ) (rest : List ℕ) → IsPlayed script before now c b n rest → 0 < length rest → BeginsWithNone rest → PlaysUpToLine script (n + 1) before now
 stops_here script before now c b n rest p more bad =
     record { lines = p.lines; rest = rest; read = p.read; goes_on = more; bad = bad; place = ap (λ (k : ℕ). k + 1) p.counted; written = p.written }
+
+-- no line is none
+pub none_is_some : (l : ScriptLine) → None ≡ Some l → ⊥
+none_is_some l e = absurd cc
+
+-- a fault of writing is one of playing
+output_is_play : (f : RunFault) → IsOfOutput f → IsOfPlay f
+output_is_play fault.Write h = tt
+output_is_play fault.Memory h = tt
+output_is_play fault.Read h = absurd h
+output_is_play fault.TooLong h = absurd h
+output_is_play (fault.Line n) h = absurd h
+
+-- so is what comes of it
+pub play_fault : {X : Type 0} (r : Result X RunFault) (f : RunFault) → IsErrAnd r (λ g. g ≡ f) → IsOfOutput f → IfErr r IsOfPlay
+play_fault (Ok x) f h k = absurd h
+play_fault (Err g) f h k = subst IsOfPlay (sym h) (output_is_play f k)

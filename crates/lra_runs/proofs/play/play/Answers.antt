@@ -3,7 +3,8 @@ use Rattle.std.proofs.lemmas.Bool.{eqb-true, eqb-false}
 use Rattle.std.specs.Io.KnownBytes.{Appends}
 use Rattle.std.proofs.lemmas.List.{take-append-drop, length_push, nil_from_length}
 use Rattle.lra_runs.specs.Play.{PlaysUpToLine}
-use Rattle.lra_runs.proofs.Playing.{played_none, played_more, plays_whole, stops_here, none_torn, none_at}
+use Rattle.lra_runs.specs.inner.Causes.{IsOfOutput}
+use Rattle.lra_runs.proofs.Playing.{none_is_some, play_fault, played_none, played_more, plays_whole, stops_here, none_torn, none_at}
 use Rattle.lra_runs.proofs.play.play.Goals as goal
 
 pub loop-rest-init : goal.loop-rest-init
@@ -35,7 +36,7 @@ returns-in_default-read_script_line-clause-line g c = λ n e.
     let more : 0 < length rest = omega (arith, some) in
     subst (λ (m : ℕ). PlaysUpToLine c.args.script.now m before now) place
     (stops_here c.args.script.now before now c.loop-rest.coordinator c.loop-rest.is_refused c.loop-rest.number rest c.loop-rest.invariant more
-    (none_at rest (take c.in-Some.end rest) (drop c.in-Some.end rest) c.in-Some.ensures.found.1 parts (λ l has same. let bad = c.in_default-read_script_line.ensures.all l has (c.split_at.ensures.front ∙ same) in cc)))
+    (none_at rest (take c.in-Some.end rest) (drop c.in-Some.end rest) c.in-Some.ensures.found.1 parts (λ l has same. none_is_some l (c.in_default-read_script_line.ensures.all l has (c.split_at.ensures.front ∙ same)))))
 
 pub loop-rest-preserved : goal.loop-rest-preserved
 loop-rest-preserved g c =
@@ -56,3 +57,9 @@ returns-clause-ok g c =
     let rest = c.loop-rest.rest.now in
     plays_whole c.args.script.now (g.W.Write.contents c.args.writer.now) (g.W.Write.contents c.loop-rest.writer) c.loop-rest.coordinator c.loop-rest.is_refused c.loop-rest.number c.status.result rest c.loop-rest.invariant
     (nil_from_length rest (eqb-true _ _ (sym c.is_empty.ensures ∙ c.loop-rest-test.false))) c.status.ensures
+
+pub returns-in_err-put-clause-fault : goal.returns-in_err-put-clause-fault
+returns-in_err-put-clause-fault g c = play_fault c.from_residual-in_err-put.result c.in_err-put.field-0.0 c.from_residual-in_err-put.ensures.1 (subst IsOfOutput (sym c.in_err-put.ensures.err) tt)
+
+pub returns-in_err-is_refused-clause-fault : goal.returns-in_err-is_refused-clause-fault
+returns-in_err-is_refused-clause-fault g c = play_fault c.from_residual-in_err-is_refused.result c.in_err-is_refused.field-0.0 c.from_residual-in_err-is_refused.ensures.1 c.in_err-is_refused.ensures.fault
