@@ -45,9 +45,11 @@ command_goes_on s J m (command.Status a) = ((λ e. absurd cc), tt)
 command_goes_on s J m (command.MemberStatus p) = ((λ e. absurd cc), tt)
 
 call_goes_on : (s : Terms) (J : History) (c : Call) → NoneStops (grounds s J c)
-call_goes_on s J c =
-    ((λ e. absurd cc), none_stops-append (command_grounds s J (moment_of J c) c.command) (full_grounds s J c) (command_goes_on s J (moment_of J c) c.command)
-        ((λ e. absurd cc), ((λ e. absurd cc), ((λ e. absurd cc), ((λ e. absurd cc), tt)))))
+call_goes_on s J c = (
+  (λ e. absurd cc),
+  none_stops-append (command_grounds s J (moment_of J c) c.command) (full_grounds s J c) (command_goes_on s J (moment_of J c) c.command)
+      ((λ e. absurd cc), ((λ e. absurd cc), ((λ e. absurd cc), ((λ e. absurd cc), tt)))),
+)
 
 pub never_stopped : (s : Terms) (J : History) (c : Call) → answer s J c ≢ Err refusal.Stopped
 unfolding answer refused

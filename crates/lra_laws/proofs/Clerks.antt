@@ -26,11 +26,13 @@ none_by v t = legal_induction v t (λ J. (n : ℕ) → is_among (clerks J) n ≡
     neither : (b c : Bool) → (b || c) ≡ false → b ≡ false
     neither false c h = refl
     neither true c h = absurd cc
+
     other : (J : History) (e : Entry) → Allowed v t J e → (n : ℕ) → is_among (clerks (J ++ e ∷ [])) n ≡ false → (b : Bool) → (e.by == n) ≡ b → b ≡ false
     other J e k n g false h = refl
     other J e k n g true h =
         let there : is_among (clerks (J ++ e ∷ [])) n ≡ true = ap (λ (x : ℕ). is_among (clerks (J ++ e ∷ [])) x) (sym (eqb-true e.by n h)) ∙ writer_there v t J e.by e.moment e.deed k in
         absurd cc
+
     more : (J : History) (e : Entry) → is_legal v t J ≡ true → Allowed v t J e → ((n : ℕ) → is_among (clerks J) n ≡ false → filter (λ (x : Entry). x.by == n) J ≡ [])
         → (n : ℕ) → is_among (clerks (J ++ e ∷ [])) n ≡ false → filter (λ (x : Entry). x.by == n) (J ++ e ∷ []) ≡ []
     more J e l k h n g =

@@ -86,7 +86,7 @@ add_growth : (g : Setting) (J : History) (by m n : ℕ) (c : Command) → IsKept
 add_growth g J by m n command.Enrol k h =
     subst (λ (x : ℕ). MayAdd x J (growth (terms_of g) J (record { by = by; moment = m; command = command.Enrol }))) (sym h)
     (add_new (length (clerks J) + 1) J (growth (terms_of g) J (record { by = by; moment = m; command = command.Enrol })) (λ z. absurd (omega arith))
-        (growth_by (terms_of g) J (record { by = by; moment = m; command = command.Enrol })) (none_by_next g.version is_address J k.lawful.legal))
+    (growth_by (terms_of g) J (record { by = by; moment = m; command = command.Enrol })) (none_by_next g.version is_address J k.lawful.legal))
 add_growth g J by m n c k h =
     add_own n J (growth (terms_of g) J (record { by = by; moment = m; command = c })) h.1
     (subst (λ (x : ℕ). AreBy x (growth (terms_of g) J (record { by = by; moment = m; command = c }))) h.0 (growth_by (terms_of g) J (record { by = by; moment = m; command = c })))

@@ -130,7 +130,6 @@ impl<V: Serving> Office<V> {
         rt: &R,
         clerk: &mut Clerk<V>,
         moment: u64,
-        
     ) -> Result<Told, OfficeRefusal>
         requires { IsClerkOf self.now.lock clerk.old }
         ensures clerk { IsClerkOf self.now.lock clerk.new }
@@ -163,7 +162,6 @@ impl<V: Serving> Office<V> {
         rt: &R,
         clerk: &mut Clerk<V>,
         moment: u64,
-        
     ) -> Result<Told, OfficeRefusal>
         requires { IsClerkOf self.now.lock clerk.old }
         ensures clerk { IsClerkOf self.now.lock clerk.new }
@@ -251,7 +249,15 @@ impl<V: Serving> Office<V> {
         ensures number { clerk.new.number ≡ clerk.old.number }
         ensures recorded { IsRecorded (V.setting (clerk_view clerk.old).origin) (clerk_view clerk.old) clerk.old.number moment errand outcome result (clerk_view clerk.new) }
     {
-        match self.tell(rt, clerk, moment, &Command::Record { errand: &errand, outcome }) {
+        match self.tell(
+            rt,
+            clerk,
+            moment,
+            &Command::Record {
+                errand: &errand,
+                outcome,
+            },
+        ) {
             Ok(told) => {
                 errand.discard();
                 Ok(told)

@@ -74,7 +74,10 @@ impl<V: Serving, R: Wait> Counter for Window<'_, V, R> {
     }
 
     fn give(&mut self, moment: u64, order: &Order<'_>) -> Result<Told, CounterFault> {
-        match self.office.tell(self.rt, &mut self.clerk, moment, &order.command()) {
+        match self
+            .office
+            .tell(self.rt, &mut self.clerk, moment, &order.command())
+        {
             Ok(told) => Ok(told),
             Err(refusal) => Err(fault_of(refusal)),
         }

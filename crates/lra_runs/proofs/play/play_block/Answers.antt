@@ -17,7 +17,7 @@ returns-clause-written g c =
     let f : Entry → _ = λ e. marked (line e) in
     let lines = c.deref.ensures.value ∙ c.in_ok-lines.ensures ∙ ap (flat_map f) c.entries.ensures.value in
     on_ok_weaker c.put.result (λ more.
-        subst (λ (t : Told). Appends before now (answer_line (Ok t) ++ flat_map f c.args.block.entries)) c.commit-told.ensures.told
-        (subst (λ xs. Appends before now (answer_line (Ok c.commit-told.result.told) ++ xs)) lines
-        (Appends-trans before (g.W.Write.contents c.put_told.new.writer) now (answer_line (Ok c.commit-told.result.told)) c.deref.result.now c.in_ok-put_told.ensures.written more)))
+    subst (λ (t : Told). Appends before now (answer_line (Ok t) ++ flat_map f c.args.block.entries)) c.commit-told.ensures.told
+    (subst (λ xs. Appends before now (answer_line (Ok c.commit-told.result.told) ++ xs)) lines
+    (Appends-trans before (g.W.Write.contents c.put_told.new.writer) now (answer_line (Ok c.commit-told.result.told)) c.deref.result.now c.in_ok-put_told.ensures.written more)))
     c.put.ensures.written

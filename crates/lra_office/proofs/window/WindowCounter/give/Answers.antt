@@ -21,4 +21,4 @@ returns-in-Err g c =
     let h = subst (λ (x : Command). IsNotGiven (g.V.Serving.setting (clerk_view old).origin) (clerk_view old) (record { by = old.number; moment = c.args.moment; command = x }) c.in-Err.refusal (clerk_view new)) c.command.ensures c.in-Err.ensures.told in
     let keeps = window_refused g.V.Serving.setting (clerk_view old) (clerk_view new) old.number new.number c.args.moment c.args.order.now c.in-Err.refusal c.tell.ensures.number h in
     subst (λ (f : CounterFault). KeepsHistory (record { setting = g.V.Serving.setting (clerk_view old).origin; number = old.number; seen = (clerk_view old).seen }) c.args.moment c.args.order.now (Err f)
-        (record { setting = g.V.Serving.setting (clerk_view new).origin; number = new.number; seen = (clerk_view new).seen })) (sym c.fault_of.ensures) keeps
+    (record { setting = g.V.Serving.setting (clerk_view new).origin; number = new.number; seen = (clerk_view new).seen })) (sym c.fault_of.ensures) keeps
