@@ -18,7 +18,7 @@ use Rattle.lra_ids.specs.Addresses.{is_address}
 use Rattle.lra_core.specs.declared.block.Committed.{Committed}
 use Rattle.lra_core.specs.Shape.{Shape, IsCoordinator, IsAtRest, IsSame, IsGrown}
 use Rattle.lra_core.specs.Prepares.{Written, IsBlockOf}
-use Rattle.lra_core.specs.Performs.{IsCommitted}
+use Rattle.lra_core.specs.inner.Committing.{IsCommitted}
 use Rattle.lra_core.proofs.Assembling.{grows}
 use Rattle.lra_core.proofs.Carried.{errand_carried}
 use Rattle.lra_core.proofs.Committing.{after_block}

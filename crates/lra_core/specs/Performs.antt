@@ -10,7 +10,6 @@ use Rattle.lra_commands.specs.Answers.{answer, after_call, IsQuietAfter}
 use Rattle.lra_commands.specs.Counters.{terms_of}
 use Rattle.lra_commands.specs.Given.{errand_of, IsOfAsk}
 use Rattle.lra_commands.specs.Shortages.{IsRefusal}
-use Rattle.lra_core.specs.declared.block.Committed.{Committed}
 use Rattle.lra_core.specs.Shape.{Shape, IsSame, IsGrown}
 
 -- a call was done: it was told what it has to be, the history grew by it, and nothing is left to settle if it wrote
@@ -38,16 +37,6 @@ pub record IsDoneGiving (before : Shape) (c : Call) (after : Shape) (e : Option 
 -- a call that asks for an errand
 abbrev pub PerformsGiving : Shape → Call → Shape → Result (Option Asking) Refusal → Type 0
 PerformsGiving before c after result = MatchResult result (IsDoneGiving before c after) (IsRefused before c after)
-
--- a call was done, and what it gave beside its answer
-pub record IsCommitted (before : Shape) (c : Call) (after : Shape) (x : Committed) : Type 0 where
-  pub done : IsDone before c after x.told
-  pub errand : x.errand ≡ errand_of before.setting before.history c
-  pub asked : IfSome x.errand (IsOfAsk after.history)
-
--- a call that is made, with its errand
-abbrev pub PerformsCommitting : Shape → Call → Shape → Result Committed Refusal → Type 0
-PerformsCommitting before c after result = MatchResult result (IsCommitted before c after) (IsRefused before c after)
 
 -- a command records what came of an errand's ask
 abbrev pub IsRecording : Asking → Outcome → Command → Type 0

@@ -1,4 +1,5 @@
 -- Words that private functions and proofs alone use.
+pub mod Committing
 pub mod Decided
 pub mod Heard
 pub mod Kept
