@@ -18,7 +18,7 @@ use Rattle.lra_model.specs.History.{History, actions, members, asks, is_among}
 use Rattle.lra_model.specs.Actions.{parent, children, members_of, child_given, member_given}
 use Rattle.lra_model.specs.Members.{Asked, asked_at, ask_of, action_of}
 use Rattle.lra_model.specs.Rules.{is_legal, allows}
-use Rattle.lra_laws.specs.Rows.{State, MemberRow, ActionRow, state_of, action_row, member_row, row_at, change_member, change_status, with_ask, with_reply, with_report, new_member, new_action, new_top, after_deed}
+use Rattle.lra_laws.specs.Rows.{State, MemberRow, ActionRow, state_of, action_row, member_row, row_at, change_member, change_status, with_ask, with_reply, with_report, with_skip, new_member, new_action, new_top, after_deed}
 use Rattle.lra_laws.specs.Sheets.{Sheet, asks_made, state_after}
 use Rattle.lra_laws.specs.inner.Concerned.{members_concerned, actions_concerned, around}
 use Rattle.lra_laws.proofs.GoodLists.{among_filter}
@@ -163,7 +163,7 @@ module _ (v : Version) (t : List ℕ → Bool) (J : History) (l : is_legal v t J
   after_stays by m (Leave p) x = one_stays (λ (r : MemberRow). record r { status = member.Left }) p m (length (asks J))
   after_stays by m (Close a cause) x = around_stays action.Closing a m
   after_stays by m (Cancel a cause) x = around_stays action.Cancelling a m
-  after_stays by m (Skip p) x = one_stays (λ (r : MemberRow). record r { status = member.Completed }) p m (length (asks J))
+  after_stays by m (Skip p) x = one_stays with_skip p m (length (asks J))
   after_stays by m (Ask n p kind) x = one_stays (with_ask n kind) p m (length (asks J) + 1)
   after_stays by m (Reply n o) x = replied_stays m n o x.0 x.1.asked
   after_stays by m (Report p o) x = one_stays (with_report o) p m (length (asks J))

@@ -15,7 +15,7 @@ use Rattle.lra_model.specs.Members.{Asked, action_of}
 use Rattle.lra_model.specs.Rules.{is_legal}
 use Rattle.lra_laws.proofs.Push.{step, last_moment_push, clerks_push, asks_push}
 use Rattle.lra_laws.proofs.Legal.{Allowed, actions_numbered, members_numbered}
-use Rattle.lra_laws.specs.Rows.{Standing, MemberRow, ActionRow, State, standing, with_reply_to, void_at, void_asks, member_row, action_row, state_of, with_member, with_child, change_row, row_at, change_member, change_status, with_ask, with_reply, with_report, after_deed}
+use Rattle.lra_laws.specs.Rows.{Standing, MemberRow, ActionRow, State, standing, with_reply_to, void_at, void_asks, member_row, action_row, state_of, with_member, with_child, change_row, row_at, change_member, change_status, with_ask, with_reply, with_report, with_skip, after_deed}
 use Rattle.lra_laws.proofs.RowLists.{eqb_self, row_there}
 use Rattle.lra_laws.proofs.Told.{entry, more, ReplyTold, Told, told}
 use Rattle.lra_laws.proofs.MemberWords.{concerns, void_push}
@@ -120,7 +120,7 @@ push_by_deed v t J by m (Close c cause) l k x =
 push_by_deed v t J by m (Cancel c cause) l k x =
     turned v t J by m (Cancel c cause) c action.Cancelling l k (record { no_join = refl; no_start = refl; quiet = λ p. refl; turn = λ a. refl; no_limit = λ a. refl; there = x }) refl refl refl
 push_by_deed v t J by m (Skip p) l k x =
-    one_member v t J by m (Skip p) p (λ (r : MemberRow). record r { status = member.Completed }) (length (asks J)) l k refl refl x.there (λ q h. h) (λ a. refl) (λ a. refl) refl refl (asks_kept J by m (Skip p) refl) (skip_row J by m p x.untouched) refl
+    one_member v t J by m (Skip p) p with_skip (length (asks J)) l k refl refl x.there (λ q h. h) (λ a. refl) (λ a. refl) refl refl (asks_kept J by m (Skip p) refl) (skip_row J by m p x.untouched) refl
 push_by_deed v t J by m (Ask n p kind) l k x =
     one_member v t J by m (Ask n p kind) p (with_ask n kind) (length (asks J) + 1) l k refl refl x.there (λ q h. h) (λ a. refl) (λ a. refl) refl refl
     (ap length (asks_push J (entry by m (Ask n p kind))) ∙ length-append (asks J) (n ∷ [])) (ask_row J by m n p kind x.fits) refl

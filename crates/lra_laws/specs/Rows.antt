@@ -1,5 +1,5 @@
 -- The forward state of a history: what stands for it in rows, and how one more entry changes it.
-use Rattle.std.specs.Prelude.{ℕ, zero, suc, ◌+◌, ◌-◌, ◌==◌, Bool, false, ◌&&◌, ◌||◌, not, cond, List, [], ◌∷◌, ◌++◌, length, map, Option, Some, None, unwrap_or, count_by, slice_get, slice_set}
+use Rattle.std.specs.Prelude.{ℕ, zero, suc, ◌+◌, ◌-◌, ◌==◌, Bool, true, false, ◌&&◌, ◌||◌, not, cond, List, [], ◌∷◌, ◌++◌, length, map, Option, Some, None, unwrap_or, is_some, count_by, slice_get, slice_set}
 use Rattle.std.specs.Option.{option_map_or, option_and_then}
 use Rattle.std.specs.List.{filter_map}
 use Rattle.lra_model.specs.declared.status.ActionStatus.{ActionStatus}
@@ -15,10 +15,10 @@ use Rattle.lra_model.specs.declared.asks.Outcome.TheVariants as outcome
 use Rattle.lra_model.specs.declared.entry.Deed.{Deed}
 use Rattle.lra_model.specs.declared.entry.Deed.TheVariants.{Enrol, Start, Join, Leave, Close, Cancel, Skip, Ask, Reply, Report, End, Restart, Renew}
 use Rattle.lra_model.specs.Addresses.{Addresses, Presence, presence_of}
-use Rattle.lra_model.specs.Words.{has_ended, has_failed, has_finished_cancelling, is_completing, is_compensating, is_completed, is_compensated, is_done_completing, is_done_compensating, has_gone, is_done, same_kind}
+use Rattle.lra_model.specs.Words.{has_ended, has_failed, has_finished_cancelling, is_completing, is_compensating, is_completed, is_compensated, is_done_completing, is_done_compensating, has_gone, is_decisive, is_done, same_kind, same_direction}
 use Rattle.lra_model.specs.History.{History, Step, steps, last, clerks, actions, members, asks, last_moment}
 use Rattle.lra_model.specs.Actions.{Limit, parent, top, action_status, limit_in_force, children}
-use Rattle.lra_model.specs.Members.{Asked, ask_of, action_of, addresses_of, member_status, last_reply, was_answered, ask_direction}
+use Rattle.lra_model.specs.Members.{Asked, ask_of, action_of, addresses_of, decided, member_status, last_reply, was_answered, ask_direction}
 use Rattle.lra_model.specs.Ends.{staying, action_is}
 
 -- an ask that its member hasn't answered; a restart may have made it void
@@ -27,13 +27,14 @@ pub record Standing : Type 0 where
   pub kind : AskKind
   pub direction : Direction
 
--- a member, as the rules see it: completion and compensation are its last replies both ways
+-- a member, as the rules see it: completion and compensation are its last replies both ways, and completed is whether completion is decided
 pub record MemberRow : Type 0 where
   pub action : ℕ
   pub addresses : Presence
   pub status : MemberStatus
   pub completion : Option Outcome
   pub compensation : Option Outcome
+  pub completed : Bool
   pub asked : Option Standing
   pub has_forgotten : Bool
   pub was_told : Bool
@@ -145,6 +146,7 @@ member_row J p = record {
   status = member_status J p;
   completion = last_reply J p direction.Completion;
   compensation = last_reply J p direction.Compensation;
+  completed = is_some (decided J p direction.Completion);
   asked = standing J p;
   has_forgotten = was_answered J p ask.Forget;
   was_told = was_answered J p ask.After;
@@ -270,12 +272,17 @@ by_way direction.Completion completion compensation neither = completion
 by_way direction.Compensation completion compensation neither = compensation
 by_way direction.Neither completion compensation neither = neither
 
+-- whether a word decides completion, where nothing did before
+abbrev pub completes : Direction → Outcome → Bool
+completes way o = same_direction way direction.Completion && is_decisive o
+
 -- a member that answers the ask that stands
 abbrev pub with_reply_to : Standing → Outcome → MemberRow → MemberRow
 with_reply_to x o r = record r {
   status = decided_as x.direction o r.status;
   completion = by_way x.direction (Some o) r.completion r.completion;
   compensation = by_way x.direction r.compensation (Some o) r.compensation;
+  completed = r.completed || completes x.direction o;
   asked = None;
   has_forgotten = r.has_forgotten || (same_kind x.kind ask.Forget && is_done o);
   was_told = r.was_told || (same_kind x.kind ask.After && is_done o);
@@ -287,11 +294,15 @@ with_reply o r = option_map_or (λ (x : Standing). with_reply_to x o r) r.asked 
 
 -- a member that reports
 abbrev pub with_report : Outcome → MemberRow → MemberRow
-with_report o r = record r { status = decided_as (way_of r.status) o r.status }
+with_report o r = record r { status = decided_as (way_of r.status) o r.status; completed = r.completed || completes (way_of r.status) o }
+
+-- a member that is skipped
+abbrev pub with_skip : MemberRow → MemberRow
+with_skip r = record r { status = member.Completed; completed = true }
 
 -- the row of a member that joins
 abbrev pub new_member : ℕ → Addresses → MemberRow
-new_member a u = record { action = a; addresses = presence_of u; status = member.Active; completion = None; compensation = None; asked = None; has_forgotten = false; was_told = false }
+new_member a u = record { action = a; addresses = presence_of u; status = member.Active; completion = None; compensation = None; completed = false; asked = None; has_forgotten = false; was_told = false }
 
 -- the row of an action that starts
 abbrev pub new_action : ℕ → Option ℕ → ℕ → ℕ → ℕ → ActionRow
@@ -331,7 +342,7 @@ after_deed m (Join p a u) s = record s { members = s.members ++ new_member a u �
 after_deed m (Leave p) s = change_member (λ (r : MemberRow). record r { status = member.Left }) p s
 after_deed m (Close a cause) s = change_status action.Closing a s
 after_deed m (Cancel a cause) s = change_status action.Cancelling a s
-after_deed m (Skip p) s = change_member (λ (r : MemberRow). record r { status = member.Completed }) p s
+after_deed m (Skip p) s = change_member with_skip p s
 after_deed m (Ask n p kind) s = change_member (with_ask n kind) p (record s { asks = s.asks + 1 })
 after_deed m (Reply n o) s = change_member (with_reply o) (place_of n s.members) s
 after_deed m (Report p o) s = change_member (with_report o) p s
