@@ -37,6 +37,8 @@ pub struct MemberRow {
     pub completion: Option<Outcome>,
     /// The last reply in compensation.
     pub compensation: Option<Outcome>,
+    /// Whether completion is decided, done or failed: a member that was asked to compensate since has a status that doesn't say.
+    pub completed: bool,
     /// The ask of it that is outstanding.
     pub outstanding: Option<u64>,
     /// What it wants to be asked next.
@@ -141,6 +143,7 @@ impl Rows {
             status: row.status,
             completion: row.completion,
             compensation: row.compensation,
+            completed: row.completed,
             outstanding: self.outstanding(&row),
             want: self.want(&row),
             k: repeats.count,

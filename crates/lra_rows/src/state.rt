@@ -68,6 +68,8 @@ pub(crate) struct MemberState {
     pub(crate) completion: Option<Outcome>,
     /// The last reply in compensation.
     pub(crate) compensation: Option<Outcome>,
+    /// Whether completion is decided, done or failed.
+    pub(crate) completed: bool,
     pub(crate) asked: Option<Standing>,
     pub(crate) has_forgotten: bool,
     pub(crate) was_told: bool,
@@ -84,6 +86,7 @@ impl Model for MemberState {
       status = r.status;
       completion = r.completion;
       compensation = r.compensation;
+      completed = r.completed;
       asked = r.asked;
       has_forgotten = r.has_forgotten;
       was_told = r.was_told;
@@ -95,6 +98,7 @@ impl Model for MemberState {
       status = r.status;
       completion = r.completion;
       compensation = r.compensation;
+      completed = r.completed;
       asked = r.asked;
       has_forgotten = r.has_forgotten;
       was_told = r.was_told;

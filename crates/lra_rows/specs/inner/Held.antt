@@ -48,6 +48,7 @@ held_member s p = option_map (λ (r : laws.MemberRow). record {
   status = r.status;
   completion = r.completion;
   compensation = r.compensation;
+  completed = r.completed;
   outstanding = held_outstanding s r;
   want = wanted (facts_by s.state) (member_by s.state r);
   k = (held_repeats s p r).count;
