@@ -68,6 +68,8 @@ pub(crate) struct MemberRow {
     pub completion: Option<Outcome>,
     /// The last reply in compensation.
     pub compensation: Option<Outcome>,
+    /// Whether completion is decided, done or failed.
+    pub completed: bool,
     pub asked: Option<Standing>,
     pub has_forgotten: bool,
     pub was_told: bool,
@@ -84,6 +86,7 @@ impl Model for MemberRow {
       status = r.status;
       completion = r.completion;
       compensation = r.compensation;
+      completed = r.completed;
       asked = r.asked;
       has_forgotten = r.has_forgotten;
       was_told = r.was_told;
@@ -95,6 +98,7 @@ impl Model for MemberRow {
       status = r.status;
       completion = r.completion;
       compensation = r.compensation;
+      completed = r.completed;
       asked = r.asked;
       has_forgotten = r.has_forgotten;
       was_told = r.was_told;
