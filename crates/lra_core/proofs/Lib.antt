@@ -7,12 +7,10 @@ pub mod Carried
 pub mod Committing
 pub mod Deciding
 pub mod Fullness
-pub mod Hearing
 pub mod Made
 pub mod Numbers
 pub mod Opened
 pub mod Performing
 pub mod Reopening
 pub mod Replying
-pub mod StatusTells
 pub mod Statuses

@@ -1,7 +1,6 @@
 -- Words that private functions and proofs alone use.
 pub mod Committing
 pub mod Decided
-pub mod Heard
 pub mod Kept
 pub mod Made
 pub mod Opened

@@ -6,7 +6,6 @@ mod block;
 mod commands;
 mod coordinator;
 mod errand;
-mod heard;
 mod laws;
 mod making;
 mod opening;

@@ -43,7 +43,7 @@ use Rattle.lra_judge.specs.inner.Judged.{Judged, ◌>>=◌}
 use Rattle.lra_judge.specs.inner.Stored.{IsReading}
 use Rattle.lra_judge.proofs.Counts.{adds_none}
 use Rattle.lra_judge.proofs.Grounds.{first_decides, only_told, written_own, few_of_same, full_members, stranger}
-use Rattle.lra_judge.proofs.Passing.{call, row_of, past_clerk, past_action, past_member, past_required, free_from, may, opened}
+use Rattle.lra_judge.proofs.Passing.{call, row_of, member_of, past_clerk, past_action, past_member, past_required, free_from, may, opened}
 
 -- ---- the status of a member, by what bears on it
 
@@ -74,23 +74,7 @@ gone_is J p =
     gone_by (has_left J p) (decided J p direction.Compensation) (was_asked J p ask.Compensate) (decided J p direction.Completion) (was_asked J p ask.Complete) (decided_is_decisive J p direction.Compensation)
     (decided_is_decisive J p direction.Completion)
 
--- completion and compensation are decided as the status says, where the member hasn't left
-completed_later : (dp : Option Outcome) (wp : Bool) → IsDecisive dp → judged.has_completed (status_by false None false dp wp) (is_some dp) ≡ is_some dp
-completed_later None true h = refl
-completed_later None false h = refl
-completed_later (Some outcome.Done) wp h = refl
-completed_later (Some outcome.Failed) wp h = refl
-completed_later (Some outcome.Accepted) wp h = absurd cc
-completed_later (Some outcome.Silent) wp h = absurd cc
-
-completed_by : (dc : Option Outcome) (wc : Bool) (dp : Option Outcome) (wp : Bool) → IsDecisive dc → IsDecisive dp → judged.has_completed (status_by false dc wc dp wp) (is_some dp) ≡ is_some dp
-completed_by None true dp wp h k = refl
-completed_by None false dp wp h k = completed_later dp wp k
-completed_by (Some outcome.Done) wc dp wp h k = refl
-completed_by (Some outcome.Failed) wc dp wp h k = refl
-completed_by (Some outcome.Accepted) wc dp wp h k = absurd cc
-completed_by (Some outcome.Silent) wc dp wp h k = absurd cc
-
+-- compensation is decided as the status says, where the member hasn't left
 compensated_later : (dp : Option Outcome) (wp : Bool) → IsDecisive dp → judged.has_compensated (status_by false None false dp wp) ≡ false
 compensated_later None true h = refl
 compensated_later None false h = refl
@@ -107,21 +91,15 @@ compensated_by (Some outcome.Failed) wc dp wp h k = refl
 compensated_by (Some outcome.Accepted) wc dp wp h k = absurd cc
 compensated_by (Some outcome.Silent) wc dp wp h k = absurd cc
 
-has_completed_is : (J : History) (p : ℕ) → has_left J p ≡ false → judged.has_completed (member_status J p) (is_some (decided J p direction.Completion)) ≡ is_some (decided J p direction.Completion)
-unfolding member_status
-has_completed_is J p h =
-    ap (λ (l : Bool). judged.has_completed (status_by l (decided J p direction.Compensation) (was_asked J p ask.Compensate) (decided J p direction.Completion) (was_asked J p ask.Complete)) (is_some (decided J p direction.Completion))) h
-    ∙ completed_by (decided J p direction.Compensation) (was_asked J p ask.Compensate) (decided J p direction.Completion) (was_asked J p ask.Complete) (decided_is_decisive J p direction.Compensation) (decided_is_decisive J p direction.Completion)
-
 has_compensated_is : (J : History) (p : ℕ) → has_left J p ≡ false → judged.has_compensated (member_status J p) ≡ is_some (decided J p direction.Compensation)
 unfolding member_status
 has_compensated_is J p h =
     ap (λ (l : Bool). judged.has_compensated (status_by l (decided J p direction.Compensation) (was_asked J p ask.Compensate) (decided J p direction.Completion) (was_asked J p ask.Complete))) h
     ∙ compensated_by (decided J p direction.Compensation) (was_asked J p ask.Compensate) (decided J p direction.Completion) (was_asked J p ask.Complete) (decided_is_decisive J p direction.Compensation) (decided_is_decisive J p direction.Completion)
 
-told_is : (J : History) (p : ℕ) (e : Ending) → has_left J p ≡ false → judged.has_told (member_status J p) (is_some (decided J p direction.Completion)) e ≡ is_decided J p e
-told_is J p ending.Completed h = has_completed_is J p h
-told_is J p ending.FailedToComplete h = has_completed_is J p h
+told_is : (J : History) (p : ℕ) (e : Ending) → has_left J p ≡ false → judged.has_told (member_of J p) e ≡ is_decided J p e
+told_is J p ending.Completed h = refl
+told_is J p ending.FailedToComplete h = refl
 told_is J p ending.Compensated h = has_compensated_is J p h
 told_is J p ending.FailedToCompensate h = has_compensated_is J p h
 
@@ -144,15 +122,14 @@ member_status_decides s J by h p =
 
 -- ---- Report
 
-pub report_decides : (s : Terms) (J : History) (by h p : ℕ) (e : Ending) (completed : Bool) → IsLawful s J → h < 2 ^ 64 → completed ≡ is_some (decided J p direction.Completion)
-    → IsDecided s J (call by h (command.Report p e)) (judged.report J by (max h (last_moment J)) p e completed)
-report_decides s J by h p e completed k f is =
+pub report_decides : (s : Terms) (J : History) (by h p : ℕ) (e : Ending) → IsLawful s J → h < 2 ^ 64 → IsDecided s J (call by h (command.Report p e)) (judged.report J by (max h (last_moment J)) p e)
+report_decides s J by h p e k f =
     past_clerk s J c _ refl (λ here known.
-    past_member s J c p (λ x. judged.here x.status >>= λ _. judged.report_at by m p e x.status completed) (λ gone. first_decides s J c 0 refusal.NoSuchMember known (ap not gone, refl))
+    past_member s J c p (λ x. judged.here x.status >>= λ _. judged.report_at by m p e x) (λ gone. first_decides s J c 0 refusal.NoSuchMember known (ap not gone, refl))
     (λ there.
-    past_required s J c (not (has_gone (member_status J p))) refusal.HasLeft (judged.report_at by m p e (member_status J p) completed) (λ left. first_decides s J c 1 refusal.HasLeft known (ap not there, (left_from left, refl)))
+    past_required s J c (not (has_gone (member_status J p))) refusal.HasLeft (judged.report_at by m p e (member_of J p)) (λ left. first_decides s J c 1 refusal.HasLeft known (ap not there, (left_from left, refl)))
     (λ stays.
-    at_told here known there (here_from stays) (judged.has_told (member_status J p) completed e) (sym (ap (λ (b : Bool). judged.has_told (member_status J p) b e) is ∙ told_is J p e (here_from stays)))
+    at_told here known there (here_from stays) (judged.has_told (member_of J p) e) (sym (told_is J p e (here_from stays)))
     (judged.is_awaited (member_status J p) e) (sym (awaited_is J p e)))))
   where
     c : Call

@@ -10,7 +10,7 @@ use Rattle.lra_model.specs.declared.asks.Direction.TheVariants as direction
 use Rattle.lra_model.specs.Words.{is_active}
 use Rattle.lra_model.specs.History.{History, clerks, actions, members, is_among, last_moment}
 use Rattle.lra_model.specs.Actions.{parent, action_status, limit_in_force, depth}
-use Rattle.lra_model.specs.Members.{action_of, member_status, last_reply, ask_direction, outstanding_ask}
+use Rattle.lra_model.specs.Members.{action_of, decided, member_status, last_reply, ask_direction, outstanding_ask}
 use Rattle.lra_model.specs.Rules.{is_number}
 use Rattle.lra_model.specs.Wants.{wants, stage_of, repeat_count, last_repeat}
 use Rattle.lra_laws.proofs.Legal.{status_is_there}
@@ -45,6 +45,7 @@ member_of J p = record {
   status = member_status J p;
   completion = last_reply J p direction.Completion;
   compensation = last_reply J p direction.Compensation;
+  completed = is_some (decided J p direction.Completion);
   outstanding = outstanding_ask J p;
   want = wants J p;
   k = option_map_or (λ (kind : AskKind). repeat_count J p (stage_of kind (ask_direction J p kind))) (wants J p) 0;

@@ -1,10 +1,8 @@
 -- What a decision on a call says.
-use Rattle.std.specs.Prelude.{◌≡◌, ◌⊎◌, ℕ, is_some, Bool, true, false, ◌&&◌, List, [], ◌++◌, ◌≢◌, Some, None, Result, Ok, Err}
-use Rattle.lra_model.specs.declared.asks.Direction.TheVariants.{Completion}
+use Rattle.std.specs.Prelude.{◌≡◌, ◌⊎◌, ℕ, Bool, true, false, ◌&&◌, List, [], ◌++◌, ◌≢◌, Some, None, Result, Ok, Err}
 use Rattle.lra_model.specs.declared.entry.Entry.{Entry}
 use Rattle.lra_model.specs.Words.{when}
 use Rattle.lra_model.specs.History.{History, clerks, is_among}
-use Rattle.lra_model.specs.Members.{decided}
 use Rattle.lra_model.specs.Rules.{allows}
 use Rattle.lra_model.specs.Settling.{with_settling}
 use Rattle.lra_ids.specs.Addresses.{is_address}
@@ -28,7 +26,6 @@ use Rattle.lra_judge.specs.declared.decision.Decision.TheVariants as decision
 abbrev pub IsBeside : Terms → History → ℕ → Command → Beside → Type 0
 IsBeside s J m command.NextAsk x = x.due ≡ due s.limits J m
 IsBeside s J m command.Tick x = x.late ≡ late J m
-IsBeside s J m (command.Report p e) x = x.completed ≡ is_some (decided J p Completion)
 IsBeside s J m _ x = Unit {0}
 
 -- a call is told so, and appends nothing

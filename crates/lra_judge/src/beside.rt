@@ -7,6 +7,4 @@ pub struct Beside {
     pub due: Option<u64>,
     /// The action whose limit has passed first by then; `tick` alone reads it.
     pub late: Option<u64>,
-    /// Whether completion is decided for the member that reports; `report` alone reads it.
-    pub completed: bool,
 }

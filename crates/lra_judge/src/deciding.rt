@@ -44,7 +44,7 @@ fn judge<E: Carries>(
         Command::Tick => judge.tick(beside.late),
         Command::NextAsk => judge.next_ask(beside.due),
         Command::Record { errand, outcome } => judge.record(errand.carried(), *outcome),
-        Command::Report { member, ending } => judge.report(*member, *ending, beside.completed),
+        Command::Report { member, ending } => judge.report(*member, *ending),
         Command::Restart => judge.restart(),
         Command::Renew { action, limit } => judge.renew(*action, *limit),
         Command::Status { action } => judge.status(*action),

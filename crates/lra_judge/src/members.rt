@@ -9,6 +9,7 @@ use crate::judge::{Judge, require_open};
 use crate::stored::stored;
 use lra_commands::{Refusal, Resource, Told};
 use lra_model::{Deed, Ending, MemberStatus, Outcome, Uris};
+use lra_tables::MemberRow;
 use std::alloc::Global;
 
 /// That a member hasn't left.
@@ -19,19 +20,6 @@ fn require_here(status: MemberStatus) -> Result<(), Refusal>
         Err(Refusal::HasLeft)
     } else {
         Ok(())
-    }
-}
-
-/// Whether completion is decided; once the status is one of compensation, it doesn't say.
-fn has_completed(status: MemberStatus, completed: bool) -> bool
-    ensures { result ≡ judged.has_completed status completed }
-{
-    match status {
-        MemberStatus::Completed | MemberStatus::FailedToComplete => true,
-        MemberStatus::Compensating => completed,
-        MemberStatus::Compensated => completed,
-        MemberStatus::FailedToCompensate => completed,
-        MemberStatus::Active | MemberStatus::Completing | MemberStatus::Left => false,
     }
 }
 
@@ -46,12 +34,12 @@ fn has_compensated(status: MemberStatus) -> bool
 }
 
 /// Whether the direction of an ending is decided.
-fn has_told(status: MemberStatus, completed: bool, ending: Ending) -> bool
-    ensures { result ≡ judged.has_told status completed ending }
+fn has_told(found: &MemberRow, ending: Ending) -> bool
+    ensures { result ≡ judged.has_told found.now ending }
 {
     match ending {
-        Ending::Completed | Ending::FailedToComplete => has_completed(status, completed),
-        Ending::Compensated | Ending::FailedToCompensate => has_compensated(status),
+        Ending::Completed | Ending::FailedToComplete => found.completed,
+        Ending::Compensated | Ending::FailedToCompensate => has_compensated(found.status),
     }
 }
 
@@ -147,33 +135,22 @@ impl Judge<'_> {
     }
 
     /// What a member tells of itself: taken where it is asked for that, and a repeat where that direction is decided.
-    pub(crate) fn report(
-        &self,
-        member: u64,
-        ending: Ending,
-        completed: bool,
-    ) -> Result<Decision, Refusal>
-        ensures { (J : History) → StandsFor self.now.tables.now.sheet J → result ≡ judged.report J self.now.by self.now.moment member ending completed }
+    pub(crate) fn report(&self, member: u64, ending: Ending) -> Result<Decision, Refusal>
+        ensures { (J : History) → StandsFor self.now.tables.now.sheet J → result ≡ judged.report J self.now.by self.now.moment member ending }
     {
         self.require_clerk()?;
         let found = self.member(member)?;
         require_here(found.status)?;
-        self.report_at(member, ending, found.status, completed)
+        self.report_at(member, ending, &found)
     }
 
-    fn report_at(
-        &self,
-        member: u64,
-        ending: Ending,
-        status: MemberStatus,
-        completed: bool,
-    ) -> Result<Decision, Refusal>
-        ensures { result ≡ judged.report_at self.now.by self.now.moment member ending status completed }
+    fn report_at(&self, member: u64, ending: Ending, found: &MemberRow) -> Result<Decision, Refusal>
+        ensures { result ≡ judged.report_at self.now.by self.now.moment member ending found.now }
     {
-        if has_told(status, completed, ending) {
-            return Ok(Decision::Told(Told::MemberAlready(status)));
+        if has_told(found, ending) {
+            return Ok(Decision::Told(Told::MemberAlready(found.status)));
         }
-        if !is_awaited(status, ending) {
+        if !is_awaited(found.status, ending) {
             return Err(Refusal::NotAsked);
         }
         Ok(self.write(Deed::Report {

@@ -240,15 +240,6 @@ leave J by m a p = do
   _ ← still_open r.status
   Ok (written by m (deed.Leave p))
 
--- whether completion is decided, by the status; once that is one of compensation, completed says so
-abbrev pub has_completed : MemberStatus → Bool → Bool
-has_completed member.Completed completed = true
-has_completed member.FailedToComplete completed = true
-has_completed member.Compensating completed = completed
-has_completed member.Compensated completed = completed
-has_completed member.FailedToCompensate completed = completed
-has_completed _ completed = false
-
 -- whether compensation is decided
 abbrev pub has_compensated : MemberStatus → Bool
 has_compensated member.Compensated = true
@@ -256,11 +247,11 @@ has_compensated member.FailedToCompensate = true
 has_compensated _ = false
 
 -- whether the direction of an ending is decided
-abbrev pub has_told : MemberStatus → Bool → Ending → Bool
-has_told status completed ending.Completed = has_completed status completed
-has_told status completed ending.FailedToComplete = has_completed status completed
-has_told status completed ending.Compensated = has_compensated status
-has_told status completed ending.FailedToCompensate = has_compensated status
+abbrev pub has_told : MemberRow → Ending → Bool
+has_told x ending.Completed = x.completed
+has_told x ending.FailedToComplete = x.completed
+has_told x ending.Compensated = has_compensated x.status
+has_told x ending.FailedToCompensate = has_compensated x.status
 
 -- whether a member is being asked for what it tells
 abbrev pub is_awaited : MemberStatus → Ending → Bool
@@ -270,18 +261,18 @@ is_awaited status ending.Compensated = is_compensating status
 is_awaited status ending.FailedToCompensate = is_compensating status
 
 -- a report of a member that hasn't left
-abbrev pub report_at : ℕ → ℕ → ℕ → Ending → MemberStatus → Bool → Judged
-report_at by m p e status completed =
-    cond (has_told status completed e) (told_so (told.MemberAlready status))
-    (cond (is_awaited status e) (Ok (written by m (deed.Report p (outcome_told e)))) (Err refusal.NotAsked))
+abbrev pub report_at : ℕ → ℕ → ℕ → Ending → MemberRow → Judged
+report_at by m p e x =
+    cond (has_told x e) (told_so (told.MemberAlready x.status))
+    (cond (is_awaited x.status e) (Ok (written by m (deed.Report p (outcome_told e)))) (Err refusal.NotAsked))
 
 -- a report
-abbrev pub report : History → ℕ → ℕ → ℕ → Ending → Bool → Judged
-report J by m p e completed = do
+abbrev pub report : History → ℕ → ℕ → ℕ → Ending → Judged
+report J by m p e = do
   _ ← known_clerk J by
   x ← known_member J p
   _ ← here x.status
-  report_at by m p e x.status completed
+  report_at by m p e x
 
 -- a reading of a member's status
 abbrev pub member_status : History → ℕ → ℕ → Judged
@@ -345,7 +336,7 @@ IsJudged s J by m x (command.Cancel a) result = result ≡ cancel s.version J by
 IsJudged s J by m x command.Tick result = result ≡ tick J by m x.late
 IsJudged s J by m x command.NextAsk result = result ≡ next_ask J by m x.due
 IsJudged s J by m x (command.Record errand o) result = result ≡ reply J by m (carried_of errand.now) o
-IsJudged s J by m x (command.Report p e) result = result ≡ report J by m p e x.completed
+IsJudged s J by m x (command.Report p e) result = result ≡ report J by m p e
 IsJudged s J by m x command.Restart result = result ≡ restart J by m
 IsJudged s J by m x (command.Renew a limit) result = result ≡ renew s.version J by m a limit
 IsJudged s J by m x (command.Status a) result = result ≡ status J by a
