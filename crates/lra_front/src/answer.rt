@@ -214,10 +214,11 @@ impl Answer {
         Ok(Parts { uri, text, digits })
     }
 
-    /// Writes its reply: the head alone where that was asked for, and that the stream is closed where it is.
+    /// Writes its reply: the head alone where that was asked for, and that the stream is closed where it is. The reply's text
+    /// is made in the page, in place of what stood there before.
     pub fn write<W: Write>(
         self,
-        alloc: Global,
+        page: &mut Vec<u8>,
         writer: &mut W,
         instance: Instance,
         base: &Address,
@@ -230,6 +231,7 @@ impl Answer {
         // No memory, and nothing went out.
         ensures memory { result ≡ Err WireFault.Memory → Keeps (W.contents writer.old) (W.contents writer.new) }
     {
+        let alloc = *page.allocator();
         let Ok(parts) = self.parts(alloc, instance, base) else {
             return Err(WireFault::Memory);
         };
@@ -243,7 +245,7 @@ impl Answer {
             fields: fields.as_slice(),
             body: content(parts.text.as_str(), head),
         };
-        write_response(alloc, writer, &reply)
+        write_response(page, writer, &reply)
     }
 }
 

@@ -64,7 +64,7 @@ fn fault_answer(fault: WireFault) -> Option<Answer>
 
 /// Replies to a fault of reading, and closes the stream.
 fn refuse<W: Write, C: Counter>(
-    alloc: Global,
+    page: &mut Vec<u8>,
     writer: &mut W,
     counter: &C,
     fault: WireFault,
@@ -75,7 +75,7 @@ fn refuse<W: Write, C: Counter>(
         return StreamEnd::Refused(fault);
     };
     match answer.write(
-        alloc,
+        page,
         writer,
         counter.instance(),
         counter.base(),
@@ -89,7 +89,7 @@ fn refuse<W: Write, C: Counter>(
 
 /// Answers a request, and closes the stream after it where it asks for that or is the last that is taken.
 fn exchange<W: Write, C: Counter, K: Clock>(
-    alloc: Global,
+    page: &mut Vec<u8>,
     routes: &Routes,
     writer: &mut W,
     counter: &mut C,
@@ -102,9 +102,9 @@ fn exchange<W: Write, C: Counter, K: Clock>(
     let close = request.close || last;
     let head = request.method.as_str() == Method::HEAD.as_str();
     let moment = clock.now();
-    let answer = routes.respond(alloc, counter, moment, request);
+    let answer = routes.respond(*page.allocator(), counter, moment, request);
     match answer.write(
-        alloc,
+        page,
         writer,
         counter.instance(),
         counter.base(),
@@ -118,9 +118,9 @@ fn exchange<W: Write, C: Counter, K: Clock>(
 }
 
 /// Answers the next request of an inbox, or tells how the stream ended. After the last request that is taken the stream is
-/// closed.
+/// closed. The page is where replies are made: what stands in it before is dropped, so that one page serves many streams.
 pub fn serve_request<R: Read + Drop, W: Write, C: Counter, K: Clock>(
-    alloc: Global,
+    page: &mut Vec<u8>,
     routes: &Routes,
     inbox: &mut Inbox<R>,
     writer: &mut W,
@@ -135,10 +135,10 @@ pub fn serve_request<R: Read + Drop, W: Write, C: Counter, K: Clock>(
     ensures goes { result ≡ Served.Going → IsFalse (is_spent inbox.new) }
     ensures spent { IsTrue (is_spent inbox.old) → result ≡ Served.Ended (StreamEnd.Refused wire.Cut) }
 {
-    match read_request(alloc, inbox) {
-        Ok(Some(request)) => exchange(alloc, routes, writer, counter, clock, &request, last),
+    match read_request(*page.allocator(), inbox) {
+        Ok(Some(request)) => exchange(page, routes, writer, counter, clock, &request, last),
         Ok(None) => Served::Ended(StreamEnd::Done),
-        Err(fault) => Served::Ended(refuse(alloc, writer, counter, fault)),
+        Err(fault) => Served::Ended(refuse(page, writer, counter, fault)),
     }
 }
 
@@ -147,7 +147,7 @@ const MOST_REQUESTS: u64 = 1000;
 
 /// Answers the requests of an inbox.
 fn serve_inbox<R: Read + Drop, W: Write, C: Counter, K: Clock>(
-    alloc: Global,
+    page: &mut Vec<u8>,
     routes: &Routes,
     inbox: &mut Inbox<R>,
     writer: &mut W,
@@ -161,12 +161,12 @@ fn serve_inbox<R: Read + Drop, W: Write, C: Counter, K: Clock>(
 {
     let mut others = MOST_REQUESTS - 1;
     while others > 0 {
-        match serve_request(alloc, routes, inbox, writer, counter, clock, false) {
+        match serve_request(page, routes, inbox, writer, counter, clock, false) {
             Served::Ended(end) => return end,
             Served::Going => others -= 1,
         }
     }
-    match serve_request(alloc, routes, inbox, writer, counter, clock, true) {
+    match serve_request(page, routes, inbox, writer, counter, clock, true) {
         Served::Ended(end) => end,
         Served::Going => unreachable!(),
     }
@@ -191,5 +191,6 @@ pub fn serve_stream<R: Read + Drop, W: Write, C: Counter, K: Clock>(
     let Ok(mut inbox) = Inbox::new(alloc, reader) else {
         return StreamEnd::Refused(WireFault::Memory);
     };
-    serve_inbox(alloc, &routes, &mut inbox, writer, counter, clock)
+    let mut page = Vec::new(alloc);
+    serve_inbox(&mut page, &routes, &mut inbox, writer, counter, clock)
 }

@@ -78,7 +78,7 @@ impl<R: Read + Drop> Inbox<R> {
         ensures fills { Fills R.remaining self.old self.new result }
         ensures asks { AsksAt (λ bytes. bytes ≡ kept_bytes self.old) self.old self.new }
     {
-        self.drop_taken()?;
+        self.drop_taken();
         self.asked = Snapshot::of(&self.kept);
         let count = read_piece(&mut self.reader, &mut self.piece)?;
         self.kept
@@ -109,21 +109,19 @@ impl<R: Read + Drop> Inbox<R> {
         self.taken += len;
     }
 
-    fn drop_taken(&mut self) -> Result<(), AllocError>
+    /// Moves the bytes that belong to no message yet to the front of their buffer, which keeps its room.
+    fn drop_taken(&mut self)
         ensures kept { kept_bytes self.new ≡ kept_bytes self.old }
-        ensures taken { OnOk result (self.new.taken ≡ 0) }
+        ensures taken { self.new.taken ≡ 0 }
         ensures reader { self.new.reader ≡ self.old.reader }
         ensures asked { asked_at self.new ≡ asked_at self.old }
         ensures piece { self.new.piece ≡ self.old.piece }
     {
-        if self.taken == self.kept.len() {
-            self.kept.clear();
-        } else if self.taken > 0 {
-            let alloc = *self.kept.allocator();
-            let kept = Vec::from_slice(alloc, self.bytes())?;
-            self.kept = kept;
+        if self.taken > 0 {
+            let left = self.bytes().len();
+            self.kept.copy_within(self.taken.., 0);
+            self.kept.truncate(left);
+            self.taken = 0;
         }
-        self.taken = 0;
-        Ok(())
     }
 }

@@ -1,9 +1,11 @@
 //! Requests and responses, written.
-ghost use Rattle.std.specs.Prelude.{◌≡◌, ◌≢◌, IfOk, Err};
+ghost use Rattle.std.specs.Prelude.{◌≡◌, ◌≢◌, ◌++◌, IfOk, OnOk, Err};
+ghost use Rattle.std.specs.List.{flat_map};
 ghost use Rattle.std.specs.Io.KnownBytes.{Keeps};
-ghost use Rattle.lra_wire.specs.Writing.{message_text, request_text, reply_text, Sends};
+ghost use Rattle.lra_wire.specs.Writing.{field_line, message_text, request_text, reply_text, Sends};
 
 use crate::fault::WireFault;
+use itoa::Buffer;
 use std::alloc::{AllocError, Global};
 use std::io::Write;
 
@@ -47,14 +49,18 @@ pub fn write_request<W: Write>(
 fn request_text(alloc: Global, request: &RequestWrite<'_>) -> Result<Vec<u8>, AllocError>
     ensures { IfOk result (λ text. text.items ≡ request_text request.now) }
 {
-    let (method, target) = (request.method, request.target);
-    let line = format!(in alloc; "{method} {target} HTTP/1.1")?;
-    message(alloc, line.as_bytes(), request.fields, request.body)
+    let mut text = Vec::from_slice(alloc, request.method.as_bytes())?;
+    text.push(b' ')?;
+    text.extend_from_slice(request.target.as_bytes())?;
+    text.extend_from_slice(b" HTTP/1.1")?;
+    push_rest(&mut text, request.fields, request.body)?;
+    Ok(text)
 }
 
-/// Writes a response of HTTP/1.1 (RFC 9112, section 4).
+/// Writes a response of HTTP/1.1 (RFC 9112, section 4). Its text is made in the page, where it takes the place of what stood
+/// there before, so that a page which is kept needs no memory for a text that is no longer than one before it.
 pub fn write_response<W: Write>(
-    alloc: Global,
+    page: &mut Vec<u8>,
     writer: &mut W,
     reply: &ReplyWrite<'_>,
 ) -> Result<(), WireFault>
@@ -63,40 +69,45 @@ pub fn write_response<W: Write>(
     // No memory, and nothing went out.
     ensures memory { result ≡ Err WireFault.Memory → Keeps (W.contents writer.old) (W.contents writer.new) }
 {
-    match reply_text(alloc, reply) {
-        Ok(text) => send(writer, text.as_slice()),
+    match lay_reply(page, reply) {
+        Ok(()) => send(writer, page.as_slice()),
         Err(_) => Err(WireFault::Memory),
     }
 }
 
-fn reply_text(alloc: Global, reply: &ReplyWrite<'_>) -> Result<Vec<u8>, AllocError>
-    ensures { IfOk result (λ text. text.items ≡ reply_text reply.now) }
+/// Makes a response's text in the page.
+fn lay_reply(page: &mut Vec<u8>, reply: &ReplyWrite<'_>) -> Result<(), AllocError>
+    ensures { OnOk result (page.new.items ≡ reply_text reply.now) }
 {
-    let (code, phrase) = (reply.code, reply.phrase);
-    let line = format!(in alloc; "HTTP/1.1 {code} {phrase}")?;
-    message(alloc, line.as_bytes(), reply.fields, reply.body)
+    let mut buffer = Buffer::new();
+    page.clear();
+    page.extend_from_slice(b"HTTP/1.1 ")?;
+    page.extend_from_slice(buffer.format(reply.code).as_bytes())?;
+    page.push(b' ')?;
+    page.extend_from_slice(reply.phrase.as_bytes())?;
+    push_rest(page, reply.fields, reply.body)
 }
 
-/// The start line, the fields, an empty line and the body.
-fn message(
-    alloc: Global,
-    line: &[u8],
-    fields: &[(&str, &str)],
-    body: &[u8],
-) -> Result<Vec<u8>, AllocError>
-    ensures { IfOk result (λ text. text.items ≡ message_text line.now fields.now body.now) }
+/// Adds what follows a start line: its end, the fields, an empty line and the body.
+fn push_rest(text: &mut Vec<u8>, fields: &[(&str, &str)], body: &[u8]) -> Result<(), AllocError>
+    ensures { OnOk result (text.new.items ≡ message_text text.old.items fields.now body.now) }
 {
-    let mut text = Vec::from_slice(alloc, line)?;
     text.extend_from_slice(b"\r\n")?;
+    push_fields(text, fields)?;
+    text.extend_from_slice(b"\r\n")?;
+    text.extend_from_slice(body)
+}
+
+fn push_fields(text: &mut Vec<u8>, fields: &[(&str, &str)]) -> Result<(), AllocError>
+    ensures { OnOk result (text.new.items ≡ text.old.items ++ flat_map field_line fields.now) }
+{
     for (name, value) in fields {
         text.extend_from_slice(name.as_bytes())?;
         text.extend_from_slice(b": ")?;
         text.extend_from_slice(value.as_bytes())?;
         text.extend_from_slice(b"\r\n")?;
     }
-    text.extend_from_slice(b"\r\n")?;
-    text.extend_from_slice(body)?;
-    Ok(text)
+    Ok(())
 }
 
 /// Writes all the bytes, unless a write fails or takes none.

@@ -39,7 +39,8 @@ fn writes_a_response(rt: HostRuntime) -> Result<(), Fail> {
         size: 3,
         room: 4096,
     };
-    write_response(rt.alloc(), &mut writer, &reply)?;
+    let mut page = Vec::from_slice(rt.alloc(), b"what stood there before")?;
+    write_response(&mut page, &mut writer, &reply)?;
     let text: &[u8] = b"HTTP/1.1 404 Not Found\r\nContent-Length: 2\r\n\r\nno";
     assert_eq!(rt; writer.taken.as_slice(), text);
     Ok(())
