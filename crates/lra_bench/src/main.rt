@@ -3,9 +3,12 @@
 #![tactic(auto)]
 
 mod audit;
+mod front;
 mod ids;
 mod journals;
 mod lock;
+mod pieces;
+mod requests;
 mod timers;
 mod wire;
 
@@ -15,8 +18,10 @@ use std::process::ExitCode;
 const USAGE: &str = "usage: lra_bench NAME
 
 audit   megabytes audited a second, and memory, as a journal grows from 10,000 entries to 10,000,000
+front   the replies to one connection: standard input has a journal, an empty line, and the connection's bytes
 ids     address texts tested a second, short and long
 lock    handovers of the ticket lock, beside a Mutex
+requests  HTTP requests answered a second, beside reading them and beside their commands
 timers  the calls of an agenda, as its pairs grow from 1,000 to 400,000
 wire    requests read a second, whole and in small pieces";
 
@@ -32,8 +37,10 @@ fn main(rt: HostRuntime) -> anyhow::Result<ExitCode> {
     };
     match name.as_str() {
         "audit" => audit::run(&rt)?,
+        "front" => front::run(&rt)?,
         "ids" => ids::run(&rt)?,
         "lock" => lock::run(&rt, rt.alloc())?,
+        "requests" => requests::run(&rt)?,
         "timers" => timers::run(&rt)?,
         "wire" => wire::run(&rt)?,
         _ => {

@@ -3,11 +3,10 @@
 //! Times don't hold from machine to machine, so what counts are ratios taken in one run: the time of
 //! a stream in pieces of each size to that in large pieces, and that of long heads that come byte by
 //! byte to that of as many bytes in short ones.
+use crate::pieces::Pieces;
 use anyhow::Result;
 use lra_wire::{Inbox, read_request};
 use std::alloc::Global;
-use std::io;
-use std::io::Read;
 use std::time::Instant;
 
 /// How many requests a stream has.
@@ -18,23 +17,6 @@ const RUNS: u32 = 5;
 
 /// The value of a field that makes a request 16 times as long as one of 350 bytes does.
 const LONG: usize = 7460;
-
-/// Gives its bytes in pieces of at most this size.
-#[derive(Drop)]
-struct Pieces<'a> {
-    rest: &'a [u8],
-    size: usize,
-}
-
-impl Read for Pieces<'_> {
-    fn read(&mut self, buf: &mut [u8]) -> io::Result<usize> {
-        let count = self.size.min(self.rest.len()).min(buf.len());
-        let (front, rest) = self.rest.split_at(count);
-        buf[..count].copy_from_slice(front);
-        self.rest = rest;
-        Ok(count)
-    }
-}
 
 /// So many requests, each with a field of so long a value, one after another.
 fn stream(alloc: Global, count: usize, len: usize) -> Result<Vec<u8>> {

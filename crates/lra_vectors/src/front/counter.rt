@@ -64,14 +64,16 @@ impl Counter for Worn {
 
 /// A clock that stands still.
 #[derive(Drop)]
-pub(super) struct Still;
+pub(super) struct Still {
+    pub(super) moment: u64,
+}
 
 impl Clock for Still {
     ghost use Rattle.std.specs.Prelude.{◌≡◌};
 
-    ghost tells = { λ before moment after. moment ≡ 5 };
+    ghost tells = { λ before moment after. moment ≡ before.moment };
 
     fn now(&mut self) -> u64 {
-        5
+        self.moment
     }
 }

@@ -1,0 +1,207 @@
+//! Requests answered a second: starts, joins, status reads and closes over memory, whole and in small pieces.
+//!
+//! What counts is the ratio to the sum of two times that are taken beside it: those of the same commands called on the
+//! coordinator, and of reading the same requests alone.
+
+ghost use Rattle.std.specs.Prelude.{◌<◌};
+
+use crate::front::{CLERK, Still, base};
+use crate::pieces::Pieces;
+use anyhow::{Result, bail, ensure};
+use lra_commands::{Counter, CounterFault, Limits};
+use lra_core::{Bench, Coordinator, Instance};
+use lra_front::{StreamEnd, serve_stream};
+use lra_ids::spell_action;
+use lra_model::Uris;
+use lra_wire::{Inbox, read_request};
+use std::alloc::Global;
+use std::io;
+use std::io::Write;
+use std::time::Instant;
+
+/// How many actions each stream starts: with four requests each, as many as a stream may have.
+const ACTIONS: u64 = 250;
+
+/// How many streams a run has, one after another at one coordinator.
+const STREAMS: u64 = 20;
+
+/// The shortest of so many runs counts: what else the machine does only makes a run longer.
+const RUNS: u32 = 5;
+
+const COMPENSATE: &str = "http://participant.test/undo";
+
+const COMPLETE: &str = "http://participant.test/done";
+
+/// Takes all bytes, and keeps how many they were.
+#[derive(Drop)]
+struct Tally {
+    bytes: u64,
+}
+
+impl Write for Tally {
+    fn write(&mut self, buf: &[u8]) -> io::Result<usize> {
+        self.bytes = self.bytes.saturating_add(buf.len() as u64);
+        Ok(buf.len())
+    }
+
+    fn flush(&mut self) -> io::Result<()> {
+        Ok(())
+    }
+}
+
+/// A clerk's counter at a new coordinator.
+fn counter(alloc: Global) -> Result<Bench> {
+    let Some(instance) = Instance::new(7) else {
+        bail!("no instance");
+    };
+    let base = base(alloc)?;
+    if !base.is_base() {
+        bail!("no base");
+    }
+    let mut coordinator = Coordinator::new(alloc, instance, base, Limits::usual());
+    coordinator.enrol(0)?;
+    Ok(Bench::new(coordinator, CLERK))
+}
+
+/// The requests for one action: it is started, has a member, is looked at and is closed.
+fn push_action(alloc: Global, text: &mut String, path: &str) -> Result<()> {
+    let start =
+        "POST /lra-coordinator HTTP/1.1\r\nHost: 127.0.0.1:8080\r\nContent-Length: 15\r\n\r\n{\"limit\":60000}";
+    let body = format!(in alloc;
+        "{{\"compensate\":\"{COMPENSATE}\",\"complete\":\"{COMPLETE}\"}}"
+    )?;
+    let len = body.len();
+    text.push_str(start)?;
+    let join = format!(in alloc;
+        "PUT {path} HTTP/1.1\r\nHost: 127.0.0.1:8080\r\nContent-Length: {len}\r\n\r\n{body}"
+    )?;
+    text.push_str(join.as_str())?;
+    let status = format!(in alloc; "GET {path} HTTP/1.1\r\nHost: 127.0.0.1:8080\r\n\r\n")?;
+    text.push_str(status.as_str())?;
+    let close = format!(in alloc; "PUT {path}/close HTTP/1.1\r\nHost: 127.0.0.1:8080\r\n\r\n")?;
+    text.push_str(close.as_str())?;
+    Ok(())
+}
+
+/// The requests of the stream with that place.
+fn stream(alloc: Global, counter: &Bench, place: u64) -> Result<String>
+    requires { place < STREAMS }
+{
+    let mut text = String::new(alloc);
+    for n in 1..=ACTIONS {
+        let action = place * ACTIONS + n;
+        let uri = spell_action(alloc, counter.instance(), action, counter.base())?;
+        let Some(path) = uri.strip_prefix("http://127.0.0.1:8080") else {
+            bail!("no path");
+        };
+        push_action(alloc, &mut text, path)?;
+    }
+    Ok(text)
+}
+
+/// All streams of a run.
+fn streams(alloc: Global) -> Result<Vec<String>> {
+    let counter = counter(alloc)?;
+    let mut streams = Vec::new(alloc);
+    for place in 0..STREAMS {
+        streams.push(stream(alloc, &counter, place)?)?;
+    }
+    Ok(streams)
+}
+
+/// What is timed.
+#[derive(Clone, Copy)]
+enum Work {
+    /// To answer all requests, which come in pieces of this size.
+    Answer(usize),
+    /// To read them alone.
+    Read(usize),
+    /// To give the same commands to the coordinator.
+    Command,
+}
+
+fn answer_all(alloc: Global, streams: &[String], size: usize) -> Result<()> {
+    let mut counter = counter(alloc)?;
+    let mut clock = Still { moment: 0 };
+    let mut tally = Tally { bytes: 0 };
+    for stream in streams {
+        let rest = stream.as_bytes();
+        let reader = Pieces { rest, size };
+        let end = serve_stream(alloc, reader, &mut tally, &mut counter, &mut clock);
+        ensure!(end == StreamEnd::Done, "the stream ended early");
+    }
+    Ok(())
+}
+
+fn read_all(alloc: Global, streams: &[String], size: usize) -> Result<()> {
+    for stream in streams {
+        let rest = stream.as_bytes();
+        let mut inbox = Inbox::new(alloc, Pieces { rest, size })?;
+        for _ in 0..u64::MAX {
+            if read_request(alloc, &mut inbox)?.is_none() {
+                break;
+            }
+        }
+    }
+    Ok(())
+}
+
+/// Gives the commands for one action.
+fn give_action(counter: &mut Bench, action: u64, uris: &Uris) -> Result<(), CounterFault> {
+    counter.start(0, None, 60_000)?;
+    counter.join(0, action, uris)?;
+    counter.status(action)?;
+    counter.close(0, action)?;
+    Ok(())
+}
+
+fn give_all(alloc: Global) -> Result<()> {
+    let mut counter = counter(alloc)?;
+    let uris = Uris {
+        compensate: Some(String::from_str(alloc, COMPENSATE)?),
+        complete: Some(String::from_str(alloc, COMPLETE)?),
+        status: None,
+        forget: None,
+        after: None,
+    };
+    for action in 1..=STREAMS * ACTIONS {
+        give_action(&mut counter, action, &uris)?;
+    }
+    Ok(())
+}
+
+/// Seconds that it takes, the least of some runs.
+fn time(rt: &HostRuntime, streams: &[String], work: Work) -> Result<f64> {
+    let alloc = rt.alloc();
+    let mut least = f64::MAX;
+    for _ in 0..RUNS {
+        let start = Instant::now(rt)?;
+        match work {
+            Work::Answer(size) => answer_all(alloc, streams, size)?,
+            Work::Read(size) => read_all(alloc, streams, size)?,
+            Work::Command => give_all(alloc)?,
+        }
+        least = least.min(start.elapsed(rt)?.as_secs_f64());
+    }
+    Ok(least)
+}
+
+/// Prints a line for each size of the pieces.
+pub fn run(rt: &HostRuntime) -> Result<()> {
+    let streams = streams(rt.alloc())?;
+    let streams = streams.as_slice();
+    let commands = time(rt, streams, Work::Command)?;
+    let requests = (STREAMS * ACTIONS * 4) as f64;
+    for size in [4096, 64] {
+        let answers = time(rt, streams, Work::Answer(size))?;
+        let reading = time(rt, streams, Work::Read(size))?;
+        let rate = requests / answers;
+        let ratio = answers / (reading + commands);
+        let reading = answers / reading;
+        let commands = answers / commands;
+        println!(rt;
+            "in pieces of {size:>4} bytes: {rate:7.0} requests a second, ratio to reading {reading:.2}, to the commands {commands:.2}, to both {ratio:.2}"
+        )?;
+    }
+    Ok(())
+}
