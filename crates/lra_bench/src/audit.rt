@@ -8,10 +8,10 @@
 ghost use Rattle.std.specs.Prelude.{◌≡◌};
 
 use crate::journals::{Journal, Kind};
-use anyhow::{Context, Result, bail, ensure};
+use crate::memory::kilobytes;
+use anyhow::{Result, bail, ensure};
 use lra_auditor::{Auditor, Verdict};
 use std::alloc::AllocError;
-use std::fs;
 use std::num::nearest_u64_to_f64;
 use std::time::{Duration, Instant};
 
@@ -81,18 +81,6 @@ fn measure(rt: &HostRuntime, kind: Kind, entries: u64, runs: u32) -> Result<Cost
     Ok(least)
 }
 
-/// The most memory that the program has had so far, in kilobytes, as Linux tells it.
-fn peak_memory(rt: &HostRuntime) -> Result<u64> {
-    let status = fs::read_to_string(rt, "/proc/self/status")?;
-    let peak = status
-        .lines()
-        .find_map(|line| line.strip_prefix("VmHWM:"))
-        .and_then(|rest| rest.split_whitespace().next())
-        .context("the memory isn't told")?;
-    let kilobytes = peak.parse::<u64>()?;
-    Ok(kilobytes)
-}
-
 /// What was measured of one size.
 #[derive(Clone, Copy)]
 struct Measured {
@@ -108,7 +96,7 @@ fn measure_size(
     before: Option<Measured>,
 ) -> Result<Measured> {
     let cost = measure(rt, kind, entries, runs)?;
-    let peak = peak_memory(rt)?;
+    let peak = kilobytes(rt, "VmHWM:")?;
     let seconds = cost.time.as_secs_f64();
     let kilobytes = nearest_u64_to_f64(peak);
     let name = kind.name();

@@ -3,10 +3,12 @@
 #![tactic(auto)]
 
 mod audit;
+mod coordinator;
 mod front;
 mod ids;
 mod journals;
 mod lock;
+mod memory;
 mod pieces;
 mod requests;
 mod timers;
@@ -18,6 +20,7 @@ use std::process::ExitCode;
 const USAGE: &str = "usage: lra_bench NAME
 
 audit   megabytes audited a second, and memory, as a journal grows from 10,000 entries to 10,000,000
+core    the commands of a coordinator, as its members grow from 1,000 to 400,000, and reopening its journal
 front   the replies to one connection: standard input has a journal, an empty line, and the connection's bytes
 ids     address texts tested a second, short and long
 lock    handovers of the ticket lock, beside a Mutex
@@ -37,6 +40,7 @@ fn main(rt: HostRuntime) -> anyhow::Result<ExitCode> {
     };
     match name.as_str() {
         "audit" => audit::run(&rt)?,
+        "core" => coordinator::run(&rt)?,
         "front" => front::run(&rt)?,
         "ids" => ids::run(&rt)?,
         "lock" => lock::run(&rt, rt.alloc())?,

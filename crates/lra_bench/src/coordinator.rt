@@ -1,0 +1,42 @@
+//! The coordinator: how long it takes to go on from a long journal, and the time per command as its members grow from
+//! 1,000 to 400,000.
+
+mod desk;
+mod reopening;
+mod sample;
+
+use anyhow::Result;
+use sample::{Cost, Sample};
+
+/// How many members, in how many runs: the shortest counts, since what else the machine does only makes a run longer.
+const SIZES: [(u64, u32); 4] = [(1_000, 20), (10_000, 10), (100_000, 5), (400_000, 3)];
+
+/// Prints what a kind of command took with so many members, beside what it took with the fewest.
+fn print_cost(rt: &HostRuntime, name: &str, members: u64, cost: Cost, first: Cost) -> Result<()> {
+    let time = cost.nanoseconds();
+    let ratio = time / first.nanoseconds();
+    let [ours, writing] = cost.rates();
+    println!(rt;
+        "{name:<15}{members:>7} members: {time:7.0} ns, ratio {ratio:.2}; {ours:9.0} a second, their lines alone {writing:9.0}"
+    )?;
+    Ok(())
+}
+
+fn print_sample(rt: &HostRuntime, members: u64, sample: &Sample, first: &Sample) -> Result<()> {
+    print_cost(rt, "join", members, sample.join, first.join)?;
+    print_cost(rt, "close", members, sample.close, first.close)?;
+    print_cost(rt, "ask and record", members, sample.ask, first.ask)?;
+    print_cost(rt, "tick", members, sample.tick, first.tick)
+}
+
+/// Prints what going on from a journal takes, and then a line for each kind of command at each size. The journal comes first:
+/// its peak is that of all that was done so far.
+pub fn run(rt: &HostRuntime) -> Result<()> {
+    reopening::run(rt)?;
+    let mut first = None;
+    for (members, runs) in SIZES {
+        let sample = sample::shortest(rt, members, runs)?;
+        print_sample(rt, members, &sample, first.get_or_insert(sample))?;
+    }
+    Ok(())
+}
