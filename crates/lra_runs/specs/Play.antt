@@ -1,12 +1,13 @@
 -- What the program prints of a script that it plays.
-use Rattle.std.specs.Prelude.{◌≡◌, ℕ, ◌+◌, ◌<◌, List, [], ◌∷◌, ◌++◌, length, map, codes, Option, Result, Ok, Err, cond}
+use Rattle.std.specs.Prelude.{◌≡◌, ℕ, ◌+◌, ◌<◌, Bool, false, ◌||◌, List, [], ◌∷◌, ◌++◌, length, codes, Option, Result, Ok, Err, cond}
 use Rattle.std.specs.Fmt.{decimal}
-use Rattle.std.specs.List.{flat_map, list_any}
+use Rattle.std.specs.List.{flat_map}
+use Rattle.std.specs.Option.{option_map_or}
 use Rattle.std.specs.Result.{is_err}
 use Rattle.std.specs.Io.KnownBytes.{Appends}
 use Rattle.lra_model.specs.declared.entry.Entry.{Entry}
 use Rattle.lra_model.specs.declared.version.Version.TheVariants.{Two}
-use Rattle.lra_model.specs.Names.{action_status_name, member_status_name}
+use Rattle.lra_model.specs.Names.{action_status_name, member_status_name, ask_kind_name}
 use Rattle.lra_model.specs.History.{History}
 use Rattle.lra_journal.specs.Line.{line, header}
 use Rattle.lra_commands.specs.declared.command.Told.{Told}
@@ -14,19 +15,15 @@ use Rattle.lra_commands.specs.declared.command.Told.TheVariants as told
 use Rattle.lra_commands.specs.declared.refusal.Refusal.{Refusal}
 use Rattle.lra_commands.specs.declared.refusal.Refusal.TheVariants as refusal
 use Rattle.lra_commands.specs.Names.{refusal_name, resource_name}
-use Rattle.lra_commands.specs.declared.limits.Terms.{Terms}
-use Rattle.lra_commands.specs.Terms.{usual}
-use Rattle.lra_commands.specs.Answers.{answer, growth, after_call}
-use Rattle.lra_commands.specs.Runs.{answers}
-use Rattle.lra_runs.specs.declared.script.ScriptLine.{ScriptLine}
+use Rattle.lra_commands.specs.Errands.{Asking}
+use Rattle.lra_commands.specs.Calls.{Call}
+use Rattle.lra_commands.specs.Answers.{answer, growth}
+use Rattle.lra_commands.specs.Counters.{terms_of}
+use Rattle.lra_runs.specs.declared.requests.RequestLine.{RequestLine}
 use Rattle.lra_runs.specs.Report.{joined, line_feed}
-use Rattle.lra_runs.specs.Script.{call_of, Begins, BeginsWithNone}
+use Rattle.lra_runs.specs.Script.{player, Stage, first_stage, call_of, line_answer, given_by, after_line, after_lines, Begins, BeginsWithNone}
 
--- what the player's coordinator is made with: a journal of version 2, and the usual limits
-abbrev pub player : Terms
-player = record { version = Two; limits = usual }
-
--- the words of what a command is told; of an ask its number alone, since no script asks for one so far
+-- the words of what a command is told; of an ask its number alone, since its errand says the rest
 abbrev pub told_text : Told → List ℕ
 told_text (told.Clerk n) = codes "clerk " ++ decimal n
 told_text (told.Action n) = codes "action " ++ decimal n
@@ -68,40 +65,57 @@ abbrev pub answer_line : Result Told Refusal → List ℕ
 answer_line (Ok t) = told_text t ++ line_feed
 answer_line (Err r) = joined (codes "refused " ∷ refusal_name r ∷ refusal_detail r ∷ line_feed ∷ [])
 
+-- the line of an errand: what is asked of whom, and where
+abbrev pub errand_line : Asking → List ℕ
+errand_line e = joined (codes "ask " ∷ decimal e.ask ∷ codes " " ∷ decimal e.member ∷ codes " " ∷ ask_kind_name e.kind ∷ codes " " ∷ e.address ∷ line_feed ∷ [])
+
 -- a new line of the journal
 abbrev pub marked : List ℕ → List ℕ
 marked text = codes "+ " ++ text
 
--- what is printed of a script's line: the answer, then each new line of the journal
-abbrev pub played_line : History → ScriptLine → List ℕ
-played_line J l = answer_line (answer player J (call_of l)) ++ flat_map (λ (e : Entry). marked (line e)) (growth player J (call_of l))
+-- the new lines of the journal
+abbrev pub marked_entries : List Entry → List ℕ
+marked_entries es = flat_map (λ (e : Entry). marked (line e)) es
+
+-- what is printed of a call: the errand that it gives, else its answer; then each new line of the journal
+abbrev pub call_text : History → Call → List ℕ
+call_text J c = option_map_or errand_line (given_by J c) (answer_line (answer (terms_of player) J c)) ++ marked_entries (growth (terms_of player) J c)
+
+-- what is printed of a script's line: what is printed of its call; and where it makes none, its answer
+abbrev pub played_line : Stage → RequestLine → List ℕ
+played_line s l = option_map_or (call_text s.history) (call_of s l) (answer_line (line_answer s l))
 
 -- what is printed of lines, one after another
-abbrev pub played_lines : History → List ScriptLine → List ℕ
-played_lines J [] = []
-played_lines J (l ∷ ls) = played_line J l ++ played_lines (after_call player J (call_of l)) ls
+abbrev pub played_lines : Stage → List RequestLine → List ℕ
+played_lines s [] = []
+played_lines s (l ∷ ls) = played_line s l ++ played_lines (after_line s l) ls
 
 -- the journal's header, and what is printed of the lines
-abbrev pub played : List ScriptLine → List ℕ
-played ls = marked (header Two 7) ++ played_lines [] ls
+abbrev pub played : List RequestLine → List ℕ
+played ls = marked (header Two 7) ++ played_lines first_stage ls
 
--- 1 where a command was refused, else 0
-abbrev pub play_status : List ScriptLine → ℕ
-play_status ls = cond (list_any is_err (answers player [] (map call_of ls))) 1 0
+-- whether a line is refused, of lines one after another
+abbrev pub some_refused : Stage → List RequestLine → Bool
+some_refused s [] = false
+some_refused s (l ∷ ls) = is_err (line_answer s l) || some_refused (after_line s l) ls
+
+-- 1 where a line was refused, else 0
+abbrev pub play_status : List RequestLine → ℕ
+play_status ls = cond (some_refused first_stage ls) 1 0
 
 -- a script was played to its end
 pub record Plays (input : List ℕ) (status : ℕ) (before after : Option (List ℕ)) : Type 0 where
-  pub lines : List ScriptLine
+  pub lines : List RequestLine
   pub read : Begins input lines []
   pub written : Appends before after (played lines)
   pub answered : status ≡ play_status lines
 
--- a script was played up to line `number`, counted from 1, which isn't a line that a script may have
+-- a script was played up to line `number`, counted from 1, which isn't a line that a script may have there
 pub record PlaysUpToLine (input : List ℕ) (number : ℕ) (before after : Option (List ℕ)) : Type 0 where
-  pub lines : List ScriptLine
+  pub lines : List RequestLine
   pub rest : List ℕ
   pub read : Begins input lines rest
   pub goes_on : 0 < length rest
-  pub bad : BeginsWithNone rest
+  pub bad : BeginsWithNone (after_lines first_stage lines) rest
   pub place : number ≡ length lines + 1
   pub written : Appends before after (played lines)

@@ -1,55 +1,118 @@
--- The lines of a script (this project's own format).
-use Rattle.std.specs.Prelude.{◌≡◌, ℕ, ◌<◌, ◌^◌, List, [], ◌∷◌, ◌++◌, All, codes, None}
-use Rattle.std.specs.Fmt.{decimal}
+-- What the lines of a script ask of a coordinator, one after another (this project's own format).
+use Rattle.std.specs.Prelude.{◌≡◌, ℕ, ◌==◌, Bool, true, false, IsTrue, List, [], ◌∷◌, ◌++◌, All, codes, Option, Some, None, if◌then◌else◌, option_map, Result, Err}
+use Rattle.std.specs.Borrow.{Bor}
 use Rattle.std.specs.List.{flat_map}
-use Rattle.lra_journal.specs.Line.{line_of}
-use Rattle.lra_commands.specs.Calls.{Command}
+use Rattle.std.specs.Option.{option_map_or, option_and_then}
+use Rattle.std.specs.Result.{is_err}
+use Rattle.lra_model.specs.declared.version.Version.TheVariants.{Two}
+use Rattle.lra_model.specs.History.{History}
 use Rattle.lra_commands.specs.declared.command.Command.TheVariants as command
-use Rattle.lra_commands.specs.Calls.{Call}
-use Rattle.lra_runs.specs.declared.script.Verb.{Verb}
-use Rattle.lra_runs.specs.declared.script.Verb.TheVariants as verb
-use Rattle.lra_runs.specs.declared.script.ScriptLine.{ScriptLine}
+use Rattle.lra_commands.specs.declared.command.Told.{Told}
+use Rattle.lra_commands.specs.declared.refusal.Refusal.{Refusal}
+use Rattle.lra_commands.specs.declared.refusal.Refusal.TheVariants.{NotAsked}
+use Rattle.lra_commands.specs.Terms.{usual}
+use Rattle.lra_commands.specs.Errands.{Asking}
+use Rattle.lra_commands.specs.Calls.{Command, Call}
+use Rattle.lra_commands.specs.Answers.{answer, after_call}
+use Rattle.lra_commands.specs.Counters.{Setting, terms_of}
+use Rattle.lra_commands.specs.Given.{errand_of}
+use Rattle.lra_core.specs.Prepares.{is_suited}
+use Rattle.lra_runs.specs.declared.requests.Request.{Request}
+use Rattle.lra_runs.specs.declared.requests.Request.TheVariants as request
+use Rattle.lra_runs.specs.declared.requests.RequestLine.{RequestLine}
+use Rattle.lra_runs.specs.Requests.{request_line, IsRequestLine}
 
--- the word of a command, and its fields in their order; numbers and absent ones are spelled as in the journal
-abbrev pub verb_words : Verb → List (List ℕ)
-verb_words verb.Enrol = codes "enrol" ∷ []
-verb_words (verb.Start limit) = codes "start" ∷ codes "*" ∷ decimal limit ∷ []
-verb_words (verb.Close action) = codes "close" ∷ decimal action ∷ []
-verb_words (verb.Status action) = codes "status" ∷ decimal action ∷ []
+-- what the player's coordinator is made with: a journal of version 2 and of instance 7, and the usual limits
+abbrev pub player : Setting
+player = record { version = Two; instance = 7; base = codes "http://127.0.0.1:8080/"; limits = usual }
 
--- the clerk's number, the moment, and the command, with one space between each two and a line feed at the end
-abbrev pub script_line : ScriptLine → List ℕ
-script_line l = line_of (decimal l.by ∷ decimal l.moment ∷ verb_words l.verb)
+-- the errands that are held, each by the number of its ask
+abbrev pub Holding : Type 0
+Holding = ℕ → Option Asking
 
--- the numbers of a command are such as the journal has
-abbrev pub HasNumbers : ℕ → Verb → Type 0
-HasNumbers by verb.Enrol = by ≡ 0
-HasNumbers by (verb.Start limit) = limit < 2 ^ 64
-HasNumbers by (verb.Close action) = action < 2 ^ 64
-HasNumbers by (verb.Status action) = action < 2 ^ 64
+-- between two lines: the coordinator's history, and the errands that are held
+pub record Stage : Type 0 where
+  pub history : History
+  pub held : Holding
 
--- a line that a script may have: who enrols has no number yet, which is written 0
-pub record IsScriptLine (l : ScriptLine) : Type 0 where
-  pub by : l.by < 2 ^ 32
-  pub moment : l.moment < 2 ^ 64
-  pub verb : HasNumbers l.by l.verb
+-- before the first line nothing was written, and no errand is held
+abbrev pub first_stage : Stage
+first_stage = record { history = []; held = λ ask. None }
 
--- the command that a line gives
-abbrev pub command_of : Verb → Command
-command_of verb.Enrol = command.Enrol
-command_of (verb.Start limit) = command.Start None limit
-command_of (verb.Close action) = command.Close action
-command_of (verb.Status action) = command.Status action
+-- a value as a command borrows it: where it lies says nothing
+abbrev pub lent : {X : Type 0} → X → Bor X
+lent x = record { ref_ptr = (0, 0); now = x }
 
--- the call that a line makes
-abbrev pub call_of : ScriptLine → Call
-call_of l = record { by = l.by; moment = l.moment; command = command_of l.verb }
+-- the command that a request is; a reply records what came of the errand that is held of its ask, and where none is held, it is no command
+abbrev pub command_of : Holding → Request → Option Command
+command_of held request.Enrol = Some command.Enrol
+command_of held (request.Start parent limit) = Some (command.Start parent limit)
+command_of held (request.Join action uris) = Some (command.Join action (lent uris))
+command_of held (request.Leave action member) = Some (command.Leave action member)
+command_of held (request.Close action) = Some (command.Close action)
+command_of held (request.Cancel action) = Some (command.Cancel action)
+command_of held request.Tick = Some command.Tick
+command_of held request.Ask = Some command.NextAsk
+command_of held (request.Reply ask outcome) = option_map (λ errand. command.Record (lent errand) outcome) (held ask)
+command_of held (request.Report member ending) = Some (command.Report member ending)
+command_of held request.Restart = Some command.Restart
+command_of held (request.Renew action limit) = Some (command.Renew action limit)
+command_of held (request.Status action) = Some (command.Status action)
+command_of held (request.Member member) = Some (command.MemberStatus member)
+
+-- the call that a line makes, if it makes one
+abbrev pub call_of : Stage → RequestLine → Option Call
+call_of s l = option_map (λ (c : Command). record { by = l.by; moment = l.moment; command = c }) (command_of s.held l.request)
+
+-- whether a line can be played: an outcome that it records is one that its ask may have
+abbrev pub is_playable : Stage → RequestLine → Bool
+is_playable s l = option_map_or is_suited (command_of s.held l.request) true
+
+-- the answer to a line: that to its call; what came of an errand that isn't held can't be recorded
+abbrev pub line_answer : Stage → RequestLine → Result Told Refusal
+line_answer s l = option_map_or (answer (terms_of player) s.history) (call_of s l) (Err NotAsked)
+
+-- the errand that a call gives, unless it is refused
+abbrev pub given_by : History → Call → Option Asking
+given_by J c = if is_err (answer (terms_of player) J c) then None else errand_of player J c
+
+-- the errand that a line gives
+abbrev pub line_errand : Stage → RequestLine → Option Asking
+line_errand s l = option_and_then (given_by s.history) (call_of s l)
+
+-- what is held once a request was answered: an errand is let go where it was recorded, which a refusal doesn't do
+abbrev pub left : Holding → Request → Bool → Holding
+left held (request.Reply ask outcome) false = λ n. if ask == n then None else held n
+left held _ is_refused = held
+
+-- what is held once an errand was given, by the number of its ask
+abbrev pub with_given : Holding → Option Asking → Holding
+with_given held None = held
+with_given held (Some errand) = λ n. if errand.ask == n then Some errand else held n
+
+-- what there is after a line
+abbrev pub after_line : Stage → RequestLine → Stage
+after_line s l = record {
+  history = option_map_or (after_call (terms_of player) s.history) (call_of s l) s.history;
+  held = with_given (left s.held l.request (is_err (line_answer s l))) (line_errand s l);
+}
+
+-- what there is after lines, one after another
+abbrev pub after_lines : Stage → List RequestLine → Stage
+after_lines s [] = s
+after_lines s (l ∷ ls) = after_lines (after_line s l) ls
+
+-- each of these lines can be played where it stands
+abbrev pub ArePlayable : Stage → List RequestLine → Type 0
+ArePlayable s [] = Unit {0}
+ArePlayable s (l ∷ ls) = IsTrue (is_playable s l) × ArePlayable (after_line s l) ls
 
 -- bytes are these lines, and then the rest
-pub record Begins (input : List ℕ) (lines : List ScriptLine) (rest : List ℕ) : Type 0 where
-  pub allowed : All IsScriptLine lines
-  pub whole : input ≡ flat_map script_line lines ++ rest
+pub record Begins (input : List ℕ) (lines : List RequestLine) (rest : List ℕ) : Type 0 where
+  pub allowed : All IsRequestLine lines
+  pub playable : ArePlayable first_stage lines
+  pub whole : input ≡ flat_map request_line lines ++ rest
 
--- bytes that don't begin with a line of a script
-abbrev pub BeginsWithNone : List ℕ → Type 0
-BeginsWithNone rest = (l : ScriptLine) (more : List ℕ) → IsScriptLine l → rest ≡ script_line l ++ more → ⊥
+-- bytes that don't begin with a line of a script that can be played here
+abbrev pub BeginsWithNone : Stage → List ℕ → Type 0
+BeginsWithNone s rest = (l : RequestLine) (more : List ℕ) → IsRequestLine l → IsTrue (is_playable s l) → rest ≡ request_line l ++ more → ⊥

@@ -3,5 +3,5 @@ pub mod Causes
 pub mod Details
 pub mod Headed
 pub mod Paging
-pub mod Taken
+pub mod Players
 pub mod RequestReading

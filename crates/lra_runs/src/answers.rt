@@ -4,10 +4,10 @@ ghost use Rattle.std.specs.Prelude.{◌≡◌, ◌++◌, ◌∷◌, [], IfOk, Er
 ghost use Rattle.std.specs.Fmt.{decimal};
 ghost use Rattle.lra_runs.specs.Report.{joined, line_feed};
 ghost use Rattle.std.specs.Option.{option_copied};
-ghost use Rattle.lra_runs.specs.Play.{told_text, refusal_detail, answer_line};
+ghost use Rattle.lra_runs.specs.Play.{told_text, refusal_detail, answer_line, errand_line};
 ghost use Rattle.lra_runs.specs.inner.Details.{detail_text};
 
-use lra_core::{Memory, Refusal, Told};
+use lra_core::{Errand, Memory, Refusal, Told};
 use std::alloc::Global;
 
 /// A line of a word and a number.
@@ -47,6 +47,17 @@ pub(crate) fn line_of_told(alloc: Global, told: Told) -> Result<String, Memory>
         Told::ActionIs(status) => line_of_words(alloc, "status", status.name()),
         Told::MemberIs(status) => line_of_words(alloc, "status", status.name()),
     }
+}
+
+/// The line of an errand that was given.
+pub(crate) fn line_of_errand(alloc: Global, errand: &Errand) -> Result<String, Memory>
+    ensures { IfOk result (λ text. string_bytes text ≡ errand_line errand.now) }
+{
+    let ask = errand.ask();
+    let member = errand.member();
+    let kind = errand.kind().name();
+    let address = errand.address();
+    format!(in alloc; "ask {ask} {member} {kind} {address}\n")
 }
 
 /// What a refusal says beside its name: the action's status, or what there is too much of.

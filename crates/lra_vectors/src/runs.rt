@@ -14,10 +14,12 @@ const LISTED: &str = "action 1 * Active\naction 2 1 Active\n";
 
 const UPGRADED: &str = "lra-journal 2 7\n1 0 enrol\n1 0 start 1 * 0\n1 5 start 2 1 0\n";
 
-const SCRIPT: &str = "0 0 enrol\n1 0 start * 9\n1 5 close 1\n1 7 status 2\n";
+/// A script that closes an action with a member, and records twice what came of its ask.
+const SCRIPT: &str =
+    "0 0 enrol\n1 0 start * 9\n1 1 join 1 http://p.test/u http://p.test/c * * *\n1 5 close 1\n1 6 ask\n1 7 reply 1 done\n1 8 reply 1 done\n";
 
 const PLAYED: &str =
-    "+ lra-journal 2 7\nclerk 1\n+ 1 0 enrol\naction 1\n+ 1 0 start 1 * 9\nnow Closed\n+ 1 5 close 1 client\n+ 1 5 end 1 Closed\nrefused NoSuchAction\n";
+    "+ lra-journal 2 7\nclerk 1\n+ 1 0 enrol\naction 1\n+ 1 0 start 1 * 9\nmember 1\n+ 1 1 join 1 1 http://p.test/u http://p.test/c * * *\nnow Closing\n+ 1 5 close 1 client\nask 1 1 complete http://p.test/c\n+ 1 6 ask 1 1 complete\nrecorded\n+ 1 7 reply 1 done\n+ 1 7 end 1 Closed\nrefused NotAsked\n";
 
 /// A script whose second line is none.
 const BAD: &str = "0 0 enrol\n1 0 enrol\n1 0 start * 0\n";
