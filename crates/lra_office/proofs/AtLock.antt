@@ -17,7 +17,7 @@ use Rattle.lra_commands.specs.Counters.{Setting, terms_of}
 use Rattle.lra_core.specs.declared.block.Committed.{Committed}
 use Rattle.lra_office.specs.declared.fault.OfficeRefusal.TheVariants.{Refused}
 use Rattle.lra_office.specs.Serves.{IsServed, IsDone, IsKeptBy}
-use Rattle.lra_office.specs.Writers.{IsNumberOf}
+use Rattle.lra_office.specs.inner.Given.{IsNumberOf}
 use Rattle.lra_office.specs.Orders.{IsMet, grown_view, met_view, IsGrown, IsNotGiven}
 use Rattle.lra_office.proofs.Written.{add_served}
 

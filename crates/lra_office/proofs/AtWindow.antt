@@ -16,7 +16,7 @@ use Rattle.lra_office.specs.declared.fault.OfficeRefusal.{OfficeRefusal}
 use Rattle.lra_office.specs.declared.fault.OfficeRefusal.TheVariants as office
 use Rattle.lra_office.specs.Serves.{IsHeldBack}
 use Rattle.lra_office.specs.Orders.{IsGrown, IsNotGiven}
-use Rattle.lra_office.specs.Windows.{fault_of}
+use Rattle.lra_office.specs.inner.Given.{fault_of}
 
 -- what holds a command back is a refusal of a counter
 held_at : (s : Terms) (J : History) (c : Call) (r : Refusal) → IsHeldBack s J c r → IsRefusedAt s J c r

@@ -1,4 +1,7 @@
 pub mod AtDesk
-pub mod Written
+pub mod AtEnrolment
 pub mod AtLock
 pub mod AtWindow
+pub mod Begins
+pub mod Enrols
+pub mod Written

@@ -23,7 +23,7 @@ use Rattle.lra_commands.specs.Answers.{growth}
 use Rattle.lra_commands.specs.Counters.{Setting, terms_of}
 use Rattle.lra_core.specs.declared.block.Committed.{Committed}
 use Rattle.lra_office.specs.Serves.{IsServed, IsKeptBy}
-use Rattle.lra_office.specs.Writers.{IsNumberOf}
+use Rattle.lra_office.specs.inner.Given.{IsNumberOf}
 
 abbrev AreBy : ℕ → List Entry → Type 0
 AreBy n es = AllByRecursion (λ (e : Entry). e.by ≡ n) es

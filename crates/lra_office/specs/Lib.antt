@@ -2,7 +2,10 @@ pub mod Origins
 pub mod Desks
 pub mod Kept
 pub mod Serves
-pub mod Writers
 pub mod Orders
 pub mod Clerks
 pub mod Windows
+pub mod Made
+pub mod Enrolled
+pub mod Shut
+pub mod inner

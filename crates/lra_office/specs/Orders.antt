@@ -15,7 +15,6 @@ use Rattle.lra_commands.specs.Errands.{Asking}
 use Rattle.lra_commands.specs.Calls.{Call, Command}
 use Rattle.lra_commands.specs.Answers.{growth}
 use Rattle.lra_commands.specs.Counters.{Setting, terms_of}
-use Rattle.lra_core.specs.declared.block.Committed.{Committed}
 use Rattle.lra_office.specs.declared.fault.OfficeRefusal.{OfficeRefusal}
 use Rattle.lra_office.specs.declared.fault.OfficeRefusal.TheVariants.{Refused, Worn}
 use Rattle.lra_office.specs.declared.fault.TryRefusal.{TryRefusal}
@@ -48,11 +47,6 @@ pub record IsGrown {O : Type 0} (g : Setting) (v : View O) (c : Call) (t : Told)
 abbrev pub IsNotGiven : {O : Type 0} → Setting → View O → Call → OfficeRefusal → View O → Type 0
 IsNotGiven g v c (Refused r) w = (J : History) × IsMet g v J × IsHeldBack (terms_of g) J c r × (w ≡ met_view v J)
 IsNotGiven g v c Worn w = w ≡ moved v (Looked last_ticket)
-
--- a call that was given
-abbrev pub IsGiven : {O : Type 0} → Setting → View O → Call → Result Committed OfficeRefusal → View O → Type 0
-IsGiven g v c (Ok r) w = IsGrown g v c r.told r.errand w
-IsGiven g v c (Err r) w = IsNotGiven g v c r w
 
 -- a call that is told something, whatever errand it gave
 abbrev pub IsTold : {O : Type 0} → Setting → View O → Call → Result Told OfficeRefusal → View O → Type 0

@@ -6,7 +6,7 @@ ghost use Rattle.lra_commands.specs.declared.command.Command.TheVariants as Comm
 ghost use Rattle.lra_core.specs.Prepares.{is_suited};
 ghost use Rattle.lra_office.specs.Clerks.{clerk_view, IsClerkOf};
 ghost use Rattle.lra_office.specs.Orders.{IsTold, IsErrand, IsRecorded};
-ghost use Rattle.lra_office.specs.Writers.{IsNumberOf};
+ghost use Rattle.lra_office.specs.inner.Given.{IsNumberOf};
 
 use crate::clerk::Clerk;
 use crate::fault::OfficeRefusal;

@@ -3,6 +3,16 @@
 use lra_commands::Refusal;
 use thiserror::Error;
 
+/// Why no new office is made.
+#[derive(Clone, Copy, Debug, PartialEq, Eq, Error)]
+pub enum StartFault {
+    /// The header of its journal can't be written.
+    #[error("the journal can't be written")]
+    Stopped,
+    #[error("out of memory")]
+    Memory,
+}
+
 /// Why a command isn't done.
 #[derive(Clone, Copy, Debug, PartialEq, Eq, Error)]
 pub enum OfficeRefusal {

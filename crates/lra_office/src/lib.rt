@@ -4,16 +4,19 @@
 mod clerk;
 mod commands;
 mod desk;
+mod enrolling;
 mod fault;
 mod office;
+mod opening;
 mod passing;
 mod serving;
+mod shutting;
 mod trying;
 mod window;
 
 pub use clerk::Clerk;
 pub use desk::Desk;
-pub use fault::{OfficeRefusal, TryRefusal};
+pub use fault::{OfficeRefusal, StartFault, TryRefusal};
 pub use office::Office;
 pub use serving::Serving;
 pub use window::Window;

@@ -5,8 +5,8 @@ ghost use Rattle.lra_ticket.specs.Locks.{lock_id, pass_id, pass_view};
 ghost use Rattle.lra_commands.specs.Calls.{is_fitting};
 ghost use Rattle.lra_core.specs.Prepares.{is_suited};
 ghost use Rattle.lra_office.specs.Clerks.{clerk_view, IsClerkOf};
-ghost use Rattle.lra_office.specs.Orders.{IsGiven};
-ghost use Rattle.lra_office.specs.Writers.{IsNumberOf};
+ghost use Rattle.lra_office.specs.inner.Given.{IsGiven};
+ghost use Rattle.lra_office.specs.inner.Given.{IsNumberOf};
 
 use crate::clerk::Clerk;
 use crate::fault::OfficeRefusal;

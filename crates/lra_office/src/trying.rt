@@ -6,7 +6,7 @@ ghost use Rattle.lra_core.specs.Prepares.{is_suited};
 ghost use Rattle.lra_ticket.specs.Locks.{lock_id, pass_id, pass_view};
 ghost use Rattle.lra_office.specs.Clerks.{clerk_view, IsClerkOf};
 ghost use Rattle.lra_office.specs.Orders.{IsTried};
-ghost use Rattle.lra_office.specs.Writers.{IsNumberOf, refusal_of};
+ghost use Rattle.lra_office.specs.inner.Given.{IsNumberOf, refusal_of};
 
 use crate::clerk::Clerk;
 use crate::fault::TryRefusal;
@@ -27,7 +27,7 @@ fn refusal_of(fault: TryFault) -> TryRefusal
 }
 
 /// What is told, where the errand is let go.
-fn told_alone(committed: Committed) -> Told
+pub(crate) fn told_alone(committed: Committed) -> Told
     ensures { result ≡ committed.told }
 {
     let Committed { told, errand } = committed;

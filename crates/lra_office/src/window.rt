@@ -3,7 +3,8 @@
 ghost use Rattle.std.specs.Prelude.{◌≡◌};
 ghost use Rattle.lra_commands.specs.Counters.{Setting};
 ghost use Rattle.lra_office.specs.Clerks.{clerk_view, IsClerkOf};
-ghost use Rattle.lra_office.specs.Windows.{IsOfficeOf, fault_of};
+ghost use Rattle.lra_office.specs.Windows.{IsOfficeOf};
+ghost use Rattle.lra_office.specs.inner.Given.{fault_of};
 
 use crate::clerk::Clerk;
 use crate::fault::OfficeRefusal;

@@ -1,0 +1,53 @@
+//! Enrolling the clerks of an office.
+
+ghost use Rattle.std.specs.Prelude.{◌≡◌, ℕ, IfOk, IfErr};
+ghost use Rattle.lra_commands.specs.declared.command.Told.TheVariants.{Clerk as ToldClerk};
+ghost use Rattle.lra_ticket.specs.Locks.{lock_id, pass_id, pass_view};
+ghost use Rattle.lra_office.specs.Clerks.{clerk_view, IsClerkOf};
+ghost use Rattle.lra_office.specs.Enrolled.{enrolment, IsEnrolled};
+ghost use Rattle.lra_office.specs.Orders.{IsNotGiven};
+
+use crate::clerk::Clerk;
+use crate::fault::OfficeRefusal;
+use crate::office::Office;
+use crate::serving::Serving;
+use crate::trying::told_alone;
+use lra_commands::Told;
+use lra_core::Command;
+use lra_ticket::Pass;
+use std::sync::Wait;
+
+/// The number that a new clerk is told.
+pub(crate) fn told_number(told: Told) -> u32
+    requires { (n : ℕ) × (told ≡ ToldClerk n) }
+    ensures { told ≡ ToldClerk result }
+{
+    let Told::Clerk(number) = told else {
+        unreachable!();
+    };
+    number
+}
+
+impl<V: Serving> Office<V> {
+    /// Enrols a clerk, under a number that no entry bore. Refused where there are too many clerks or entries.
+    pub fn clerk<R: Wait>(
+        &self,
+        rt: &R,
+        pass: Pass<V>,
+        moment: u64,
+    ) -> Result<Clerk<V>, (Pass<V>, OfficeRefusal)>
+        requires lock { pass_id pass ≡ lock_id self.now.lock }
+        requires newcomer { (pass_view pass).number ≡ 0 }
+        ensures clerk { IfOk result (IsClerkOf self.now.lock) }
+        ensures enrolled { IfOk result (λ clerk. IsEnrolled (V.setting (pass_view pass).origin) (pass_view pass) moment clerk.number (clerk_view clerk)) }
+        ensures same_lock { IfErr result (λ refused. pass_id refused.0 ≡ lock_id self.now.lock) }
+        ensures refused { IfErr result (λ refused. IsNotGiven (V.setting (pass_view pass).origin) (pass_view pass) (enrolment moment) refused.1 (pass_view refused.0)) }
+    {
+        let (pass, committed) = self.give(rt, pass, 0, moment, &Command::Enrol)?;
+        let number = told_number(told_alone(committed));
+        Ok(Clerk {
+            number,
+            pass: Some(pass),
+        })
+    }
+}

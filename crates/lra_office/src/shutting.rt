@@ -1,0 +1,35 @@
+//! The end of an office.
+
+ghost use Rattle.std.specs.Prelude.{◌≡◌, IfOk, IfErr};
+ghost use Rattle.lra_ticket.specs.Locks.{HasMissed};
+ghost use Rattle.lra_office.specs.Clerks.{clerk_view, IsClerkOf};
+ghost use Rattle.lra_office.specs.Shut.{IsShut};
+
+use crate::clerk::Clerk;
+use crate::desk::Desk;
+use crate::office::Office;
+use lra_core::Coordinator;
+use lra_scribe::Scribe;
+use std::io::Write;
+
+impl<W: Write + Drop> Office<Desk<W>> {
+    /// Ends the office, if no one else holds its lock or waits for it, and gives the coordinator and the scribe of its journal.
+    pub fn shut(
+        self,
+        clerk: Clerk<Desk<W>>,
+    ) -> Result<(Coordinator, Scribe<W>), (Office<Desk<W>>, Clerk<Desk<W>>)>
+        requires { IsClerkOf self.lock clerk }
+        ensures shut { IfOk result (λ kept. IsShut W.contents (clerk_view clerk) kept.0 kept.1) }
+        ensures same { IfErr result (λ left. left.0 ≡ self) }
+        ensures clerk { IfErr result (λ left. IsClerkOf self.lock left.1 × (left.1.number ≡ clerk.number)) }
+        ensures missed { IfErr result (λ left. HasMissed (clerk_view clerk) (clerk_view left.1)) }
+    {
+        let Desk {
+            coordinator,
+            scribe,
+            front: _,
+            had: _,
+        } = self.into_kept(clerk)?;
+        Ok((coordinator, scribe))
+    }
+}
