@@ -1,6 +1,5 @@
 -- What the one that enrolled knows.
-use Rattle.std.proofs.Common.{◌≡◌, ◌≢◌, ℕ, ◌+◌, List, [], length, Option, Some, None, Ok, refl, sym, ap, ◌∙◌, subst, arith}
-use Rattle.std.specs.Prelude.{unwrap_or}
+use Rattle.std.proofs.Common.{◌≡◌, ◌≢◌, ℕ, ◌+◌, List, length, Option, Ok, refl, sym, ap, ◌∙◌, arith}
 use Rattle.lra_model.specs.declared.entry.Entry.{Entry}
 use Rattle.lra_model.specs.History.{History, clerks}
 use Rattle.lra_ids.specs.Addresses.{is_address}
@@ -14,7 +13,7 @@ use Rattle.lra_commands.specs.Answers.{growth}
 use Rattle.lra_commands.specs.Counters.{Setting, terms_of}
 use Rattle.lra_office.specs.Orders.{IsGrown}
 use Rattle.lra_office.specs.Enrolled.{enrolment, IsEnrolled}
-use Rattle.lra_office.proofs.Enrols.{IsNumbered, enrolled_number}
+use Rattle.lra_office.proofs.Enrols.{enrolled_number}
 
 -- a number was told
 pub told_some : {O : Type 0} (g : Setting) (v w : View O) (m : ℕ) (t : Told) (e : Option Asking) → IsGrown g v (enrolment m) t e w → (n : ℕ) × (t ≡ told.Clerk n)

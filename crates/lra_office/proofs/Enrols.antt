@@ -1,6 +1,6 @@
 -- What enrolling adds: one clerk, under the next number.
-use Rattle.std.proofs.Common.{◌≡◌, ◌≢◌, ℕ, zero, suc, ◌+◌, Bool, true, false, List, [], ◌∷◌, ◌++◌, length, Option, Some, None, Result, Ok, Err, refl, sym, ap, ◌∙◌, subst, cond, arith}
-use Rattle.std.specs.Prelude.{is_some, max}
+use Rattle.std.proofs.Common.{◌≡◌, ◌≢◌, ℕ, zero, suc, ◌+◌, Bool, true, false, List, [], ◌∷◌, ◌++◌, length, Option, Some, None, Ok, Err, refl, ap, ◌∙◌, cond, eq-eqb}
+use Rattle.std.specs.Prelude.{◌==◌, is_some, max}
 use Rattle.std.specs.Option.{option_map_or}
 use Rattle.std.specs.List.{filter_map}
 use Rattle.std.proofs.lemmas.List.Elements.{filter_map-append}
@@ -12,8 +12,7 @@ use Rattle.lra_model.specs.declared.entry.Entry.{Entry}
 use Rattle.lra_model.specs.History.{History, clerks, enrolled_by, last_moment}
 use Rattle.lra_model.specs.Settling.{is_settling, next_settling, settling_within, most_settling}
 use Rattle.lra_laws.proofs.Rests.{next_settles}
-use Rattle.lra_ticket.specs.History.{first_by}
-use Rattle.lra_commands.specs.declared.command.Command.TheVariants as command
+use Rattle.lra_ticket.specs.History.{first_by, entries_by}
 use Rattle.lra_commands.specs.declared.command.Told.{Told}
 use Rattle.lra_commands.specs.declared.command.Told.TheVariants as told
 use Rattle.lra_commands.specs.declared.limits.Terms.{Terms}
@@ -77,3 +76,24 @@ enrolled_number s J m t h =
       grown = grown;
       first = ap first_by grown ∙ first_of_block s J m;
     }
+
+-- ---- the one that enrolled has an entry
+
+entry_there : (n : ℕ) (J es : List Entry) (e : Entry) → e.by ≡ n → entries_by n (J ++ e ∷ es) ≢ []
+entry_there n [] es e h = here (e.by == n) (eq-eqb e.by n h)
+  where
+    here : (b : Bool) → b ≡ true → cond b (e ∷ entries_by n es) (entries_by n es) ≢ []
+    here true g k = absurd cc
+    here false g k = absurd cc
+entry_there n (x ∷ J) es e h = either (x.by == n) (entry_there n J es e h)
+  where
+    either : (b : Bool) → entries_by n (J ++ e ∷ es) ≢ [] → cond b (x ∷ entries_by n (J ++ e ∷ es)) (entries_by n (J ++ e ∷ es)) ≢ []
+    either true g k = absurd cc
+    either false g k = g k
+
+pub enrolled_entries : (s : Terms) (J : History) (m : ℕ) (more : List Entry) → entries_by (length (clerks J) + 1) (J ++ (block s J (enrolment m) ++ more)) ≢ []
+unfolding block
+enrolled_entries s J m more =
+    let n : ℕ = length (clerks J) + 1 in
+    let e : Entry = record { by = n; moment = max m (last_moment J); deed = deed.Enrol } in
+    entry_there n J (settling_within (most_settling (J ++ e ∷ [])) n e.moment (J ++ e ∷ []) ++ more) e refl

@@ -4,4 +4,8 @@ pub mod AtLock
 pub mod AtWindow
 pub mod Begins
 pub mod Enrols
+pub mod Restarts
+pub mod SoundFronts
+pub mod TakesUp
+pub mod WholeLines
 pub mod Written

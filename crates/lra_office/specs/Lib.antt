@@ -8,4 +8,6 @@ pub mod Windows
 pub mod Made
 pub mod Enrolled
 pub mod Shut
+pub mod Wholes
+pub mod Reopened
 pub mod inner

@@ -1,6 +1,8 @@
 //! Why an office doesn't do a command.
 
 use lra_commands::Refusal;
+use lra_model::Rule;
+use std::alloc::AllocError;
 use thiserror::Error;
 
 /// Why no new office is made.
@@ -11,6 +13,33 @@ pub enum StartFault {
     Stopped,
     #[error("out of memory")]
     Memory,
+}
+
+/// Why a journal isn't gone on from.
+#[derive(Clone, Copy, Debug, PartialEq, Eq, Error)]
+pub enum ReopenFault {
+    /// It isn't sound: the first line at fault, and the first rule that it breaks.
+    #[error("line {line} breaks a rule")]
+    Unsound { line: u64, rule: Rule },
+    /// It passes the limits, or does once a clerk has enrolled and restarted.
+    #[error("the journal passes the limits")]
+    Full,
+    /// What the clerk did can't be written.
+    #[error("the journal can't be written")]
+    Stopped,
+    #[error("out of memory")]
+    Memory,
+}
+
+impl From<AllocError> for ReopenFault {
+    ghost use Rattle.std.specs.Prelude.{◌≡◌};
+    ghost use Rattle.lra_office.specs.declared.fault.ReopenFault.TheVariants.{Memory};
+
+    ghost from_gives = { λ _ fault. fault ≡ Memory };
+
+    fn from(_error: AllocError) -> ReopenFault {
+        ReopenFault::Memory
+    }
 }
 
 /// Why a command isn't done.

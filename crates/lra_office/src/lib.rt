@@ -9,6 +9,7 @@ mod fault;
 mod office;
 mod opening;
 mod passing;
+mod reopening;
 mod serving;
 mod shutting;
 mod trying;
@@ -16,7 +17,7 @@ mod window;
 
 pub use clerk::Clerk;
 pub use desk::Desk;
-pub use fault::{OfficeRefusal, StartFault, TryRefusal};
+pub use fault::{OfficeRefusal, ReopenFault, StartFault, TryRefusal};
 pub use office::Office;
 pub use serving::Serving;
 pub use window::Window;
