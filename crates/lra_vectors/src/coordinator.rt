@@ -1,167 +1,188 @@
-//! Commands given to a coordinator one after another, and what they are answered.
+//! Scripts of commands given to a coordinator, and journals that it is opened from.
+//!
+//! Each script is as well run with one allocation failing in turn: a command to which memory is refused changes nothing, and
+//! has the script's answer when it is given again.
 
-ghost use Rattle.std.specs.Prelude.{◌≡◌};
+ghost use Rattle.std.specs.Prelude.{◌≡◌, ◌<◌, ◌^◌, IfOk, IfSome, true};
 ghost use Rattle.lra_commands.specs.Terms.{AreKeepable};
+ghost use Rattle.lra_ids.specs.Addresses.{is_base};
 
-use lra_auditor::{Verdict, check};
+mod desk;
+mod rows;
+
+use desk::Desk;
 use lra_core::{
-    Command, Committed, Coordinator, Instance, Limits, Prepared, Refusal, Told, Version,
+    Address, Command, Committed, Coordinator, Instance, Limits, OpenFault, Prepared, Told, Version,
 };
-use lra_ids::address;
+use lra_ids::{UriFault, address};
+use lra_journal::read_journal;
 use lra_model::ActionStatus;
+use rows::{LIMITED, OPENED, SCRIPTS, TORN};
 use std::alloc::Global;
-use std::process::Abort;
+use std::io::{self, Write};
+use std::str::from_utf8;
 use std::test::Fail;
 
-const fn limits(clerks: u32, actions: u64, entries: u64, depth: u64) -> Limits
-    ensures { result ≡ record { clerks = clerks; actions = actions; members = 0; entries = entries; depth = depth; retry_base = 100; retry_cap = 60000 } }
+const BASE: &str = "http://127.0.0.1:8080/";
+
+/// What the URIs begin with.
+fn base(alloc: Global) -> Option<Address>
+    ensures { IfSome result (λ base. is_base base ≡ true) }
 {
-    Limits {
-        clerks,
-        actions,
-        members: 0,
-        entries,
-        depth,
-        retry_base: 100,
-        retry_cap: 60_000,
-    }
+    let base = match address(alloc, BASE) {
+        Err(UriFault::Memory) => address(alloc, BASE),
+        base => base,
+    };
+    base.ok().filter(|base| base.is_base())
 }
 
 fn coordinator(alloc: Global, limits: Limits) -> Result<Coordinator, Fail>
     requires { AreKeepable limits }
 {
-    let base = address(alloc, "http://127.0.0.1:8080/")?;
-    if !base.is_base() {
-        return Err("no base")?;
-    }
     let instance = Instance::new(7).ok_or("no instance")?;
+    let base = base(alloc).ok_or("no base")?;
     Ok(Coordinator::new(alloc, instance, base, limits))
 }
 
-/// The answer to a command: enrol, start, close or status, of an action or with a limit.
-fn answer(
-    coordinator: &mut Coordinator,
-    by: u32,
-    moment: u64,
-    verb: &str,
-    number: u64,
-) -> Result<Told, Refusal> {
-    if verb == "enrol" {
-        return coordinator.enrol(moment);
-    }
-    if verb == "start" {
-        return coordinator.start(by, moment, None, number);
-    }
-    if verb == "close" {
-        return coordinator.close(by, moment, number);
-    }
-    coordinator.status(by, number)
-}
-
-/// Gives the command of each line, `BY MOMENT VERB NUMBER ANSWER`.
-fn assert_answers(
-    rt: &impl Abort,
-    alloc: Global,
-    coordinator: &mut Coordinator,
-    lines: &str,
-) -> Result<(), Fail> {
-    for line in lines.lines() {
-        let words: Vec<&str> = line.split(' ').collect(alloc)?;
-        let [by, moment, verb, number, wanted] = words.as_slice() else {
-            return Err("five words are wanted")?;
-        };
-        let told = answer(
-            coordinator,
-            by.parse()?,
-            moment.parse()?,
-            verb,
-            number.parse()?,
-        );
-        let told = format!(in alloc; "{told:?}")?;
-        assert_eq!(rt; told.as_str(), *wanted, "at {line}");
-    }
-    Ok(())
-}
-
 #[test]
-fn an_action_is_started_and_closed(rt: HostRuntime) -> Result<(), Fail> {
+fn scripts_come_to_what_they_say(rt: HostRuntime) -> Result<(), Fail> {
     let alloc = rt.alloc();
-    let mut coordinator = coordinator(alloc, Limits::usual())?;
-    assert_eq!(rt; coordinator.version(), Version::Two);
-    assert_answers(
-        &rt,
-        alloc,
-        &mut coordinator,
-        "1 0 start 0 Err(NoSuchClerk)
-0 0 enrol 0 Ok(Clerk(1))
-1 0 status 1 Err(NoSuchAction)
-1 0 start 0 Ok(Action(1))
-0 0 enrol 0 Ok(Clerk(2))
-1 1 start 0 Ok(Action(2))
-2 5 close 1 Ok(Now(Closed))
-1 6 close 1 Ok(Already(Closed))
-1 6 status 1 Ok(ActionIs(Closed))
-2 6 status 2 Ok(ActionIs(Active))
-1 7 close 3 Err(NoSuchAction)
-3 7 status 1 Err(NoSuchClerk)",
-    )?;
-    let verdict = check(alloc, coordinator.version(), coordinator.entries())?;
-    assert!(rt; matches!(verdict, Verdict::Sound(_)));
+    for script in SCRIPTS.split("\n\n") {
+        let coordinator = coordinator(alloc, Limits::usual())?;
+        assert_eq!(rt; coordinator.version(), Version::Two);
+        let mut desk = Desk::new(alloc, coordinator);
+        let text = from_utf8(desk.play(script)?)?;
+        assert_eq!(rt; text.trim_end(), script);
+    }
     Ok(())
+}
+
+/// Limits of a line: clerks, actions, members, entries and depth.
+fn limits(line: &str) -> Result<Limits, Fail>
+    ensures { IfOk result AreKeepable }
+{
+    let mut words = line.split(' ');
+    let mut next = [0u16; 5];
+    for number in &mut next {
+        *number = words.next().ok_or("a number is missing")?.parse()?;
+    }
+    let [clerks, actions, members, entries, depth] = next;
+    Ok(Limits {
+        clerks: u32::from(clerks),
+        actions: u64::from(actions),
+        members: u64::from(members),
+        entries: u64::from(entries),
+        depth: u64::from(depth),
+        ..Limits::usual()
+    })
 }
 
 #[test]
 fn limits_are_kept(rt: HostRuntime) -> Result<(), Fail> {
     let alloc = rt.alloc();
-    assert_answers(
-        &rt,
-        alloc,
-        &mut coordinator(alloc, limits(1, 2, 4, 2))?,
-        "0 0 enrol 0 Ok(Clerk(1))
-0 0 enrol 0 Err(Full(Clerks))
-1 0 start 0 Ok(Action(1))
-1 0 start 0 Ok(Action(2))
-1 0 start 0 Err(Full(Actions))
-1 0 close 1 Err(Full(Entries))
-1 0 status 1 Ok(ActionIs(Active))",
+    for row in LIMITED.split("\n\n") {
+        let (line, script) = row.split_once('\n').ok_or("no script")?;
+        let mut desk = Desk::new(alloc, coordinator(alloc, limits(line)?)?);
+        let text = from_utf8(desk.play(script)?)?;
+        assert_eq!(rt; text.trim_end(), script, "{line}");
+    }
+    Ok(())
+}
+
+/// 64 actions, each nested in the one before, and what comes of a cancel of the outermost.
+fn nest(alloc: Global) -> io::Result<Vec<u8>> {
+    let mut script = Vec::new(alloc);
+    writeln!(script, "0 0 enrol -> Clerk(1)\n+ 1 0 enrol")?;
+    writeln!(script, "1 0 start * 0 -> Action(1)\n+ 1 0 start 1 * 0")?;
+    for parent in 1..64u64 {
+        let action = parent + 1;
+        writeln!(script, "1 0 start {parent} 0 -> Action({action})")?;
+        writeln!(script, "+ 1 0 start {action} {parent} 0")?;
+    }
+    writeln!(script, "1 0 start 64 0 -> refused TooDeep")?;
+    writeln!(
+        script,
+        "1 1 cancel 1 -> Now(Cancelled)\n+ 1 1 cancel 1 client"
     )?;
-    assert_answers(
-        &rt,
-        alloc,
-        &mut coordinator(alloc, limits(1, 1, 4, 1))?,
-        "0 0 enrol 0 Ok(Clerk(1))
-1 0 start 0 Ok(Action(1))
-1 0 close 1 Ok(Now(Closed))
-1 0 close 1 Ok(Already(Closed))
-1 0 start 0 Err(Full(Actions))",
-    )
+    for action in 2..65 {
+        writeln!(script, "+ 1 1 cancel {action} parent")?;
+    }
+    for above in 0..64u64 {
+        let action = 64 - above;
+        writeln!(script, "+ 1 1 end {action} Cancelled")?;
+    }
+    writeln!(
+        script,
+        "audit 2 -> sound 193 entries 64 actions 0 unended 0 closed 64 cancelled"
+    )?;
+    Ok(script)
 }
 
 #[test]
-fn the_first_refusal_is_answered(rt: HostRuntime) -> Result<(), Fail> {
+fn a_nest_is_cancelled_at_once(rt: HostRuntime) -> Result<(), Fail> {
     let alloc = rt.alloc();
-    assert_answers(
-        &rt,
-        alloc,
-        &mut coordinator(alloc, limits(1, 0, 1, 0))?,
-        "0 0 enrol 0 Ok(Clerk(1))
-2 1 start 18446744073709551615 Err(NoSuchClerk)
-1 1 start 18446744073709551615 Err(LimitTooFar)
-1 1 start 0 Err(TooDeep)
-2 0 close 2 Err(NoSuchClerk)
-1 0 close 2 Err(NoSuchAction)
-0 0 enrol 0 Err(Full(Clerks))",
-    )?;
-    // What is written at moment 1 puts later moments off to it.
-    assert_answers(
-        &rt,
-        alloc,
-        &mut coordinator(alloc, limits(1, 1, 3, 1))?,
-        "0 0 enrol 0 Ok(Clerk(1))
-1 1 start 18446744073709551614 Ok(Action(1))
-1 0 start 18446744073709551615 Err(LimitTooFar)
-1 0 start 0 Err(Full(Actions))",
-    )
+    let Ok(script) = nest(alloc) else {
+        return Ok(());
+    };
+    let script = from_utf8(&script)?;
+    let mut desk = Desk::new(alloc, coordinator(alloc, Limits::usual())?);
+    assert_eq!(rt; from_utf8(desk.play(script)?)?, script);
+    Ok(())
+}
+
+/// A coordinator that goes on from a journal, with so many entries at most.
+fn open_once(alloc: Global, journal: &str, entries: u32) -> Result<Coordinator, OpenFault> {
+    let Ok((version, instance, read)) = read_journal(alloc, journal.as_bytes()) else {
+        return Err(OpenFault::Memory);
+    };
+    let Some(base) = base(alloc) else {
+        return Err(OpenFault::Memory);
+    };
+    let limits = Limits {
+        entries: u64::from(entries),
+        ..Limits::usual()
+    };
+    Coordinator::from_journal(alloc, version, instance, base, limits, read)
+}
+
+/// The same, once more where memory was refused.
+fn open(alloc: Global, journal: &str, entries: u32) -> Result<Coordinator, OpenFault> {
+    match open_once(alloc, journal, entries) {
+        Err(OpenFault::Memory) => open_once(alloc, journal, entries),
+        opened => opened,
+    }
+}
+
+#[test]
+fn journals_are_opened(rt: HostRuntime) -> Result<(), Fail> {
+    let alloc = rt.alloc();
+    for row in OPENED.split('|') {
+        let (line, journal) = row.split_once('\n').ok_or("no journal")?;
+        let (entries, wanted) = line.split_once(' ').ok_or("no fault")?;
+        match open(alloc, journal, entries.parse()?) {
+            Ok(_) => panic!(rt; "{line}"),
+            Err(OpenFault::Unsound { line, rule }) => {
+                let (number, code) = wanted.split_once(' ').ok_or("no rule")?;
+                assert_eq!(rt; (line, rule.name()), (number.parse()?, code));
+            }
+            Err(fault) => {
+                assert_eq!(rt; fault, OpenFault::Full);
+                assert_eq!(rt; wanted, "Full");
+            }
+        }
+    }
+    Ok(())
+}
+
+#[test]
+fn what_a_torn_block_lacks_is_added(rt: HostRuntime) -> Result<(), Fail> {
+    let alloc = rt.alloc();
+    let [journal, script] = TORN;
+    let coordinator = open(alloc, journal, 100)?;
+    assert_eq!(rt; coordinator.version(), Version::One);
+    let mut desk = Desk::new(alloc, coordinator);
+    assert_eq!(rt; from_utf8(desk.play(script)?)?, script);
+    Ok(())
 }
 
 /// Prepares the close of action 1. Where something is to be written, gives its text, and commits it if that is wanted.
@@ -185,52 +206,35 @@ fn close(
     }
 }
 
+/// A coordinator with an action that is active.
+fn started(alloc: Global) -> Result<Coordinator, Fail> {
+    let mut coordinator = coordinator(alloc, Limits::usual())?;
+    coordinator.enrol(0)?;
+    coordinator.start(1, 0, None, 0)?;
+    Ok(coordinator)
+}
+
+/// Whether action 1 has this status.
+fn has_status(coordinator: &Coordinator, status: ActionStatus) -> bool {
+    coordinator.status(1, 1) == Ok(Told::ActionIs(status))
+}
+
+/// Whether action 1 is active, and its close is to write what it should.
+fn is_to_close(alloc: Global, coordinator: &mut Coordinator, commits: bool) -> Result<bool, Fail> {
+    let is_active = has_status(coordinator, ActionStatus::Active);
+    let text = close(alloc, coordinator, commits)?.ok_or("nothing to write")?;
+    let wanted = b"1 5 close 1 client\n1 5 end 1 Closed\n";
+    Ok(is_active && text.as_slice() == wanted.as_slice())
+}
+
 #[test]
 fn what_is_prepared_is_written_by_commit_alone(rt: HostRuntime) -> Result<(), Fail> {
     let alloc = rt.alloc();
-    let mut coordinator = coordinator(alloc, Limits::usual())?;
-    let opened = "0 0 enrol 0 Ok(Clerk(1))\n1 0 start 0 Ok(Action(1))";
-    assert_answers(&rt, alloc, &mut coordinator, opened)?;
-    for commits in [false, true] {
-        assert_eq!(rt;
-            coordinator.status(1, 1),
-            Ok(Told::ActionIs(ActionStatus::Active))
-        );
-        let text = close(alloc, &mut coordinator, commits)?.ok_or("nothing to write")?;
-        assert_eq!(rt;
-            text.as_slice(),
-            b"1 5 close 1 client\n1 5 end 1 Closed\n".as_slice()
-        );
-    }
-    assert_eq!(rt;
-        coordinator.status(1, 1),
-        Ok(Told::ActionIs(ActionStatus::Closed))
-    );
-    assert!(rt;
-        close(alloc, &mut coordinator, true)?.is_none(),
-        "a second close"
-    );
-    Ok(())
-}
-
-/// Run with each allocation after that of the base failing in turn (`rt try --test --fail-alloc N`): a command that takes a refused growth changes nothing, and is answered as it
-/// should be when it is given again.
-#[test]
-fn a_refused_growth_changes_nothing(rt: HostRuntime) -> Result<(), Fail> {
-    let alloc = rt.alloc();
-    let mut coordinator = coordinator(alloc, limits(1, 1, 4, 1))?;
-    for (verb, number, wanted) in [
-        ("enrol", 0, Told::Clerk(1)),
-        ("start", 0, Told::Action(1)),
-        ("close", 1, Told::Now(ActionStatus::Closed)),
-    ] {
-        let entries = coordinator.entries().len();
-        let mut told = answer(&mut coordinator, 1, 0, verb, number);
-        if told == Err(Refusal::Memory) {
-            assert_eq!(rt; coordinator.entries().len(), entries, "after {verb}");
-            told = answer(&mut coordinator, 1, 0, verb, number);
-        }
-        assert_eq!(rt; told, Ok(wanted), "at {verb}");
-    }
+    let mut coordinator = started(alloc)?;
+    assert!(rt; is_to_close(alloc, &mut coordinator, false)?);
+    assert!(rt; is_to_close(alloc, &mut coordinator, true)?);
+    assert!(rt; has_status(&coordinator, ActionStatus::Closed));
+    let again = close(alloc, &mut coordinator, true)?;
+    assert!(rt; again.is_none(), "a second close");
     Ok(())
 }
