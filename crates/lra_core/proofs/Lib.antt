@@ -1,4 +1,4 @@
-mod Sounds
+pub mod Sounds
 pub mod Allowing
 pub mod AnsweredOnce
 pub mod Asking

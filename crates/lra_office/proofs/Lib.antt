@@ -4,8 +4,10 @@ pub mod AtLock
 pub mod AtWindow
 pub mod Begins
 pub mod Enrols
+pub mod Journals
 pub mod Restarts
 pub mod SoundFronts
 pub mod TakesUp
+pub mod Torn
 pub mod WholeLines
 pub mod Written

@@ -10,4 +10,5 @@ pub mod Enrolled
 pub mod Shut
 pub mod Wholes
 pub mod Reopened
+pub mod Journals
 pub mod inner
