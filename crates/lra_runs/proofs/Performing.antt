@@ -1,7 +1,7 @@
 -- What came of a call, by what the coordinator prepares.
 use Rattle.std.proofs.Common.{◌≡◌, ℕ, ◌<◌, ◌^◌, arith, Bool, true, false, cond, List, [], ◌∷◌, ◌++◌, take, drop, Option, Some, None, refl, sym, ap, subst, ◌∙◌, append_assoc}
 use Rattle.std.specs.Prelude.{All, codes, Result, Ok, Err}
-use Rattle.std.specs.List.{flat_map, join_with_byte}
+use Rattle.std.specs.List.{flat_map}
 use Rattle.std.specs.Option.{option_map_or}
 use Rattle.std.specs.Result.{is_err}
 use Rattle.std.specs.Io.KnownBytes.{Appends}
@@ -10,11 +10,9 @@ use Rattle.std.proofs.lemmas.List.Elements.{All-head, All-tail}
 use Rattle.lra_model.specs.declared.entry.Entry.{Entry}
 use Rattle.lra_model.specs.declared.version.Version.{Version}
 use Rattle.lra_model.specs.History.{History}
-use Rattle.lra_journal.specs.Line.{line, line_words, HasLine}
+use Rattle.lra_journal.specs.Line.{line, HasLine}
 use Rattle.lra_journal.specs.Lines.{lines_of}
-use Rattle.lra_journal.proofs.Splitting.{Lacks}
-use Rattle.lra_journal.proofs.Plain.{in_line, lacks_from, words_plain, joined_in_line}
-use Rattle.lra_journal.proofs.Apart.{lines_of_feed}
+use Rattle.lra_journal.proofs.Apart.{body_of, body_lacks, lines_of_feed}
 use Rattle.lra_auditor.proofs.LegalTexts.{legal_has_text}
 use Rattle.lra_commands.specs.declared.command.Told.{Told}
 use Rattle.lra_commands.specs.declared.refusal.Refusal.{Refusal}
@@ -34,16 +32,8 @@ use Rattle.lra_runs.proofs.Growths.{growth_told, growth_refused}
 
 -- ---- the lines of a block
 
-body_of : Entry → List ℕ
-body_of e = join_with_byte 32 (line_words e)
-
-body_lacks : (v : Version) (e : Entry) → HasLine v e → Lacks 10 (body_of e)
-unfolding body_of
-body_lacks v e h = lacks_from in_line 10 (body_of e) (joined_in_line (line_words e) (words_plain v e h)) refl
-
 -- the lines of entries are marked one by one
 pub marked_are : (v : Version) (es : List Entry) → All (HasLine v) es → flat_map marked (lines_of (flat_map line es)) ≡ marked_entries es
-unfolding body_of
 marked_are v [] h = refl
 marked_are v (e ∷ es) h =
     let first = lines_of_feed (body_of e) (flat_map line es) (body_lacks v e (All-head (HasLine v) e es h)) in
