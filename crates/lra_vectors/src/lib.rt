@@ -16,7 +16,11 @@ mod journal;
 #[cfg(test)]
 mod model;
 #[cfg(test)]
+mod office;
+#[cfg(test)]
 mod runs;
+#[cfg(test)]
+mod tables;
 #[cfg(test)]
 mod ticket;
 #[cfg(test)]

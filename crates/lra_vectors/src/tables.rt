@@ -1,0 +1,285 @@
+//! Worked histories in tables, entry by entry: the status of each row, and what a plan of the entry has.
+
+ghost use Rattle.std.specs.Prelude.{◌≡◌, true};
+ghost use Rattle.lra_model.specs.declared.version.Version.{Version};
+ghost use Rattle.lra_model.specs.Rules.{is_legal};
+ghost use Rattle.lra_ids.specs.Addresses.{is_address};
+ghost use Rattle.lra_laws.specs.Sheets.{Follows};
+
+mod cascades;
+mod memory;
+
+use lra_auditor::{Verdict, check};
+use lra_journal::read_journal;
+use lra_model::{Entry, Memory};
+use lra_tables::{Plan, Tables};
+use std::alloc::Global;
+use std::process::Abort;
+use std::test::Fail;
+
+/// Histories, each after its header. After each entry stand the statuses of all actions, and of all members. What follows by
+/// itself from the entry before is marked by `+`.
+const WORKED: &str = "\
+lra-journal 1 7
+1 0 enrol -> /
+1 0 start 1 * 0 -> Active /
+1 5 close 1 client -> Closing /
++ 1 5 end 1 Closed -> Closed /
+|lra-journal 1 7
+1 0 enrol -> /
+1 10 start 1 * 0 -> Active /
+1 11 join 1 1 http://n.test/u http://n.test/c http://n.test/s * * -> Active / Active
+1 12 join 2 1 http://n.test/u http://n.test/c * * * -> Active / Active Active
+1 20 close 1 client -> Closing / Active Active
+1 21 ask 1 1 complete -> Closing / Completing Active
+1 22 ask 2 2 complete -> Closing / Completing Completing
+1 23 reply 2 done -> Closing / Completing Completed
+1 24 reply 1 accepted -> Closing / Completing Completed
+1 30 report 1 done -> Closing / Completed Completed
++ 1 30 end 1 Closed -> Closed / Completed Completed
+|lra-journal 1 7
+1 0 enrol -> /
+1 10 start 1 * 0 -> Active /
+1 11 join 1 1 http://n.test/u http://n.test/c http://n.test/s * * -> Active / Active
+1 12 join 2 1 http://n.test/u http://n.test/c * * * -> Active / Active Active
+1 20 close 1 client -> Closing / Active Active
+1 21 ask 1 1 complete -> Closing / Completing Active
+1 22 ask 2 2 complete -> Closing / Completing Completing
+1 23 reply 2 done -> Closing / Completing Completed
+1 24 reply 1 accepted -> Closing / Completing Completed
+1 124 ask 3 1 status -> Closing / Completing Completed
+1 130 report 1 done -> Closing / Completed Completed
++ 1 130 end 1 Closed -> Closed / Completed Completed
+1 132 reply 3 failed -> Closed / Completed Completed
+|lra-journal 1 7
+1 0 enrol -> /
+1 0 start 1 * 0 -> Active /
+1 1 join 1 1 http://n.test/u http://n.test/c * * * -> Active / Active
+1 2 leave 1 -> Active / Left
+1 4 close 1 client -> Closing / Left
++ 1 4 end 1 Closed -> Closed / Left
+|lra-journal 1 7
+1 0 enrol -> /
+1 0 start 1 * 0 -> Active /
+1 1 start 2 1 0 -> Active Active /
+1 2 join 1 2 http://n.test/u http://n.test/c * http://n.test/f http://n.test/a -> Active Active / Active
+1 3 close 2 client -> Active Closing / Active
+1 4 ask 1 1 complete -> Active Closing / Completing
+1 5 reply 1 done -> Active Closing / Completed
++ 1 5 end 2 Closed -> Active Closed / Completed
+1 6 cancel 1 client -> Cancelling Closed / Completed
++ 1 6 cancel 2 parent -> Cancelling Cancelling / Completed
+1 7 ask 2 1 compensate -> Cancelling Cancelling / Compensating
+1 8 reply 2 done -> Cancelling Cancelling / Compensated
++ 1 8 end 2 Cancelled -> Cancelling Cancelled / Compensated
++ 1 8 end 1 Cancelled -> Cancelled Cancelled / Compensated
+1 9 ask 3 1 after -> Cancelled Cancelled / Compensated
+1 10 reply 3 silent -> Cancelled Cancelled / Compensated
+1 110 ask 4 1 after -> Cancelled Cancelled / Compensated
+1 111 reply 4 done -> Cancelled Cancelled / Compensated
+|lra-journal 1 7
+1 0 enrol -> /
+1 0 start 1 * 0 -> Active /
+1 1 start 2 1 0 -> Active Active /
+1 2 join 1 2 http://n.test/u http://n.test/c * http://n.test/f http://n.test/a -> Active Active / Active
+1 3 close 2 client -> Active Closing / Active
+1 4 ask 1 1 complete -> Active Closing / Completing
+1 5 cancel 1 client -> Cancelling Closing / Completing
+1 6 reply 1 done -> Cancelling Closing / Completed
++ 1 6 end 2 Closed -> Cancelling Closed / Completed
++ 1 6 cancel 2 parent -> Cancelling Cancelling / Completed
+|lra-journal 1 7
+1 0 enrol -> /
+1 0 start 1 * 0 -> Active /
+1 1 start 2 1 0 -> Active Active /
+1 2 join 1 2 http://n.test/u http://n.test/c * http://n.test/f http://n.test/a -> Active Active / Active
+1 3 close 2 client -> Active Closing / Active
+1 4 ask 1 1 complete -> Active Closing / Completing
+1 5 reply 1 failed -> Active Closing / FailedToComplete
++ 1 5 end 2 FailedToClose -> Active FailedToClose / FailedToComplete
+1 6 close 1 client -> Closing FailedToClose / FailedToComplete
++ 1 6 end 1 FailedToClose -> FailedToClose FailedToClose / FailedToComplete
+1 7 ask 2 1 forget -> FailedToClose FailedToClose / FailedToComplete
+1 8 reply 2 done -> FailedToClose FailedToClose / FailedToComplete
+1 9 ask 3 1 after -> FailedToClose FailedToClose / FailedToComplete
+|lra-journal 1 7
+1 0 enrol -> /
+1 0 start 1 * 0 -> Active /
+1 1 start 2 1 0 -> Active Active /
+1 2 join 1 2 http://n.test/u http://n.test/c * http://n.test/f http://n.test/a -> Active Active / Active
+1 3 cancel 2 client -> Active Cancelling / Active
+1 4 ask 1 1 compensate -> Active Cancelling / Compensating
+1 5 reply 1 done -> Active Cancelling / Compensated
++ 1 5 end 2 Cancelled -> Active Cancelled / Compensated
+1 6 close 1 client -> Closing Cancelled / Compensated
++ 1 6 end 1 Closed -> Closed Cancelled / Compensated
+|lra-journal 1 7
+1 1000 enrol -> /
+1 1000 start 1 * 100 -> Active /
+1 1100 cancel 1 limit -> Cancelling /
++ 1 1100 end 1 Cancelled -> Cancelled /
+1 1100 start 2 * 18446744073709550515 -> Cancelled Active /
+|lra-journal 1 7
+1 0 enrol -> /
+1 0 start 1 * 0 -> Active /
+1 1 join 1 1 http://n.test/u * * * * -> Active / Active
+1 2 close 1 client -> Closing / Active
++ 1 2 skip 1 -> Closing / Completed
++ 1 2 end 1 Closed -> Closed / Completed
+|lra-journal 1 7
+1 0 enrol -> /
+1 0 start 1 * 0 -> Active /
+1 1 join 1 1 http://n.test/u http://n.test/c * * * -> Active / Active
+1 2 close 1 client -> Closing / Active
+1 3 ask 1 1 complete -> Closing / Completing
+1 4 restart -> Closing / Completing
+1 6 ask 2 1 complete -> Closing / Completing
+|lra-journal 2 7
+1 0 enrol -> /
+1 0 start 1 * 100 -> Active /
+1 90 renew 1 100 -> Active /
+1 190 cancel 1 limit -> Cancelling /
++ 1 190 end 1 Cancelled -> Cancelled /
+|lra-journal 2 7
+1 0 enrol -> /
+1 0 start 1 * 0 -> Active /
+1 1 start 2 1 0 -> Active Active /
+1 2 join 1 2 http://n.test/u http://n.test/c * http://n.test/f http://n.test/a -> Active Active / Active
+1 3 close 2 client -> Active Closing / Active
+1 4 ask 1 1 complete -> Active Closing / Completing
+1 5 reply 1 done -> Active Closing / Completed
++ 1 5 end 2 Closed -> Active Closed / Completed
+1 6 cancel 2 client -> Active Cancelling / Completed
+1 7 ask 2 1 compensate -> Active Cancelling / Compensating
+1 8 reply 2 done -> Active Cancelling / Compensated
++ 1 8 end 2 Cancelled -> Active Cancelled / Compensated
+1 9 close 1 client -> Closing Cancelled / Compensated
++ 1 9 end 1 Closed -> Closed Cancelled / Compensated
+|lra-journal 2 7
+1 0 enrol -> /
+1 0 start 1 * 0 -> Active /
+1 0 start 2 1 0 -> Active Active /
+1 0 close 1 client -> Closing Active /
++ 1 0 close 2 parent -> Closing Closing /
++ 1 0 end 2 Closed -> Closing Closed /
++ 1 0 end 1 Closed -> Closed Closed /";
+
+/// The statuses of all actions, and of all members.
+fn statuses(alloc: Global, tables: &Tables) -> Result<String, Memory> {
+    let mut text = String::new(alloc);
+    for place in 0..tables.count_actions() {
+        if let Some(row) = tables.action(place + 1) {
+            text.push_str(row.status.name())?;
+            text.push(' ')?;
+        }
+    }
+    text.push('/')?;
+    for place in 0..tables.count_members() {
+        if let Some(row) = tables.member(place + 1) {
+            text.push(' ')?;
+            text.push_str(row.status.name())?;
+        }
+    }
+    Ok(text)
+}
+
+/// The journal of a worked history.
+fn journal_of(alloc: Global, history: &str) -> Result<String, Memory> {
+    let mut journal = String::new(alloc);
+    for line in history.lines() {
+        let entry = line.split_once(" -> ").map_or(line, |(entry, _)| entry);
+        journal.push_str(entry.strip_prefix("+ ").unwrap_or(entry))?;
+        journal.push('\n')?;
+    }
+    Ok(journal)
+}
+
+/// The plan of an entry that is allowed now.
+fn planned(tables: &mut Tables, entry: &Entry) -> Result<Plan, Memory>
+    requires { Follows tables.old.sheet entry.now }
+    ensures { tables.new.sheet ≡ tables.old.sheet }
+{
+    let entry = entry.copy()?;
+    tables.plan(entry)
+}
+
+/// Whether entries are the same, by their texts.
+fn are_same(alloc: Global, left: &[Entry], right: &[Entry]) -> Result<bool, Memory> {
+    let left = format!(in alloc; "{left:?}")?;
+    let right = format!(in alloc; "{right:?}")?;
+    Ok(left.as_bytes() == right.as_bytes())
+}
+
+/// How many lines follow by themselves from the one at a place.
+fn count_following(lines: &[&str], place: usize) -> usize {
+    lines
+        .iter()
+        .skip(place)
+        .skip(1)
+        .take_while(|line| line.starts_with("+ "))
+        .count()
+}
+
+/// What is planned of an entry is it and what follows, as the history has it.
+fn assert_block<R: Abort>(
+    rt: &R,
+    alloc: Global,
+    plan: &Plan,
+    entries: &[Entry],
+    lines: &[&str],
+    place: usize,
+) -> Result<(), Fail> {
+    let end = place
+        .saturating_add(1)
+        .saturating_add(count_following(lines, place));
+    let wanted = entries.get(place..end).ok_or("no such lines")?;
+    let same = are_same(alloc, plan.entries(), wanted)?;
+    let planned = plan.entries();
+    assert!(rt; same, "at {place}: {planned:?}");
+    Ok(())
+}
+
+/// Applies a history entry by entry, and looks at each plan before and at the rows after.
+fn assert_rows<R: Abort>(
+    rt: &R,
+    alloc: Global,
+    entries: &[Entry],
+    lines: &[&str],
+) -> Result<(), Fail>
+    requires { (v : Version) × (is_legal v is_address entries.now ≡ true) }
+{
+    let mut tables = Tables::empty(alloc);
+    for entry in entries {
+        let place = tables.count_entries() as usize;
+        let plan = planned(&mut tables, entry)?;
+        assert_block(rt, alloc, &plan, entries, lines, place)?;
+        tables.apply(entry)?;
+        let line = lines.get(place).ok_or("too few lines")?;
+        let found = statuses(alloc, &tables)?;
+        assert!(rt; line.ends_with(found.as_str()), "{found} after {line}");
+    }
+    Ok(())
+}
+
+/// A history with its statuses.
+fn assert_history<R: Abort>(rt: &R, alloc: Global, history: &str) -> Result<(), Fail> {
+    let journal = journal_of(alloc, history)?;
+    let (version, _, entries) = read_journal(alloc, journal.as_bytes())?;
+    let lines: Vec<&str> = history.lines().skip(1).collect(alloc)?;
+    assert_eq!(rt; lines.len(), entries.len());
+    match check(alloc, version, entries.as_slice())? {
+        Verdict::Sound(_) => assert_rows(rt, alloc, entries.as_slice(), lines.as_slice()),
+        Verdict::Unsound { line, rule } => {
+            let rule = rule.name();
+            Err(format!(in alloc; "line {line} {rule}")?)?
+        }
+    }
+}
+
+#[test]
+fn worked_histories(rt: HostRuntime) -> Result<(), Fail> {
+    for history in WORKED.split('|') {
+        assert_history(&rt, rt.alloc(), history)?;
+    }
+    Ok(())
+}

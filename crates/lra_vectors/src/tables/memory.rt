@@ -1,0 +1,201 @@
+//! Tables where a growth is refused: run with one allocation failing in turn (`rt try --test --fail-alloc N`). A call after it
+//! has memory.
+
+ghost use Rattle.std.specs.Prelude.{◌≡◌, true, OnOk};
+ghost use Rattle.lra_model.specs.declared.version.Version.{Version};
+ghost use Rattle.lra_model.specs.Rules.{is_legal};
+ghost use Rattle.lra_ids.specs.Addresses.{is_address};
+ghost use Rattle.lra_laws.specs.Sheets.{Follows, sheet_after};
+
+use super::planned;
+use lra_auditor::{Verdict, check};
+use lra_journal::read_journal;
+use lra_model::{Entry, Memory, Version};
+use lra_tables::Tables;
+use std::alloc::{AllocError, Global};
+use std::process::Abort;
+use std::test::Fail;
+
+/// Every deed: members of an action and of one nested in it, one that leaves, one that is completed without being asked, and
+/// one that only hears of the end.
+const JOURNAL: &str = "\
+lra-journal 2 7
+1 0 enrol
+1 0 start 1 * 100
+1 1 start 2 1 0
+1 2 join 1 2 http://n.test/u http://n.test/c * http://n.test/f http://n.test/a
+1 2 join 2 1 http://n.test/u * http://n.test/s * *
+1 2 join 3 1 * * * * http://n.test/a
+1 2 join 4 2 http://n.test/u * * * *
+1 2 leave 4
+1 2 renew 1 300
+1 3 close 2 client
+1 4 ask 1 1 complete
+1 5 reply 1 silent
+1 105 ask 2 1 complete
+1 105 restart
+1 106 ask 3 1 complete
+1 107 report 1 done
+1 107 end 2 Closed
+1 108 close 1 client
+1 108 skip 2
+1 108 end 1 Closed
+1 108 reply 3 done
+1 109 ask 4 1 after
+1 110 reply 4 done
+2 111 enrol
+2 111 start 3 * 0
+2 111 cancel 3 client
+2 111 end 3 Cancelled
+";
+
+/// The entries of the journal.
+fn entries_of(alloc: Global) -> Result<(Version, Vec<Entry>), Memory> {
+    match read_journal(alloc, JOURNAL.as_bytes()) {
+        Ok((version, _, entries)) => Ok((version, entries)),
+        Err(_) => Err(AllocError),
+    }
+}
+
+/// Whether an action's rows are the same.
+fn is_same_action(left: &Tables, right: &Tables, number: u64) -> bool {
+    match (left.action(number), right.action(number)) {
+        (Some(one), Some(other)) => {
+            (one.parent, one.limit, one.since, one.depth, one.status)
+                == (
+                    other.parent,
+                    other.limit,
+                    other.since,
+                    other.depth,
+                    other.status,
+                )
+                && left.children(number) == right.children(number)
+                && left.members(number) == right.members(number)
+        }
+        (None, None) => true,
+        _ => false,
+    }
+}
+
+/// Whether a member's rows are the same.
+fn is_same_member(left: &Tables, right: &Tables, number: u64) -> bool {
+    match (left.member(number), right.member(number)) {
+        (Some(one), Some(other)) => {
+            (one.action, one.status, one.completion, one.compensation)
+                == (
+                    other.action,
+                    other.status,
+                    other.completion,
+                    other.compensation,
+                )
+                && (one.outstanding, one.want, one.k, one.last)
+                    == (other.outstanding, other.want, other.k, other.last)
+        }
+        (None, None) => true,
+        _ => false,
+    }
+}
+
+/// Whether the counts are the same.
+fn are_same_counts(left: &Tables, right: &Tables) -> bool {
+    (
+        left.count_entries(),
+        left.count_clerks(),
+        left.count_actions(),
+        left.count_members(),
+        left.count_asks(),
+        left.last_moment(),
+    ) == (
+        right.count_entries(),
+        right.count_clerks(),
+        right.count_actions(),
+        right.count_members(),
+        right.count_asks(),
+        right.last_moment(),
+    )
+}
+
+/// Two tables have the same rows.
+fn assert_same<R: Abort>(rt: &R, left: &Tables, right: &Tables) {
+    assert!(rt; are_same_counts(left, right));
+    for number in 0..4 {
+        assert!(rt; is_same_action(left, right, number));
+        assert!(rt; is_same_member(left, right, number + 1));
+    }
+}
+
+/// Applies an entry to tables beside others of the same history: where that is refused they are as before, and it isn't the
+/// second time.
+fn apply<R: Abort>(
+    rt: &R,
+    tables: &mut Tables,
+    others: &Tables,
+    entry: &Entry,
+) -> Result<(), Memory>
+    requires { Follows tables.old.sheet entry.now }
+    ensures { OnOk result (tables.new.sheet ≡ sheet_after entry.now tables.old.sheet) }
+{
+    if tables.apply(entry).is_err() {
+        assert_same(rt, tables, others);
+        tables.apply(entry)?;
+    }
+    Ok(())
+}
+
+/// Applies an entry to the tables that others are compared with.
+fn follow(tables: &mut Tables, entry: &Entry) -> Result<(), Memory>
+    requires { Follows tables.old.sheet entry.now }
+    ensures { OnOk result (tables.new.sheet ≡ sheet_after entry.now tables.old.sheet) }
+{
+    if tables.apply(entry).is_err() {
+        tables.apply(entry)?;
+    }
+    Ok(())
+}
+
+/// Plans an entry: where that is refused the rows are as before, and it isn't the second time. Then the plan is dropped.
+fn plan<R: Abort>(rt: &R, tables: &mut Tables, others: &Tables, entry: &Entry) -> Result<(), Memory>
+    requires { Follows tables.old.sheet entry.now }
+    ensures { tables.new.sheet ≡ tables.old.sheet }
+{
+    let first = planned(tables, entry);
+    assert_same(rt, tables, others);
+    if first.is_err() {
+        planned(tables, entry)?;
+        assert_same(rt, tables, others);
+    }
+    Ok(())
+}
+
+/// Plans and applies each entry of a history.
+fn fill<R: Abort>(rt: &R, alloc: Global, entries: &[Entry]) -> Result<(), Memory>
+    requires { (v : Version) × (is_legal v is_address entries.now ≡ true) }
+{
+    let mut tables = Tables::empty(alloc);
+    let mut others = Tables::empty(alloc);
+    for entry in entries {
+        plan(rt, &mut tables, &others, entry)?;
+        apply(rt, &mut tables, &others, entry)?;
+        follow(&mut others, entry)?;
+        assert_same(rt, &tables, &others);
+    }
+    Ok(())
+}
+
+#[test]
+fn a_refused_growth_leaves_the_rows_as_they_were(rt: HostRuntime) -> Result<(), Fail> {
+    let (version, entries) = match entries_of(rt.alloc()) {
+        Ok(read) => read,
+        Err(_) => entries_of(rt.alloc())?,
+    };
+    assert_eq!(rt; entries.len(), 27);
+    let sound = match check(rt.alloc(), version, entries.as_slice()) {
+        Ok(verdict) => verdict,
+        Err(_) => check(rt.alloc(), version, entries.as_slice())?,
+    };
+    assert!(rt; matches!(sound, Verdict::Sound(_)));
+    if let Verdict::Sound(_) = sound {
+        fill(&rt, rt.alloc(), entries.as_slice())?;
+    }
+    Ok(())
+}
