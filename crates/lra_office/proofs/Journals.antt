@@ -1,10 +1,11 @@
 -- The whole lines of an office's journal are sound.
-use Rattle.std.proofs.Common.{◌≡◌, ℕ, ◌<◌, ◌^◌, Bool, true, false, List, [], ◌∷◌, ◌++◌, take, refl, sym, ap, ◌∙◌, subst, append_assoc, append-nil}
+use Rattle.std.proofs.Common.{◌≡◌, ℕ, ◌<◌, ◌^◌, Bool, true, false, List, [], ◌++◌, length, take, refl, sym, ap, ◌∙◌, subst, append_assoc, append-nil}
 use Rattle.std.specs.Prelude.{All}
 use Rattle.std.specs.List.{flat_map}
 use Rattle.std.proofs.lemmas.Bool.{true≢false}
 use Rattle.std.proofs.lemmas.List.Concat.{flat_map-append}
-use Rattle.std.proofs.lemmas.List.Elements.{All-tail}
+use Rattle.std.proofs.lemmas.List.Elements.{All-drop}
+use Rattle.std.proofs.lemmas.List.Prefix.{front_rest}
 use Rattle.lra_model.specs.declared.entry.Entry.{Entry}
 use Rattle.lra_model.specs.declared.version.Version.{Version}
 use Rattle.lra_model.specs.History.{History}
@@ -24,10 +25,6 @@ use Rattle.lra_office.specs.Desks.{IsCut}
 use Rattle.lra_office.specs.Wholes.{whole_lines}
 use Rattle.lra_office.specs.Journals.{HasSoundJournal, JournalsAreSound}
 use Rattle.lra_office.proofs.Torn.{IsCutAfter, cut_lines, text_whole}
-
-later : (v : Version) (J es : List Entry) → All (HasLine v) (J ++ es) → All (HasLine v) es
-later v [] es h = h
-later v (e ∷ J) es h = later v J es (All-tail (HasLine v) e (J ++ es) h)
 
 -- a journal from which nothing was torn
 unbroken : (g : Setting) (J : History) (journal : List ℕ) (b : Bool) → g.instance < 2 ^ 60 → IsLawful (terms_of g) J → journal ≡ text g.version g.instance J → HasSoundJournal J journal b
@@ -57,8 +54,11 @@ broken g J journal tail small limits k is torn =
     grown : is_legal g.version is_address (J ++ G) ≡ true
     grown = (call_keeps (terms_of g) J torn.call limits k torn.possible).legal
 
+    lines : All (HasLine g.version) G
+    lines = subst (All (HasLine g.version)) (front_rest (J ++ G) J G refl) (All-drop (HasLine g.version) (length J) (J ++ G) (legal_has_text g.version g.instance (J ++ G) small grown).lines)
+
     after : IsCutAfter G (take torn.count (flat_map line G))
-    after = cut_lines g.version G (later g.version J G (legal_has_text g.version g.instance (J ++ G) small grown).lines) torn.count
+    after = cut_lines g.version G lines torn.count
 
     legal : is_legal g.version is_address (J ++ after.front) ≡ true
     legal = legal_begins g.version is_address (J ++ after.front) after.rest

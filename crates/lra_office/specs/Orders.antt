@@ -9,12 +9,12 @@ use Rattle.lra_ticket.specs.History.{entries_by, number_after}
 use Rattle.lra_ticket.specs.Views.{view, moved}
 use Rattle.lra_ticket.specs.Locks.{last_ticket, tried, HasMissed}
 use Rattle.lra_model.specs.declared.asks.Outcome.{Outcome}
-use Rattle.lra_commands.specs.declared.command.Command.TheVariants.{Record}
 use Rattle.lra_commands.specs.declared.command.Told.{Told}
 use Rattle.lra_commands.specs.Errands.{Asking}
-use Rattle.lra_commands.specs.Calls.{Call, Command}
+use Rattle.lra_commands.specs.Calls.{Call}
 use Rattle.lra_commands.specs.Answers.{growth}
 use Rattle.lra_commands.specs.Counters.{Setting, terms_of}
+use Rattle.lra_core.specs.Performs.{RecordsAs}
 use Rattle.lra_office.specs.declared.fault.OfficeRefusal.{OfficeRefusal}
 use Rattle.lra_office.specs.declared.fault.OfficeRefusal.TheVariants.{Refused, Worn}
 use Rattle.lra_office.specs.declared.fault.TryRefusal.{TryRefusal}
@@ -58,21 +58,10 @@ abbrev pub IsErrand : {O : Type 0} → Setting → View O → Call → Result (O
 IsErrand g v c (Ok e) w = (t : Told) × IsGrown g v c t e w
 IsErrand g v c (Err r) w = IsNotGiven g v c r w
 
--- a command records what came of an errand's ask
-abbrev pub IsRecording : Asking → Outcome → Command → Type 0
-IsRecording e o (Record errand outcome) = (errand.now ≡ e) × (outcome ≡ o)
-IsRecording e o _ = ⊥
-
--- a call records it, under a number and at a moment
-pub record IsRecordOf (c : Call) (number at : ℕ) (e : Asking) (o : Outcome) : Type 0 where
-  pub by : c.by ≡ number
-  pub moment : c.moment ≡ at
-  pub command : IsRecording e o c.command
-
 -- what came of an ask was recorded, or the errand came back
 abbrev pub IsRecorded : {O : Type 0} → Setting → View O → ℕ → ℕ → Asking → Outcome → Result Told (Asking × OfficeRefusal) → View O → Type 0
 IsRecorded g v number at e o result w =
-    (c : Call) × IsRecordOf c number at e o × MatchResult result (λ t. IsTold g v c (Ok t) w) (λ x. (x.0 ≡ e) × IsNotGiven g v c x.1 w)
+    (c : Call) × RecordsAs c number at e o × MatchResult result (λ t. IsTold g v c (Ok t) w) (λ x. (x.0 ≡ e) × IsNotGiven g v c x.1 w)
 
 -- an order that doesn't wait, and wasn't done: it was refused, or the lock was another's, or no ticket was left
 abbrev pub IsNotTried : {O : Type 0} → Setting → View O → Call → TryRefusal → View O → Type 0
