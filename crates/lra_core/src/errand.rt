@@ -9,19 +9,29 @@ use std::marker::Model;
 /// What a clerk asks of the coordinator.
 pub type Command<'a> = lra_commands::Command<'a, Errand>;
 
-/// What an errand says. It is made with the block of its ask, and becomes an errand once that is committed.
+/// What an errand says. A block has it before it is committed; the errand itself is given once it is.
 #[derive(Drop)]
-pub(crate) struct Request {
-    pub(crate) ask: u64,
-    pub(crate) member: u64,
-    pub(crate) action: u64,
-    pub(crate) kind: AskKind,
-    pub(crate) direction: Direction,
-    pub(crate) address: String,
-    pub(crate) action_uri: String,
-    pub(crate) parent_uri: Option<String>,
-    pub(crate) recovery_uri: String,
-    pub(crate) ended: Option<ActionStatus>,
+pub struct Request {
+    /// The number of the ask.
+    pub ask: u64,
+    /// The number of the member that is asked.
+    pub member: u64,
+    /// The number of the member's action.
+    pub action: u64,
+    /// What the member is asked for.
+    pub kind: AskKind,
+    /// Which way the ask goes.
+    pub direction: Direction,
+    /// The address at which the member is asked.
+    pub address: String,
+    /// The URI of the action.
+    pub action_uri: String,
+    /// The URI of the action's parent, where it has one.
+    pub parent_uri: Option<String>,
+    /// The member's recovery URI.
+    pub recovery_uri: String,
+    /// How the action ended, at an after notice.
+    pub ended: Option<ActionStatus>,
 }
 
 impl Model for Request {

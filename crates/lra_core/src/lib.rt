@@ -13,7 +13,7 @@ mod opening;
 pub use bench::Bench;
 pub use block::{Block, Committed, Prepared};
 pub use coordinator::Coordinator;
-pub use errand::{Command, Errand};
+pub use errand::{Command, Errand, Request};
 pub use laws::{
     asks_are_answered_once, blocks_fit_once, commands_make_sound_texts, errands_are_of_asks,
 };
