@@ -3,6 +3,7 @@ use Rattle.std.proofs.Common.{◌≡◌, ℕ, zero, suc, ◌+◌, ◌<◌, ◌�
 use Rattle.std.specs.Prelude.{◌==◌, ◌&&◌, ◌||◌, not, is_some}
 use Rattle.std.specs.Option.{option_or, option_map_or}
 use Rattle.std.proofs.Math.Bool.{or-false, or-true}
+use Rattle.std.proofs.lemmas.Bool.{not-false}
 use Rattle.std.specs.List.{list_all, list_any}
 use Rattle.lra_model.specs.declared.version.Version.{Version}
 use Rattle.lra_model.specs.declared.status.ActionStatus.{ActionStatus}
@@ -186,11 +187,7 @@ has_failed_by : (J : History) (a : ℕ) (s : ActionStatus) → has_failed s ≡ 
 has_failed_by J a s failed h = by_status s failed h
   where
     some_child : children_are_well J a ≡ false → FailedMember J a ⊎ FailedChild J a
-    some_child g = inr (found_at (action_is has_failed J) (children J a) (not_false (list_any (action_is has_failed J) (children J a)) g))
-      where
-        not_false : (b : Bool) → not b ≡ false → b ≡ true
-        not_false true i = refl
-        not_false false i = absurd cc
+    some_child g = inr (found_at (action_is has_failed J) (children J a) (not-false (list_any (action_is has_failed J) (children J a)) g))
 
     -- some member is done with what it was asked for, and not well
     some_member : (done well : MemberStatus → Bool) → ((x : MemberStatus) → done x ≡ true → well x ≡ false → member_has_failed x ≡ true) → list_all (λ q. done (member_status J q)) (staying J a) ≡ true → list_all (λ q. well (member_status J q)) (staying J a) ≡ false → FailedMember J a ⊎ FailedChild J a
