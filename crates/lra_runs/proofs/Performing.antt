@@ -6,13 +6,14 @@ use Rattle.std.specs.Option.{option_map_or}
 use Rattle.std.specs.Result.{is_err}
 use Rattle.std.specs.Io.KnownBytes.{Appends}
 use Rattle.std.proofs.lemmas.List.{append-nil}
-use Rattle.std.proofs.lemmas.List.Elements.{All-head, All-tail}
+use Rattle.std.proofs.lemmas.List.Elements.{All-tail}
+use Rattle.std.proofs.lemmas.List.Folds.{flat_map-map}
 use Rattle.lra_model.specs.declared.entry.Entry.{Entry}
 use Rattle.lra_model.specs.declared.version.Version.{Version}
 use Rattle.lra_model.specs.History.{History}
 use Rattle.lra_journal.specs.Line.{line, HasLine}
 use Rattle.lra_journal.specs.Lines.{lines_of}
-use Rattle.lra_journal.proofs.Apart.{body_of, body_lacks, lines_of_feed}
+use Rattle.lra_journal.proofs.Apart.{lines_of_entries}
 use Rattle.lra_auditor.proofs.LegalTexts.{legal_has_text}
 use Rattle.lra_commands.specs.declared.command.Told.{Told}
 use Rattle.lra_commands.specs.declared.refusal.Refusal.{Refusal}
@@ -33,12 +34,8 @@ use Rattle.lra_runs.proofs.Growths.{growth_told, growth_refused}
 -- ---- the lines of a block
 
 -- the lines of entries are marked one by one
-pub marked_are : (v : Version) (es : List Entry) → All (HasLine v) es → flat_map marked (lines_of (flat_map line es)) ≡ marked_entries es
-marked_are v [] h = refl
-marked_are v (e ∷ es) h =
-    let first = lines_of_feed (body_of e) (flat_map line es) (body_lacks v e (All-head (HasLine v) e es h)) in
-    ap (λ (t : List ℕ). flat_map marked (lines_of t)) (append_assoc (body_of e) (10 ∷ []) (flat_map line es)) ∙ ap (flat_map marked) first
-    ∙ ap (λ (t : List ℕ). marked (line e) ++ t) (marked_are v es (All-tail (HasLine v) e es h))
+marked_are : (v : Version) (es : List Entry) → All (HasLine v) es → flat_map marked (lines_of (flat_map line es)) ≡ marked_entries es
+marked_are v es h = ap (flat_map marked) (lines_of_entries v es h) ∙ flat_map-map marked line es
 
 -- one line more is marked
 pub marked_more : (text out next rest front others : List ℕ) (n : ℕ) → flat_map marked (lines_of text) ≡ out ++ flat_map marked (lines_of rest) → lines_of rest ≡ take n rest ∷ lines_of (drop n rest) → front ≡ take n rest

@@ -1,13 +1,13 @@
 -- A script that is played line by line.
-use Rattle.std.proofs.Common.{◌≡◌, ◌≢◌, ℕ, ◌+◌, ◌<◌, ◌≤◌, Bool, true, false, cond, ◌||◌, List, [], ◌∷◌, ◌++◌, length, Option, Some, None, refl, sym, ap, subst, ◌∙◌, append_assoc, arith}
+use Rattle.std.proofs.Common.{◌≡◌, ◌≢◌, ℕ, ◌+◌, ◌<◌, ◌≤◌, Bool, true, false, cond, ◌||◌, List, [], ◌∷◌, ◌++◌, length, take, drop, eqb, Option, Some, None, refl, sym, ap, subst, ◌∙◌, append_assoc, arith}
 use Rattle.std.specs.Prelude.{All, IsTrue, Result, Ok, Err, IfErr}
 use Rattle.std.specs.Result.{IsErrAnd, is_err}
 use Rattle.std.specs.List.{flat_map, join_with_byte}
 use Rattle.std.specs.Io.KnownBytes.{Appends}
 use Rattle.std.proofs.KnownBytes.{Appends-trans}
-use Rattle.std.proofs.lemmas.Bool.{false≢true}
+use Rattle.std.proofs.lemmas.Bool.{false≢true, eqb-false}
 use Rattle.std.proofs.lemmas.Option.{none-some, same_Some}
-use Rattle.std.proofs.lemmas.List.{append-nil, length_push, length-append}
+use Rattle.std.proofs.lemmas.List.{append-nil, length_push, length-append, take-append-drop}
 use Rattle.std.proofs.lemmas.List.Elements.{All-nil, All-push}
 use Rattle.lra_model.specs.declared.version.Version.TheVariants.{Two}
 use Rattle.lra_journal.specs.Line.{header}
@@ -63,16 +63,16 @@ none_torn s rest h = λ l more has may same.
     feed_in (join_with_byte 32 (words_of_request_line l)) more (subst (All (λ b. b ≢ 10)) whole h)
 
 -- whatever line of a script bytes begin with, it is the first line of them
-first_is : (rest front others more : List ℕ) (l : RequestLine) → IsLine front → rest ≡ front ++ others → IsRequestLine l → rest ≡ request_line l ++ more → front ≡ request_line l
-first_is rest front others more l is parts has same = line_front front others (join_with_byte 32 (words_of_request_line l)) more is (lacks_feed l has) (sym parts ∙ same)
+first_is : (rest : List ℕ) (n : ℕ) (more : List ℕ) (l : RequestLine) → IsLine (take n rest) → IsRequestLine l → rest ≡ request_line l ++ more → take n rest ≡ request_line l
+first_is rest n more l is has same = line_front (take n rest) (drop n rest) (join_with_byte 32 (words_of_request_line l)) more is (lacks_feed l has) (take-append-drop n rest ∙ same)
 
-pub none_at : (s : Stage) (rest front others : List ℕ) → IsLine front → rest ≡ front ++ others → ((l : RequestLine) → IsRequestLine l → front ≡ request_line l → None ≡ Some l) → BeginsWithNone s rest
-none_at s rest front others is parts none = λ l more has may same. none-some l (none l has (first_is rest front others more l is parts has same))
+pub none_at : (s : Stage) (rest : List ℕ) (n : ℕ) → IsLine (take n rest) → ((l : RequestLine) → IsRequestLine l → take n rest ≡ request_line l → None ≡ Some l) → BeginsWithNone s rest
+none_at s rest n is none = λ l more has may same. none-some l (none l has (first_is rest n more l is has same))
 
-pub none_playable : (s : Stage) (rest front others : List ℕ) (x : RequestLine) → IsLine front → rest ≡ front ++ others → ((l : RequestLine) → IsRequestLine l → front ≡ request_line l → Some x ≡ Some l) → is_playable s x ≡ false
+pub none_playable : (s : Stage) (rest : List ℕ) (n : ℕ) (x : RequestLine) → IsLine (take n rest) → ((l : RequestLine) → IsRequestLine l → take n rest ≡ request_line l → Some x ≡ Some l) → is_playable s x ≡ false
     → BeginsWithNone s rest
-none_playable s rest front others x is parts one bad = λ l more has may same.
-    let equal : x ≡ l = same_Some x l (one l has (first_is rest front others more l is parts has same)) in
+none_playable s rest n x is one bad = λ l more has may same.
+    let equal : x ≡ l = same_Some x l (one l has (first_is rest n more l is has same)) in
     false≢true (sym bad ∙ ap (is_playable s) equal ∙ may)
 
 -- ---- between two lines
@@ -137,29 +137,28 @@ plays_whole script before now p b n status rest d end e =
       answered = e ∙ ap (λ (x : Bool). cond x 1 0) d.refused;
     }
 
-pub stops_here : (script : List ℕ) (before now : Option (List ℕ)) (p : Player) (b : Bool) (n : ℕ) (rest : List ℕ) → IsPlayed script before now p b n rest → 0 < length rest → BeginsWithNone (stage_of p) rest
-    → PlaysUpToLine script (n + 1) before now
-stops_here script before now p b n rest d more bad =
-    record {
-      lines = d.lines;
-      rest = rest;
-      read = d.read;
-      goes_on = more;
-      bad = subst (λ (s : Stage). BeginsWithNone s rest) d.stage bad;
-      place = ap (λ (k : ℕ). k + 1) d.counted;
-      written = d.written;
-    }
-
 -- ---- faults
 
 number_of : Result ℕ RunFault → ℕ
 number_of (Err (fault.Line n)) = n
 number_of _ = 0
 
--- one line is named
-pub same_line : (m n : ℕ) (r : Result ℕ RunFault) → r ≡ Err (fault.Line m) → r ≡ Err (fault.Line n) → m ≡ n
+-- the fault that names the next line, where more is to come of which no line can be played
+pub stops_here : (script : List ℕ) (before now : Option (List ℕ)) (p : Player) (b : Bool) (n m : ℕ) (rest : List ℕ) (r : Result ℕ RunFault) → IsPlayed script before now p b n rest → eqb (length rest) 0 ≡ false
+    → BeginsWithNone (stage_of p) rest → r ≡ Err (fault.Line (n + 1)) → r ≡ Err (fault.Line m) → PlaysUpToLine script m before now
 unfolding number_of
-same_line m n r a b = ap number_of (sym a ∙ b)
+stops_here script before now p b n m rest r d some bad named is =
+    let more : length rest ≢ 0 = eqb-false _ _ some in
+    let place : n + 1 ≡ m = ap number_of (sym named ∙ is) in
+    record {
+      lines = d.lines;
+      rest = rest;
+      read = d.read;
+      goes_on = omega (arith, more);
+      bad = subst (λ (s : Stage). BeginsWithNone s rest) d.stage bad;
+      place = sym place ∙ ap (λ (k : ℕ). k + 1) d.counted;
+      written = d.written;
+    }
 
 -- a fault of writing is one of playing
 output_is_play : (f : RunFault) → IsOfOutput f → IsOfPlay f

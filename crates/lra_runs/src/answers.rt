@@ -1,13 +1,13 @@
 //! What is printed of an answer.
 
-ghost use Rattle.std.specs.Prelude.{◌≡◌, ◌++◌, ◌∷◌, [], IfOk, Err, codes, string_bytes};
+ghost use Rattle.std.specs.Prelude.{◌≡◌, ◌++◌, ◌∷◌, [], IfOk, Ok, Err, codes, string_bytes};
 ghost use Rattle.std.specs.Fmt.{decimal};
 ghost use Rattle.lra_runs.specs.Report.{joined, line_feed};
-ghost use Rattle.std.specs.Option.{option_copied};
+ghost use Rattle.std.specs.Option.{option_copied, option_map_or};
 ghost use Rattle.lra_runs.specs.Play.{told_text, refusal_detail, answer_line, errand_line};
 ghost use Rattle.lra_runs.specs.inner.Details.{detail_text};
 
-use lra_core::{Errand, Memory, Refusal, Told};
+use lra_core::{Block, Memory, Refusal, Request, Told};
 use std::alloc::Global;
 
 /// A line of a word and a number.
@@ -49,15 +49,25 @@ pub(crate) fn line_of_told(alloc: Global, told: Told) -> Result<String, Memory>
     }
 }
 
-/// The line of an errand that was given.
-pub(crate) fn line_of_errand(alloc: Global, errand: &Errand) -> Result<String, Memory>
-    ensures { IfOk result (λ text. string_bytes text ≡ errand_line errand.now) }
+/// The line of what a member is asked.
+fn line_of_request(alloc: Global, request: &Request) -> Result<String, Memory>
+    ensures { IfOk result (λ text. string_bytes text ≡ errand_line request.now) }
 {
-    let ask = errand.ask();
-    let member = errand.member();
-    let kind = errand.kind().name();
-    let address = errand.address();
+    let ask = request.ask;
+    let member = request.member;
+    let kind = request.kind.name();
+    let address = request.address.as_str();
     format!(in alloc; "ask {ask} {member} {kind} {address}\n")
+}
+
+/// The line of a block: of what it asks a member, else of what is told.
+pub(crate) fn line_of_block(alloc: Global, block: &Block) -> Result<String, Memory>
+    ensures { IfOk result (λ text. string_bytes text ≡ option_map_or errand_line block.now.errand (answer_line (Ok block.now.told))) }
+{
+    match block.request() {
+        Some(request) => line_of_request(alloc, request),
+        None => line_of_told(alloc, block.told()),
+    }
 }
 
 /// What a refusal says beside its name: the action's status, or what there is too much of.

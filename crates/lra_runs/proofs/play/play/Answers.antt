@@ -1,12 +1,12 @@
-use Rattle.std.proofs.Common.{refl, ◌≡◌, ◌≢◌, ◌<◌, ◌+◌, ◌++◌, ℕ, List, Option, length, take, drop, sym, ap, subst, ◌∙◌, arith}
-use Rattle.std.proofs.lemmas.Bool.{eqb-true, eqb-false}
+use Rattle.std.proofs.Common.{refl, ◌≡◌, ◌++◌, ℕ, List, Option, length, sym, ap, subst, ◌∙◌, arith}
+use Rattle.std.proofs.lemmas.Bool.{eqb-true}
 use Rattle.std.specs.Io.KnownBytes.{Appends}
 use Rattle.std.proofs.lemmas.List.{take-append-drop, length_push, nil_from_length}
 use Rattle.lra_core.specs.Shape.{Shape}
 use Rattle.lra_runs.specs.Play.{PlaysUpToLine}
 use Rattle.lra_runs.specs.inner.Causes.{IsOfOutput}
 use Rattle.lra_runs.specs.inner.Players.{stage_of, ComesTo}
-use Rattle.lra_runs.proofs.Playing.{play_fault, played_none, played_more, plays_whole, stops_here, none_torn, none_at, none_playable, same_line}
+use Rattle.lra_runs.proofs.Playing.{play_fault, played_none, played_more, plays_whole, stops_here, none_torn, none_at, none_playable}
 use Rattle.lra_runs.proofs.play.play.Goals as goal
 
 pub loop-rest-init : goal.loop-rest-init
@@ -22,41 +22,28 @@ returns-in_default-clause-line g c = λ n e.
     let before = g.W.Write.contents c.args.writer.now in
     let now = g.W.Write.contents c.loop-rest.writer in
     let rest = c.loop-rest.rest.now in
-    let place = same_line (c.loop-rest.number + 1) n _ refl e in
-    let some : length rest ≢ 0 = eqb-false _ _ (sym c.is_empty.ensures ∙ c.loop-rest-test.true) in
-    let more : 0 < length rest = omega (arith, some) in
-    subst (λ (m : ℕ). PlaysUpToLine c.args.script.now m before now) place
-    (stops_here c.args.script.now before now c.loop-rest.player c.loop-rest.is_refused c.loop-rest.number rest c.loop-rest.invariant more (none_torn (stage_of c.loop-rest.player) rest c.in_default.ensures.none))
+    stops_here c.args.script.now before now c.loop-rest.player c.loop-rest.is_refused c.loop-rest.number n rest _ c.loop-rest.invariant (sym c.is_empty.ensures ∙ c.loop-rest-test.true)
+    (none_torn (stage_of c.loop-rest.player) rest c.in_default.ensures.none) refl e
 
 pub returns-in_default-read_request_line-clause-line : goal.returns-in_default-read_request_line-clause-line
 returns-in_default-read_request_line-clause-line g c = λ n e.
     let before = g.W.Write.contents c.args.writer.now in
     let now = g.W.Write.contents c.loop-rest.writer in
     let rest = c.loop-rest.rest.now in
-    let parts : rest ≡ take c.in-Some.end rest ++ drop c.in-Some.end rest = sym (take-append-drop c.in-Some.end rest) in
-    let place = same_line (c.loop-rest.number + 1) n _ refl e in
-    let some : length rest ≢ 0 = eqb-false _ _ (sym c.is_empty.ensures ∙ c.loop-rest-test.true) in
-    let more : 0 < length rest = omega (arith, some) in
-    subst (λ (m : ℕ). PlaysUpToLine c.args.script.now m before now) place
-    (stops_here c.args.script.now before now c.loop-rest.player c.loop-rest.is_refused c.loop-rest.number rest c.loop-rest.invariant more
-    (none_at (stage_of c.loop-rest.player) rest (take c.in-Some.end rest) (drop c.in-Some.end rest) c.in-Some.ensures.found.1 parts (λ l has same. c.in_default-read_request_line.ensures.all l has (c.split_at.ensures.front ∙ same))))
+    let none = none_at (stage_of c.loop-rest.player) rest c.in-Some.end c.in-Some.ensures.found.1 (λ l has same. c.in_default-read_request_line.ensures.all l has (c.split_at.ensures.front ∙ same)) in
+    stops_here c.args.script.now before now c.loop-rest.player c.loop-rest.is_refused c.loop-rest.number n rest _ c.loop-rest.invariant (sym c.is_empty.ensures ∙ c.loop-rest-test.true) none refl e
 
 pub returns-in_default-2-clause-line : goal.returns-in_default-2-clause-line
 returns-in_default-2-clause-line g c = λ n e.
     let before = g.W.Write.contents c.args.writer.now in
     let now = g.W.Write.contents c.loop-rest.writer in
     let rest = c.loop-rest.rest.now in
-    let parts : rest ≡ take c.in-Some.end rest ++ drop c.in-Some.end rest = sym (take-append-drop c.in-Some.end rest) in
-    let place = same_line (c.loop-rest.number + 1) n _ refl e in
-    let some : length rest ≢ 0 = eqb-false _ _ (sym c.is_empty.ensures ∙ c.loop-rest-test.true) in
-    let more : 0 < length rest = omega (arith, some) in
+    let line = c.in-Some-read_request_line.line in
     let next = g.W.Write.contents c.play.new.writer in
-    let played = subst (ComesTo (stage_of c.loop-rest.player) c.in-Some-read_request_line.line (stage_of c.play.new.self) now next) c.in_default-2.is c.in_ok-was_refused.ensures.played in
+    let played = subst (ComesTo (stage_of c.loop-rest.player) line (stage_of c.play.new.self) now next) c.in_default-2.is c.in_ok-was_refused.ensures.played in
+    let none = none_playable (stage_of c.loop-rest.player) rest c.in-Some.end line c.in-Some.ensures.found.1 (λ l has same. c.in-Some-read_request_line.ensures.all l has (c.split_at.ensures.front ∙ same)) played.0 in
     subst (λ (w : Option (List ℕ)). PlaysUpToLine c.args.script.now n before w) (sym played.1)
-    (subst (λ (m : ℕ). PlaysUpToLine c.args.script.now m before now) place
-    (stops_here c.args.script.now before now c.loop-rest.player c.loop-rest.is_refused c.loop-rest.number rest c.loop-rest.invariant more
-    (none_playable (stage_of c.loop-rest.player) rest (take c.in-Some.end rest) (drop c.in-Some.end rest) c.in-Some-read_request_line.line c.in-Some.ensures.found.1 parts
-    (λ l has same. c.in-Some-read_request_line.ensures.all l has (c.split_at.ensures.front ∙ same)) played.0)))
+    (stops_here c.args.script.now before now c.loop-rest.player c.loop-rest.is_refused c.loop-rest.number n rest _ c.loop-rest.invariant (sym c.is_empty.ensures ∙ c.loop-rest-test.true) none refl e)
 
 pub loop-rest-preserved : goal.loop-rest-preserved
 loop-rest-preserved g c =
