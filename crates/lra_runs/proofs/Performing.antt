@@ -1,12 +1,13 @@
 -- What came of a call, by what the coordinator prepares.
-use Rattle.std.proofs.Common.{◌≡◌, ℕ, ◌<◌, ◌^◌, arith, Bool, true, false, cond, List, [], ◌∷◌, ◌++◌, take, drop, Option, Some, None, refl, sym, ap, subst, ◌∙◌, append_assoc}
+use Rattle.std.proofs.Common.{◌≡◌, ℕ, ◌<◌, ◌^◌, arith, Bool, true, false, cond, List, [], ◌∷◌, ◌++◌, length, take, drop, Option, Some, None, refl, sym, ap, subst, ◌∙◌, append_assoc}
 use Rattle.std.specs.Prelude.{All, codes, Result, Ok, Err}
 use Rattle.std.specs.List.{flat_map}
 use Rattle.std.specs.Option.{option_map_or}
 use Rattle.std.specs.Result.{is_err}
 use Rattle.std.specs.Io.KnownBytes.{Appends}
 use Rattle.std.proofs.lemmas.List.{append-nil}
-use Rattle.std.proofs.lemmas.List.Elements.{All-tail}
+use Rattle.std.proofs.lemmas.List.Elements.{All-drop}
+use Rattle.std.proofs.lemmas.List.Prefix.{front_rest}
 use Rattle.std.proofs.lemmas.List.Folds.{flat_map-map}
 use Rattle.lra_model.specs.declared.entry.Entry.{Entry}
 use Rattle.lra_model.specs.declared.version.Version.{Version}
@@ -49,16 +50,13 @@ marked_more text out next rest front others n h first f o made =
 pub marked_all : (text out rest : List ℕ) → flat_map marked (lines_of text) ≡ out ++ flat_map marked (lines_of rest) → rest ≡ [] → out ≡ flat_map marked (lines_of text)
 marked_all text out rest h end = sym (h ∙ ap (λ (r : List ℕ). out ++ flat_map marked (lines_of r)) end ∙ append-nil out)
 
-later : (v : Version) (J es : List Entry) → All (HasLine v) (J ++ es) → All (HasLine v) es
-later v [] es h = h
-later v (e ∷ J) es h = later v J es (All-tail (HasLine v) e (J ++ es) h)
-
 -- so are those of the last entries of a coordinator's history
 pub marked_last : (d : Shape) (J : History) (es : List Entry) → IsCoordinator d → d.history ≡ J ++ es → flat_map marked (lines_of (flat_map line es)) ≡ marked_entries es
 marked_last d J es h grown =
     let zero_instance : 0 < 2 ^ 60 = omega arith in
     let text = legal_has_text d.setting.version 0 d.history zero_instance h.history.legal in
-    marked_are d.setting.version es (later d.setting.version J es (subst (All (HasLine d.setting.version)) grown text.lines))
+    let all : All (HasLine d.setting.version) (J ++ es) = subst (All (HasLine d.setting.version)) grown text.lines in
+    marked_are d.setting.version es (subst (All (HasLine d.setting.version)) (front_rest (J ++ es) J es refl) (All-drop (HasLine d.setting.version) (length J) (J ++ es) all))
 
 -- ---- what came of a call
 

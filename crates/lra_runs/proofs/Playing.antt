@@ -1,5 +1,5 @@
 -- A script that is played line by line.
-use Rattle.std.proofs.Common.{◌≡◌, ◌≢◌, ℕ, ◌+◌, ◌<◌, ◌≤◌, Bool, true, false, cond, ◌||◌, List, [], ◌∷◌, ◌++◌, length, take, drop, eqb, Option, Some, None, refl, sym, ap, subst, ◌∙◌, append_assoc, arith}
+use Rattle.std.proofs.Common.{◌≡◌, ◌≢◌, ℕ, ◌+◌, ◌<◌, Bool, true, false, cond, ◌||◌, List, [], ◌∷◌, ◌++◌, length, take, drop, eqb, Option, Some, None, refl, sym, ap, subst, ◌∙◌, append_assoc, arith}
 use Rattle.std.specs.Prelude.{All, IsTrue, Result, Ok, Err, IfErr}
 use Rattle.std.specs.Result.{IsErrAnd, is_err}
 use Rattle.std.specs.List.{flat_map, join_with_byte}
@@ -18,10 +18,10 @@ use Rattle.lra_runs.specs.declared.fault.RunFault.TheVariants as fault
 use Rattle.lra_runs.specs.declared.player.Player.{Player}
 use Rattle.lra_runs.specs.declared.requests.RequestLine.{RequestLine}
 use Rattle.lra_runs.specs.Requests.{words_of_request_line, request_line, IsRequestLine}
-use Rattle.lra_runs.specs.Script.{player, Stage, first_stage, is_playable, line_answer, after_line, after_lines, ArePlayable, Begins, BeginsWithNone}
+use Rattle.lra_runs.specs.Script.{player, Stage, first_stage, is_playable, line_answer, after_line, after_lines, ArePlayable, BeginsWithNone}
 use Rattle.lra_runs.specs.Play.{marked, played_line, played_lines, played, some_refused, Plays, PlaysUpToLine}
 use Rattle.lra_runs.specs.inner.Causes.{IsOfOutput, IsOfPlay}
-use Rattle.lra_runs.specs.inner.Players.{holding, stage_of, IsPlayedLine}
+use Rattle.lra_runs.specs.inner.Players.{holding, stage_of, IsPlayedLine, IsPlayed}
 use Rattle.lra_runs.proofs.RequestLines.{lacks_feed}
 
 -- ---- one line more
@@ -76,17 +76,6 @@ none_playable s rest n x is one bad = λ l more has may same.
     false≢true (sym bad ∙ ap (is_playable s) equal ∙ may)
 
 -- ---- between two lines
-
--- lines were read and played, what they print was written, and the rest is to come
-pub record IsPlayed (script : List ℕ) (before now : Option (List ℕ)) (p : Player) (is_refused : Bool) (number : ℕ) (rest : List ℕ) : Type 0 where
-  pub lines : List RequestLine
-  pub read : Begins script lines rest
-  pub written : Appends before now (played lines)
-  pub setting : p.coordinator.setting ≡ player
-  pub stage : stage_of p ≡ after_lines first_stage lines
-  pub refused : is_refused ≡ some_refused first_stage lines
-  pub counted : number ≡ length lines
-  pub within : number + length rest ≤ length script
 
 pub played_none : (script : List ℕ) (before now : Option (List ℕ)) (p : Player) → p.coordinator.setting ≡ player → p.coordinator.history ≡ [] → ((ask : ℕ) → holding p.held ask ≡ None)
     → Appends before now (marked (header Two 7)) → IsPlayed script before now p false 0 script

@@ -1,5 +1,5 @@
 -- A player between two lines, and what it does with one.
-use Rattle.std.specs.Prelude.{◌≡◌, ℕ, Bool, true, false, List, Option, Some, None, nat_eq}
+use Rattle.std.specs.Prelude.{◌≡◌, ◌≤◌, ◌+◌, ℕ, Bool, true, false, List, length, Option, Some, None, nat_eq}
 use Rattle.std.specs.HashMap.{HashMap, get}
 use Rattle.std.specs.Io.KnownBytes.{Appends}
 use Rattle.std.specs.Result.{is_err}
@@ -17,8 +17,8 @@ use Rattle.lra_runs.specs.declared.player.Player.{Player}
 use Rattle.lra_runs.specs.declared.requests.Request.{Request}
 use Rattle.lra_runs.specs.declared.requests.Request.TheVariants as request
 use Rattle.lra_runs.specs.declared.requests.RequestLine.{RequestLine}
-use Rattle.lra_runs.specs.Script.{player, Holding, Stage, lent, given_by, line_answer, is_playable, after_line}
-use Rattle.lra_runs.specs.Play.{call_text, played_line}
+use Rattle.lra_runs.specs.Script.{player, Holding, Stage, lent, given_by, line_answer, is_playable, first_stage, after_line, after_lines, Begins}
+use Rattle.lra_runs.specs.Play.{call_text, played_line, played, some_refused}
 
 -- a map of errands by the numbers of their asks
 abbrev pub Shelf : Type 0
@@ -66,3 +66,14 @@ pub record IsPlayedLine (s : Stage) (l : RequestLine) (t : Stage) (is_refused : 
 abbrev pub ComesTo : Stage → RequestLine → Stage → Option (List ℕ) → Option (List ℕ) → Option Bool → Type 0
 ComesTo s l t was now None = (is_playable s l ≡ false) × (now ≡ was)
 ComesTo s l t was now (Some is_refused) = IsPlayedLine s l t is_refused was now
+
+-- lines were read and played, what they print was written, and the rest is to come
+pub record IsPlayed (script : List ℕ) (before now : Option (List ℕ)) (p : Player) (is_refused : Bool) (number : ℕ) (rest : List ℕ) : Type 0 where
+  pub lines : List RequestLine
+  pub read : Begins script lines rest
+  pub written : Appends before now (played lines)
+  pub setting : p.coordinator.setting ≡ player
+  pub stage : stage_of p ≡ after_lines first_stage lines
+  pub refused : is_refused ≡ some_refused first_stage lines
+  pub counted : number ≡ length lines
+  pub within : number + length rest ≤ length script

@@ -2,7 +2,6 @@ use Rattle.std.proofs.Common.{◌∙◌, sym}
 use Rattle.std.proofs.lemmas.Bool.{not-false}
 use Rattle.std.proofs.lemmas.Slice.Eq.{bytes_eq-Decides}
 use Rattle.lra_model.specs.declared.version.Version.TheVariants.{Two}
-use Rattle.lra_commands.specs.Counters.{Setting}
 use Rattle.lra_runs.specs.Script.{player}
 use Rattle.lra_runs.proofs.play.coordinator.Goals as goal
 

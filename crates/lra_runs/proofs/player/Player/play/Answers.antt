@@ -1,6 +1,5 @@
-use Rattle.std.proofs.Common.{◌≡◌, ◌∙◌, Option, sym, ap}
+use Rattle.std.proofs.Common.{◌∙◌, sym, ap}
 use Rattle.std.specs.Prelude.{option_map}
-use Rattle.lra_commands.specs.Calls.{Command}
 use Rattle.lra_runs.specs.inner.Players.{holding, placed}
 use Rattle.lra_runs.proofs.Lined.{played_by, refused_by}
 use Rattle.lra_runs.proofs.player.Player.play.Goals as goal
