@@ -1,5 +1,5 @@
 -- What came of a call, by what the coordinator prepares.
-use Rattle.std.proofs.Common.{◌≡◌, ℕ, ◌<◌, ◌^◌, arith, Bool, true, false, cond, List, [], ◌∷◌, ◌++◌, length, take, drop, Option, Some, None, refl, sym, ap, subst, ◌∙◌, append_assoc}
+use Rattle.std.proofs.Common.{◌≡◌, ℕ, ◌<◌, ◌^◌, arith, true, false, cond, List, [], ◌∷◌, ◌++◌, length, take, drop, Option, None, refl, sym, ap, subst, ◌∙◌, append_assoc}
 use Rattle.std.specs.Prelude.{All, codes, Result, Ok, Err}
 use Rattle.std.specs.List.{flat_map}
 use Rattle.std.specs.Option.{option_map_or}
@@ -21,8 +21,8 @@ use Rattle.lra_commands.specs.declared.refusal.Refusal.{Refusal}
 use Rattle.lra_commands.specs.Errands.{Asking}
 use Rattle.lra_commands.specs.Calls.{Call}
 use Rattle.lra_commands.specs.Blocks.{block}
-use Rattle.lra_commands.specs.Answers.{answer, growth, after_call}
-use Rattle.lra_commands.specs.Counters.{Setting, terms_of}
+use Rattle.lra_commands.specs.Answers.{answer, growth}
+use Rattle.lra_commands.specs.Counters.{terms_of}
 use Rattle.lra_commands.specs.Given.{errand_of}
 use Rattle.lra_core.specs.Shape.{Shape, IsSame, IsGrown, IsCoordinator}
 use Rattle.lra_core.proofs.Performing.{told_done}
