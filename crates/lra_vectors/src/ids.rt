@@ -355,6 +355,7 @@ fn spelled_identifiers(rt: HostRuntime) -> Result<(), Fail> {
 const NO_IDENTIFIERS: &str = "\
 http://p.test/lra-coordinator/00000000-0000-8008-8000-000000000001
 http://p.test:81/lra-coordinator/00000000-0000-8007-8000-000000000001
+http://p.test/lra-coordinator/ffffffff-ffff-8fff-bfff-ffffffffffff
 http://p.test/lra-coordinator/00000000-0000-8007-8000-00000000000A
 00000000-0000-7007-8000-000000000001
 00000000-0000-8007-c000-000000000001
@@ -377,6 +378,9 @@ fn texts_that_are_no_identifiers(rt: HostRuntime) -> Result<(), Fail> {
     }
     assert!(rt; read_id("", seven).is_none());
     assert!(rt; read_id("00000000-0000-8007-8000-000000000001 ", seven).is_none());
+    let last = Instance::new((1 << 60) - 1).ok_or("refused")?;
+    let capital = "http://p.test/lra-coordinator/ffffffff-ffff-8fff-bfff-fffffffffffF";
+    assert_eq!(rt; readings(capital, last, &base), [None, None, None]);
     Ok(())
 }
 

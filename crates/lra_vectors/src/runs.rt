@@ -14,6 +14,16 @@ const LISTED: &str = "action 1 * Active\naction 2 1 Active\n";
 
 const UPGRADED: &str = "lra-journal 2 7\n1 0 enrol\n1 0 start 1 * 0\n1 5 start 2 1 0\n";
 
+const CLOSED: &str =
+    "lra-journal 1 7\n1 0 enrol\n1 0 start 1 * 0\n1 5 close 1 client\n1 5 end 1 Closed\n";
+
+const CLOSED_UPGRADED: &str =
+    "lra-journal 2 7\n1 0 enrol\n1 0 start 1 * 0\n1 5 close 1 client\n1 5 end 1 Closed\n";
+
+/// A journal whose action ends as it can't.
+const MISTAKEN: &str =
+    "lra-journal 1 7\n1 0 enrol\n1 0 start 1 * 0\n1 5 close 1 client\n1 5 end 1 FailedToClose\n";
+
 /// A script that closes an action with a member, and records twice what came of its ask.
 const SCRIPT: &str =
     "0 0 enrol\n1 0 start * 9\n1 1 join 1 http://p.test/u http://p.test/c * * *\n1 5 close 1\n1 6 ask\n1 7 reply 1 done\n1 8 reply 1 done\n";
@@ -62,10 +72,21 @@ fn invocations_are_carried_out(rt: HostRuntime) -> Result<(), Fail> {
 }
 
 /// What is asked for of a file, what is read there, what is printed, and the status.
-const FILES: [(Invocation<'static>, &str, &str, u8); 4] = [
+const FILES: [(Invocation<'static>, &str, &str, u8); 5] = [
     (Invocation::Audit { file: "it" }, JOURNAL, AUDITED, 0),
     (Invocation::Show { file: "it" }, JOURNAL, LISTED, 0),
-    (Invocation::Upgrade { file: "it" }, JOURNAL, UPGRADED, 0),
+    (
+        Invocation::Upgrade { file: "it" },
+        CLOSED,
+        CLOSED_UPGRADED,
+        0,
+    ),
+    (
+        Invocation::Upgrade { file: "it" },
+        MISTAKEN,
+        "unsound line 5 ending\n",
+        1,
+    ),
     (Invocation::Play { script: "it" }, SCRIPT, PLAYED, 1),
 ];
 
