@@ -13,6 +13,7 @@ use Rattle.lra_model.specs.declared.version.Version.TheVariants.{Two}
 use Rattle.lra_journal.specs.Line.{header}
 use Rattle.lra_journal.specs.Lines.{IsLine}
 use Rattle.lra_journal.proofs.Texts.{feed_in, line_front, one_more}
+use Rattle.lra_core.specs.Shape.{Shape}
 use Rattle.lra_runs.specs.declared.fault.RunFault.{RunFault}
 use Rattle.lra_runs.specs.declared.fault.RunFault.TheVariants as fault
 use Rattle.lra_runs.specs.declared.player.Player.{Player}
@@ -77,24 +78,25 @@ none_playable s rest n x is one bad = λ l more has may same.
 
 -- ---- between two lines
 
-pub played_none : (script : List ℕ) (before now : Option (List ℕ)) (p : Player) → p.coordinator.setting ≡ player → p.coordinator.history ≡ [] → ((ask : ℕ) → holding p.held ask ≡ None)
-    → Appends before now (marked (header Two 7)) → IsPlayed script before now p false 0 script
-played_none script before now p setting history held written =
+pub played_none : (script text : List ℕ) (before now : Option (List ℕ)) (p : Player) (d : Shape) → p.coordinator ≡ d → d.history ≡ [] → ((ask : ℕ) → holding p.held ask ≡ None)
+    → text ≡ marked (header Two 7) → Appends before now text → IsPlayed script before now p false 0 script
+played_none script text before now p d same none held is written =
     record {
       lines = [];
       read = record { allowed = All-nil IsRequestLine; playable = tt; whole = refl };
-      written = subst (Appends before now) (sym (append-nil (marked (header Two 7)))) written;
-      setting = setting;
+      written = subst (Appends before now) (is ∙ sym (append-nil (marked (header Two 7)))) written;
       stage = λ i. record { history = history i; held = λ ask. held ask i };
       refused = refl;
       counted = refl;
-      within = omega arith;
     }
+  where
+    history : p.coordinator.history ≡ []
+    history = ap (λ (c : Shape). c.history) same ∙ none
 
 pub played_more : (script : List ℕ) (before now next : Option (List ℕ)) (p q : Player) (b r : Bool) (n : ℕ) (rest front others : List ℕ) (l : RequestLine) → IsPlayed script before now p b n rest
-    → IsRequestLine l → rest ≡ front ++ others → front ≡ request_line l → 0 < length front → q.coordinator.setting ≡ player → IsPlayedLine (stage_of p) l (stage_of q) r now next
+    → IsRequestLine l → rest ≡ front ++ others → front ≡ request_line l → IsPlayedLine (stage_of p) l (stage_of q) r now next
     → IsPlayed script before next q (b || r) (n + 1) others
-played_more script before now next p q b r n rest front others l d has parts is some setting h =
+played_more script before now next p q b r n rest front others l d has parts is h =
     record {
       lines = d.lines ++ l ∷ [];
       read = record {
@@ -103,11 +105,9 @@ played_more script before now next p q b r n rest front others l d has parts is 
         whole = one_more request_line script rest front others d.lines l d.read.whole parts is;
       };
       written = subst (Appends before next) (sym whole) (Appends-trans before now next (played d.lines) (played_line (after_lines first_stage d.lines) l) d.written k.written);
-      setting = setting;
       stage = k.stage ∙ sym (after_push first_stage d.lines l);
       refused = (λ i. d.refused i || k.refused i) ∙ sym (refused_push first_stage d.lines l);
       counted = omega (arith, d.counted, length_push d.lines l);
-      within = omega (arith, d.within, ap length parts, length-append front others);
     }
   where
     k : IsPlayedLine (after_lines first_stage d.lines) l (stage_of q) r now next

@@ -72,8 +72,6 @@ pub record IsPlayed (script : List ℕ) (before now : Option (List ℕ)) (p : Pl
   pub lines : List RequestLine
   pub read : Begins script lines rest
   pub written : Appends before now (played lines)
-  pub setting : p.coordinator.setting ≡ player
   pub stage : stage_of p ≡ after_lines first_stage lines
   pub refused : is_refused ≡ some_refused first_stage lines
   pub counted : number ≡ length lines
-  pub within : number + length rest ≤ length script

@@ -48,7 +48,7 @@ loop-rest-preserved g c =
       played = λ before begun.
           played_more c.args.script.now before now next c.loop-rest.playing c.play.new.self c.loop-rest.is_refused c.in-Some-2.was_refused c.loop-rest.number rest front others c.in-Some-read_request_line.line
           (c.loop-rest.invariant.played before begun)
-          read.0 parts read.1 some c.in_ok-was_refused.ensures.setting
+          read.0 parts read.1
           (subst (ComesTo (stage_of c.loop-rest.playing) c.in-Some-read_request_line.line (stage_of c.play.new.self) now next) c.in-Some-2.is c.in_ok-was_refused.ensures.played);
     }
 
