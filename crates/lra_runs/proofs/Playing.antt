@@ -78,17 +78,20 @@ none_playable s rest n x is one bad = λ l more has may same.
 
 -- ---- between two lines
 
-pub played_none : (script text : List ℕ) (before now : Option (List ℕ)) (p : Player) (d : Shape) → p.coordinator ≡ d → d.history ≡ [] → ((ask : ℕ) → holding p.held ask ≡ None)
-    → text ≡ marked (header Two 7) → Appends before now text → IsPlayed script before now p false 0 script
-played_none script text before now p d same none held is written =
+pub played_none : (script : List ℕ) (before now : Option (List ℕ)) (p : Player) → stage_of p ≡ first_stage → Appends before now (marked (header Two 7)) → IsPlayed script before now p false 0 script
+played_none script before now p first written =
     record {
       lines = [];
       read = record { allowed = All-nil IsRequestLine; playable = tt; whole = refl };
-      written = subst (Appends before now) (is ∙ sym (append-nil (marked (header Two 7)))) written;
-      stage = λ i. record { history = history i; held = λ ask. held ask i };
+      written = subst (Appends before now) (sym (append-nil (marked (header Two 7)))) written;
+      stage = first;
       refused = refl;
       counted = refl;
     }
+
+-- a coordinator with no history, and no errand that is held
+pub stands_first : (p : Player) (d : Shape) → p.coordinator ≡ d → d.history ≡ [] → ((ask : ℕ) → holding p.held ask ≡ None) → stage_of p ≡ first_stage
+stands_first p d same none held = λ i. record { history = history i; held = λ ask. held ask i }
   where
     history : p.coordinator.history ≡ []
     history = ap (λ (c : Shape). c.history) same ∙ none
