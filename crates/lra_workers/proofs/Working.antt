@@ -1,0 +1,92 @@
+-- Calls that a worker gives, one after another.
+use Rattle.std.proofs.Common.{◌≡◌, ℕ, zero, suc, refl, sym, ◌∙◌, ap, subst, inl, inr, Option, Some}
+use Rattle.std.specs.Prelude.{Result, Ok, Err, MatchResult}
+use Rattle.lra_model.specs.declared.asks.AskKind.{AskKind}
+use Rattle.lra_model.specs.declared.asks.Outcome.{Outcome}
+use Rattle.lra_model.specs.History.{History}
+use Rattle.lra_ticket.specs.declared.view.View.{View}
+use Rattle.lra_commands.specs.declared.command.Command.TheVariants as command
+use Rattle.lra_commands.specs.declared.command.Told.{Told}
+use Rattle.lra_commands.specs.Errands.{Asking}
+use Rattle.lra_commands.specs.Calls.{Call, Command}
+use Rattle.lra_commands.specs.Counters.{Setting}
+use Rattle.lra_commands.specs.Given.{IsOfAsk}
+use Rattle.lra_commands.specs.Calls.{IsCall}
+use Rattle.lra_core.specs.Laws.{ErrandsAreOfAsks}
+use Rattle.lra_core.specs.Performs.{IsRecording, RecordsAs}
+use Rattle.lra_commands.specs.declared.refusal.Refusal.TheVariants.{NotAsked}
+use Rattle.lra_office.specs.declared.fault.OfficeRefusal.{OfficeRefusal}
+use Rattle.lra_office.specs.declared.fault.OfficeRefusal.TheVariants as office
+use Rattle.lra_office.specs.Orders.{IsGrown, IsNotGiven}
+use Rattle.lra_workers.specs.declared.worker.WorkerEnd.{WorkerEnd}
+use Rattle.lra_workers.specs.declared.worker.WorkerEnd.TheVariants as worker
+use Rattle.lra_workers.specs.Work.{Post, post, IsWorkersCommand, IsWorkersCall, Fails, Does, WorksIn, Works, EndsWork}
+
+-- an errand that was given is of an ask in what is seen then
+pub given_of_ask : {O : Type 0} → ErrandsAreOfAsks → (g : Setting) (v w : View O) (c : Call) (t : Told) (o : Option Asking) (e : Asking) → IsCall c → IsGrown g v c t o w → o ≡ Some e → IsOfAsk w.seen e
+given_of_ask law g v w c t o e is h some =
+    let k = h.met.kept in
+    subst (λ (J : History). IsOfAsk J e) (sym (ap (λ (x : View _). x.seen) h.after ∙ h.done.grown)) (law g h.history c t e k.limits k.lawful is h.done.answered (sym h.done.errand ∙ some))
+
+-- what a courier may answer of an errand is recorded
+recording_is_own : (gives : ℕ → AskKind → Outcome → Type 0) (J : History) (e : Asking) (o : Outcome) (c : Command) → IsRecording e o c → IsOfAsk J e → gives e.ask e.kind o → IsWorkersCommand gives J c
+recording_is_own gives J e o (command.Record errand outcome) h is has = (
+  subst (IsOfAsk J) (sym h.0) is,
+  subst (λ (x : Outcome). gives errand.now.ask errand.now.kind x) (sym h.1) (subst (λ (x : Asking). gives x.ask x.kind o) (sym h.0) has),
+)
+recording_is_own gives J e o command.Enrol h is has = absurd h
+recording_is_own gives J e o (command.Start parent limit) h is has = absurd h
+recording_is_own gives J e o (command.Join action uris) h is has = absurd h
+recording_is_own gives J e o (command.Leave action member) h is has = absurd h
+recording_is_own gives J e o (command.Close action) h is has = absurd h
+recording_is_own gives J e o (command.Cancel action) h is has = absurd h
+recording_is_own gives J e o command.Tick h is has = absurd h
+recording_is_own gives J e o command.NextAsk h is has = absurd h
+recording_is_own gives J e o (command.Report member ending) h is has = absurd h
+recording_is_own gives J e o command.Restart h is has = absurd h
+recording_is_own gives J e o (command.Renew action limit) h is has = absurd h
+recording_is_own gives J e o (command.Status action) h is has = absurd h
+recording_is_own gives J e o (command.MemberStatus member) h is has = absurd h
+
+module _ {O K : Type 0} (setting : O → Setting) (gives : ℕ → AskKind → Outcome → Type 0) (tells : K → ℕ → K → Type 0) where
+  pub works_none : (s : Post O K) → Works setting gives tells s s
+  unfolding WorksIn
+  works_none s = (0, refl)
+
+  -- one more call, which is done
+  pub works_on : (s u t : Post O K) → Works setting gives tells s u → Does setting gives tells u t → Works setting gives tells s t
+  unfolding WorksIn
+  works_on s u t h d = (suc h.0, (u, h.1, inl d))
+
+  -- one more call, to record what came of an ask that isn't outstanding any more
+  pub works_late : (s u t : Post O K) → Works setting gives tells s u → Fails setting gives tells u (office.Refused NotAsked) t → Works setting gives tells s t
+  unfolding WorksIn
+  works_late s u t h f = (suc h.0, (u, h.1, inr f))
+
+  -- a call that was done
+  pub does : (v w : View O) (k l : K) (c : Call) (t : Told) (e : Option Asking) → c.by ≡ v.number → IsWorkersCommand gives v.seen c.command → tells k c.moment l → IsGrown (setting v.origin) v c t e w
+      → Does setting gives tells (post v k) (post w l)
+  does v w k l c t e by own clocked given = record { call = c; own = record { by = by; command = own }; clocked = clocked; told = t; errand = e; given = given }
+
+  -- a call that was refused
+  pub fails : (v w : View O) (k l : K) (c : Call) (r : OfficeRefusal) → c.by ≡ v.number → IsWorkersCommand gives v.seen c.command → tells k c.moment l → IsNotGiven (setting v.origin) v c r w
+      → Fails setting gives tells (post v k) r (post w l)
+  fails v w k l c r by own clocked given = record { call = c; own = record { by = by; command = own }; clocked = clocked; given = given }
+
+  -- what came of an errand was recorded
+  pub records : (v w : View O) (k l : K) (c : Call) (number at : ℕ) (a : Asking) (o : Outcome) (t : Told) (e : Option Asking) → RecordsAs c number at a o → v.number ≡ number → IsOfAsk v.seen a → gives a.ask a.kind o → tells k at l
+      → IsGrown (setting v.origin) v c t e w → Does setting gives tells (post v k) (post w l)
+  records v w k l c number at a o t e r is of has clocked given =
+      does v w k l c t e (r.by ∙ sym is) (recording_is_own gives v.seen a o c.command r.command of has) (subst (λ (m : ℕ). tells k m l) (sym r.moment) clocked) given
+
+  -- it was refused
+  pub records_not : (v w : View O) (k l : K) (c : Call) (number at : ℕ) (a : Asking) (o : Outcome) (r : OfficeRefusal) → RecordsAs c number at a o → v.number ≡ number → IsOfAsk v.seen a → gives a.ask a.kind o → tells k at l
+      → IsNotGiven (setting v.origin) v c r w → Fails setting gives tells (post v k) r (post w l)
+  records_not v w k l c number at a o r h is of has clocked given =
+      fails v w k l c r (h.by ∙ sym is) (recording_is_own gives v.seen a o c.command h.command of has) (subst (λ (m : ℕ). tells k m l) (sym h.moment) clocked) given
+
+  -- a record that is refused is passed over, or ends the work
+  pub passed : (s u t : Post O K) (x : OfficeRefusal) (r : Result (Unit {0}) WorkerEnd) → Works setting gives tells s u → Fails setting gives tells u x t
+      → MatchResult r (λ _. x ≡ office.Refused NotAsked) (λ end. end ≡ worker.Refused x) → MatchResult r (λ _. Works setting gives tells s t) (λ end. EndsWork setting gives tells s end t)
+  passed s u t x (Ok _) before f h = works_late s u t before (subst (λ (y : OfficeRefusal). Fails setting gives tells u y t) h f)
+  passed s u t x (Err e) before f h = subst (λ (end : WorkerEnd). EndsWork setting gives tells s end t) (sym h) (u, before, f)

@@ -1,0 +1,166 @@
+//! A worker's turns.
+
+ghost use Rattle.std.specs.Prelude.{◌≡◌, true, ℕ, IfErr, MatchResult};
+ghost use Rattle.lra_model.specs.declared.asks.AskKind.{AskKind};
+ghost use Rattle.lra_model.specs.declared.asks.Outcome.{Outcome as OutcomeValue};
+ghost use Rattle.lra_commands.specs.Given.{IsOfAsk};
+ghost use Rattle.lra_office.specs.Clerks.{clerk_view, IsClerkOf};
+ghost use Rattle.lra_commands.specs.declared.refusal.Refusal.TheVariants.{NotAsked};
+ghost use Rattle.lra_office.specs.declared.fault.OfficeRefusal.TheVariants as office;
+ghost use Rattle.lra_workers.specs.declared.worker.WorkerEnd.TheVariants as worker;
+ghost use Rattle.lra_workers.specs.Work.{Post, post, Works, WorksUpTo, EndsWork};
+
+use crate::gate::{Gate, Go};
+use lra_commands::{Refusal, Told};
+use lra_core::{Errand, errands_are_of_asks};
+use lra_courier::Courier;
+use lra_front::Clock;
+use lra_office::{Clerk, Office, OfficeRefusal, Serving};
+use std::sync::Wait;
+
+/// How often a gate may say of one errand that it isn't carried yet.
+const HOLDS: u32 = 1_000;
+
+/// How a worker ended.
+#[derive(Clone, Copy, Debug, PartialEq, Eq)]
+pub enum WorkerEnd {
+    /// Its gate let it make no further turn.
+    Ended,
+    /// Its gate said a thousand times of one errand that it isn't carried yet. The errand is discarded: its ask stays outstanding
+    /// until a restart.
+    Held,
+    /// The office refused a command. An errand that was held then is discarded.
+    Refused(OfficeRefusal),
+}
+
+/// Lets limits fire until none has passed.
+fn fire<V: Serving, R: Wait, C: Courier, K: Clock>(
+    rt: &R,
+    office: &Office<V>,
+    clerk: &mut Clerk<V>,
+    clock: &mut K,
+) -> Result<(), OfficeRefusal>
+    requires { IsClerkOf office.now.lock clerk.old }
+    ensures clerk { IsClerkOf office.now.lock clerk.new }
+    ensures number { clerk.new.number ≡ clerk.old.number }
+    ensures work { (s : Post V.Origin K) → Works V.setting C.gives K.tells s (post (clerk_view clerk.old) clock.old)
+        → MatchResult result (λ _. Works V.setting C.gives K.tells s (post (clerk_view clerk.new) clock.new)) (λ r. WorksUpTo V.setting C.gives K.tells s r (post (clerk_view clerk.new) clock.new)) }
+{
+    for _ in rt.forever() {
+        let moment = clock.now();
+        if office.tick(rt, clerk, moment)? == Told::Idle {
+            return Ok(());
+        }
+    }
+    unreachable!()
+}
+
+/// Whether a gate lets an ask's errand be carried, before it has said too often that it isn't yet.
+fn is_let_go<G: Gate>(gate: &mut G, ask: u64) -> bool {
+    for _ in 0..HOLDS {
+        if gate.hold(ask) == Go::Carry {
+            return true;
+        }
+    }
+    false
+}
+
+/// How a worker goes on whose record is refused: an ask that isn't outstanding any more is passed over.
+fn after_refusal(refusal: OfficeRefusal) -> Result<(), WorkerEnd>
+    ensures { MatchResult result (λ _. refusal ≡ office.Refused NotAsked) (λ end. end ≡ worker.Refused refusal) }
+{
+    match refusal {
+        OfficeRefusal::Refused(Refusal::NotAsked) => Ok(()),
+        refusal => Err(WorkerEnd::Refused(refusal)),
+    }
+}
+
+/// Carries an errand and records what came of it, where the gate lets it. An errand whose ask isn't outstanding any more is let go.
+fn carry<V: Serving, R: Wait, C: Courier, G: Gate, K: Clock>(
+    rt: &R,
+    office: &Office<V>,
+    clerk: &mut Clerk<V>,
+    courier: &mut C,
+    gate: &mut G,
+    clock: &mut K,
+    errand: Errand,
+) -> Result<(), WorkerEnd>
+    requires clerk { IsClerkOf office.now.lock clerk.old }
+    requires of_ask { IsOfAsk (clerk_view clerk.old).seen errand }
+    ensures clerk { IsClerkOf office.now.lock clerk.new }
+    ensures number { clerk.new.number ≡ clerk.old.number }
+    ensures work { (s : Post V.Origin K) → Works V.setting C.gives K.tells s (post (clerk_view clerk.old) clock.old)
+        → MatchResult result (λ _. Works V.setting C.gives K.tells s (post (clerk_view clerk.new) clock.new)) (λ end. EndsWork V.setting C.gives K.tells s end (post (clerk_view clerk.new) clock.new)) }
+{
+    let ask = errand.ask();
+    if !is_let_go(gate, ask) {
+        errand.discard();
+        return Err(WorkerEnd::Held);
+    }
+    let outcome = courier.carry(&errand);
+    let moment = clock.now();
+    match office.record(rt, clerk, moment, errand, outcome) {
+        Ok(_) => {
+            gate.answered(ask);
+            Ok(())
+        }
+        Err((errand, refusal)) => {
+            errand.discard();
+            after_refusal(refusal)
+        }
+    }
+}
+
+/// Lets limits fire, and carries one errand, where one is due.
+fn take_turn<V: Serving, R: Wait, C: Courier, G: Gate, K: Clock>(
+    rt: &R,
+    office: &Office<V>,
+    clerk: &mut Clerk<V>,
+    courier: &mut C,
+    gate: &mut G,
+    clock: &mut K,
+) -> Result<(), WorkerEnd>
+    requires { IsClerkOf office.now.lock clerk.old }
+    ensures clerk { IsClerkOf office.now.lock clerk.new }
+    ensures number { clerk.new.number ≡ clerk.old.number }
+    ensures work { (s : Post V.Origin K) → Works V.setting C.gives K.tells s (post (clerk_view clerk.old) clock.old)
+        → MatchResult result (λ _. Works V.setting C.gives K.tells s (post (clerk_view clerk.new) clock.new)) (λ end. EndsWork V.setting C.gives K.tells s end (post (clerk_view clerk.new) clock.new)) }
+{
+    errands_are_of_asks();
+    if let Err(refusal) = fire::<V, R, C, K>(rt, office, clerk, clock) {
+        return Err(WorkerEnd::Refused(refusal));
+    }
+    let moment = clock.now();
+    match office.next_ask(rt, clerk, moment) {
+        Ok(Some(errand)) => carry(rt, office, clerk, courier, gate, clock, errand),
+        Ok(None) => Ok(()),
+        Err(refusal) => Err(WorkerEnd::Refused(refusal)),
+    }
+}
+
+/// Works as a clerk of an office: lets limits fire, asks for what is due, carries each errand and records what came of it, turn by turn
+/// as long as the gate lets it.
+pub fn run_worker<V: Serving, R: Wait, C: Courier, G: Gate, K: Clock>(
+    rt: &R,
+    office: &Office<V>,
+    clerk: Clerk<V>,
+    courier: &mut C,
+    gate: &mut G,
+    clock: &mut K,
+) -> (Clerk<V>, WorkerEnd)
+    requires { IsClerkOf office.now.lock clerk }
+    ensures clerk { IsClerkOf office.now.lock result.0 }
+    ensures number { result.0.number ≡ clerk.number }
+    ensures work { EndsWork V.setting C.gives K.tells (post (clerk_view clerk) clock.old) result.1 (post (clerk_view result.0) clock.new) }
+{
+    let mut clerk = clerk;
+    for _ in rt.forever() {
+        if !gate.more() {
+            return (clerk, WorkerEnd::Ended);
+        }
+        if let Err(end) = take_turn(rt, office, &mut clerk, courier, gate, clock) {
+            return (clerk, end);
+        }
+    }
+    unreachable!()
+}
