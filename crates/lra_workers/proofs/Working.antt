@@ -1,5 +1,5 @@
 -- Calls that a worker gives, one after another.
-use Rattle.std.proofs.Common.{◌≡◌, ℕ, zero, suc, refl, sym, ◌∙◌, ap, subst, inl, inr, Option, Some}
+use Rattle.std.proofs.Common.{◌≡◌, ℕ, suc, refl, sym, ◌∙◌, ap, subst, inl, inr, Option, Some}
 use Rattle.std.specs.Prelude.{Result, Ok, Err, MatchResult}
 use Rattle.lra_model.specs.declared.asks.AskKind.{AskKind}
 use Rattle.lra_model.specs.declared.asks.Outcome.{Outcome}
@@ -20,7 +20,7 @@ use Rattle.lra_office.specs.declared.fault.OfficeRefusal.TheVariants as office
 use Rattle.lra_office.specs.Orders.{IsGrown, IsNotGiven}
 use Rattle.lra_workers.specs.declared.worker.WorkerEnd.{WorkerEnd}
 use Rattle.lra_workers.specs.declared.worker.WorkerEnd.TheVariants as worker
-use Rattle.lra_workers.specs.Work.{Post, post, IsWorkersCommand, IsWorkersCall, Fails, Does, WorksIn, Works, EndsWork}
+use Rattle.lra_workers.specs.Work.{Post, post, IsWorkersCommand, Fails, Does, WorksIn, Works, EndsWork}
 
 -- an errand that was given is of an ask in what is seen then
 pub given_of_ask : {O : Type 0} → ErrandsAreOfAsks → (g : Setting) (v w : View O) (c : Call) (t : Told) (o : Option Asking) (e : Asking) → IsCall c → IsGrown g v c t o w → o ≡ Some e → IsOfAsk w.seen e

@@ -1,4 +1,4 @@
-use Rattle.std.proofs.Common.{◌≡◌, sym, ap, ◌∙◌, subst, Err}
+use Rattle.std.proofs.Common.{sym, ap, ◌∙◌, subst, Err}
 use Rattle.std.specs.Prelude.{Result}
 use Rattle.std.specs.Result.{MatchResult}
 use Rattle.std.proofs.lemmas.Result.{err_from_is_err_and}
