@@ -1,8 +1,10 @@
 -- An entry leaves the wants and the deadlines of all that aren't listed as they were.
-use Rattle.std.proofs.Common.{◌≡◌, ℕ, ◌+◌, Bool, true, false, List, [], ◌∷◌, ◌++◌, length, Option, Some, None, ◌⊎◌, inl, inr, refl, sym, ap, ◌∙◌, cond, append-nil, eqb-true}
+use Rattle.std.proofs.Common.{◌≡◌, ℕ, ◌+◌, ◌≤◌, arith, Bool, true, false, List, [], ◌∷◌, ◌++◌, length, Option, Some, None, ◌⊎◌, inl, inr, refl, sym, ap, ◌∙◌, cond, append-nil, eqb-true}
 use Rattle.std.proofs.Math.Bool.{or-false}
+use Rattle.std.proofs.lemmas.Bool.{ltb-true, le-ltb}
 use Rattle.std.specs.Prelude.{◌==◌, ◌&&◌, ◌||◌, nat_lt, is_some, unwrap_or, option_map, option_to_list}
 use Rattle.std.specs.Option.{option_map_or, option_or}
+use Rattle.std.specs.List.{cons_option, filter_map}
 use Rattle.lra_model.specs.declared.version.Version.{Version}
 use Rattle.lra_model.specs.declared.status.ActionStatus.{ActionStatus}
 use Rattle.lra_model.specs.declared.status.ActionStatus.TheVariants as action
@@ -12,26 +14,26 @@ use Rattle.lra_model.specs.declared.asks.Direction.{Direction}
 use Rattle.lra_model.specs.declared.entry.Deed.{Deed}
 use Rattle.lra_model.specs.declared.entry.Deed.TheVariants.{Start, Join, Leave, Close, Cancel, Skip, Ask, Reply, Report, End, Restart, Renew}
 use Rattle.lra_model.specs.Words.{when, same_kind, is_active, is_cancelling, has_ended, is_undecided}
-use Rattle.lra_model.specs.History.{History, actions, started_by, members, joined_by, is_among}
+use Rattle.lra_model.specs.History.{History, actions, started_by, members, joined_by, asks, is_among}
 use Rattle.lra_model.specs.Actions.{parent, top, status_given, action_status, limit_given, limit_in_force, members_of}
-use Rattle.lra_model.specs.Members.{Asked, ask_of, replied_at, action_of, outstanding_ask, ask_direction, members_under}
+use Rattle.lra_model.specs.Members.{Asked, ask_of, replied_at, action_of, is_outstanding, outstanding_ask, ask_direction, members_under}
 use Rattle.lra_model.specs.Ends.{action_is, top_has_ended}
 use Rattle.lra_model.specs.Facts.{ActionFacts, MemberFacts, Facts, action_facts, member_facts, facts_of}
 use Rattle.lra_model.specs.Tests.{status_is, parent_is, may_cancel}
 use Rattle.lra_model.specs.Wants.{wanted, wants, stage_of, repeats}
 use Rattle.lra_model.specs.Rules.{deed_rules, is_legal}
-use Rattle.lra_laws.specs.Rows.{Standing, MemberRow, member_row, void_at, void_asks, way_asked}
-use Rattle.lra_laws.specs.inner.Changes.{members_changed, actions_changed}
+use Rattle.lra_laws.specs.Rows.{Standing, MemberRow, member_row, standing, void_at, void_asks, way_asked}
+use Rattle.lra_laws.specs.Changes.{member_awaited, members_awaited, members_changed, actions_changed}
 use Rattle.lra_laws.proofs.Push.{step, action_status_push, actions_push, members_push}
 use Rattle.lra_laws.proofs.Contacts.{repeat_of, repeats_push}
-use Rattle.lra_laws.proofs.GoodLists.{among_filter}
+use Rattle.lra_laws.proofs.GoodLists.{among_here, among_there, among_filter}
 use Rattle.lra_laws.proofs.GoodSpared.{close_active, cancel_case}
-use Rattle.lra_laws.proofs.Legal.{Allowed, AllKept, at_action_from, entry_kept, close_kept, cancel_kept, action_fact, among_push, state_is_lem, parent_stays, started_number, numbered_fresh, actions_numbered, member_there_push, action_of_there, members_of_lem, legal_more}
+use Rattle.lra_laws.proofs.Legal.{Allowed, AllKept, at_action_from, entry_kept, close_kept, cancel_kept, action_fact, among_push, state_is_lem, parent_stays, started_number, numbered_fresh, actions_numbered, asks_numbered, range_there, member_there_push, action_of_there, members_of_lem, legal_more}
 use Rattle.lra_laws.proofs.RowLists.{eqb_self, eqb_flip, among_apart}
 use Rattle.lra_laws.proofs.Told.{entry, more}
 use Rattle.lra_laws.proofs.Tops.{top_stays, top_is_there, top_is_outermost, top_of_outermost}
-use Rattle.lra_laws.proofs.MemberWords.{concerns, quiet_row}
-use Rattle.lra_laws.proofs.AskWords.{asks_listed, asks_stand, is_asked_by, void_kept}
+use Rattle.lra_laws.proofs.MemberWords.{concerns, quiet_row, stand_quiet, void_push}
+use Rattle.lra_laws.proofs.AskWords.{AsksListed, AsksStand, asks_listed, asks_stand, asked_of, stands_for, stands_yet, is_asked_by, void_kept}
 use Rattle.lra_laws.proofs.ActionWords.{status_kept, limit_kept}
 use Rattle.lra_laws.proofs.WantedWay.{wanted_way}
 
@@ -88,33 +90,27 @@ wants_by J p h k = wants_there J p h ∙ wanted_by_action (facts_of J) (member_f
 -- what a want is read from is the same in two histories
 record Alike (J K : History) (p : ℕ) : Type 0 where
   row : member_row K p ≡ member_row J p
-  void : void_asks K ≡ void_asks J
+  asked : is_some (outstanding_ask K p) ≡ is_some (outstanding_ask J p)
   status : action_status K (action_of J p) ≡ action_status J (action_of J p)
   ended : top_has_ended K (action_of J p) ≡ top_has_ended J (action_of J p)
   parent : parent K (action_of J p) ≡ parent J (action_of J p)
 
-facts_alike : (v : Version) (t : List ℕ → Bool) (J K : History) (p : ℕ) → is_legal v t J ≡ true → is_legal v t K ≡ true → Alike J K p → member_facts K p ≡ member_facts J p
-facts_alike v t J K p l k x = λ i. record {
+facts_alike : (J K : History) (p : ℕ) → Alike J K p → member_facts K p ≡ member_facts J p
+facts_alike J K p x = λ i. record {
   action = (x.row i).action;
   addresses = (x.row i).addresses;
   status = (x.row i).status;
   completion = (x.row i).completion;
   compensation = (x.row i).compensation;
-  is_asked = asked i;
+  is_asked = x.asked i;
   has_forgotten = (x.row i).has_forgotten;
   was_told = (x.row i).was_told;
 }
-  where
-    asked : is_some (outstanding_ask K p) ≡ is_some (outstanding_ask J p)
-    asked =
-        is_asked_by K p (asks_listed v t K k) (asks_stand v t K k)
-        ∙ (λ i. option_map_or (λ (s : Standing). nat_lt (x.void i) s.number) (x.row i).asked false)
-        ∙ sym (is_asked_by J p (asks_listed v t J l) (asks_stand v t J l))
 
 wants_alike : (v : Version) (t : List ℕ → Bool) (J K : History) (p : ℕ) → is_legal v t J ≡ true → is_legal v t K ≡ true → is_among (members J) p ≡ true → is_among (members K) p ≡ true → Alike J K p → wants K p ≡ wants J p
 wants_alike v t J K p l k h g x =
     wants_by K p g (action_of_there v t K k p g)
-    ∙ (λ i. wanted (facts_with (Some (glance (unwrap_or (action_status K (same i)) action.Active) (top_has_ended K (same i)) (parent K (same i))))) (facts_alike v t J K p l k x i))
+    ∙ (λ i. wanted (facts_with (Some (glance (unwrap_or (action_status K (same i)) action.Active) (top_has_ended K (same i)) (parent K (same i))))) (facts_alike J K p x i))
     ∙ (λ i. wanted (facts_with (Some (glance (unwrap_or (x.status i) action.Active) (x.ended i) (x.parent i)))) (member_facts J p))
     ∙ sym (wants_by J p h (action_of_there v t J l p h))
   where
@@ -141,10 +137,86 @@ unconcerned J (Reply n o) p h = of_ask (ask_of J n) h
     of_ask (Some x) g = apart x.member p g
 unconcerned J d p h = refl
 
--- nor voids its ask
-no_restart : (J : History) (by m : ℕ) (d : Deed) (p : ℕ) → is_among (members J) p ≡ true → is_among (members_changed J d) p ≡ false → void_at (step J (entry by m d)) ≡ None
-no_restart J by m Restart p g h = absurd (let x : true ≡ false = sym g ∙ h in cc)
-no_restart J by m d p g h = refl
+-- ---- asks that a restart makes void
+
+-- what one of several numbers gives is among what they give
+given_of : (f : ℕ → Option ℕ) (ns : List ℕ) (n p : ℕ) → is_among ns n ≡ true → f n ≡ Some p → is_among (filter_map f ns) p ≡ true
+given_of f [] n p there gives = absurd cc
+given_of f (m ∷ ns) n p there gives = either (m == n) refl there (λ h. given_of f ns n p h gives)
+  where
+    longer : (o : Option ℕ) → is_among (filter_map f ns) p ≡ true → is_among (cons_option o (filter_map f ns)) p ≡ true
+    longer None h = h
+    longer (Some k) h = among_there k (filter_map f ns) p h
+
+    either : (b : Bool) → (m == n) ≡ b → (b || is_among ns n) ≡ true → (is_among ns n ≡ true → is_among (filter_map f ns) p ≡ true) → is_among (cons_option (f m) (filter_map f ns)) p ≡ true
+    either true e h rest = ap (λ (o : Option ℕ). is_among (cons_option o (filter_map f ns)) p) (ap f (eqb-true m n e) ∙ gives) ∙ among_here p (filter_map f ns)
+    either false e h rest = longer (f m) (rest h)
+
+-- of one that isn't listed no ask is outstanding
+unasked : (v : Version) (t : List ℕ → Bool) (J : History) (p : ℕ) → is_legal v t J ≡ true → is_among (members_awaited J) p ≡ false → is_some (outstanding_ask J p) ≡ false
+unasked v t J p l h = is_asked_by J p list stand ∙ of_standing (standing J p) refl
+  where
+    list : AsksListed J
+    list = asks_listed v t J l
+
+    stand : AsksStand J
+    stand = asks_stand v t J l
+
+    -- the ask that stands with the member, where it isn't void
+    there : (s : Standing) → standing J p ≡ Some s → nat_lt (void_asks J) s.number ≡ true → is_among (asks J) s.number ≡ true
+    there s e g =
+        ap (λ (ns : List ℕ). is_among ns s.number) (asks_numbered v t J l)
+        ∙ range_there 1 (length (asks J)) s.number (let lower = ltb-true (void_asks J) s.number g in omega arith) (let upper = list.below s.number (asked_of p s) (stand.stands p s e) in omega arith)
+
+    gives : (s : Standing) → standing J p ≡ Some s → nat_lt (void_asks J) s.number ≡ true → member_awaited J s.number ≡ Some p
+    gives s e g =
+        ap (λ (o : Option Asked). option_map_or (λ (x : Asked). when (is_outstanding J s.number) x.member) o None) (stand.stands p s e)
+        ∙ ap (λ (b : Bool). when b p) (stand.outstanding s.number ∙ ap (stands_yet J s.number) (stand.stands p s e) ∙ (λ i. g i && stands_for (e i) s.number) ∙ eqb_self s.number)
+
+    of_standing : (o : Option Standing) → standing J p ≡ o → option_map_or (λ (s : Standing). nat_lt (void_asks J) s.number) o false ≡ false
+    of_standing None e = refl
+    of_standing (Some s) e = decide (nat_lt (void_asks J) s.number) refl
+      where
+        decide : (b : Bool) → nat_lt (void_asks J) s.number ≡ b → b ≡ false
+        decide false g = refl
+        decide true g = sym (given_of (member_awaited J) (asks J) s.number p (there s e g) (gives s e g)) ∙ h
+
+-- after a restart none is outstanding at all
+none_asked : (v : Version) (t : List ℕ → Bool) (J : History) (by m p : ℕ) → is_legal v t J ≡ true → is_legal v t (more J by m Restart) ≡ true → is_some (outstanding_ask (more J by m Restart) p) ≡ false
+none_asked v t J by m p l k =
+    is_asked_by (more J by m Restart) p (asks_listed v t (more J by m Restart) k) (asks_stand v t (more J by m Restart) k)
+    ∙ (λ i. option_map_or (λ (s : Standing). nat_lt (void_push J (entry by m Restart) i) s.number) (stand_quiet J by m Restart p refl i) false)
+    ∙ of_standing (standing J p) refl
+  where
+    of_standing : (o : Option Standing) → standing J p ≡ o → option_map_or (λ (s : Standing). nat_lt (length (asks J)) s.number) o false ≡ false
+    of_standing None e = refl
+    of_standing (Some s) e = le-ltb (length (asks J)) s.number ((asks_listed v t J l).below s.number (asked_of p s) ((asks_stand v t J l).stands p s e))
+
+-- so whether an ask is outstanding stays, of one that isn't listed
+asked_kept : (v : Version) (t : List ℕ → Bool) (J : History) (by m : ℕ) (d : Deed) (p : ℕ) → is_legal v t J ≡ true → is_legal v t (more J by m d) ≡ true → is_among (members_changed J d) p ≡ false → is_some (outstanding_ask (more J by m d) p) ≡ is_some (outstanding_ask J p)
+asked_kept v t J by m d p l k h = by_deed d h k
+  where
+    still : (d : Deed) → is_among (members_changed J d) p ≡ false → is_legal v t (more J by m d) ≡ true → void_at (step J (entry by m d)) ≡ None → is_some (outstanding_ask (more J by m d) p) ≡ is_some (outstanding_ask J p)
+    still d h k same =
+        is_asked_by (more J by m d) p (asks_listed v t (more J by m d) k) (asks_stand v t (more J by m d) k)
+        ∙ (λ i. option_map_or (λ (s : Standing). nat_lt (void_kept J by m d same i) s.number) (stand_quiet J by m d p (unconcerned J d p h) i) false)
+        ∙ sym (is_asked_by J p (asks_listed v t J l) (asks_stand v t J l))
+
+    by_deed : (d : Deed) → is_among (members_changed J d) p ≡ false → is_legal v t (more J by m d) ≡ true → is_some (outstanding_ask (more J by m d) p) ≡ is_some (outstanding_ask J p)
+    by_deed Restart h k = none_asked v t J by m p l k ∙ sym (unasked v t J p l h)
+    by_deed d h k = still d h k refl
+
+-- no one's answer to a void ask is awaited
+pub void_unasked : (v : Version) (t : List ℕ → Bool) (J : History) (n : ℕ) → is_legal v t J ≡ true → n ≤ void_asks J → member_awaited J n ≡ None
+void_unasked v t J n l h = of_ask (ask_of J n) refl
+  where
+    of_ask : (o : Option Asked) → ask_of J n ≡ o → option_map_or (λ (x : Asked). when (is_outstanding J n) x.member) o None ≡ None
+    of_ask None e = refl
+    of_ask (Some x) e =
+        ap (λ (b : Bool). when b x.member)
+        ((asks_stand v t J l).outstanding n ∙ ap (stands_yet J n) e ∙ ap (λ (b : Bool). b && stands_for (standing J x.member) n) (le-ltb (void_asks J) n h))
+
+-- ---- actions that it turns
 
 -- the members of an outermost action and of all below it
 pub under_lem : (J : History) (c p : ℕ) → is_among (members_under J c) p ≡ (is_among (members J) p && (top J (action_of J p) == c))
@@ -156,7 +228,7 @@ second_fails : (a b c : Bool) → c ≡ (a && b) → a ≡ true → c ≡ false 
 second_fails true b c e g h = sym e ∙ h
 second_fails false b c e g h = absurd cc
 
--- nor turns its action
+-- an entry that lists a member not leaves its action as it is
 unturned : (v : Version) (t : List ℕ → Bool) (J : History) (by m : ℕ) (d : Deed) (p : ℕ) → is_legal v t J ≡ true → Allowed v t J (entry by m d) → is_among (members J) p ≡ true → is_among (members_changed J d) p ≡ false → status_given (action_of J p) d ≡ None
 unturned v t J by m d p l k g h = by_deed d h (started_number v t J by m d k)
   where
@@ -308,7 +380,7 @@ wants_kept v t J by m d p l k h = record {
     want : is_among (members J) p ≡ true → wants K p ≡ wants J p
     want g = wants_alike v t J K p l later g (member_there_push J (entry by m d) p g) (record {
       row = quiet_row J by m d p quiet;
-      void = void_kept J by m d (no_restart J by m d p g h);
+      asked = asked_kept v t J by m d p l later h;
       status = status_kept J by m d (action_of J p) (unturned v t J by m d p l k g h);
       ended = ended_still v t J by m d (action_of J p) l there (unended v t J by m d p l k g h);
       parent = parent_stays J (entry by m d) (action_of J p) there;

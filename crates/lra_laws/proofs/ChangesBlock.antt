@@ -12,7 +12,7 @@ use Rattle.lra_model.specs.Actions.{parent, top, members_of}
 use Rattle.lra_model.specs.Members.{action_of, members_under}
 use Rattle.lra_model.specs.Settling.{is_settling, next_settling, settling_within, most_settling, with_settling}
 use Rattle.lra_model.specs.Rules.{is_legal}
-use Rattle.lra_laws.specs.inner.Changes.{members_changed, actions_changed, members_changed_by, actions_changed_by}
+use Rattle.lra_laws.specs.Changes.{members_changed, actions_changed, members_changed_by, actions_changed_by}
 use Rattle.lra_laws.proofs.Changes.{SameWants, SameLimit, wants_kept, limits_kept, under_lem}
 use Rattle.lra_laws.proofs.Legal.{Allowed, action_there_push, parent_stays, action_of_stays, action_of_there, members_of_lem}
 use Rattle.lra_laws.proofs.Rests.{next_settles}

@@ -87,6 +87,7 @@ impl Rows {
     ghost use Rattle.lra_model.specs.History.{History};
     ghost use Rattle.lra_model.specs.Actions as words;
     ghost use Rattle.lra_model.specs.Members.{members_under};
+    ghost use Rattle.lra_laws.specs.Rows.{void_asks};
     ghost use Rattle.lra_laws.specs.Sheets.{StandsFor};
     ghost use Rattle.lra_rows.specs.Found.{found_action, found_member, found_addresses, found_ask};
     ghost use Rattle.lra_rows.specs.inner.Held as held;
@@ -300,6 +301,13 @@ impl Rows {
         ensures { (J : History) → StandsFor self.now.sheet J → result ≡ length (history.asks J) }
     {
         self.asked
+    }
+
+    /// How many asks were made before the last restart, which made them void.
+    pub fn count_void(&self) -> u64
+        ensures { (J : History) → StandsFor self.now.sheet J → result ≡ void_asks J }
+    {
+        self.void
     }
 
     /// The moment of the last entry; 0 where there is none.

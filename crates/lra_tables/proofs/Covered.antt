@@ -14,7 +14,7 @@ use Rattle.lra_model.specs.Members.{ask_direction}
 use Rattle.lra_model.specs.Wants.{wants, stage_of, repeat_count, last_repeat}
 use Rattle.lra_model.specs.Settling.{with_settling}
 use Rattle.lra_laws.specs.Sheets.{Sheet, StandsFor, Follows}
-use Rattle.lra_laws.specs.inner.Changes.{members_changed_by, actions_changed_by}
+use Rattle.lra_laws.specs.Changes.{members_changed_by, actions_changed_by}
 use Rattle.lra_laws.proofs.Changes.{SameWants, SameLimit}
 use Rattle.lra_laws.proofs.ChangesBlock.{block_wants, block_limits}
 use Rattle.lra_laws.proofs.Widest.{any_text, follows_each}

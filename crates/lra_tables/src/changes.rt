@@ -1,15 +1,11 @@
 //! Whose wants and whose deadlines entries may change.
 
-ghost use Rattle.std.specs.Prelude.{◌≡◌, ◌++◌, OnOk, IfOk, cond, is_some};
-ghost use Rattle.lra_model.specs.declared.entry.Entry.{Entry as EntryValue};
-ghost use Rattle.lra_model.specs.History as history;
+ghost use Rattle.std.specs.Prelude.{◌≡◌, ◌++◌, OnOk, IfOk, cond, is_some, option_to_list};
 ghost use Rattle.lra_model.specs.History.{History};
 ghost use Rattle.lra_model.specs.Actions.{parent, members_of};
 ghost use Rattle.lra_model.specs.Members.{members_under};
-ghost use Rattle.lra_model.specs.Settling.{with_settling};
-ghost use Rattle.lra_laws.specs.Sheets.{StandsFor, Follows};
-ghost use Rattle.lra_laws.specs.inner.Changes.{members_changed, members_changed_by, actions_changed, actions_changed_by};
-ghost use Rattle.lra_tables.specs.Plans.{CoversWants, CoversLimits};
+ghost use Rattle.lra_laws.specs.Sheets.{StandsFor};
+ghost use Rattle.lra_laws.specs.Changes.{member_awaited, members_awaited, members_changed, members_changed_by, actions_changed, actions_changed_by};
 
 use lra_model::{Deed, Entry, Memory};
 use lra_rows::Rows;
@@ -22,12 +18,24 @@ pub(crate) struct Changes {
     pub(crate) actions: Vec<u64>,
 }
 
-/// All members there are.
-fn add_all(rows: &Rows, members: &mut Vec<u64>) -> Result<(), Memory>
-    ensures { OnOk result ((J : History) → StandsFor rows.now.sheet J → members.new.items ≡ members.old.items ++ history.members J) }
+/// The member of an ask, where it is outstanding.
+fn add_awaited(rows: &Rows, ask: u64, members: &mut Vec<u64>) -> Result<(), Memory>
+    ensures { OnOk result ((J : History) → StandsFor rows.now.sheet J → members.new.items ≡ members.old.items ++ option_to_list (member_awaited J ask)) }
 {
-    for place in 0..rows.count_members() {
-        members.push(place + 1)?;
+    if let Some(asked) = rows.ask(ask) {
+        if asked.outstanding {
+            members.push(asked.member)?;
+        }
+    }
+    Ok(())
+}
+
+/// The members of all asks that are outstanding, of which there are none before the last restart.
+fn add_all_awaited(rows: &Rows, members: &mut Vec<u64>) -> Result<(), Memory>
+    ensures { OnOk result ((J : History) → StandsFor rows.now.sheet J → members.new.items ≡ members.old.items ++ members_awaited J) }
+{
+    for place in rows.count_void()..rows.count_asks() {
+        add_awaited(rows, place + 1, members)?;
     }
     Ok(())
 }
@@ -71,7 +79,7 @@ fn add_members(rows: &Rows, deed: &Deed, members: &mut Vec<u64>) -> Result<(), M
         }
         Deed::Report { member, .. } => members.push(*member)?,
         Deed::End { action, .. } => members.extend_from_slice(ended(rows, *action))?,
-        Deed::Restart => return add_all(rows, members),
+        Deed::Restart => add_all_awaited(rows, members)?,
         Deed::Enrol | Deed::Start { .. } | Deed::Renew { .. } => {}
     }
     Ok(())
@@ -97,8 +105,6 @@ impl Changes {
     pub(crate) fn of(alloc: Global, rows: &Rows, entries: &[Entry]) -> Result<Changes, Memory>
         ensures members { IfOk result (λ c. (J : History) → StandsFor rows.now.sheet J → c.members.items ≡ members_changed_by J entries.now) }
         ensures actions { IfOk result (λ c. c.actions.items ≡ actions_changed_by entries.now) }
-        ensures wants { IfOk result (λ c. (e : EntryValue) (J : History) → Follows rows.now.sheet e → StandsFor rows.now.sheet J → entries.now ≡ with_settling J e → CoversWants c.members.items J (J ++ entries.now)) }
-        ensures limits { IfOk result (λ c. (J : History) → CoversLimits c.actions.items J (J ++ entries.now)) }
     {
         let mut members = Vec::new(alloc);
         let mut actions = Vec::new(alloc);

@@ -75,6 +75,7 @@ pub(crate) fn find_joined(index: &Index, rows: &Rows, action: u64, uris: &Uris) 
 fn forget(index: &mut Index, rows: &Rows, member: u64)
     requires { (e : EntryValue) × IsKeptBefore index.old e rows.now.sheet × (e.deed ≡ deeds.Leave member) }
     ensures kept { IsKept index.new rows.now.sheet }
+    ensures key { index.new.key ≡ index.old.key }
     ensures room { index.old.room ≤ index.new.room }
 {
     let row = match rows.member(member) {
@@ -95,6 +96,7 @@ pub(crate) fn keep(index: &mut Index, rows: &Rows, entry: &Entry)
     requires before { IsKeptBefore index.old entry.now rows.now.sheet }
     requires room { TakesOne entry.now.deed index.old }
     ensures kept { IsKept index.new rows.now.sheet }
+    ensures key { index.new.key ≡ index.old.key }
     ensures room { index.old.room ≤ index.new.room + 1 }
 {
     match &entry.deed {

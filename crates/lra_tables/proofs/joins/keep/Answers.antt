@@ -1,4 +1,4 @@
-use Rattle.std.proofs.Common.{arith}
+use Rattle.std.proofs.Common.{refl, arith}
 use Rattle.lra_tables.proofs.Keeping.{counted, kept_joined, kept_same}
 use Rattle.lra_tables.proofs.joins.keep.Goals as goal
 
@@ -13,5 +13,6 @@ returns-in-Join-clause-kept c =
 pub returns-in_default : goal.returns-in_default
 returns-in_default c = record {
   kept = kept_same c.args.index.now c.args.entry.now c.args.rows.now.sheet c.requires.before c.in_default.not-Join c.in_default.not-Leave;
+  key = refl;
   room = omega arith;
 }

@@ -1,7 +1,7 @@
 use Rattle.std.proofs.Common.{◌≡◌, take}
 use Rattle.lra_model.specs.History.{History}
 use Rattle.lra_laws.specs.Sheets.{StandsFor}
-use Rattle.lra_laws.specs.inner.Changes.{members_changed_by, actions_changed_by}
+use Rattle.lra_laws.specs.Changes.{members_changed_by, actions_changed_by}
 use Rattle.lra_tables.proofs.changes.Changes.of.Given as goal
 
 abbrev pub invariant-loop-entry : goal.invariant-loop-entry
