@@ -58,10 +58,11 @@ impl Model for Standing {
     ghost inverse = { λ s. record { number = s.number; kind = s.kind; direction = s.direction } };
 }
 
-/// A member, as the rules see it.
+/// A member, as the rules see it. There may be very many: the wide fields come first, so that few bytes are lost between them.
 #[derive(Clone, Copy)]
 pub(crate) struct MemberState {
     pub(crate) action: u64,
+    pub(crate) asked: Option<Standing>,
     pub(crate) addresses: Presence,
     pub(crate) status: MemberStatus,
     /// The last reply in completion.
@@ -70,10 +71,11 @@ pub(crate) struct MemberState {
     pub(crate) compensation: Option<Outcome>,
     /// Whether completion is decided, done or failed.
     pub(crate) completed: bool,
-    pub(crate) asked: Option<Standing>,
     pub(crate) has_forgotten: bool,
     pub(crate) was_told: bool,
 }
+
+const _: () = prove!(size_of::<MemberState>() == 48);
 
 impl Model for MemberState {
     ghost use Rattle.lra_laws.specs.Rows as rows;
