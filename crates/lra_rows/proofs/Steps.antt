@@ -1,7 +1,7 @@
 -- What takes an entry back.
-use Rattle.std.proofs.Common.{◌≡◌, ℕ, Bool, true, false, List, [], ◌∷◌, ◌++◌, take, Option, Some, None, refl, ap, ◌∙◌, arith, subst, length-append}
+use Rattle.std.proofs.Common.{◌≡◌, ℕ, Bool, true, false, List, [], ◌∷◌, ◌++◌, take, Option, Some, None, length, suc, refl, ap, ◌∙◌, arith, subst, length-append}
 use Rattle.std.proofs.Math.Seq.{take-append_seam}
-use Rattle.std.specs.Prelude.{cond}
+use Rattle.std.specs.Prelude.{cond, slice_get}
 use Rattle.std.specs.Option.{option_map_or}
 use Rattle.lra_model.specs.declared.asks.AskKind.{AskKind}
 use Rattle.lra_model.specs.declared.asks.AskKind.TheVariants as ask
@@ -9,7 +9,7 @@ use Rattle.lra_model.specs.declared.asks.Outcome.{Outcome}
 use Rattle.lra_model.specs.Words.{is_undecided}
 use Rattle.lra_model.specs.Members.{Asked}
 use Rattle.lra_model.specs.Wants.{stage_of}
-use Rattle.lra_laws.specs.Rows.{MemberRow, ActionRow, change_row}
+use Rattle.lra_laws.specs.Rows.{MemberRow, ActionRow, row_at, change_row}
 use Rattle.lra_laws.specs.Sheets.{Nest, Contact, with_child_number, with_member_number, with_number_under, with_repeat, with_answer}
 use Rattle.lra_rows.specs.declared.step.Added.{Added}
 use Rattle.lra_rows.specs.declared.step.Added.TheVariants as added
@@ -41,7 +41,14 @@ answer_back m o x c = either (is_undecided o)
     either true = repeat_back m (stage_of x.kind x.direction) c
     either false = same_back (stage_of x.kind x.direction) c
 
--- a list with one more, without it
+-- a list with one more: the last, and the list without it
+pub last_there : {X : Type 0} (xs : List X) (x : X) → row_at (xs ++ x ∷ []) (length (xs ++ x ∷ [])) ≡ Some x
+last_there {X = X} xs x = ap (row_at (xs ++ x ∷ [])) (let e : length (xs ++ x ∷ []) ≡ suc (length xs) = omega (arith, length-append xs (x ∷ [])) in e) ∙ at_end xs
+  where
+    at_end : (ys : List X) → slice_get (ys ++ x ∷ []) (length ys) ≡ Some x
+    at_end [] = refl
+    at_end (y ∷ ys) = at_end ys
+
 pub without_more : {X : Type 0} (xs : List X) (x : X) → without_last (xs ++ x ∷ []) ≡ xs
 without_more xs x = ap (λ n. take n (xs ++ x ∷ [])) (let e = length-append xs (x ∷ []) in omega arith) ∙ take-append_seam xs (x ∷ [])
 

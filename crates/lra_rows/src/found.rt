@@ -63,7 +63,7 @@ pub struct AskRow {
 fn stands_as(number: u64, row: &MemberState) -> bool
     ensures { result ≡ stands_as number row.now }
 {
-    match row.asked {
+    match row.asked.get() {
         Some(asked) => asked.number == number,
         None => false,
     }
@@ -116,7 +116,7 @@ impl Rows {
     fn outstanding(&self, row: &MemberState) -> Option<u64>
         ensures { result ≡ held.held_outstanding self.now.sheet row.now }
     {
-        match row.asked {
+        match row.asked.get() {
             Some(asked) if self.void < asked.number => Some(asked.number),
             _ => None,
         }

@@ -1,5 +1,7 @@
 //! What the rules read of a member and of an action.
 
+ghost use Rattle.std.specs.Prelude.{◌≡◌, Some, None};
+
 use lra_model::{ActionStatus, AskKind, Direction, MemberStatus, Outcome};
 use std::marker::Model;
 
@@ -58,11 +60,77 @@ impl Model for Standing {
     ghost inverse = { λ s. record { number = s.number; kind = s.kind; direction = s.direction } };
 }
 
+/// The ask that stands with a member, where there is one, in fewer bytes than an `Option` of it has.
+#[derive(Clone, Copy)]
+pub(crate) struct Awaited {
+    number: u64,
+    kind: AskKind,
+    direction: Direction,
+    is_there: bool,
+}
+
+impl Model for Awaited {
+    ghost use Rattle.std.specs.Prelude.{Option};
+    ghost use Rattle.lra_laws.specs.Rows.{Standing};
+
+    ghost Value = { Option Standing };
+
+    ghost use Rattle.lra_rows.specs.inner.Standings.{awaited, kept, IsKept, kept_awaited};
+
+    ghost view = { awaited };
+
+    ghost invariant = { IsKept };
+
+    ghost inverse = { kept };
+
+    ghost inverse_ok = { kept_awaited };
+}
+
+impl Awaited {
+    /// No ask.
+    pub(crate) fn none() -> Awaited
+        ensures { result ≡ None }
+    {
+        Awaited {
+            number: 0,
+            kind: AskKind::Complete,
+            direction: Direction::Completion,
+            is_there: false,
+        }
+    }
+
+    /// An ask that stands.
+    pub(crate) fn of(asked: Standing) -> Awaited
+        ensures { result ≡ Some asked }
+    {
+        Awaited {
+            number: asked.number,
+            kind: asked.kind,
+            direction: asked.direction,
+            is_there: true,
+        }
+    }
+
+    /// The ask, where there is one.
+    pub(crate) fn get(self) -> Option<Standing>
+        ensures { result ≡ self }
+    {
+        if !self.is_there {
+            return None;
+        }
+        Some(Standing {
+            number: self.number,
+            kind: self.kind,
+            direction: self.direction,
+        })
+    }
+}
+
 /// A member, as the rules see it. There may be very many: the wide fields come first, so that few bytes are lost between them.
 #[derive(Clone, Copy)]
 pub(crate) struct MemberState {
     pub(crate) action: u64,
-    pub(crate) asked: Option<Standing>,
+    pub(crate) asked: Awaited,
     pub(crate) addresses: Presence,
     pub(crate) status: MemberStatus,
     /// The last reply in completion.
@@ -75,7 +143,7 @@ pub(crate) struct MemberState {
     pub(crate) was_told: bool,
 }
 
-const _: () = prove!(size_of::<MemberState>() == 48);
+const _: () = prove!(size_of::<MemberState>() == 40);
 
 impl Model for MemberState {
     ghost use Rattle.lra_laws.specs.Rows as rows;

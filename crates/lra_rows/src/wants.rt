@@ -129,7 +129,7 @@ impl Rows {
     fn is_asked(&self, row: &MemberState) -> bool
         ensures { result ≡ is_standing self.now.sheet.state.void row.now }
     {
-        match row.asked {
+        match row.asked.get() {
             Some(asked) => self.void < asked.number,
             None => false,
         }
