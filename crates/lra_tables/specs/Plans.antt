@@ -8,7 +8,6 @@ use Rattle.lra_model.specs.Words.{is_active}
 use Rattle.lra_model.specs.History.{History, is_among}
 use Rattle.lra_model.specs.Settling.{with_settling}
 use Rattle.lra_laws.specs.Sheets.{Sheet, StandsFor, Follows}
-use Rattle.lra_laws.specs.Changes.{members_changed_by, actions_changed_by}
 use Rattle.lra_board.specs.Boarded as boards
 use Rattle.lra_board.specs.Boarded.{Boarded}
 use Rattle.lra_rows.specs.declared.found.ActionRow.{ActionRow}
@@ -75,13 +74,10 @@ CoversWants ps J K = (p : ℕ) → is_among ps p ≡ false → wanting K p ≡ w
 abbrev pub CoversLimits : List ℕ → History → History → Type 0
 CoversLimits xs J K = (a : ℕ) → is_among xs a ≡ false → limiting K a ≡ limiting J a
 
--- the plan of an entry that is allowed after the history: it, and all that settles after it, with just the members and actions that those
--- entries bear on
+-- the plan of an entry that is allowed after the history: it, and all that settles after it
 pub record IsPlan (s : Sheet) (p : Planned) : Type 0 where
   pub entry : Entry
   pub follows : Follows s entry
   pub block : (J : History) → StandsFor s J → p.entries ≡ with_settling J entry
-  pub members : (J : History) → StandsFor s J → p.members ≡ members_changed_by J p.entries
-  pub actions : p.actions ≡ actions_changed_by p.entries
   pub wants : (J : History) → StandsFor s J → CoversWants p.members J (J ++ p.entries)
   pub limits : (J : History) → StandsFor s J → CoversLimits p.actions J (J ++ p.entries)
