@@ -11,6 +11,9 @@ mod lock;
 mod memory;
 mod pieces;
 mod requests;
+mod setting;
+mod stopwatch;
+mod tables;
 mod timers;
 mod wire;
 
@@ -19,17 +22,43 @@ use std::process::ExitCode;
 
 const USAGE: &str = "usage: lra_bench NAME
 
-audit   megabytes audited a second, and memory, as a journal grows from 10,000 entries to 10,000,000
-core    the commands of a coordinator, as its members grow from 1,000 to 400,000, and reopening its journal
-front   the replies to one connection: standard input has a journal, an empty line, and the connection's bytes
-ids     address texts tested a second, short and long
-lock    handovers of the ticket lock, beside a Mutex
+audit     megabytes audited a second, and memory, as a journal grows from 10,000 entries to 10,000,000
+core      the commands of a coordinator, as its members grow from 1,000 to 400,000, and reopening its journal
+front     the replies to one connection: standard input has a journal, an empty line, and the connection's bytes
+ids       address texts tested a second, short and long
+lock      handovers of the ticket lock, beside a Mutex
 requests  HTTP requests answered a second, beside reading them and beside their commands
-timers  the calls of an agenda, as its pairs grow from 1,000 to 400,000
-wire    requests read a second, whole and in small pieces";
+tables    what commands cost the tables, as their members grow from 1,000 to 400,000
+timers    the calls of an agenda, as its pairs grow from 1,000 to 400,000
+wire      requests read a second, whole and in small pieces";
 
 /// The status where there is no benchmark of that name.
 const UNKNOWN: u8 = 2;
+
+/// Runs the benchmark of that name, if it needs no threads, and tells whether there is one.
+fn run(rt: &HostRuntime, name: &str) -> anyhow::Result<bool> {
+    match name {
+        "audit" => audit::run(rt)?,
+        "core" => coordinator::run(rt)?,
+        "front" => front::run(rt)?,
+        "ids" => ids::run(rt)?,
+        "requests" => requests::run(rt)?,
+        "tables" => tables::run(rt)?,
+        "timers" => timers::run(rt)?,
+        "wire" => wire::run(rt)?,
+        _ => return Ok(false),
+    }
+    Ok(true)
+}
+
+/// The same, with its status.
+fn status(rt: &HostRuntime, name: &str) -> anyhow::Result<ExitCode> {
+    if run(rt, name)? {
+        return Ok(ExitCode::SUCCESS);
+    }
+    eprintln!(rt; "{USAGE}")?;
+    Ok(ExitCode::from(UNKNOWN))
+}
 
 fn main(rt: HostRuntime) -> anyhow::Result<ExitCode> {
     let mut args = env::args(&rt)?;
@@ -38,19 +67,10 @@ fn main(rt: HostRuntime) -> anyhow::Result<ExitCode> {
         println!(rt; "{USAGE}")?;
         return Ok(ExitCode::SUCCESS);
     };
-    match name.as_str() {
-        "audit" => audit::run(&rt)?,
-        "core" => coordinator::run(&rt)?,
-        "front" => front::run(&rt)?,
-        "ids" => ids::run(&rt)?,
-        "lock" => lock::run(&rt, rt.alloc())?,
-        "requests" => requests::run(&rt)?,
-        "timers" => timers::run(&rt)?,
-        "wire" => wire::run(&rt)?,
-        _ => {
-            eprintln!(rt; "{USAGE}")?;
-            return Ok(ExitCode::from(UNKNOWN));
-        }
+    if name.as_str() == "lock" {
+        // Only here may the runtime start threads.
+        lock::run(&rt, rt.alloc())?;
+        return Ok(ExitCode::SUCCESS);
     }
-    Ok(ExitCode::SUCCESS)
+    status(&rt, name.as_str())
 }

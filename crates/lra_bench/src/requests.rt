@@ -3,17 +3,19 @@
 //! What counts is the ratio to the sum of two times that are taken beside it: those of the same commands called on the
 //! coordinator, and of reading the same requests alone.
 
-ghost use Rattle.std.specs.Prelude.{◌<◌};
+ghost use Rattle.std.specs.Prelude.{◌≡◌, ◌<◌, true};
+ghost use Rattle.lra_ids.specs.Addresses.{is_base};
 
-use crate::front::{CLERK, Still, base};
+use crate::front::{CLERK, Still};
 use crate::pieces::Pieces;
+use crate::setting::{base, instance};
+use crate::wire::read_stream;
 use anyhow::{Result, bail, ensure};
 use lra_commands::{Counter, CounterFault, Limits};
-use lra_core::{Bench, Coordinator, Instance};
+use lra_core::{Address, Bench, Coordinator, Instance};
 use lra_front::{StreamEnd, serve_stream};
 use lra_ids::spell_action;
-use lra_model::Uris;
-use lra_wire::{Inbox, read_request};
+use lra_model::{Memory, Uris};
 use std::alloc::Global;
 use std::io;
 use std::io::Write;
@@ -49,20 +51,6 @@ impl Write for Tally {
     }
 }
 
-/// A clerk's counter at a new coordinator.
-fn counter(alloc: Global) -> Result<Bench> {
-    let Some(instance) = Instance::new(7) else {
-        bail!("no instance");
-    };
-    let base = base(alloc)?;
-    if !base.is_base() {
-        bail!("no base");
-    }
-    let mut coordinator = Coordinator::new(alloc, instance, base, Limits::usual());
-    coordinator.enrol(0)?;
-    Ok(Bench::new(coordinator, CLERK))
-}
-
 /// The requests for one action: it is started, has a member, is looked at and is closed.
 fn push_action(alloc: Global, text: &mut String, path: &str) -> Result<()> {
     let start =
@@ -83,14 +71,14 @@ fn push_action(alloc: Global, text: &mut String, path: &str) -> Result<()> {
     Ok(())
 }
 
-/// The requests of the stream with that place.
-fn stream(alloc: Global, counter: &Bench, place: u64) -> Result<String>
-    requires { place < STREAMS }
+/// The requests of the stream with that place, to a coordinator of this instance and base.
+fn stream(alloc: Global, instance: Instance, base: &Address, place: u64) -> Result<String>
+    requires place { place < STREAMS }
+    requires base { is_base base.now ≡ true }
 {
     let mut text = String::new(alloc);
     for n in 1..=ACTIONS {
-        let action = place * ACTIONS + n;
-        let uri = spell_action(alloc, counter.instance(), action, counter.base())?;
+        let uri = spell_action(alloc, instance, place * ACTIONS + n, base)?;
         let Some(path) = uri.strip_prefix("http://127.0.0.1:8080") else {
             bail!("no path");
         };
@@ -101,10 +89,11 @@ fn stream(alloc: Global, counter: &Bench, place: u64) -> Result<String>
 
 /// All streams of a run.
 fn streams(alloc: Global) -> Result<Vec<String>> {
-    let counter = counter(alloc)?;
+    let instance = instance()?;
+    let base = base(alloc)?;
     let mut streams = Vec::new(alloc);
     for place in 0..STREAMS {
-        streams.push(stream(alloc, &counter, place)?)?;
+        streams.push(stream(alloc, instance, &base, place)?)?;
     }
     Ok(streams)
 }
@@ -120,28 +109,28 @@ enum Work {
     Command,
 }
 
-fn answer_all(alloc: Global, streams: &[String], size: usize) -> Result<()> {
-    let mut counter = counter(alloc)?;
+/// Answers a stream that comes in pieces of this size, and tells whether it was answered to its end.
+fn answer(alloc: Global, counter: &mut Bench, stream: &str, size: usize) -> bool {
     let mut clock = Still { moment: 0 };
     let mut tally = Tally { bytes: 0 };
+    let reader = Pieces {
+        rest: stream.as_bytes(),
+        size,
+    };
+    serve_stream(alloc, reader, &mut tally, counter, &mut clock) == StreamEnd::Done
+}
+
+fn answer_all(alloc: Global, counter: &mut Bench, streams: &[String], size: usize) -> Result<()> {
     for stream in streams {
-        let rest = stream.as_bytes();
-        let reader = Pieces { rest, size };
-        let end = serve_stream(alloc, reader, &mut tally, &mut counter, &mut clock);
-        ensure!(end == StreamEnd::Done, "the stream ended early");
+        let is_done = answer(alloc, counter, stream.as_str(), size);
+        ensure!(is_done, "the stream ended early");
     }
     Ok(())
 }
 
 fn read_all(alloc: Global, streams: &[String], size: usize) -> Result<()> {
     for stream in streams {
-        let rest = stream.as_bytes();
-        let mut inbox = Inbox::new(alloc, Pieces { rest, size })?;
-        for _ in 0..u64::MAX {
-            if read_request(alloc, &mut inbox)?.is_none() {
-                break;
-            }
-        }
+        read_stream(alloc, stream.as_bytes(), size)?;
     }
     Ok(())
 }
@@ -155,19 +144,50 @@ fn give_action(counter: &mut Bench, action: u64, uris: &Uris) -> Result<(), Coun
     Ok(())
 }
 
-fn give_all(alloc: Global) -> Result<()> {
-    let mut counter = counter(alloc)?;
-    let uris = Uris {
+/// The addresses of each member.
+fn addresses(alloc: Global) -> Result<Uris, Memory> {
+    Ok(Uris {
         compensate: Some(String::from_str(alloc, COMPENSATE)?),
         complete: Some(String::from_str(alloc, COMPLETE)?),
         status: None,
         forget: None,
         after: None,
-    };
+    })
+}
+
+fn give_each(counter: &mut Bench, uris: &Uris) -> Result<()> {
     for action in 1..=STREAMS * ACTIONS {
-        give_action(&mut counter, action, &uris)?;
+        give_action(counter, action, uris)?;
     }
     Ok(())
+}
+
+fn give_all(alloc: Global, counter: &mut Bench) -> Result<()> {
+    let uris = addresses(alloc)?;
+    give_each(counter, &uris)
+}
+
+/// Does the work at a counter, of which reading makes no use.
+fn work_at(alloc: Global, counter: &mut Bench, streams: &[String], work: Work) -> Result<()> {
+    match work {
+        Work::Answer(size) => answer_all(alloc, counter, streams, size),
+        Work::Command => give_all(alloc, counter),
+        Work::Read(size) => read_all(alloc, streams, size),
+    }
+}
+
+/// Does the work at a clerk's counter of a new coordinator, which is lent at once: to own it where there are several ways out is
+/// dear to prove.
+fn work_anew(alloc: Global, streams: &[String], work: Work) -> Result<()> {
+    let instance = instance()?;
+    let base = base(alloc)?;
+    let mut coordinator = Coordinator::new(alloc, instance, base, Limits::usual());
+    let enrolled = coordinator.enrol(0);
+    let mut counter = Bench::new(coordinator, CLERK);
+    match enrolled {
+        Ok(_) => work_at(alloc, &mut counter, streams, work),
+        Err(refusal) => Err(refusal.into()),
+    }
 }
 
 /// Seconds that it takes, the least of some runs.
@@ -176,32 +196,36 @@ fn time(rt: &HostRuntime, streams: &[String], work: Work) -> Result<f64> {
     let mut least = f64::MAX;
     for _ in 0..RUNS {
         let start = Instant::now(rt)?;
-        match work {
-            Work::Answer(size) => answer_all(alloc, streams, size)?,
-            Work::Read(size) => read_all(alloc, streams, size)?,
-            Work::Command => give_all(alloc)?,
-        }
+        work_anew(alloc, streams, work)?;
         least = least.min(start.elapsed(rt)?.as_secs_f64());
     }
     Ok(least)
 }
 
+/// Prints a line for pieces of this size. The commands alone take so many seconds.
+fn print_rates(rt: &HostRuntime, streams: &[String], size: usize, commands: f64) -> Result<()> {
+    let requests = (STREAMS * ACTIONS * 4) as f64;
+    let answers = time(rt, streams, Work::Answer(size))?;
+    let reading = time(rt, streams, Work::Read(size))?;
+    let rate = requests / answers;
+    let ratio = answers / (reading + commands);
+    let reading = answers / reading;
+    let commands = answers / commands;
+    println!(rt;
+        "in pieces of {size:>4} bytes: {rate:7.0} requests a second, ratio to reading {reading:.2}, to the commands {commands:.2}, to both {ratio:.2}"
+    )?;
+    Ok(())
+}
+
 /// Prints a line for each size of the pieces.
+fn print_all(rt: &HostRuntime, streams: &[String]) -> Result<()> {
+    let commands = time(rt, streams, Work::Command)?;
+    print_rates(rt, streams, 4096, commands)?;
+    print_rates(rt, streams, 64, commands)
+}
+
+/// Prints what it takes to answer requests.
 pub fn run(rt: &HostRuntime) -> Result<()> {
     let streams = streams(rt.alloc())?;
-    let streams = streams.as_slice();
-    let commands = time(rt, streams, Work::Command)?;
-    let requests = (STREAMS * ACTIONS * 4) as f64;
-    for size in [4096, 64] {
-        let answers = time(rt, streams, Work::Answer(size))?;
-        let reading = time(rt, streams, Work::Read(size))?;
-        let rate = requests / answers;
-        let ratio = answers / (reading + commands);
-        let reading = answers / reading;
-        let commands = answers / commands;
-        println!(rt;
-            "in pieces of {size:>4} bytes: {rate:7.0} requests a second, ratio to reading {reading:.2}, to the commands {commands:.2}, to both {ratio:.2}"
-        )?;
-    }
-    Ok(())
+    print_all(rt, streams.as_slice())
 }

@@ -33,19 +33,27 @@ fn stream(alloc: Global, count: usize, len: usize) -> Result<Vec<u8>> {
     Ok(bytes)
 }
 
+fn read_to_end(alloc: Global, inbox: &mut Inbox<Pieces<'_>>) -> Result<()> {
+    for _ in 0..u64::MAX {
+        if read_request(alloc, inbox)?.is_none() {
+            break;
+        }
+    }
+    Ok(())
+}
+
+/// Reads all requests of a stream that comes in pieces of this size.
+pub fn read_stream(alloc: Global, bytes: &[u8], size: usize) -> Result<()> {
+    let mut inbox = Inbox::new(alloc, Pieces { rest: bytes, size })?;
+    read_to_end(alloc, &mut inbox)
+}
+
 /// Seconds to read all requests of the bytes, the least of some runs.
 fn time(rt: &HostRuntime, bytes: &[u8], size: usize) -> Result<f64> {
-    let alloc = rt.alloc();
     let mut least = f64::MAX;
     for _ in 0..RUNS {
-        let mut inbox = Inbox::new(alloc, Pieces { rest: bytes, size })?;
         let start = Instant::now(rt)?;
-        for _ in 0..u64::MAX {
-            let request = read_request(alloc, &mut inbox)?;
-            if request.is_none() {
-                break;
-            }
-        }
+        read_stream(rt.alloc(), bytes, size)?;
         least = least.min(start.elapsed(rt)?.as_secs_f64());
     }
     Ok(least)

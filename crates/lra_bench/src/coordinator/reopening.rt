@@ -1,9 +1,11 @@
 //! How long it takes to go on from a journal, beside an audit of its text, and how much memory.
 
-use super::desk::{base, instance, limits};
+use super::desk::limits;
 use crate::journals::{Journal, Kind};
 use crate::memory::kilobytes;
-use anyhow::{Result, ensure};
+use crate::setting::{base, instance};
+use crate::stopwatch::Stopwatch;
+use anyhow::{Context, Result, ensure};
 use lra_auditor::{Verdict, audit};
 use lra_core::Coordinator;
 use lra_journal::read_journal;
@@ -46,18 +48,23 @@ fn time_audit(rt: &HostRuntime, text: &[u8]) -> Result<Duration> {
     Ok(time)
 }
 
-/// How long it takes to go on from a journal's entries.
-fn time_opening(rt: &HostRuntime, text: &[u8]) -> Result<Duration> {
-    let alloc = rt.alloc();
-    let (version, _, entries) = read_journal(alloc, text)?;
-    let base = base(alloc)?;
-    let instance = instance()?;
-    let start = Instant::now(rt)?;
-    let coordinator = Coordinator::from_journal(alloc, version, instance, base, limits(), entries)?;
-    let time = start.elapsed(rt)?;
+/// The time of a watch, at a coordinator that goes on from all entries.
+fn time_read(rt: &HostRuntime, watch: Stopwatch, coordinator: &Coordinator) -> Result<Duration> {
+    let time = watch.elapsed(rt).context("the clock can't be read")?;
     let counted = coordinator.entries().len() as u64;
     ensure!(counted == ENTRIES, "{counted} entries were read");
     Ok(time)
+}
+
+/// How long it takes to go on from a journal's entries.
+fn time_opening(rt: &HostRuntime, text: &[u8]) -> Result<Duration> {
+    let alloc = rt.alloc();
+    let instance = instance()?;
+    let base = base(alloc)?;
+    let (version, _, entries) = read_journal(alloc, text)?;
+    let watch = Stopwatch::start(rt);
+    let coordinator = Coordinator::from_journal(alloc, version, instance, base, limits(), entries)?;
+    time_read(rt, watch, &coordinator)
 }
 
 /// Prints the times, and the most memory that the program had: the text, its entries, and what is kept beside them.

@@ -3,7 +3,8 @@
 ghost use Rattle.std.specs.Prelude.{All};
 ghost use Rattle.lra_journal.specs.Line.{HasAddressWords};
 
-use super::desk::{Desk, instance};
+use super::desk::Desk;
+use crate::setting::instance;
 use anyhow::Result;
 use lra_journal::{Version, read_journal, write_entry, write_header};
 use lra_model::{Entry, Memory, Outcome, Uris};
@@ -101,7 +102,7 @@ fn time_writing(rt: &HostRuntime, lines: &[u8]) -> Result<Duration> {
 }
 
 /// What is timed.
-#[derive(Clone, Copy, Debug, PartialEq, Eq)]
+#[derive(Clone, Copy)]
 enum Work {
     Join,
     Close,
@@ -191,8 +192,9 @@ fn take_sample(rt: &HostRuntime, desk: &mut Desk) -> Result<Sample> {
     })
 }
 
-/// The shortest of some samples on one coordinator.
-fn shortest_on(rt: &HostRuntime, desk: &mut Desk) -> Result<Sample> {
+/// The shortest of some samples on one coordinator that is filled with so many members.
+fn shortest_on(rt: &HostRuntime, desk: &mut Desk, members: u64) -> Result<Sample> {
+    desk.fill(members)?;
     let mut least = take_sample(rt, desk)?;
     for _ in 1..TIMES {
         least = least.least(take_sample(rt, desk)?);
@@ -200,12 +202,17 @@ fn shortest_on(rt: &HostRuntime, desk: &mut Desk) -> Result<Sample> {
     Ok(least)
 }
 
+/// The shortest of some samples on a coordinator of their own.
+fn shortest_anew(rt: &HostRuntime, members: u64) -> Result<Sample> {
+    let mut desk = Desk::new(rt.alloc())?;
+    shortest_on(rt, &mut desk, members)
+}
+
 /// The shortest of so many runs, each on a coordinator of its own with so many members.
 pub fn shortest(rt: &HostRuntime, members: u64, runs: u32) -> Result<Sample> {
-    let mut least = shortest_on(rt, &mut Desk::new(rt.alloc(), members)?)?;
+    let mut least = shortest_anew(rt, members)?;
     for _ in 1..runs {
-        let other = shortest_on(rt, &mut Desk::new(rt.alloc(), members)?)?;
-        least = least.least(other);
+        least = least.least(shortest_anew(rt, members)?);
     }
     Ok(least)
 }

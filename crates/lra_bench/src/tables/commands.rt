@@ -1,0 +1,142 @@
+//! What one command costs, with more and more members in the tables.
+
+use super::beside::{Beside, Kind};
+use super::nanoseconds_each;
+use anyhow::Result;
+use std::time::Duration;
+
+/// How many members are there beforehand at first, two in each action.
+const FEWEST: u64 = 1_000;
+
+/// And how many later.
+const SIZES: [u64; 3] = [10_000, 100_000, 400_000];
+
+const MEMBERS: u64 = 2;
+
+/// Of so many runs the shortest counts, since what else the machine does only makes a run longer.
+const RUNS: u64 = 20;
+
+/// How many turns a run has: each takes another action.
+const TURNS: u64 = 10;
+
+/// From one turn's action to the next, so that they lie apart. It is prime, and so no action comes twice.
+const STRIDE: u64 = 7_919;
+
+/// How many times that of the smallest tables a command may cost.
+const LIMIT: u64 = 2;
+
+/// Nanoseconds of one command of each kind.
+#[derive(Clone, Copy)]
+struct Times {
+    join: f64,
+    close: f64,
+    reply: f64,
+}
+
+impl Times {
+    /// The shorter of both, command by command.
+    fn least(self, other: Times) -> Times {
+        Times {
+            join: self.join.min(other.join),
+            close: self.close.min(other.close),
+            reply: self.reply.min(other.reply),
+        }
+    }
+}
+
+/// What the commands of some turns took.
+#[derive(Clone, Copy)]
+struct Sums {
+    join: Duration,
+    close: Duration,
+    reply: Duration,
+}
+
+impl Sums {
+    const NONE: Sums = Sums {
+        join: Duration::ZERO,
+        close: Duration::ZERO,
+        reply: Duration::ZERO,
+    };
+
+    /// With those of some more turns.
+    fn plus(self, other: Sums) -> Sums {
+        Sums {
+            join: self.join.saturating_add(other.join),
+            close: self.close.saturating_add(other.close),
+            reply: self.reply.saturating_add(other.reply),
+        }
+    }
+
+    /// The nanoseconds a command, after all turns of a run.
+    fn each(self) -> Times {
+        Times {
+            join: nanoseconds_each(self.join, TURNS),
+            close: nanoseconds_each(self.close, TURNS),
+            reply: nanoseconds_each(self.reply, TURNS * (MEMBERS + 1)),
+        }
+    }
+}
+
+/// What the replies of all members of an action took that is closing.
+fn reply_all(rt: &HostRuntime, beside: &mut Beside) -> Result<Duration> {
+    let mut time = Duration::ZERO;
+    for _ in 0..=MEMBERS {
+        time = time.saturating_add(beside.reply(rt)?.time);
+    }
+    Ok(time)
+}
+
+/// A third member joins an action, which closes, and each of the three replies that it is done: with the last reply it ends.
+fn take_turn(rt: &HostRuntime, beside: &mut Beside, action: u64) -> Result<Sums> {
+    let join = beside.join(rt, action, Kind::Asked)?.time;
+    let close = beside.close(rt, action)?.time;
+    let reply = reply_all(rt, beside)?;
+    Ok(Sums { join, close, reply })
+}
+
+/// The nanoseconds a command of one run, whose first turn has a number.
+fn time_run(rt: &HostRuntime, beside: &mut Beside, first: u64, actions: u64) -> Result<Times> {
+    let mut sums = Sums::NONE;
+    for turn in first..first.saturating_add(TURNS) {
+        let action = turn.wrapping_mul(STRIDE) % actions.max(1) + 1;
+        sums = sums.plus(take_turn(rt, beside, action)?);
+    }
+    Ok(sums.each())
+}
+
+/// The least of each of the runs with so many members.
+fn measure(rt: &HostRuntime, beside: &mut Beside, size: u64) -> Result<Times> {
+    let actions = size / MEMBERS;
+    beside.fill(rt, actions, MEMBERS)?;
+    let mut least = time_run(rt, beside, 0, actions)?;
+    for run in 1..RUNS {
+        least = least.least(time_run(rt, beside, run * TURNS, actions)?);
+    }
+    Ok(least)
+}
+
+fn print_time(rt: &HostRuntime, name: &str, size: u64, time: f64, before: f64) -> Result<()> {
+    let ratio = time / before;
+    println!(rt;
+        "{name:<6}{size:>8} members: {time:6.0} ns a command, ratio {ratio:4.2}, at most {LIMIT}"
+    )?;
+    Ok(())
+}
+
+/// A line for each command, beside what it took with the fewest members.
+fn print_times(rt: &HostRuntime, size: u64, times: Times, first: Times) -> Result<()> {
+    print_time(rt, "join", size, times.join, first.join)?;
+    print_time(rt, "close", size, times.close, first.close)?;
+    print_time(rt, "reply", size, times.reply, first.reply)
+}
+
+/// Prints a line for each command and size.
+pub fn run(rt: &HostRuntime, beside: &mut Beside) -> Result<()> {
+    let first = measure(rt, beside, FEWEST)?;
+    print_times(rt, FEWEST, first, first)?;
+    for size in SIZES {
+        print_times(rt, size, measure(rt, beside, size)?, first)?;
+    }
+    Ok(())
+}
