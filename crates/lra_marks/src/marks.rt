@@ -1,6 +1,6 @@
-ghost use Rattle.std.specs.Prelude.{◌≡◌, ◌+◌, ◌-◌, ◌≤◌, ◌<◌, ◌∷◌, ◌++◌, [], length, slice_set, IsOk, IfSome, IfNone, OnOk};
+ghost use Rattle.std.specs.Prelude.{◌≡◌, ◌+◌, ◌*◌, ◌-◌, ◌^◌, ◌≤◌, ◌<◌, ◌∷◌, ◌++◌, [], ℕ, List, Bool, length, slice_set, vec_len, vec_capacity, IsOk, IfSome, IfNone, OnOk};
 ghost use Rattle.lra_marks.specs.Marks.{mark_at, IsFirstMarked, NoneMarked};
-ghost use Rattle.lra_marks.specs.inner.Leaves.{leaf, is_mark};
+ghost use Rattle.lra_marks.specs.inner.Leaves.{key, flag, is_mark, IsBest, IsWritten};
 
 use lra_timers::{Deadline, Memory, Tournament};
 use std::alloc::Global;
@@ -13,46 +13,97 @@ pub enum Order {
     GreatestFirst,
 }
 
+/// How many numbers have a leaf of the tree together.
+const BLOCK: usize = 8;
+
 /// Which of the numbers 1, 2, .. up to a last one are marked.
 ///
 /// The first of the marked ones is known at once, and a change costs a logarithm of how many numbers there are.
-/// The number at place k of the tree is k + 1; an unmarked one stands there as the last deadline.
 #[derive(Drop)]
 pub struct Marks {
     order: Order,
+    /// Whether each number is marked, the number 1 at place 0.
+    flags: Vec<bool>,
+    /// The first marked number of each block; the last deadline where none of them is.
     leaves: Tournament,
 }
 
 impl Model for Marks {
-    ghost use Rattle.std.specs.Prelude.{map};
+    ghost use Rattle.std.specs.Prelude.{◌+◌, length, vec_len, vec_capacity};
     ghost use Rattle.lra_marks.specs.Marks.{Marking};
-    ghost use Rattle.lra_marks.specs.inner.Leaves.{is_mark, AreLeaves};
+    ghost use Rattle.lra_marks.specs.inner.Leaves.{AreLeaves, room_of};
 
     ghost Value = { Marking };
 
-    ghost view = { λ m. record { order = m.order; marked = map is_mark m.leaves.items; room = m.leaves.room } };
+    ghost view = { λ m. record { order = m.order; marked = m.flags.items; room = room_of (vec_capacity m.flags) (vec_len m.flags) (length m.leaves.items + m.leaves.room) } };
 
-    ghost invariant = { λ m. AreLeaves m.order m.leaves.items };
+    ghost invariant = { λ m. AreLeaves m.order m.flags.items m.leaves.items };
 }
 
-/// What stands in the tree for a number.
-fn leaf(order: Order, number: u64, is_marked: bool) -> Deadline
-    ensures { result ≡ leaf order number is_marked }
+/// The block of the number at a place.
+fn block_of(place: usize) -> usize
+    ensures above { 8 * result ≤ place }
+    ensures below { place < 8 * result + 8 }
 {
-    if !is_marked {
-        return Deadline::LAST;
-    }
-    let moment = match order {
+    place / BLOCK
+}
+
+/// How many blocks so many numbers have.
+fn count_blocks(numbers: usize) -> usize
+    requires { numbers < 2 ^ 63 }
+    ensures enough { numbers ≤ 8 * result }
+    ensures least { 8 * result < numbers + 8 }
+{
+    numbers.div_ceil(BLOCK)
+}
+
+/// What comes earlier has less of it.
+fn key(order: Order, number: u64) -> u64
+    ensures { result ≡ key order number }
+{
+    match order {
         Order::LeastFirst => number,
         Order::GreatestFirst => u64::MAX - number,
-    };
-    Deadline { moment, number }
+    }
 }
 
 fn is_mark(deadline: Deadline) -> bool
     ensures { result ≡ is_mark deadline }
 {
     deadline.number < u64::MAX
+}
+
+/// Whether the number at a place is marked.
+fn flag(flags: &[bool], place: usize) -> bool
+    ensures { result ≡ flag flags.now place }
+{
+    place < flags.len() && flags[place]
+}
+
+/// The better of the best so far and of the number at a place, where this is marked.
+fn better(order: Order, best: Deadline, place: usize, is_marked: bool) -> Deadline
+    requires { place < 2 ^ 64 - 2 }
+    ensures { (flags : List Bool) (start : ℕ) → start ≤ place → flag flags place ≡ is_marked → IsBest order flags start place best → IsBest order flags start (place + 1) result }
+{
+    let number = place as u64 + 1;
+    let moment = key(order, number);
+    if is_marked && moment < best.moment {
+        Deadline { moment, number }
+    } else {
+        best
+    }
+}
+
+/// The leaf of a block.
+fn best_of(order: Order, flags: &[bool], block: usize) -> Deadline
+    requires { 8 * block < 2 ^ 63 }
+    ensures { IsWritten order flags.now block result }
+{
+    let mut best = Deadline::LAST;
+    for place in BLOCK * block..BLOCK * block + BLOCK {
+        best = better(order, best, place, flag(flags, place));
+    }
+    best
 }
 
 impl Marks {
@@ -64,6 +115,7 @@ impl Marks {
     {
         Marks {
             order,
+            flags: Vec::new(alloc),
             leaves: Tournament::new(alloc),
         }
     }
@@ -72,7 +124,7 @@ impl Marks {
     pub fn len(&self) -> usize
         ensures { result ≡ length self.now.marked }
     {
-        self.leaves.len()
+        self.flags.len()
     }
 
     /// Makes room for so many more numbers.
@@ -83,7 +135,9 @@ impl Marks {
         ensures kept { self.old.room ≤ self.new.room }
         ensures succeeds { additional ≤ self.old.room → IsOk result }
     {
-        self.leaves.reserve(additional)?;
+        self.flags.reserve(additional)?;
+        let blocks = count_blocks(self.flags.len() + additional);
+        self.leaves.reserve(blocks - self.leaves.len())?;
         Ok(())
     }
 
@@ -94,8 +148,14 @@ impl Marks {
         ensures marked { self.new.marked ≡ self.old.marked ++ is_marked ∷ [] }
         ensures room { self.new.room + 1 ≡ self.old.room }
     {
-        let number = self.leaves.len() as u64 + 1;
-        self.leaves.push(leaf(self.order, number, is_marked));
+        let block = block_of(self.flags.len());
+        self.flags.push_reserved(is_marked);
+        let best = best_of(self.order, &self.flags, block);
+        if block < self.leaves.len() {
+            self.leaves.set(block, best);
+        } else {
+            self.leaves.push(best);
+        }
     }
 
     /// Takes the last number away, and tells whether it was marked.
@@ -105,7 +165,15 @@ impl Marks {
         ensures marked { self.old.marked ≡ self.new.marked ++ result ∷ [] }
         ensures room { self.new.room ≡ self.old.room + 1 }
     {
-        is_mark(self.leaves.pop())
+        let is_marked = self.flags.pop().unwrap();
+        let block = block_of(self.flags.len());
+        if BLOCK * block == self.flags.len() {
+            self.leaves.pop();
+        } else {
+            self.leaves
+                .set(block, best_of(self.order, &self.flags, block));
+        }
+        is_marked
     }
 
     /// Marks one of the numbers, or unmarks it.
@@ -114,18 +182,24 @@ impl Marks {
         requires there { number ≤ length self.old.marked }
         ensures { self.new ≡ record self.old { marked = slice_set self.old.marked (number - 1) is_marked } }
     {
+        let place = number as usize - 1;
+        if self.flags[place] == is_marked {
+            return;
+        }
+        self.flags[place] = is_marked;
+        let block = block_of(place);
         self.leaves
-            .set(number as usize - 1, leaf(self.order, number, is_marked));
+            .set(block, best_of(self.order, &self.flags, block));
     }
 
     /// A number that isn't there is not marked.
     pub fn is_marked(&self, number: u64) -> bool
         ensures { result ≡ mark_at self.now.marked number }
     {
-        let Some(place) = number.checked_sub(1) else {
-            return false;
-        };
-        place < self.leaves.len() as u64 && is_mark(self.leaves.get(place as usize))
+        match number.checked_sub(1) {
+            Some(place) => flag(&self.flags, place as usize),
+            None => false,
+        }
     }
 
     /// The first of the marked numbers, where there are any.
