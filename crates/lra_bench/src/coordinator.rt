@@ -1,7 +1,7 @@
 //! The coordinator: how long it takes to go on from a long journal, and the time per command as its members grow from
 //! 1,000 to 400,000.
 
-mod desk;
+pub mod desk;
 mod reopening;
 mod sample;
 

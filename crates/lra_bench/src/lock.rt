@@ -93,16 +93,17 @@ fn through_a_mutex<R: Threads + Wait + Clock + Sync>(
     start.elapsed(rt)
 }
 
-fn a_second(time: Duration) -> u64 {
+/// How many there are a second, where so many took a time.
+pub fn a_second(count: u64, time: Duration) -> u64 {
     let micros = time.as_micros().max(1).min(u64::MAX as u128) as u64;
-    HANDOVERS * 1_000_000 / micros
+    count.saturating_mul(1_000_000) / micros
 }
 
 /// Prints a line for 1, 2, 4 and 8 threads: handovers a second through the ticket lock and through the Mutex, and the first as hundredths of the second.
 pub fn run<R: Threads + Wait + Clock + Print + Sync>(rt: &R, alloc: Global) -> io::Result<()> {
     for threads in [1u64, 2, 4, 8] {
-        let ours = a_second(through_tickets(rt, alloc, threads)?);
-        let theirs = a_second(through_a_mutex(rt, alloc, threads)?);
+        let ours = a_second(HANDOVERS, through_tickets(rt, alloc, threads)?);
+        let theirs = a_second(HANDOVERS, through_a_mutex(rt, alloc, threads)?);
         let percent = ours.saturating_mul(100) / theirs.max(1);
         println!(rt; "lock threads {threads} tickets {ours} mutex {theirs} percent {percent}")?;
     }

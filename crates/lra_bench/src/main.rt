@@ -9,6 +9,7 @@ mod ids;
 mod journals;
 mod lock;
 mod memory;
+mod office;
 mod pieces;
 mod requests;
 mod setting;
@@ -27,6 +28,7 @@ core      the commands of a coordinator, as its members grow from 1,000 to 400,0
 front     the replies to one connection: standard input has a journal, an empty line, and the connection's bytes
 ids       address texts tested a second, short and long
 lock      handovers of the ticket lock, beside a Mutex
+office    commands a second through an office by several threads, beside a Mutex and one thread alone
 requests  HTTP requests answered a second, beside reading them and beside their commands
 tables    what commands cost the tables, as their members grow from 1,000 to 400,000
 timers    the calls of an agenda, as its pairs grow from 1,000 to 400,000
@@ -67,10 +69,11 @@ fn main(rt: HostRuntime) -> anyhow::Result<ExitCode> {
         println!(rt; "{USAGE}")?;
         return Ok(ExitCode::SUCCESS);
     };
-    if name.as_str() == "lock" {
-        // Only here may the runtime start threads.
-        lock::run(&rt, rt.alloc())?;
-        return Ok(ExitCode::SUCCESS);
+    // Only here may the runtime start threads.
+    match name.as_str() {
+        "lock" => lock::run(&rt, rt.alloc())?,
+        "office" => office::run(&rt, rt.alloc())?,
+        name => return status(&rt, name),
     }
-    status(&rt, name.as_str())
+    Ok(ExitCode::SUCCESS)
 }

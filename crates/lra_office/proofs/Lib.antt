@@ -3,6 +3,7 @@ pub mod AtEnrolment
 pub mod AtLock
 pub mod AtWindow
 pub mod Begins
+pub mod Crosses
 pub mod Enrols
 pub mod Journals
 pub mod Restarts

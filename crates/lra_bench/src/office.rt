@@ -1,0 +1,323 @@
+//! Commands a second through an office, by several threads, beside the same commands at a coordinator behind a Mutex, and at
+//! one that a thread has to itself.
+
+ghost use Rattle.std.specs.Prelude.{◌≡◌, All, IfOk, true};
+ghost use Rattle.lra_core.specs.Prepares.{is_suited};
+ghost use Rattle.lra_office.specs.Clerks.{IsClerkOf};
+ghost use Rattle.lra_ticket.specs.Locks.{lock_id, pass_id, pass_view};
+
+use crate::coordinator::desk::{Desk as Alone, base, instance, limits};
+use crate::lock::a_second;
+use anyhow::{Context, Result, bail, ensure};
+use lra_core::{Command, Committed, Told};
+use lra_model::{Outcome, Uris, suits};
+use lra_office::{Clerk, Office, Serving};
+use lra_ticket::Pass;
+use std::alloc::{AllocError, Global};
+use std::io::{Print, Write};
+use std::marker::Send;
+use std::sync::{Mutex, Wait};
+use std::thread::{self, Threads};
+use std::time::{Clock, Duration, Instant};
+
+/// The rounds of one measurement, by all threads together.
+const ROUNDS: u64 = 40_000;
+
+/// The commands of a round.
+const COMMANDS: u64 = 6;
+
+/// How often the same is measured: the shortest time counts.
+const TIMES: u32 = 3;
+
+/// One who does commands.
+trait Gives {
+    fn give_any(&mut self, command: &Command<'_>) -> Result<Committed>
+        requires { is_suited command.now ≡ true };
+
+    /// Gives a command that gives no errand.
+    final fn give(&mut self, command: &Command<'_>) -> Result<Told>
+        requires { is_suited command.now ≡ true }
+    {
+        let Committed { told, errand } = self.give_any(command)?;
+        if let Some(errand) = errand {
+            errand.discard();
+        }
+        Ok(told)
+    }
+
+    /// An action that is started, joined and closed, and whoever is to be asked then.
+    final fn round(&mut self, uris: &Uris) -> Result<()> {
+        let start = Command::Start {
+            parent: None,
+            limit: 0,
+        };
+        let Told::Action(action) = self.give(&start)? else {
+            bail!("no action was started");
+        };
+        self.give(&Command::Join { action, uris })?;
+        self.give(&Command::Status { action })?;
+        self.give(&Command::Close { action })?;
+        self.ask()
+    }
+
+    /// Asks who is to be asked, and takes down that it is done.
+    final fn ask(&mut self) -> Result<()> {
+        let Committed { told: _, errand } = self.give_any(&Command::NextAsk)?;
+        let errand = errand.context("no one is to be asked")?;
+        let recorded = self.give(&Command::Record {
+            errand: &errand,
+            outcome: Outcome::Done,
+        });
+        errand.discard();
+        recorded?;
+        Ok(())
+    }
+}
+
+impl Gives for Alone {
+    fn give_any(&mut self, command: &Command<'_>) -> Result<Committed>
+        requires { is_suited command.now ≡ true }
+    {
+        Alone::give_any(self, command)
+    }
+}
+
+/// A coordinator that threads share behind a Mutex, and its text.
+#[derive(Drop)]
+struct Shared<'a, R> {
+    rt: &'a R,
+    desk: &'a Mutex<Alone>,
+}
+
+impl<R: Wait> Gives for Shared<'_, R> {
+    fn give_any(&mut self, command: &Command<'_>) -> Result<Committed>
+        requires { is_suited command.now ≡ true }
+    {
+        self.desk.lock(self.rt).give_any(command)
+    }
+}
+
+/// So many rounds; false where one of them fails.
+fn does_rounds<G: Gives>(giver: &mut G, uris: &Uris, rounds: u64) -> bool {
+    for _ in 0..rounds {
+        if giver.round(uris).is_err() {
+            return false;
+        }
+    }
+    true
+}
+
+/// The commands of a round, by a clerk of an office.
+fn round_at<V: Serving, R: Wait>(
+    rt: &R,
+    office: &Office<V>,
+    clerk: &mut Clerk<V>,
+    uris: &Uris,
+) -> Option<()>
+    requires { IsClerkOf office.now.lock clerk.old }
+    ensures { IsClerkOf office.now.lock clerk.new }
+{
+    let Ok(Told::Action(action)) = office.start(rt, clerk, 0, None, 0) else {
+        return None;
+    };
+    office.join(rt, clerk, 0, action, uris).ok()?;
+    office.status(rt, clerk, action).ok()?;
+    office.close(rt, clerk, 0, action).ok()?;
+    ask_at(rt, office, clerk)
+}
+
+/// Asks who is to be asked, and takes down that it is done.
+fn ask_at<V: Serving, R: Wait>(rt: &R, office: &Office<V>, clerk: &mut Clerk<V>) -> Option<()>
+    requires { IsClerkOf office.now.lock clerk.old }
+    ensures { IsClerkOf office.now.lock clerk.new }
+{
+    let Ok(Some(errand)) = office.next_ask(rt, clerk, 0) else {
+        return None;
+    };
+    if !suits(errand.kind(), Outcome::Done) {
+        errand.discard();
+        return None;
+    }
+    match office.record(rt, clerk, 0, errand, Outcome::Done) {
+        Ok(_) => Some(()),
+        Err((errand, _)) => {
+            errand.discard();
+            None
+        }
+    }
+}
+
+/// So many rounds by a clerk that is enrolled for them; false where one of them fails.
+fn does_rounds_at<V: Serving, R: Wait>(
+    rt: &R,
+    office: &Office<V>,
+    pass: Pass<V>,
+    uris: &Uris,
+    rounds: u64,
+) -> bool
+    requires lock { pass_id pass ≡ lock_id office.now.lock }
+    requires newcomer { (pass_view pass).number ≡ 0 }
+{
+    let Ok(mut clerk) = office.clerk(rt, pass, 0) else {
+        return false;
+    };
+    for _ in 0..rounds {
+        if round_at(rt, office, &mut clerk, uris).is_none() {
+            return false;
+        }
+    }
+    true
+}
+
+/// As many passes as there are threads.
+fn passes<V: Serving>(
+    alloc: Global,
+    office: &Office<V>,
+    mut clerk: Clerk<V>,
+    threads: u64,
+) -> Result<Vec<Pass<V>>, AllocError>
+    requires { IsClerkOf office.now.lock clerk }
+    ensures { IfOk result (λ all. All (λ p. (pass_id p ≡ lock_id office.now.lock) × ((pass_view p).number ≡ 0)) all.items) }
+{
+    let mut all = Vec::new(alloc);
+    for _ in 0..threads {
+        let (kept, pass) = office.split(clerk);
+        clerk = kept;
+        all.push(pass)?;
+    }
+    Ok(all)
+}
+
+/// How long so many rounds take by so many threads together, each with a clerk of its own.
+fn time_rounds<V: Serving + Send, R: Threads + Wait + Clock + Sync>(
+    rt: &R,
+    office: &Office<V>,
+    jobs: Vec<Pass<V>>,
+    uris: &Uris,
+    rounds: u64,
+) -> Result<Duration>
+    requires { All (λ p. (pass_id p ≡ lock_id office.now.lock) × ((pass_view p).number ≡ 0)) jobs.items }
+{
+    let start = Instant::now(rt)?;
+    let done = thread::map_vec(
+        rt,
+        jobs,
+        &|pass: Pass<V>| -> bool
+            requires { (pass_id pass ≡ lock_id office.now.lock) × ((pass_view pass).number ≡ 0) }
+        { does_rounds_at(rt, office, pass, uris, rounds) },
+    )?;
+    let time = start.elapsed(rt)?;
+    ensure!(!done.contains(&false), "a command isn't done");
+    Ok(time)
+}
+
+/// The addresses of whoever joins an action.
+fn uris(alloc: Global) -> Result<Uris> {
+    Ok(Uris {
+        compensate: Some(format!(in alloc; "http://booking.test/compensate")?),
+        complete: Some(format!(in alloc; "http://booking.test/complete")?),
+        status: None,
+        forget: None,
+        after: None,
+    })
+}
+
+/// How long the rounds take at an office, where whoever has its first pass is enrolled first.
+fn time_clerks<V: Serving + Send, R: Threads + Wait + Clock + Sync>(
+    rt: &R,
+    alloc: Global,
+    office: &Office<V>,
+    pass: Pass<V>,
+    uris: &Uris,
+    threads: u64,
+) -> Result<Duration>
+    requires lock { pass_id pass ≡ lock_id office.now.lock }
+    requires newcomer { (pass_view pass).number ≡ 0 }
+{
+    let Ok(clerk) = office.clerk(rt, pass, 0) else {
+        bail!("no clerk is enrolled");
+    };
+    let jobs = passes(alloc, office, clerk, threads)?;
+    time_rounds(rt, office, jobs, uris, ROUNDS / threads.max(1))
+}
+
+/// How long the rounds take at an office with this writer.
+fn time_office<W: Write + Drop + Send, R: Threads + Wait + Clock + Sync>(
+    rt: &R,
+    alloc: Global,
+    writer: W,
+    uris: &Uris,
+    threads: u64,
+) -> Result<Duration> {
+    let Ok((office, pass)) = Office::create(alloc, instance()?, base(alloc)?, limits(), writer)
+    else {
+        bail!("no office is made");
+    };
+    time_clerks(rt, alloc, &office, pass, uris, threads)
+}
+
+/// How long the rounds take at a coordinator that threads share.
+fn time_shared<R: Threads + Wait + Clock + Sync>(
+    rt: &R,
+    alloc: Global,
+    desk: &Mutex<Alone>,
+    uris: &Uris,
+    threads: u64,
+) -> Result<Duration> {
+    let rounds = ROUNDS / threads.max(1);
+    let start = Instant::now(rt)?;
+    let done = thread::map_indices(
+        rt,
+        alloc,
+        threads as usize,
+        &|_| does_rounds(&mut Shared { rt, desk }, uris, rounds),
+    )?;
+    let time = start.elapsed(rt)?;
+    ensure!(!done.contains(&false), "a command isn't done");
+    Ok(time)
+}
+
+fn time_mutex<R: Threads + Wait + Clock + Sync>(
+    rt: &R,
+    alloc: Global,
+    uris: &Uris,
+    threads: u64,
+) -> Result<Duration> {
+    let desk = Mutex::new(Alone::new(alloc, 0)?);
+    time_shared(rt, alloc, &desk, uris, threads)
+}
+
+/// How long the rounds take at a coordinator that one thread has to itself.
+fn time_with<R: Clock>(rt: &R, desk: &mut Alone, uris: &Uris) -> Result<Duration> {
+    let start = Instant::now(rt)?;
+    let done = does_rounds(desk, uris, ROUNDS);
+    let time = start.elapsed(rt)?;
+    ensure!(done, "a command isn't done");
+    Ok(time)
+}
+
+fn time_alone<R: Clock>(rt: &R, alloc: Global, uris: &Uris) -> Result<Duration> {
+    let mut desk = Alone::new(alloc, 0)?;
+    time_with(rt, &mut desk, uris)
+}
+
+/// Prints a line for 1, 2, 4 and 8 threads: commands a second through the office, through the Mutex, and by one thread alone,
+/// and the first as hundredths of each of the others.
+pub fn run<R: Threads + Wait + Clock + Print + Sync>(rt: &R, alloc: Global) -> Result<()> {
+    let uris = uris(alloc)?;
+    for threads in [1u64, 2, 4, 8] {
+        let mut least = [Duration::MAX; 3];
+        for _ in 0..TIMES {
+            least[0] = least[0].min(time_office(rt, alloc, Vec::new(alloc), &uris, threads)?);
+            least[1] = least[1].min(time_mutex(rt, alloc, &uris, threads)?);
+            least[2] = least[2].min(time_alone(rt, alloc, &uris)?);
+        }
+        let [ours, theirs, alone] = least.map(|time| a_second(ROUNDS * COMMANDS, time));
+        let percent = ours.saturating_mul(100) / theirs.max(1);
+        let of_one = ours.saturating_mul(100) / alone.max(1);
+        println!(rt;
+            "office threads {threads} office {ours} mutex {theirs} percent {percent} alone {alone} percent {of_one}"
+        )?;
+    }
+    Ok(())
+}
