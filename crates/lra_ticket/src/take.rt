@@ -11,11 +11,23 @@ use crate::lock::{Held, Pass, Queued, TicketLock, TryFault, Worn};
 use crate::plays::{Draw, Grab, Look, Peek, Watch};
 use crate::rule::{NEXT, SERVING};
 use crate::slot::take_out;
+use std::hint::spin_loop;
 use std::sync::Wait;
 use std::thread::yield_now;
+use std::time::Duration;
+
+/// How often a caller looks whether the lock is free before it sleeps.
+const LOOKS: u32 = 30;
+
+/// How often a caller sleeps before it draws a ticket of a lock that isn't free.
+const NAPS: u32 = 50;
+
+/// How long it sleeps at a time, in microseconds.
+const NAP: u64 = 50;
 
 impl<V: Kept> TicketLock<V> {
-    /// Draws a ticket, waits until it is served, and hands out the value. Where no ticket is left it draws none.
+    /// Waits until the lock is free, though not for long, draws a ticket, waits until it is served, and hands out the value.
+    /// Where no ticket is left it draws none.
     pub fn take<R: Wait>(&self, rt: &R, pass: Pass<V>) -> Result<(Held<V>, V), (Pass<V>, Worn)>
         requires { pass_id pass ≡ lock_id self.now }
         ensures lock { IfOk result (λ r. held_id r.0 ≡ lock_id self.now) }
@@ -23,8 +35,35 @@ impl<V: Kept> TicketLock<V> {
         ensures value { IfOk result (λ r. Suits V.origin V.history V.lawful (pass_view pass) r.1) }
         ensures worn { IfErr result (λ e. (pass_id e.0 ≡ lock_id self.now) × (pass_view e.0 ≡ moved (pass_view pass) (Looked last_ticket))) }
     {
+        self.linger(rt);
         let queued = self.draw(rt, pass)?;
         Ok(self.wait(rt, queued))
+    }
+
+    /// Waits until no one has the lock or waits for it, some milliseconds at most. A drawn ticket has to be served in its turn, by whichever
+    /// thread that is; while callers draw none, the lock goes to one that runs already, and no turn is spent on waking another.
+    fn linger<R: Wait>(&self, rt: &R) {
+        let shared = &self.table.shared;
+        let nap = Duration::from_micros(NAP);
+        for _ in 0..NAPS {
+            if self.looks_free() {
+                return;
+            }
+            let served = shared.peek(SERVING) % (1 << 32);
+            shared.park_timeout(rt, SERVING, served as u32, nap);
+        }
+    }
+
+    /// Whether one of some looks shows that no one has the lock or waits for it.
+    fn looks_free(&self) -> bool {
+        let shared = &self.table.shared;
+        for _ in 0..LOOKS {
+            if shared.peek(NEXT) == shared.peek(SERVING) {
+                return true;
+            }
+            spin_loop();
+        }
+        false
     }
 
     fn draw<R: Wait>(&self, rt: &R, pass: Pass<V>) -> Result<Queued<V>, (Pass<V>, Worn)>
