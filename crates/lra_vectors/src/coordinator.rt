@@ -7,8 +7,8 @@ ghost use Rattle.std.specs.Prelude.{◌≡◌, ◌<◌, ◌^◌, IfOk, IfSome, t
 ghost use Rattle.lra_commands.specs.Terms.{AreKeepable};
 ghost use Rattle.lra_ids.specs.Addresses.{is_base};
 
-mod desk;
-mod rows;
+pub mod desk;
+pub mod rows;
 
 use desk::Desk;
 use lra_core::{
@@ -26,7 +26,7 @@ use std::test::Fail;
 const BASE: &str = "http://127.0.0.1:8080/";
 
 /// What the URIs begin with.
-fn base(alloc: Global) -> Option<Address>
+pub fn base(alloc: Global) -> Option<Address>
     ensures { IfSome result (λ base. is_base base ≡ true) }
 {
     let base = match address(alloc, BASE) {

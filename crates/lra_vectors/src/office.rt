@@ -3,6 +3,11 @@ ghost use Rattle.std.specs.Prelude.{◌≡◌, true, IfOk};
 ghost use Rattle.lra_ids.specs.Addresses.{is_base};
 ghost use Rattle.lra_office.specs.Clerks.{IsClerkOf};
 
+mod clerks;
+mod making;
+mod scripts;
+mod threads;
+
 use lra_auditor::{Verdict, audit};
 use lra_core::{Errand, Instance, Limits, Refusal, Told};
 use lra_ids::{Address, address};
@@ -81,12 +86,14 @@ fn participant(alloc: Global, name: &str, has_status: bool) -> Result<Uris, Fail
     })
 }
 
-/// What came of commands: how many were told something, whether one was stopped, and whether one was told something after that.
+/// What came of commands: how many were told something, whether one was stopped, whether one was told something after that, and
+/// whether a status was told at the end.
 #[derive(Clone, Copy, PartialEq, Eq, Debug)]
 struct Tally {
     told: u32,
     stopped: bool,
     went_on: bool,
+    reads: bool,
 }
 
 impl Tally {
@@ -175,6 +182,7 @@ fn give_all<R: Wait>(
         told: 1,
         stopped: false,
         went_on: false,
+        reads: false,
     };
     tally.note_told(office.start(rt, clerk, 10, None, 0));
     tally.note_told(office.join(rt, clerk, 11, 1, first));
@@ -185,7 +193,24 @@ fn give_all<R: Wait>(
     record(rt, office, clerk, 23, two, Outcome::Done, &mut tally);
     record(rt, office, clerk, 24, one, Outcome::Accepted, &mut tally);
     tally.note_told(office.report(rt, clerk, 30, 1, Ending::Completed));
+    tally.reads = still_reads(rt, office, clerk, tally.told);
     tally
+}
+
+/// Whether the status of the first action is told where it was started, by the second command, and else that there is none.
+fn still_reads<R: Wait>(
+    rt: &R,
+    office: &Office<Desk<Faulty>>,
+    clerk: &mut Clerk<Desk<Faulty>>,
+    told: u32,
+) -> bool
+    requires { IsClerkOf office.now.lock clerk.old }
+    ensures { IsClerkOf office.now.lock clerk.new }
+{
+    match office.status(rt, clerk, 1) {
+        Ok(_) => told >= 2,
+        Err(fault) => told < 2 && fault == OfficeRefusal::Refused(Refusal::NoSuchAction),
+    }
 }
 
 /// What is left of the commands in an office: what came of them, and the writer. Where the clerk wasn't enrolled, there is none.
@@ -206,6 +231,7 @@ fn run<R: Wait>(rt: &R, alloc: Global, writer: Faulty) -> Result<Option<(Tally, 
                 told: 0,
                 stopped: true,
                 went_on: false,
+                reads: true,
             };
             return Ok(Some((tally, writer)));
         }
@@ -249,6 +275,7 @@ fn stops_in_time<R: Wait>(rt: &R, alloc: Global, room: usize) -> Result<bool, Fa
             writer.taken.as_slice() == front
                 && tally.told == told
                 && tally.stopped == (room < JOURNAL.len())
+                && tally.reads
                 && !tally.went_on,
         ),
         None => Ok(told == 0),
@@ -261,6 +288,7 @@ fn is_left_alone<R: Wait>(rt: &R, alloc: Global, bad_call: u32) -> Result<bool, 
         Some((tally, writer)) => Ok(
             writer.calls == bad_call
                 && tally.stopped
+                && tally.reads
                 && !tally.went_on
                 && JOURNAL.as_bytes().starts_with(writer.taken.as_slice())
                 && count_lines(writer.taken.as_slice()).saturating_add(1) == bad_call,
@@ -320,6 +348,20 @@ fn reopens<R: Wait>(rt: &R, alloc: Global, room: usize) -> Result<bool, Fail> {
 const TORN: &str =
     "lra-journal 1 7\n1 0 enrol\n1 0 start 1 * 0\n1 1 join 1 1 http://p.test/u * * * *\n1 2 close 1 client\n1 2 sk";
 
+/// Whether the torn journal, where only seven entries fit, is refused before the writer is called.
+fn is_full(alloc: Global) -> Result<bool, Fail> {
+    let journal = Vec::from_slice(alloc, TORN.as_bytes())?;
+    let limits = Limits {
+        entries: 7,
+        ..Limits::usual()
+    };
+    let writer = writer_with(alloc, usize::MAX, 0);
+    match Office::reopen(alloc, journal, base(alloc)?, limits, writer, 9) {
+        Err((ReopenFault::Full, Some(writer))) => Ok(writer.calls == 0),
+        _ => Ok(false),
+    }
+}
+
 #[test]
 fn a_writer_that_fails_is_called_no_more(rt: HostRuntime) -> Result<(), Fail> {
     for room in 0..JOURNAL.len() + 1 {
@@ -346,5 +388,16 @@ fn a_journal_is_reopened_from_whatever_whole_lines_are_left(rt: HostRuntime) -> 
         written.as_slice()
             == b"2 9 enrol\n2 9 skip 1\n2 9 end 1 Closed\n2 9 restart\n2 9 start 2 * 0\n".as_slice()
     );
+    let unended = JOURNAL
+        .strip_suffix("1 30 end 1 Closed\n")
+        .ok_or("it has an end")?;
+    let Ok(written) = go_on(&rt, rt.alloc(), unended.as_bytes(), 40)? else {
+        panic!(rt; "it is sound")
+    };
+    assert!(rt;
+        written.as_slice()
+            == b"2 40 enrol\n2 40 end 1 Closed\n2 40 restart\n2 40 start 2 * 0\n".as_slice()
+    );
+    assert!(rt; is_full(rt.alloc())?);
     Ok(())
 }

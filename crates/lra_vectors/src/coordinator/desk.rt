@@ -19,9 +19,9 @@ const ROOM: usize = 32_768;
 const ASKS: usize = 16;
 
 /// An errand that is held until what came of it is recorded.
-struct Held {
-    ask: u64,
-    errand: Option<Errand>,
+pub struct Held {
+    pub ask: u64,
+    pub errand: Option<Errand>,
 }
 
 impl Drop for Held {
@@ -35,13 +35,13 @@ impl Drop for Held {
 
 /// The words of a line that are still to come.
 #[derive(Drop)]
-struct Words<'a> {
-    left: &'a str,
+pub struct Words<'a> {
+    pub left: &'a str,
 }
 
 impl<'a> Words<'a> {
     /// The next word; nothing where none is left.
-    fn next(&mut self) -> &'a str {
+    pub fn next(&mut self) -> &'a str {
         match self.left.split_once(' ') {
             Some((word, left)) => {
                 self.left = left;
@@ -51,7 +51,7 @@ impl<'a> Words<'a> {
         }
     }
 
-    fn number(&mut self) -> Result<u64, Fail> {
+    pub fn number(&mut self) -> Result<u64, Fail> {
         let number = self.next().parse()?;
         Ok(number)
     }
@@ -75,7 +75,7 @@ impl<'a> Words<'a> {
         Ok(Some(String::from_str(alloc, word)?))
     }
 
-    fn uris(mut self, alloc: Global) -> Result<Uris, AllocError> {
+    pub fn uris(mut self, alloc: Global) -> Result<Uris, AllocError> {
         Ok(Uris {
             compensate: self.address(alloc)?,
             complete: self.address(alloc)?,
@@ -86,7 +86,7 @@ impl<'a> Words<'a> {
     }
 
     /// An order of any kind but that to join.
-    fn order(&mut self, verb: &str) -> Result<Order<'static>, Fail> {
+    pub fn order(&mut self, verb: &str) -> Result<Order<'static>, Fail> {
         if let Some(order) = bare(verb) {
             return Ok(order);
         }
