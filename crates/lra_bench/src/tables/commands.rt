@@ -25,6 +25,25 @@ const STRIDE: u64 = 7_919;
 /// How many times that of the smallest tables a command may cost.
 const LIMIT: u64 = 2;
 
+/// Which actions commands are given to.
+#[derive(Clone, Copy)]
+enum Age {
+    /// Started right before.
+    New,
+    /// Started among all others, and lying apart.
+    Old,
+}
+
+impl Age {
+    /// The action of a turn, which has two members that are asked to complete.
+    fn action(self, rt: &HostRuntime, beside: &mut Beside, turn: u64, actions: u64) -> Result<u64> {
+        match self {
+            Age::New => beside.add(rt, MEMBERS),
+            Age::Old => Ok(turn.wrapping_mul(STRIDE) % actions.max(1) + 1),
+        }
+    }
+}
+
 /// Nanoseconds of one command of each kind.
 #[derive(Clone, Copy)]
 struct Times {
@@ -96,47 +115,99 @@ fn take_turn(rt: &HostRuntime, beside: &mut Beside, action: u64) -> Result<Sums>
 }
 
 /// The nanoseconds a command of one run, whose first turn has a number.
-fn time_run(rt: &HostRuntime, beside: &mut Beside, first: u64, actions: u64) -> Result<Times> {
+fn time_run(
+    rt: &HostRuntime,
+    beside: &mut Beside,
+    age: Age,
+    first: u64,
+    actions: u64,
+) -> Result<Times> {
     let mut sums = Sums::NONE;
     for turn in first..first.saturating_add(TURNS) {
-        let action = turn.wrapping_mul(STRIDE) % actions.max(1) + 1;
+        let action = age.action(rt, beside, turn, actions)?;
         sums = sums.plus(take_turn(rt, beside, action)?);
     }
     Ok(sums.each())
 }
 
-/// The least of each of the runs with so many members.
-fn measure(rt: &HostRuntime, beside: &mut Beside, size: u64) -> Result<Times> {
-    let actions = size / MEMBERS;
-    beside.fill(rt, actions, MEMBERS)?;
-    let mut least = time_run(rt, beside, 0, actions)?;
+/// The least of each of the runs.
+fn shortest(rt: &HostRuntime, beside: &mut Beside, age: Age, actions: u64) -> Result<Times> {
+    let mut least = time_run(rt, beside, age, 0, actions)?;
     for run in 1..RUNS {
-        least = least.least(time_run(rt, beside, run * TURNS, actions)?);
+        least = least.least(time_run(rt, beside, age, run * TURNS, actions)?);
     }
     Ok(least)
+}
+
+/// What commands take with so many members.
+#[derive(Clone, Copy)]
+struct Measured {
+    size: u64,
+    new: Times,
+    old: Times,
+}
+
+fn measure(rt: &HostRuntime, beside: &mut Beside, size: u64) -> Result<Measured> {
+    let actions = size / MEMBERS;
+    beside.fill(rt, actions, MEMBERS)?;
+    Ok(Measured {
+        size,
+        old: shortest(rt, beside, Age::Old, actions)?,
+        new: shortest(rt, beside, Age::New, actions)?,
+    })
 }
 
 fn print_time(rt: &HostRuntime, name: &str, size: u64, time: f64, before: f64) -> Result<()> {
     let ratio = time / before;
     println!(rt;
-        "{name:<6}{size:>8} members: {time:6.0} ns a command, ratio {ratio:4.2}, at most {LIMIT}"
+        "{name:<23}{size:>7} members: {time:6.0} ns a command, ratio {ratio:4.2}, at most {LIMIT}"
     )?;
     Ok(())
 }
 
 /// A line for each command, beside what it took with the fewest members.
-fn print_times(rt: &HostRuntime, size: u64, times: Times, first: Times) -> Result<()> {
-    print_time(rt, "join", size, times.join, first.join)?;
-    print_time(rt, "close", size, times.close, first.close)?;
-    print_time(rt, "reply", size, times.reply, first.reply)
+fn print_measured(rt: &HostRuntime, measured: Measured, first: Measured) -> Result<()> {
+    let size = measured.size;
+    let (new, old) = (measured.new, measured.old);
+    print_time(rt, "join to a new action", size, new.join, first.new.join)?;
+    print_time(
+        rt,
+        "close of a new action",
+        size,
+        new.close,
+        first.new.close,
+    )?;
+    print_time(
+        rt,
+        "reply in a new action",
+        size,
+        new.reply,
+        first.new.reply,
+    )?;
+    print_time(rt, "join to an old action", size, old.join, first.old.join)?;
+    print_time(
+        rt,
+        "close of an old action",
+        size,
+        old.close,
+        first.old.close,
+    )?;
+    print_time(
+        rt,
+        "reply in an old action",
+        size,
+        old.reply,
+        first.old.reply,
+    )
 }
 
 /// Prints a line for each command and size.
 pub fn run(rt: &HostRuntime, beside: &mut Beside) -> Result<()> {
     let first = measure(rt, beside, FEWEST)?;
-    print_times(rt, FEWEST, first, first)?;
+    print_measured(rt, first, first)?;
     for size in SIZES {
-        print_times(rt, size, measure(rt, beside, size)?, first)?;
+        let measured = measure(rt, beside, size)?;
+        print_measured(rt, measured, first)?;
     }
     Ok(())
 }
