@@ -6,8 +6,9 @@ ghost use Rattle.lra_core.specs.Prepares.{is_suited};
 ghost use Rattle.lra_office.specs.Clerks.{IsClerkOf};
 ghost use Rattle.lra_ticket.specs.Locks.{lock_id, pass_id, pass_view};
 
-use crate::coordinator::desk::{Desk as Alone, base, instance, limits};
+use crate::coordinator::desk::{Desk as Alone, limits};
 use crate::lock::a_second;
+use crate::setting::{base, instance};
 use anyhow::{Context, Result, bail, ensure};
 use lra_core::{Command, Committed, Told};
 use lra_model::{Outcome, Uris, suits};
@@ -277,13 +278,20 @@ fn time_shared<R: Threads + Wait + Clock + Sync>(
     Ok(time)
 }
 
+/// A coordinator with its clerk.
+fn with_clerk(alloc: Global) -> Result<Alone> {
+    let mut alone = Alone::new(alloc)?;
+    alone.fill(0)?;
+    Ok(alone)
+}
+
 fn time_mutex<R: Threads + Wait + Clock + Sync>(
     rt: &R,
     alloc: Global,
     uris: &Uris,
     threads: u64,
 ) -> Result<Duration> {
-    let desk = Mutex::new(Alone::new(alloc, 0)?);
+    let desk = Mutex::new(with_clerk(alloc)?);
     time_shared(rt, alloc, &desk, uris, threads)
 }
 
@@ -297,7 +305,7 @@ fn time_with<R: Clock>(rt: &R, desk: &mut Alone, uris: &Uris) -> Result<Duration
 }
 
 fn time_alone<R: Clock>(rt: &R, alloc: Global, uris: &Uris) -> Result<Duration> {
-    let mut desk = Alone::new(alloc, 0)?;
+    let mut desk = with_clerk(alloc)?;
     time_with(rt, &mut desk, uris)
 }
 
