@@ -178,7 +178,7 @@ impl<V: Serving, R: Wait> Player<'_, V, R> {
     /// The errand of an ask, where it is held.
     fn take(&mut self, ask: u64) -> Option<Errand> {
         for held in &mut self.held {
-            if held.ask == ask {
+            if held.ask == ask && held.errand.is_some() {
                 return held.errand.take();
             }
         }
