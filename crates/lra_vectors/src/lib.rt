@@ -27,3 +27,5 @@ mod ticket;
 mod timers;
 #[cfg(test)]
 mod wire;
+#[cfg(test)]
+mod workers;

@@ -4,7 +4,7 @@ ghost use Rattle.lra_ids.specs.Addresses.{is_base};
 ghost use Rattle.lra_office.specs.Clerks.{IsClerkOf};
 
 mod clerks;
-mod making;
+pub mod making;
 mod scripts;
 mod threads;
 
