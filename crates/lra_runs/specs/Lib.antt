@@ -6,5 +6,6 @@ pub mod Play
 pub mod Show
 pub mod Upgrade
 pub mod Words
+pub mod Tasks
 pub mod Invoked
 pub mod inner

@@ -14,6 +14,7 @@ mod player;
 mod report;
 mod requests;
 mod show;
+mod task;
 mod upgrade;
 mod words;
 
@@ -21,8 +22,10 @@ pub use audit::audit_run;
 pub use dispatch::{Sources, run};
 pub use errors::{error_line, input_name};
 pub use fault::RunFault;
+pub use input::read_input;
 pub use play::play_run;
 pub use requests::{Request, RequestLine, read_request_line};
 pub use show::show_run;
+pub use task::{Task, read_task};
 pub use upgrade::upgrade_run;
 pub use words::{Invocation, Usage, read_words};
