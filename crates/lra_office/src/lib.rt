@@ -22,4 +22,4 @@ pub use fault::{OfficeRefusal, ReopenFault, StartFault, TryRefusal};
 pub use laws::journals_are_sound;
 pub use office::Office;
 pub use serving::Serving;
-pub use window::Window;
+pub use window::{WhichLock, Window};

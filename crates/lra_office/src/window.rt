@@ -1,7 +1,8 @@
 //! An office with one of its clerks, as a counter.
 
-ghost use Rattle.std.specs.Prelude.{◌≡◌};
+ghost use Rattle.std.specs.Prelude.{◌≡◌, []};
 ghost use Rattle.lra_commands.specs.Counters.{Setting};
+ghost use Rattle.lra_ticket.specs.Locks.{lock_id};
 ghost use Rattle.lra_office.specs.Clerks.{clerk_view, IsClerkOf};
 ghost use Rattle.lra_office.specs.Windows.{IsOfficeOf};
 ghost use Rattle.lra_office.specs.inner.Given.{fault_of};
@@ -12,36 +13,60 @@ use crate::office::Office;
 use crate::serving::Serving;
 use lra_commands::{Counter, CounterFault, Order, Told};
 use lra_ids::{Address, Instance};
+use std::marker::{Brand, PhantomData};
 use std::sync::Wait;
 
+/// Which lock a window's clerks ask for. It is fixed by the window's type, so it stays through a call that may put another window
+/// in its place. A function over such a type is called at `Brand`, and the proof of that call says which lock it is.
+pub trait WhichLock {
+    ghost use Rattle.atomic_table.specs.Seated.{TableId};
+
+    // The lock.
+    ghost lock: { TableId };
+}
+
+impl WhichLock for Brand {
+    ghost lock = { record { words = 0; slots = 0; views_name = 0; atom = 0; block = 0; offset = 0; slot_names = [] } };
+}
+
 /// An office with one of its clerks: where orders are given as at a counter of one's own.
-pub struct Window<'a, V: Serving, R> {
+pub struct Window<'a, V: Serving, R, L: WhichLock> {
     rt: &'a R,
     office: &'a Office<V>,
     clerk: Clerk<V>,
+    of: PhantomData<L>,
     ghost there: { IsClerkOf office.now.lock clerk },
     ghost made: { IsOfficeOf (V.setting (clerk_view clerk).origin) office.now },
+    ghost here: { lock_id office.now.lock ≡ L.lock },
 }
 
-impl<'a, V: Serving, R> Window<'a, V, R> {
+impl<'a, V: Serving, R, L: WhichLock> Window<'a, V, R, L> {
     /// A window of an office, for a clerk of it.
-    pub fn new(rt: &'a R, office: &'a Office<V>, clerk: Clerk<V>) -> Window<'a, V, R>
+    pub fn new(rt: &'a R, office: &'a Office<V>, clerk: Clerk<V>) -> Window<'a, V, R, L>
         requires there { IsClerkOf office.now.lock clerk }
         requires made { IsOfficeOf (V.setting (clerk_view clerk).origin) office.now }
+        requires here { lock_id office.now.lock ≡ L.lock }
         ensures { result.clerk ≡ clerk }
     {
-        Window { rt, office, clerk }
+        Window {
+            rt,
+            office,
+            clerk,
+            of: PhantomData,
+        }
     }
 
     /// Its clerk, with what that has seen by now.
     pub fn into_clerk(self) -> Clerk<V>
         ensures clerk { result ≡ self.entry.clerk }
         ensures there { IsClerkOf self.entry.office.now.lock result }
+        ensures here { lock_id self.entry.office.now.lock ≡ L.lock }
     {
         let Window {
             rt: _,
             office: _,
             clerk,
+            of: _,
         } = self;
         clerk
     }
@@ -56,7 +81,7 @@ fn fault_of(refusal: OfficeRefusal) -> CounterFault
     }
 }
 
-impl<V: Serving, R: Wait> Counter for Window<'_, V, R> {
+impl<V: Serving, R: Wait, L: WhichLock> Counter for Window<'_, V, R, L> {
     ghost use Rattle.lra_commands.specs.Counters.{Sight, KeepsHistory};
     ghost use Rattle.lra_office.specs.Clerks.{clerk_view};
 

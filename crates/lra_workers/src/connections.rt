@@ -1,0 +1,99 @@
+//! Connections that are answered at an office, one after another.
+
+ghost use Rattle.std.specs.Prelude.{◌≡◌};
+ghost use mathlib.Core.List.{IsPrefix};
+ghost use Rattle.lra_ticket.specs.Locks.{lock_id};
+ghost use Rattle.lra_office.specs.Clerks.{clerk_view, IsClerkOf};
+ghost use Rattle.lra_office.specs.Windows.{IsOfficeOf};
+ghost use Rattle.lra_workers.specs.Connections.{clerk_sight, Connection, EndsServing};
+
+use crate::door::{Door, Line};
+use lra_front::{Clock, serve_stream};
+use lra_office::{Clerk, Office, Serving, WhichLock, Window};
+use std::alloc::Global;
+use std::io::{self, Read, Write};
+use std::marker::Brand;
+use std::sync::Wait;
+
+/// How one who answers connections ended.
+#[derive(Clone, Copy, Debug, PartialEq, Eq)]
+pub enum ServeEnd {
+    /// So many connections were answered as were asked for.
+    Done,
+    /// No connection could be had.
+    Io,
+}
+
+/// The half of a connection that is read.
+#[derive(Drop)]
+struct Ear<'a, L>(&'a L);
+
+impl<L: Line> Read for Ear<'_, L> {
+    fn read(&mut self, buffer: &mut [u8]) -> io::Result<usize> {
+        self.0.read(buffer)
+    }
+}
+
+/// The half of a connection that is written.
+#[derive(Drop)]
+struct Mouth<'a, L>(&'a L);
+
+impl<L: Line> Write for Mouth<'_, L> {
+    fn write(&mut self, bytes: &[u8]) -> io::Result<usize> {
+        self.0.write(bytes)
+    }
+
+    fn flush(&mut self) -> io::Result<()> {
+        Ok(())
+    }
+}
+
+/// Answers one connection as a clerk of an office.
+fn answer<V: Serving, R: Wait, L: Line, K: Clock, Q: WhichLock>(
+    rt: &R,
+    alloc: Global,
+    line: &L,
+    office: &Office<V>,
+    clerk: Clerk<V>,
+    clock: &mut K,
+) -> Clerk<V>
+    requires clerk { IsClerkOf office.now.lock clerk }
+    requires made { IsOfficeOf (V.setting (clerk_view clerk).origin) office.now }
+    requires here { lock_id office.now.lock ≡ Q.lock }
+    ensures clerk { IsClerkOf office.now.lock result }
+    ensures answered { Connection K.tells (clerk_sight V.setting clerk) clock.old (clerk_sight V.setting result) clock.new }
+{
+    let mut window: Window<'_, V, R, Q> = Window::new(rt, office, clerk);
+    let mut mouth = Mouth(line);
+    serve_stream(alloc, Ear(line), &mut mouth, &mut window, clock);
+    window.into_clerk()
+}
+
+/// Answers so many connections as a clerk of an office, one after another, each as long as it lasts. It ends before that where no
+/// connection can be had.
+pub fn serve_connections<V: Serving, R: Wait, D: Door, K: Clock>(
+    rt: &R,
+    alloc: Global,
+    door: &D,
+    office: &Office<V>,
+    clerk: Clerk<V>,
+    clock: &mut K,
+    count: u64,
+) -> (Clerk<V>, ServeEnd)
+    requires clerk { IsClerkOf office.now.lock clerk }
+    requires made { IsOfficeOf (V.setting (clerk_view clerk).origin) office.now }
+    ensures clerk { IsClerkOf office.now.lock result.0 }
+    ensures number { result.0.number ≡ clerk.number }
+    ensures setting { V.setting (clerk_view result.0).origin ≡ V.setting (clerk_view clerk).origin }
+    ensures seen { IsPrefix (clerk_view clerk).seen (clerk_view result.0).seen }
+    ensures answers { EndsServing K.tells count (clerk_sight V.setting clerk) clock.old result.1 (clerk_sight V.setting result.0) clock.new }
+{
+    let mut clerk = clerk;
+    for _answered in 0..count {
+        let Ok(line) = door.open(rt) else {
+            return (clerk, ServeEnd::Io);
+        };
+        clerk = answer::<V, R, D::Line, K, Brand>(rt, alloc, &line, office, clerk, clock);
+    }
+    (clerk, ServeEnd::Done)
+}

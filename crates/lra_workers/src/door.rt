@@ -1,0 +1,50 @@
+//! Connections, and where they come in.
+
+ghost use Rattle.std.specs.Io.{ReadsAtMost, WritesAtMost};
+
+use std::io::{self, Read, Write};
+use std::net::{TcpListener, TcpStream};
+use std::sync::{Mutex, Wait};
+
+/// One connection, which two halves read and write at once.
+pub trait Line {
+    /// Reads what came, as `Read::read` does.
+    fn read(&self, buffer: &mut [u8]) -> io::Result<usize>
+        ensures { ReadsAtMost result buffer.new };
+
+    /// Writes, as `Write::write` does.
+    fn write(&self, bytes: &[u8]) -> io::Result<usize>
+        ensures { WritesAtMost result bytes.now };
+}
+
+/// Where connections come in.
+pub trait Door {
+    type Line: Line + Drop;
+
+    /// Waits for the next connection.
+    fn open<R: Wait>(&self, rt: &R) -> io::Result<Self::Line>;
+}
+
+impl Line for TcpStream {
+    fn read(&self, buffer: &mut [u8]) -> io::Result<usize> {
+        let mut half = self;
+        Read::read(&mut half, buffer)
+    }
+
+    fn write(&self, bytes: &[u8]) -> io::Result<usize> {
+        let mut half = self;
+        Write::write(&mut half, bytes)
+    }
+}
+
+/// One thread at a time waits for a connection. What is written to one is sent at once (RFC 9293, section 3.7.4).
+impl Door for Mutex<TcpListener> {
+    type Line = TcpStream;
+
+    fn open<R: Wait>(&self, rt: &R) -> io::Result<TcpStream> {
+        let listener = self.lock(rt);
+        let (stream, _) = listener.accept()?;
+        stream.set_nodelay(true)?;
+        Ok(stream)
+    }
+}
