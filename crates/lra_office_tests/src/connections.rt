@@ -1,0 +1,155 @@
+//! Two threads that answer connections at an office, and a client of theirs over sockets.
+
+ghost use Rattle.std.specs.Prelude.{◌≡◌, IfOk};
+ghost use Rattle.std.specs.Thread.{IsSync};
+ghost use Rattle.lra_office.specs.Clerks.{clerk_view, IsClerkOf};
+ghost use Rattle.lra_office.specs.Windows.{IsOfficeOf};
+ghost use Rattle.lra_ticket.specs.Locks.{lock_id, pass_id, pass_view};
+
+use crate::making::{enrolled, made, shut};
+use crate::workers::Still;
+use lra_office::{Clerk, Office, Serving};
+use lra_ticket::Pass;
+use lra_workers::{ServeEnd, serve_connections};
+use std::alloc::Global;
+use std::io::{self, Read, Write};
+use std::marker::Send;
+use std::net::{Ipv4Addr, Net, SocketAddr, TcpListener, TcpStream};
+use std::str::from_utf8;
+use std::sync::{Mutex, Wait};
+use std::test::Fail;
+use std::thread::{Threads, join};
+
+const START: &[u8] = b"POST /lra-coordinator HTTP/1.1\r\nHost: 127.0.0.1:8080\r\n\r\n";
+
+/// The reply to the first start, byte for byte.
+const STARTED: &str = "HTTP/1.1 201 Created\r
+Content-Type: application/json\r
+Content-Length: 84\r
+Location: http://127.0.0.1:8080/lra-coordinator/00000000-0000-8007-8000-000000000001\r
+Long-Running-Action: http://127.0.0.1:8080/lra-coordinator/00000000-0000-8007-8000-000000000001\r
+\r
+{\"lra\":\"http://127.0.0.1:8080/lra-coordinator/00000000-0000-8007-8000-000000000001\"}";
+
+/// Starts an action over one connection, and gives as many bytes as the reply is to have. Then it opens one more.
+fn visit<R>(rt: &R, alloc: Global, address: SocketAddr) -> io::Result<Vec<u8>>
+where
+    R: Net<Listener = TcpListener, Stream = TcpStream>,
+{
+    let mut reply = Vec::new(alloc);
+    reply.resize(STARTED.len(), 0)?;
+    let mut stream = TcpStream::connect(rt, address)?;
+    stream.write_all(START)?;
+    stream.read_exact(reply.as_mut_slice())?;
+    drop(stream);
+    TcpStream::connect(rt, address)?;
+    Ok(reply)
+}
+
+/// Answers one connection, and tells whether it ends so.
+fn answers_one<V: Serving, R: Wait>(
+    rt: &R,
+    alloc: Global,
+    door: &Mutex<TcpListener>,
+    office: &Office<V>,
+    clerk: Clerk<V>,
+) -> (Clerk<V>, bool)
+    requires clerk { IsClerkOf office.now.lock clerk }
+    requires made { IsOfficeOf (V.setting (clerk_view clerk).origin) office.now }
+    ensures { IsClerkOf office.now.lock result.0 }
+{
+    let mut clock = Still;
+    let (clerk, end) = serve_connections(rt, alloc, door, office, clerk, &mut clock, 1);
+    (clerk, end == ServeEnd::Done)
+}
+
+/// Two threads that answer a connection each, and whether both end so.
+fn two_answer<V: Serving + Send, R: Threads + Wait + Sync>(
+    rt: &R,
+    alloc: Global,
+    door: &Mutex<TcpListener>,
+    office: &Office<V>,
+    first: Clerk<V>,
+    second: Clerk<V>,
+) -> (Clerk<V>, bool)
+    requires first { IsClerkOf office.now.lock first }
+    requires second { IsClerkOf office.now.lock second }
+    requires first_made { IsOfficeOf (V.setting (clerk_view first).origin) office.now }
+    requires second_made { IsOfficeOf (V.setting (clerk_view second).origin) office.now }
+    ensures { IsClerkOf office.now.lock result.0 }
+{
+    let (one, other) = join(
+        rt,
+        move || -> (Clerk<V>, bool)
+            requires { IsClerkOf office.now.lock first × IsOfficeOf (V.setting (clerk_view first).origin) office.now }
+            ensures { IsClerkOf office.entry.now.lock result.0 }
+        { answers_one(rt, alloc, door, office, first) },
+        move || -> (Clerk<V>, bool)
+            requires { IsClerkOf office.now.lock second × IsOfficeOf (V.setting (clerk_view second).origin) office.now }
+            ensures { IsClerkOf office.entry.now.lock result.0 }
+        { answers_one(rt, alloc, door, office, second) },
+    );
+    let (clerk, has_ended) = one;
+    (clerk, has_ended && other.1)
+}
+
+/// What a client reads, and how the two end who answer it.
+type Visited = (bool, io::Result<Vec<u8>>);
+
+/// Two who answer a connection each, beside a client of theirs: whether both end so, and what the client reads.
+fn visited<
+    V: Serving + Send,
+    R: Threads + Wait + Sync + Net<Listener = TcpListener, Stream = TcpStream>,
+>(
+    rt: &R,
+    alloc: Global,
+    office: &Office<V>,
+    pass: Pass<V>,
+    door: &Mutex<TcpListener>,
+    address: SocketAddr,
+) -> Result<(Clerk<V>, Visited), Fail>
+    requires lock { pass_id pass ≡ lock_id office.now.lock }
+    requires newcomer { (pass_view pass).number ≡ 0 }
+    requires made { IsOfficeOf (V.setting (pass_view pass).origin) office.now }
+    ensures { IfOk result (λ r. IsClerkOf office.now.lock r.0) }
+{
+    let (first, pass) = office.split(enrolled(rt, office, pass)?);
+    let second = enrolled(rt, office, pass)?;
+    let ((clerk, have_ended), reply) = join(
+        rt,
+        move || -> (Clerk<V>, bool)
+            requires { IsClerkOf office.now.lock first × IsClerkOf office.now.lock second × IsOfficeOf (V.setting (clerk_view first).origin) office.now × IsOfficeOf (V.setting (clerk_view second).origin) office.now × IsSync R.row }
+            ensures { IsClerkOf office.entry.now.lock result.0 }
+        { two_answer(rt, alloc, door, office, first, second) },
+        move || visit(rt, alloc, address),
+    );
+    Ok((clerk, (have_ended, reply)))
+}
+
+/// The same at a new office.
+fn visited_at<
+    W: Write + Drop + Send,
+    R: Threads + Wait + Sync + Net<Listener = TcpListener, Stream = TcpStream>,
+>(
+    rt: &R,
+    alloc: Global,
+    writer: W,
+    door: &Mutex<TcpListener>,
+    address: SocketAddr,
+) -> Result<(W, Visited), Fail> {
+    let (office, pass) = made(alloc, writer)?;
+    let (clerk, seen) = visited(rt, alloc, &office, pass, door, address)?;
+    Ok((shut(office, clerk)?, seen))
+}
+
+#[test]
+fn two_threads_answer_connections(rt: HostRuntime) -> Result<(), Fail> {
+    let alloc = rt.alloc();
+    let listener = TcpListener::bind(&rt, SocketAddr::from((Ipv4Addr::LOCALHOST, 0)))?;
+    let address = listener.local_addr()?;
+    let door = Mutex::new(listener);
+    let (_, (have_ended, reply)) = visited_at(&rt, alloc, Vec::new(alloc), &door, address)?;
+    assert!(rt; have_ended);
+    assert_eq!(rt; from_utf8(&reply?)?, STARTED);
+    Ok(())
+}

@@ -1,0 +1,71 @@
+//! Offices as the tests make and end them. What works at an office in between borrows it.
+
+ghost use Rattle.std.specs.Prelude.{◌≡◌, true, IfOk};
+ghost use Rattle.lra_ids.specs.Addresses.{is_base};
+ghost use Rattle.lra_office.specs.Clerks.{clerk_view, IsClerkOf};
+ghost use Rattle.lra_office.specs.Windows.{IsOfficeOf};
+ghost use Rattle.lra_ticket.specs.Locks.{lock_id, pass_id, pass_view};
+
+use lra_core::{Instance, Limits};
+use lra_ids::{Address, address};
+use lra_office::{Clerk, Desk, Office, Serving};
+use lra_ticket::Pass;
+use std::alloc::Global;
+use std::io::Write;
+use std::sync::Wait;
+use std::test::Fail;
+
+/// What the URIs begin with.
+pub fn base(alloc: Global) -> Result<Address, Fail>
+    ensures { IfOk result (λ base. is_base base ≡ true) }
+{
+    let base = address(alloc, "http://127.0.0.1:8080/")?;
+    if base.is_base() {
+        Ok(base)
+    } else {
+        Err("no base")?
+    }
+}
+
+/// A new office with a writer, and the pass of whoever enrols first.
+pub fn made<W: Write + Drop>(
+    alloc: Global,
+    writer: W,
+) -> Result<(Office<Desk<W>>, Pass<Desk<W>>), Fail>
+    ensures lock { IfOk result (λ r. pass_id r.1 ≡ lock_id r.0.lock) }
+    ensures newcomer { IfOk result (λ r. (pass_view r.1).number ≡ 0) }
+    ensures made { IfOk result (λ r. IsOfficeOf (pass_view r.1).origin.setting r.0) }
+{
+    let instance = Instance::new(7).ok_or("no instance")?;
+    match Office::create(alloc, instance, base(alloc)?, Limits::usual(), writer) {
+        Ok(made) => Ok(made),
+        Err(_) => Err("an office can be made")?,
+    }
+}
+
+/// Enrols a clerk.
+pub fn enrolled<V: Serving, R: Wait>(
+    rt: &R,
+    office: &Office<V>,
+    pass: Pass<V>,
+) -> Result<Clerk<V>, Fail>
+    requires lock { pass_id pass ≡ lock_id office.now.lock }
+    requires newcomer { (pass_view pass).number ≡ 0 }
+    ensures clerk { IfOk result (IsClerkOf office.now.lock) }
+    ensures origin { IfOk result (λ clerk. (clerk_view clerk).origin ≡ (pass_view pass).origin) }
+{
+    match office.clerk(rt, pass, 0) {
+        Ok(clerk) => Ok(clerk),
+        Err(_) => Err("a clerk can be enrolled")?,
+    }
+}
+
+/// The writer of an office that is shut.
+pub fn shut<W: Write + Drop>(office: Office<Desk<W>>, clerk: Clerk<Desk<W>>) -> Result<W, Fail>
+    requires { IsClerkOf office.lock clerk }
+{
+    match office.shut(clerk) {
+        Ok((_, scribe)) => Ok(scribe.into_writer()),
+        Err(_) => Err("the lock is free")?,
+    }
+}

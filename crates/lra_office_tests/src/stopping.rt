@@ -1,0 +1,386 @@
+//! What is left of an office when its writer fails, and what goes on from there.
+
+ghost use Rattle.lra_office.specs.Clerks.{IsClerkOf};
+
+use crate::making::base;
+use lra_auditor::{Verdict, audit};
+use lra_core::{Errand, Instance, Limits, Refusal, Told};
+use lra_journal::whole;
+use lra_model::{Ending, Outcome, Rule, Uris, suits};
+use lra_office::{Clerk, Desk, Office, OfficeRefusal, ReopenFault, StartFault};
+use std::alloc::Global;
+use std::io::{self, Error, ErrorKind, Write};
+use std::sync::Wait;
+use std::test::Fail;
+
+/// The journal of the commands below: a header, and a line for each command, the last of which has two.
+const JOURNAL: &str =
+    "lra-journal 2 7\n1 0 enrol\n1 10 start 1 * 0\n1 11 join 1 1 http://p.test/u http://p.test/c http://p.test/s * *\n1 12 join 2 1 http://q.test/u http://q.test/c * * *\n1 20 close 1 client\n1 21 ask 1 1 complete\n1 22 ask 2 2 complete\n1 23 reply 2 done\n1 24 reply 1 accepted\n1 30 report 1 done\n1 30 end 1 Closed\n";
+
+/// A writer in memory, with so much room, one of whose calls goes wrong. It would go on after that.
+#[derive(Drop)]
+struct Faulty {
+    taken: Vec<u8>,
+    room: usize,
+    /// Which call goes wrong, counted from 1.
+    bad_call: u32,
+    calls: u32,
+}
+
+impl Write for Faulty {
+    fn write(&mut self, buf: &[u8]) -> io::Result<usize> {
+        self.calls = self.calls.saturating_add(1);
+        let count = buf.len().min(self.room);
+        if self.calls == self.bad_call || count == 0 {
+            return Err(Error::from(ErrorKind::Other));
+        }
+        self.taken.extend_from_slice(&buf[..count])?;
+        self.room = self.room.saturating_sub(count);
+        Ok(count)
+    }
+
+    fn flush(&mut self) -> io::Result<()> {
+        Ok(())
+    }
+}
+
+fn writer_with(alloc: Global, room: usize, bad_call: u32) -> Faulty {
+    Faulty {
+        taken: Vec::new(alloc),
+        room,
+        bad_call,
+        calls: 0,
+    }
+}
+
+/// A participant with all the addresses that its name gives and a `complete`, and a `status` if it is asked for.
+fn participant(alloc: Global, name: &str, has_status: bool) -> Result<Uris, Fail> {
+    let status = if has_status {
+        Some(format!(in alloc; "http://{name}.test/s")?)
+    } else {
+        None
+    };
+    Ok(Uris {
+        compensate: Some(format!(in alloc; "http://{name}.test/u")?),
+        complete: Some(format!(in alloc; "http://{name}.test/c")?),
+        status,
+        forget: None,
+        after: None,
+    })
+}
+
+/// What came of commands: how many were told something, whether one was stopped, whether one was told something after that, and
+/// whether a status was told at the end.
+#[derive(Clone, Copy, PartialEq, Eq, Debug)]
+struct Tally {
+    told: u32,
+    stopped: bool,
+    went_on: bool,
+    reads: bool,
+}
+
+impl Tally {
+    fn note(&mut self, was_told: bool, fault: Option<OfficeRefusal>) {
+        if was_told {
+            self.told = self.told.saturating_add(1);
+            self.went_on = self.went_on || self.stopped;
+        }
+        if fault == Some(OfficeRefusal::Refused(Refusal::Stopped)) {
+            self.stopped = true;
+        }
+    }
+
+    fn note_told(&mut self, answer: Result<Told, OfficeRefusal>) {
+        match answer {
+            Ok(_) => self.note(true, None),
+            Err(fault) => self.note(false, Some(fault)),
+        }
+    }
+}
+
+/// Asks for something that is due.
+fn ask<R: Wait>(
+    rt: &R,
+    office: &Office<Desk<Faulty>>,
+    clerk: &mut Clerk<Desk<Faulty>>,
+    moment: u64,
+    tally: &mut Tally,
+) -> Option<Errand>
+    requires { IsClerkOf office.now.lock clerk.old }
+    ensures { IsClerkOf office.now.lock clerk.new }
+{
+    match office.next_ask(rt, clerk, moment) {
+        Ok(errand) => {
+            tally.note(errand.is_some(), None);
+            errand
+        }
+        Err(fault) => {
+            tally.note(false, Some(fault));
+            None
+        }
+    }
+}
+
+/// Records what came of an ask, if there was one.
+fn record<R: Wait>(
+    rt: &R,
+    office: &Office<Desk<Faulty>>,
+    clerk: &mut Clerk<Desk<Faulty>>,
+    moment: u64,
+    errand: Option<Errand>,
+    outcome: Outcome,
+    tally: &mut Tally,
+)
+    requires { IsClerkOf office.now.lock clerk.old }
+    ensures { IsClerkOf office.now.lock clerk.new }
+{
+    let Some(errand) = errand else {
+        return;
+    };
+    if !suits(errand.kind(), outcome) {
+        errand.discard();
+        return;
+    }
+    match office.record(rt, clerk, moment, errand, outcome) {
+        Ok(_) => tally.note(true, None),
+        Err((errand, fault)) => {
+            errand.discard();
+            tally.note(false, Some(fault));
+        }
+    }
+}
+
+/// The commands of the journal, but for the first.
+fn give_all<R: Wait>(
+    rt: &R,
+    office: &Office<Desk<Faulty>>,
+    clerk: &mut Clerk<Desk<Faulty>>,
+    first: &Uris,
+    second: &Uris,
+) -> Tally
+    requires { IsClerkOf office.now.lock clerk.old }
+    ensures { IsClerkOf office.now.lock clerk.new }
+{
+    let mut tally = Tally {
+        told: 1,
+        stopped: false,
+        went_on: false,
+        reads: false,
+    };
+    tally.note_told(office.start(rt, clerk, 10, None, 0));
+    tally.note_told(office.join(rt, clerk, 11, 1, first));
+    tally.note_told(office.join(rt, clerk, 12, 1, second));
+    tally.note_told(office.close(rt, clerk, 20, 1));
+    let one = ask(rt, office, clerk, 21, &mut tally);
+    let two = ask(rt, office, clerk, 22, &mut tally);
+    record(rt, office, clerk, 23, two, Outcome::Done, &mut tally);
+    record(rt, office, clerk, 24, one, Outcome::Accepted, &mut tally);
+    tally.note_told(office.report(rt, clerk, 30, 1, Ending::Completed));
+    tally.reads = still_reads(rt, office, clerk, tally.told);
+    tally
+}
+
+/// Whether the status of the first action is told where it was started, by the second command, and else that there is none.
+fn still_reads<R: Wait>(
+    rt: &R,
+    office: &Office<Desk<Faulty>>,
+    clerk: &mut Clerk<Desk<Faulty>>,
+    told: u32,
+) -> bool
+    requires { IsClerkOf office.now.lock clerk.old }
+    ensures { IsClerkOf office.now.lock clerk.new }
+{
+    match office.status(rt, clerk, 1) {
+        Ok(_) => told >= 2,
+        Err(fault) => told < 2 && fault == OfficeRefusal::Refused(Refusal::NoSuchAction),
+    }
+}
+
+/// What is left of the commands in an office: what came of them, and the writer. Where the clerk wasn't enrolled, there is none.
+fn run<R: Wait>(rt: &R, alloc: Global, writer: Faulty) -> Result<Option<(Tally, Faulty)>, Fail> {
+    let first = participant(alloc, "p", true)?;
+    let second = participant(alloc, "q", false)?;
+    let instance = Instance::new(7).ok_or("no instance")?;
+    let (office, pass) = match Office::create(
+        alloc,
+        instance,
+        base(alloc)?,
+        Limits::usual(),
+        writer,
+    ) {
+        Ok(made) => made,
+        Err((StartFault::Stopped, Some(writer))) => {
+            let tally = Tally {
+                told: 0,
+                stopped: true,
+                went_on: false,
+                reads: true,
+            };
+            return Ok(Some((tally, writer)));
+        }
+        Err(_) => return Err("no memory")?,
+    };
+    let Ok(mut clerk) = office.clerk(rt, pass, 0) else {
+        return Ok(None);
+    };
+    let tally = give_all(rt, &office, &mut clerk, &first, &second);
+    match office.shut(clerk) {
+        Ok((_, scribe)) => Ok(Some((tally, scribe.into_writer()))),
+        Err(_) => Err("the lock is free")?,
+    }
+}
+
+/// The lines that end in so many bytes.
+fn count_lines(bytes: &[u8]) -> u32 {
+    let mut lines = 0u32;
+    for byte in bytes {
+        if *byte == b'\n' {
+            lines = lines.saturating_add(1);
+        }
+    }
+    lines
+}
+
+/// How many commands have all their lines among so many: the first line is the header, and the last command has two.
+fn fitting(lines: u32) -> u32 {
+    if lines == 12 {
+        return 10;
+    }
+    lines.saturating_sub(1).min(9)
+}
+
+/// Whether a writer with so much room has taken just so many bytes, each command that fits was told something, and no other was.
+fn stops_in_time<R: Wait>(rt: &R, alloc: Global, room: usize) -> Result<bool, Fail> {
+    let (front, _) = JOURNAL.as_bytes().split_at(room.min(JOURNAL.len()));
+    let told = fitting(count_lines(front));
+    match run(rt, alloc, writer_with(alloc, room, 0))? {
+        Some((tally, writer)) => Ok(
+            writer.taken.as_slice() == front
+                && tally.told == told
+                && tally.stopped == (room < JOURNAL.len())
+                && tally.reads
+                && !tally.went_on,
+        ),
+        None => Ok(told == 0),
+    }
+}
+
+/// Whether a writer whose one call goes wrong isn't called again, and has taken what was written before.
+fn is_left_alone<R: Wait>(rt: &R, alloc: Global, bad_call: u32) -> Result<bool, Fail> {
+    match run(rt, alloc, writer_with(alloc, JOURNAL.len(), bad_call))? {
+        Some((tally, writer)) => Ok(
+            writer.calls == bad_call
+                && tally.stopped
+                && tally.reads
+                && !tally.went_on
+                && JOURNAL.as_bytes().starts_with(writer.taken.as_slice())
+                && count_lines(writer.taken.as_slice()).saturating_add(1) == bad_call,
+        ),
+        None => Ok(bad_call == 2),
+    }
+}
+
+/// What reopening a journal's bytes comes to: the fault, or what was written of it and of an action that was started then.
+fn go_on<R: Wait>(
+    rt: &R,
+    alloc: Global,
+    bytes: &[u8],
+    moment: u64,
+) -> Result<Result<Vec<u8>, ReopenFault>, Fail> {
+    let journal = Vec::from_slice(alloc, bytes)?;
+    let writer = writer_with(alloc, usize::MAX, 0);
+    let (office, mut clerk) = match Office::reopen(
+        alloc,
+        journal,
+        base(alloc)?,
+        Limits::usual(),
+        writer,
+        moment,
+    ) {
+        Ok(opened) => opened,
+        Err((fault, _)) => return Ok(Err(fault)),
+    };
+    if office.start(rt, &mut clerk, moment, None, 0).is_err() {
+        return Err("an action can be started")?;
+    }
+    match office.shut(clerk) {
+        Ok((_, scribe)) => Ok(Ok(scribe.into_writer().taken)),
+        Err(_) => Err("the lock is free")?,
+    }
+}
+
+/// Whether so many bytes of the journal are reopened just where they have its header, and what is written then makes a sound journal.
+fn reopens<R: Wait>(rt: &R, alloc: Global, room: usize) -> Result<bool, Fail> {
+    let (front, _) = JOURNAL.as_bytes().split_at(room.min(JOURNAL.len()));
+    match go_on(rt, alloc, front, 31)? {
+        Ok(written) => {
+            let (lines, _) = front.split_at(whole(front));
+            let mut journal = Vec::from_slice(alloc, lines)?;
+            journal.extend_from_slice(written.as_slice())?;
+            Ok(room >= 16 && matches!(audit(alloc, journal.as_slice())?, Verdict::Sound(_)))
+        }
+        Err(fault) => {
+            let line = 1;
+            let rule = Rule::Header;
+            Ok(room < 16 && fault == ReopenFault::Unsound { line, rule })
+        }
+    }
+}
+
+/// A journal whose last block lacks its end, and a torn line.
+const TORN: &str =
+    "lra-journal 1 7\n1 0 enrol\n1 0 start 1 * 0\n1 1 join 1 1 http://p.test/u * * * *\n1 2 close 1 client\n1 2 sk";
+
+/// Whether the torn journal, where only seven entries fit, is refused before the writer is called.
+fn is_full(alloc: Global) -> Result<bool, Fail> {
+    let journal = Vec::from_slice(alloc, TORN.as_bytes())?;
+    let limits = Limits {
+        entries: 7,
+        ..Limits::usual()
+    };
+    let writer = writer_with(alloc, usize::MAX, 0);
+    match Office::reopen(alloc, journal, base(alloc)?, limits, writer, 9) {
+        Err((ReopenFault::Full, Some(writer))) => Ok(writer.calls == 0),
+        _ => Ok(false),
+    }
+}
+
+#[test]
+fn a_writer_that_fails_is_called_no_more(rt: HostRuntime) -> Result<(), Fail> {
+    for room in 0..JOURNAL.len() + 1 {
+        let stops = stops_in_time(&rt, rt.alloc(), room)?;
+        assert!(rt; stops, "at {room}");
+    }
+    for bad_call in 1..12u32 {
+        let left = is_left_alone(&rt, rt.alloc(), bad_call)?;
+        assert!(rt; left, "at call {bad_call}");
+    }
+    Ok(())
+}
+
+#[test]
+fn a_journal_is_reopened_from_whatever_whole_lines_are_left(rt: HostRuntime) -> Result<(), Fail> {
+    for room in 0..JOURNAL.len() + 1 {
+        let sound = reopens(&rt, rt.alloc(), room)?;
+        assert!(rt; sound, "of {room}");
+    }
+    let Ok(written) = go_on(&rt, rt.alloc(), TORN.as_bytes(), 9)? else {
+        panic!(rt; "it is sound")
+    };
+    assert!(rt;
+        written.as_slice()
+            == b"2 9 enrol\n2 9 skip 1\n2 9 end 1 Closed\n2 9 restart\n2 9 start 2 * 0\n".as_slice()
+    );
+    let unended = JOURNAL
+        .strip_suffix("1 30 end 1 Closed\n")
+        .ok_or("it has an end")?;
+    let Ok(written) = go_on(&rt, rt.alloc(), unended.as_bytes(), 40)? else {
+        panic!(rt; "it is sound")
+    };
+    assert!(rt;
+        written.as_slice()
+            == b"2 40 enrol\n2 40 end 1 Closed\n2 40 restart\n2 40 start 2 * 0\n".as_slice()
+    );
+    assert!(rt; is_full(rt.alloc())?);
+    Ok(())
+}

@@ -1,0 +1,251 @@
+//! Workers at an office: one that is held back for ever, and two of which one waits for the other.
+
+ghost use Rattle.std.specs.Prelude.{◌≡◌, IfOk};
+ghost use Rattle.lra_office.specs.Clerks.{IsClerkOf};
+ghost use Rattle.lra_ticket.specs.Locks.{lock_id, pass_id, pass_view};
+
+use crate::making::{enrolled, made, shut};
+use lra_core::{Errand, Told};
+use lra_courier::Courier;
+use lra_front::Clock;
+use lra_model::{Outcome, Uris, suits};
+use lra_office::{Clerk, Office, Serving};
+use lra_ticket::Pass;
+use lra_workers::{Gate, Go, WorkerEnd, run_worker};
+use std::alloc::{AllocError, Global};
+use std::io::Write;
+use std::marker::Send;
+use std::str::from_utf8;
+use std::sync::Wait;
+use std::sync::atomic::{AtomicBool, Ordering};
+use std::test::Fail;
+use std::thread::{Threads, join, sleep};
+use std::time::{self, Duration};
+
+/// Members that have done at once what they are asked.
+#[derive(Drop)]
+struct Prompt;
+
+impl Courier for Prompt {
+    ghost use Rattle.std.specs.Prelude.{IsTrue};
+    ghost use Rattle.lra_model.specs.Words.{outcome_suits};
+
+    ghost gives = { λ ask kind outcome. IsTrue (outcome_suits kind outcome) };
+
+    fn carry(&mut self, errand: &Errand) -> Outcome {
+        if suits(errand.kind(), Outcome::Done) {
+            Outcome::Done
+        } else {
+            Outcome::Silent
+        }
+    }
+
+    ghost suits = { λ ask kind outcome h. h };
+}
+
+/// A clock that stands still.
+#[derive(Drop)]
+pub struct Still;
+
+impl Clock for Still {
+    ghost use Rattle.std.specs.Prelude.{◌≡◌};
+
+    ghost tells = { λ _ moment _. moment ≡ 9 };
+
+    fn now(&mut self) -> u64 {
+        9
+    }
+}
+
+/// A gate that holds every errand back.
+#[derive(Drop)]
+struct Shut;
+
+impl Gate for Shut {
+    fn more(&mut self) -> bool {
+        true
+    }
+
+    fn hold(&mut self, _ask: u64) -> Go {
+        Go::NotYet
+    }
+
+    fn answered(&mut self, _ask: u64) {}
+}
+
+/// A gate that lets one errand be carried, and holds the first ask's back until the second was answered.
+#[derive(Drop)]
+struct Patient<'a, R> {
+    rt: &'a R,
+    second: &'a AtomicBool,
+    has_answered: bool,
+}
+
+impl<R: time::Clock> Gate for Patient<'_, R> {
+    fn more(&mut self) -> bool {
+        !self.has_answered
+    }
+
+    fn hold(&mut self, ask: u64) -> Go {
+        if ask == 2 || self.second.load(Ordering::SeqCst) {
+            return Go::Carry;
+        }
+        sleep(self.rt, Duration::from_millis(10));
+        Go::NotYet
+    }
+
+    fn answered(&mut self, ask: u64) {
+        self.has_answered = true;
+        if ask == 2 {
+            self.second.store(true, Ordering::SeqCst);
+        }
+    }
+}
+
+fn participant(alloc: Global, member: u64) -> Result<Uris, AllocError> {
+    Ok(Uris {
+        compensate: Some(format!(in alloc; "http://p{member}.test/u")?),
+        complete: Some(format!(in alloc; "http://p{member}.test/c")?),
+        status: None,
+        forget: None,
+        after: None,
+    })
+}
+
+/// Closes an action with so many members.
+fn closes<V: Serving, R: Wait>(
+    rt: &R,
+    alloc: Global,
+    office: &Office<V>,
+    clerk: &mut Clerk<V>,
+    members: u64,
+) -> Result<bool, Fail>
+    requires { IsClerkOf office.now.lock clerk.old }
+    ensures { IsClerkOf office.now.lock clerk.new }
+{
+    let mut done = office.start(rt, clerk, 1, None, 0) == Ok(Told::Action(1));
+    for place in 0..members {
+        let uris = participant(alloc, place + 1)?;
+        done = done && office.join(rt, clerk, 2, 1, &uris) == Ok(Told::Member(place + 1));
+    }
+    done = done && office.close(rt, clerk, 3, 1).is_ok();
+    Ok(done)
+}
+
+/// How a worker ends that is held back.
+fn held_at<V: Serving, R: Wait>(
+    rt: &R,
+    alloc: Global,
+    office: &Office<V>,
+    pass: Pass<V>,
+) -> Result<(Clerk<V>, bool), Fail>
+    requires lock { pass_id pass ≡ lock_id office.now.lock }
+    requires newcomer { (pass_view pass).number ≡ 0 }
+    ensures { IfOk result (λ r. IsClerkOf office.now.lock r.0) }
+{
+    let mut clerk = enrolled(rt, office, pass)?;
+    let closed = closes(rt, alloc, office, &mut clerk, 1)?;
+    let (clerk, end) = run_worker(rt, office, clerk, &mut Prompt, &mut Shut, &mut Still);
+    Ok((clerk, closed && end == WorkerEnd::Held))
+}
+
+#[test]
+fn a_worker_that_is_held_back_ends_and_leaves_its_ask(rt: HostRuntime) -> Result<(), Fail> {
+    let (office, pass) = made(rt.alloc(), Vec::new(rt.alloc()))?;
+    let (clerk, is_held) = held_at(&rt, rt.alloc(), &office, pass)?;
+    let journal = shut(office, clerk)?;
+    assert!(rt; is_held);
+    let wanted =
+        "lra-journal 2 7\n1 0 enrol\n1 1 start 1 * 0\n1 2 join 1 1 http://p1.test/u http://p1.test/c * * *\n1 3 close 1 client\n1 9 ask 1 1 complete\n";
+    assert_eq!(rt; from_utf8(&journal)?, wanted);
+    Ok(())
+}
+
+/// A worker that answers one ask, and whether it ends so.
+fn answers_one<V: Serving, R: Wait + time::Clock>(
+    rt: &R,
+    office: &Office<V>,
+    clerk: Clerk<V>,
+    second: &AtomicBool,
+) -> (Clerk<V>, bool)
+    requires { IsClerkOf office.now.lock clerk }
+    ensures { IsClerkOf office.now.lock result.0 }
+{
+    let mut gate = Patient {
+        rt,
+        second,
+        has_answered: false,
+    };
+    let (clerk, end) = run_worker(rt, office, clerk, &mut Prompt, &mut gate, &mut Still);
+    (clerk, end == WorkerEnd::Ended)
+}
+
+/// Two workers, each in a thread of its own, and whether both ended.
+fn two_answer<V: Serving + Send, R: Threads + Wait + time::Clock + Sync>(
+    rt: &R,
+    office: &Office<V>,
+    first: Clerk<V>,
+    second: Clerk<V>,
+    signal: &AtomicBool,
+) -> (Clerk<V>, bool)
+    requires first { IsClerkOf office.now.lock first }
+    requires second { IsClerkOf office.now.lock second }
+    ensures { IsClerkOf office.now.lock result.0 }
+{
+    let (one, other) = join(
+        rt,
+        move || -> (Clerk<V>, bool)
+            requires { IsClerkOf office.now.lock first }
+            ensures { IsClerkOf office.entry.now.lock result.0 }
+        { answers_one(rt, office, first, signal) },
+        move || -> (Clerk<V>, bool)
+            requires { IsClerkOf office.now.lock second }
+            ensures { IsClerkOf office.entry.now.lock result.0 }
+        { answers_one(rt, office, second, signal) },
+    );
+    let (clerk, has_ended) = one;
+    (clerk, has_ended && other.1)
+}
+
+/// Two workers at an office where two asks are due.
+fn overlap<V: Serving + Send, R: Threads + Wait + time::Clock + Sync>(
+    rt: &R,
+    alloc: Global,
+    office: &Office<V>,
+    pass: Pass<V>,
+) -> Result<(Clerk<V>, bool), Fail>
+    requires lock { pass_id pass ≡ lock_id office.now.lock }
+    requires newcomer { (pass_view pass).number ≡ 0 }
+    ensures { IfOk result (λ r. IsClerkOf office.now.lock r.0) }
+{
+    let (mut first, pass) = office.split(enrolled(rt, office, pass)?);
+    let second = enrolled(rt, office, pass)?;
+    let closed = closes(rt, alloc, office, &mut first, 2)?;
+    let signal = AtomicBool::new(false);
+    let (clerk, have_ended) = two_answer(rt, office, first, second, &signal);
+    Ok((clerk, closed && have_ended))
+}
+
+/// The same at a new office, with its writer.
+fn overlap_at<W: Write + Drop + Send, R: Threads + Wait + time::Clock + Sync>(
+    rt: &R,
+    alloc: Global,
+    writer: W,
+) -> Result<(W, bool), Fail> {
+    let (office, pass) = made(alloc, writer)?;
+    let (clerk, done) = overlap(rt, alloc, &office, pass)?;
+    Ok((shut(office, clerk)?, done))
+}
+
+#[test]
+fn a_worker_that_waits_for_another_is_answered(rt: HostRuntime) -> Result<(), Fail> {
+    let (journal, done) = overlap_at(&rt, rt.alloc(), Vec::new(rt.alloc()))?;
+    assert!(rt; done);
+    let text = from_utf8(&journal)?;
+    let late = text.find(" reply 1 done\n").ok_or("the first is answered")?;
+    let early = text
+        .find(" reply 2 done\n")
+        .ok_or("the second is answered")?;
+    assert!(rt; early < late && text.contains(" end 1 Closed\n"));
+    Ok(())
+}

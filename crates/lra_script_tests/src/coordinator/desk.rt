@@ -1,0 +1,345 @@
+//! A coordinator that is given a script of commands, line by line, and takes down what comes of each.
+
+ghost use Rattle.std.specs.Prelude.{◌≡◌, true};
+ghost use Rattle.lra_core.specs.Prepares.{is_suited};
+
+use crate::errands::Errands;
+use crate::words::Words;
+use lra_auditor::{Summary, Verdict, check};
+use lra_commands::Order;
+use lra_core::{Command, Coordinator, Errand, Prepared, Refusal, Told, Version};
+use lra_model::{Outcome, suits};
+use std::alloc::{AllocError, Global};
+use std::io::Write;
+use std::test::Fail;
+
+/// How many bytes come of a script at most.
+const ROOM: usize = 32_768;
+
+/// What is to stay as it is where memory is refused: how many entries there are, and the statuses of the first actions and members.
+type Kept = (usize, [Option<Told>; 4]);
+
+/// A coordinator, the errands that it gave, and what came of its commands.
+#[derive(Drop)]
+struct Desk<'a> {
+    alloc: Global,
+    coordinator: &'a mut Coordinator,
+    held: Errands,
+    /// What came of the commands of a script.
+    text: Vec<u8>,
+    /// The lines that a command would append.
+    lines: Vec<u8>,
+}
+
+/// Gives a coordinator each command of a script, whose lines are `COMMAND -> ANSWER`, or `+ ` and a line of the journal. What came
+/// of them is the script itself, where all is as it says.
+pub fn played(alloc: Global, coordinator: &mut Coordinator, script: &str) -> Result<Vec<u8>, Fail> {
+    let mut desk = Desk {
+        alloc,
+        coordinator,
+        held: Errands::new(alloc),
+        text: Vec::new(alloc),
+        lines: Vec::new(alloc),
+    };
+    desk.play(script)?;
+    Ok(desk.text)
+}
+
+impl Desk<'_> {
+    /// Makes room for what comes of a script, so that taking it down takes no memory.
+    fn make_room(&mut self) -> Result<(), AllocError> {
+        self.held.make_room()?;
+        self.text.reserve(ROOM)?;
+        self.lines.reserve(ROOM)
+    }
+
+    /// Gives each command. One that is refused memory is given again.
+    fn play(&mut self, script: &str) -> Result<(), Fail> {
+        if self.make_room().is_err() {
+            self.make_room()?;
+        }
+        for line in script.lines() {
+            if line.starts_with("+ ") {
+                continue;
+            }
+            let (command, _) = line.split_once(" -> ").ok_or("no answer is wanted")?;
+            write!(self.text, "{command} -> ")?;
+            self.give(command)?;
+        }
+        Ok(())
+    }
+
+    /// Gives the command of a line.
+    fn give(&mut self, line: &str) -> Result<(), Fail> {
+        let mut words = Words { left: line };
+        let first = words.next();
+        if first == "audit" {
+            return self.audit(words.next());
+        }
+        if first == "errand" {
+            return self.held.show(words.number()?, &mut self.text);
+        }
+        if first == "discard" {
+            return self.discard(words.number()?);
+        }
+        self.give_by(first.parse()?, words)
+    }
+
+    /// Gives the command of a clerk, or one of none.
+    fn give_by(&mut self, by: u32, mut words: Words<'_>) -> Result<(), Fail> {
+        let moment = words.number()?;
+        let verb = words.next();
+        if verb == "enrol" {
+            return self.enrol(moment);
+        }
+        if verb == "ask" {
+            return self.ask(by, moment);
+        }
+        if verb == "reply" {
+            return self.reply(by, moment, words);
+        }
+        if verb == "join" {
+            let action = words.number()?;
+            return self.join(by, moment, action, words.left);
+        }
+        self.order(by, moment, &words.order(verb)?)
+    }
+
+    fn reply(&mut self, by: u32, moment: u64, mut words: Words<'_>) -> Result<(), Fail> {
+        let ask = words.number()?;
+        let outcome = Outcome::from_name(words.next().as_bytes()).ok_or("no outcome")?;
+        self.record(by, moment, ask, outcome)
+    }
+
+    /// What there is now that a refusal is to keep.
+    fn kept(&self) -> Kept {
+        let statuses = [
+            self.coordinator.status(1, 1).ok(),
+            self.coordinator.status(1, 2).ok(),
+            self.coordinator.member_status(1, 1).ok(),
+            self.coordinator.member_status(1, 2).ok(),
+        ];
+        (self.coordinator.entries().len(), statuses)
+    }
+
+    /// That refused memory has changed nothing.
+    fn require_kept(&self, kept: Kept) -> Result<(), Fail> {
+        if self.kept() != kept {
+            return Err("refused memory has changed something")?;
+        }
+        Ok(())
+    }
+
+    fn put_told(&mut self, told: Told) -> Result<(), Fail> {
+        writeln!(self.text, "{told:?}")?;
+        Ok(())
+    }
+
+    fn put_refusal(&mut self, refusal: Refusal) -> Result<(), Fail> {
+        writeln!(self.text, "refused {refusal:?}")?;
+        Ok(())
+    }
+
+    fn put_answer(&mut self, answer: Result<Told, Refusal>) -> Result<(), Fail> {
+        match answer {
+            Ok(told) => self.put_told(told),
+            Err(refusal) => self.put_refusal(refusal),
+        }
+    }
+
+    fn put_lines(&mut self) -> Result<(), Fail> {
+        for line in self.lines.as_slice().split(|byte| *byte == b'\n') {
+            if !line.is_empty() {
+                self.text.extend_from_slice(b"+ ")?;
+                self.text.extend_from_slice(line)?;
+                self.text.push(b'\n')?;
+            }
+        }
+        self.lines.clear();
+        Ok(())
+    }
+
+    /// Takes down the lines that a command would append, and drops its block.
+    fn look(&mut self, by: u32, moment: u64, command: &Command<'_>)
+        requires { is_suited command.now ≡ true }
+    {
+        self.lines.clear();
+        let prepared = match self.coordinator.prepare(by, moment, command) {
+            Err(Refusal::Memory) => self.coordinator.prepare(by, moment, command),
+            other => other,
+        };
+        if let Ok(Prepared::Block(block)) = prepared
+            && self.lines.extend_from_slice(block.text()).is_err()
+        {
+            self.lines.clear();
+        }
+    }
+
+    fn enrol(&mut self, moment: u64) -> Result<(), Fail> {
+        self.look(0, moment, &Command::Enrol);
+        let kept = self.kept();
+        let mut answer = self.coordinator.enrol(moment);
+        if answer == Err(Refusal::Memory) {
+            self.require_kept(kept)?;
+            answer = self.coordinator.enrol(moment);
+        }
+        self.put_answer(answer)?;
+        self.put_lines()
+    }
+
+    /// Has a member join. The addresses are read again where memory was refused.
+    fn join(&mut self, by: u32, moment: u64, action: u64, addresses: &str) -> Result<(), Fail> {
+        let uris = match (Words { left: addresses }).uris(self.alloc) {
+            Ok(uris) => uris,
+            Err(_) => (Words { left: addresses }).uris(self.alloc)?,
+        };
+        self.order(
+            by,
+            moment,
+            &Order::Join {
+                action,
+                uris: &uris,
+            },
+        )
+    }
+
+    /// Gives an order, twice where memory was refused.
+    fn order(&mut self, by: u32, moment: u64, order: &Order<'_>) -> Result<(), Fail> {
+        self.look(by, moment, &order.command());
+        let kept = self.kept();
+        let mut answer = named(self.coordinator, by, moment, order);
+        if answer == Err(Refusal::Memory) {
+            self.require_kept(kept)?;
+            answer = named(self.coordinator, by, moment, order);
+        }
+        self.put_answer(answer)?;
+        self.put_lines()
+    }
+
+    /// Asks, holds the errand, and takes down what it is.
+    fn ask(&mut self, by: u32, moment: u64) -> Result<(), Fail> {
+        self.look(by, moment, &Command::NextAsk);
+        let kept = self.kept();
+        let asked = match self.coordinator.next_ask(by, moment) {
+            Err(Refusal::Memory) if self.kept() == kept => self.coordinator.next_ask(by, moment),
+            other => other,
+        };
+        match asked {
+            Err(refusal) => self.put_refusal(refusal)?,
+            Ok(None) => self.put_told(Told::Idle)?,
+            Ok(Some(errand)) => self.held.hold(errand, &mut self.text)?,
+        }
+        self.put_lines()
+    }
+
+    fn discard(&mut self, ask: u64) -> Result<(), Fail> {
+        self.held.discard(ask)?;
+        writeln!(self.text, "discarded")?;
+        Ok(())
+    }
+
+    /// Records what came of an ask. An errand that is handed back stays held.
+    fn record(&mut self, by: u32, moment: u64, ask: u64, outcome: Outcome) -> Result<(), Fail> {
+        let Some(errand) = self.held.take(ask) else {
+            return Err("no errand is held")?;
+        };
+        self.look_at_record(by, moment, &errand, outcome);
+        let kept = self.kept();
+        let (is_kept, answer) = match recorded(self.coordinator, by, moment, errand, outcome) {
+            Err((Refusal::Memory, errand)) => (
+                self.kept() == kept,
+                recorded(self.coordinator, by, moment, errand, outcome),
+            ),
+            other => (true, other),
+        };
+        match answer {
+            Ok(told) => self.put_told(told)?,
+            Err((refusal, errand)) => {
+                self.held.hold_again(errand)?;
+                self.put_refusal(refusal)?;
+            }
+        }
+        if !is_kept {
+            return Err("refused memory has changed something")?;
+        }
+        self.put_lines()
+    }
+
+    /// Takes down the lines that a record would append.
+    fn look_at_record(&mut self, by: u32, moment: u64, errand: &Errand, outcome: Outcome) {
+        if suits(errand.kind(), outcome) {
+            self.look(by, moment, &Command::Record { errand, outcome });
+        }
+    }
+
+    /// Takes down what an audit of the history says, as of a journal of this version.
+    fn audit(&mut self, version: &str) -> Result<(), Fail> {
+        let version = Version::from_name(version.as_bytes()).ok_or("no version")?;
+        let entries = self.coordinator.entries();
+        let verdict = match check(self.alloc, version, entries) {
+            Ok(verdict) => verdict,
+            Err(_) => check(self.alloc, version, entries)?,
+        };
+        match verdict {
+            Verdict::Unsound { line, rule } => {
+                let rule = rule.name();
+                writeln!(self.text, "unsound line {line} {rule}")?;
+            }
+            Verdict::Sound(summary) => self.put_summary(&summary)?,
+        }
+        Ok(())
+    }
+
+    fn put_summary(&mut self, summary: &Summary) -> Result<(), Fail> {
+        let (entries, actions) = (summary.entries, summary.actions);
+        let (unended, closed) = (summary.unended, summary.closed);
+        let cancelled = summary.cancelled;
+        write!(
+            self.text,
+            "sound {entries} entries {actions} actions {unended} unended"
+        )?;
+        write!(self.text, " {closed} closed {cancelled} cancelled")?;
+        for end in summary.failed.as_slice() {
+            let (action, status, member) = (end.action, end.status.name(), end.member);
+            write!(self.text, " failed {action} {status} {member}")?;
+        }
+        writeln!(self.text)?;
+        Ok(())
+    }
+}
+
+/// Records what came of an ask, where its outcome suits.
+fn recorded(
+    coordinator: &mut Coordinator,
+    by: u32,
+    moment: u64,
+    errand: Errand,
+    outcome: Outcome,
+) -> Result<Told, (Refusal, Errand)> {
+    if !suits(errand.kind(), outcome) {
+        return Err((Refusal::NotAsked, errand));
+    }
+    coordinator.record(by, moment, errand, outcome)
+}
+
+/// Gives an order by the call of its name.
+fn named(
+    coordinator: &mut Coordinator,
+    by: u32,
+    moment: u64,
+    order: &Order<'_>,
+) -> Result<Told, Refusal> {
+    match *order {
+        Order::Start { parent, limit } => coordinator.start(by, moment, parent, limit),
+        Order::Join { action, uris } => coordinator.join(by, moment, action, uris),
+        Order::Leave { action, member } => coordinator.leave(by, moment, action, member),
+        Order::Close { action } => coordinator.close(by, moment, action),
+        Order::Cancel { action } => coordinator.cancel(by, moment, action),
+        Order::Tick => coordinator.tick(by, moment),
+        Order::Report { member, ending } => coordinator.report(by, moment, member, ending),
+        Order::Restart => coordinator.restart(by, moment),
+        Order::Renew { action, limit } => coordinator.renew(by, moment, action, limit),
+        Order::Status { action } => coordinator.status(by, action),
+        Order::MemberStatus { member } => coordinator.member_status(by, member),
+    }
+}

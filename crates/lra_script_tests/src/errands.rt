@@ -1,0 +1,111 @@
+//! Errands that are held until what came of them is recorded.
+
+use lra_core::Errand;
+use std::alloc::{AllocError, Global};
+use std::io::Write;
+use std::test::Fail;
+
+/// How many errands a script holds at most.
+const ASKS: usize = 16;
+
+/// An errand that is held.
+struct Held {
+    ask: u64,
+    errand: Option<Errand>,
+}
+
+impl Drop for Held {
+    fn drop(self) {
+        let Held { ask: _, errand } = self;
+        if let Some(errand) = errand {
+            errand.discard();
+        }
+    }
+}
+
+impl Held {
+    fn new(errand: Errand) -> Held {
+        Held {
+            ask: errand.ask(),
+            errand: Some(errand),
+        }
+    }
+
+    /// Takes down what it is.
+    fn put(&self, text: &mut Vec<u8>) -> Result<(), Fail> {
+        if let Some(errand) = &self.errand {
+            let (ask, member) = (errand.ask(), errand.member());
+            let (kind, address) = (errand.kind().name(), errand.address());
+            writeln!(text, "ask {ask} {member} {kind} {address}")?;
+        }
+        Ok(())
+    }
+}
+
+/// All that are held.
+#[derive(Drop)]
+pub struct Errands {
+    held: Vec<Held>,
+}
+
+impl Errands {
+    pub fn new(alloc: Global) -> Errands {
+        Errands {
+            held: Vec::new(alloc),
+        }
+    }
+
+    /// Makes room for those of a script, so that holding them takes no memory.
+    pub fn make_room(&mut self) -> Result<(), AllocError> {
+        self.held.reserve(ASKS)
+    }
+
+    /// Holds an errand, and takes down what it is.
+    pub fn hold(&mut self, errand: Errand, text: &mut Vec<u8>) -> Result<(), Fail> {
+        let held = Held::new(errand);
+        held.put(text)?;
+        self.held.push(held)?;
+        Ok(())
+    }
+
+    /// Holds an errand that was handed back.
+    pub fn hold_again(&mut self, errand: Errand) -> Result<(), Fail> {
+        self.held.push(Held::new(errand))?;
+        Ok(())
+    }
+
+    /// Takes the errand of an ask, where it is held.
+    pub fn take(&mut self, ask: u64) -> Option<Errand> {
+        for held in &mut self.held {
+            if held.ask == ask && held.errand.is_some() {
+                return held.errand.take();
+            }
+        }
+        None
+    }
+
+    /// Lets the errand of an ask go.
+    pub fn discard(&mut self, ask: u64) -> Result<(), Fail> {
+        let errand = self.take(ask).ok_or("no errand is held")?;
+        errand.discard();
+        Ok(())
+    }
+
+    /// Takes down what an errand has beside what was told of it when it was asked.
+    pub fn show(&self, ask: u64, text: &mut Vec<u8>) -> Result<(), Fail> {
+        for held in &self.held {
+            if let Some(errand) = &held.errand
+                && held.ask == ask
+            {
+                let (action, direction) = (errand.action(), errand.direction().name());
+                let (uri, parent) = (errand.action_uri(), errand.parent_uri());
+                let (recovery, ended) = (errand.recovery_uri(), errand.ended());
+                writeln!(
+                    text,
+                    "{action} {direction} {uri} {parent:?} {recovery} {ended:?}"
+                )?;
+            }
+        }
+        Ok(())
+    }
+}

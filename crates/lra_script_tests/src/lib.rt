@@ -1,0 +1,13 @@
+//! Tests: scripts of commands and what comes of each, at a coordinator and at an office.
+#![tactic(auto)]
+
+#[cfg(test)]
+mod coordinator;
+#[cfg(test)]
+mod errands;
+#[cfg(test)]
+mod office;
+#[cfg(test)]
+mod rows;
+#[cfg(test)]
+mod words;

@@ -1,0 +1,415 @@
+//! The scripts of a coordinator, given to an office by a clerk.
+//!
+//! Each is as well run with one allocation failing in turn: a command to which memory is refused changes nothing, and has the
+//! script's answer when it is given again.
+
+ghost use Rattle.std.specs.Prelude.{◌≡◌, IfOk, IfSome};
+ghost use Rattle.lra_office.specs.Clerks.{IsClerkOf};
+ghost use Rattle.lra_ticket.specs.Locks.{lock_id, pass_id, pass_view};
+
+use crate::coordinator::base;
+use crate::errands::Errands;
+use crate::rows::{SCRIPTS, TORN};
+use crate::words::Words;
+use lra_commands::Order;
+use lra_core::{Errand, Instance, Limits, Refusal, Told};
+use lra_model::{Outcome, Uris, suits};
+use lra_office::{Clerk, Desk, Office, OfficeRefusal, ReopenFault, Serving};
+use lra_ticket::Pass;
+use std::alloc::{AllocError, Global};
+use std::io::Write;
+use std::str::from_utf8;
+use std::sync::Wait;
+use std::test::Fail;
+
+/// What stands behind the office's lock: a coordinator that writes its journal to memory.
+type Kept = Desk<Vec<u8>>;
+
+/// How many bytes come of a script at most.
+const ROOM: usize = 8_192;
+
+const NO_MEMORY: OfficeRefusal = OfficeRefusal::Refused(Refusal::Memory);
+
+/// What is to stay as it is where memory is refused: the statuses of the first action and member.
+type Seen = [Option<Told>; 2];
+
+/// A clerk that gives the commands of a script to its office.
+#[derive(Drop)]
+struct Player<'a, V: Serving, R> {
+    rt: &'a R,
+    alloc: Global,
+    office: Office<V>,
+    clerk: Clerk<V>,
+    held: Errands,
+    /// The commands, each with its answer.
+    text: Vec<u8>,
+    ghost there: { IsClerkOf office.lock clerk },
+}
+
+impl<V: Serving, R: Wait> Player<'_, V, R> {
+    /// Makes room for what comes of a script, so that taking it down takes no memory.
+    fn make_room(&mut self) -> Result<(), AllocError> {
+        self.held.make_room()?;
+        self.text.reserve(ROOM)
+    }
+
+    /// Gives the commands of a script.
+    fn play(&mut self, script: &str) -> Result<(), Fail> {
+        if self.make_room().is_err() {
+            self.make_room()?;
+        }
+        for line in script.lines() {
+            if is_given(line) {
+                let (command, _) = line.split_once(" -> ").ok_or("no answer is wanted")?;
+                write!(self.text, "{command} -> ")?;
+                self.give(command)?;
+            }
+        }
+        Ok(())
+    }
+
+    fn give(&mut self, line: &str) -> Result<(), Fail> {
+        let mut words = Words { left: line };
+        if words.next() == "discard" {
+            return self.discard(words.number()?);
+        }
+        let moment = words.number()?;
+        let verb = words.next();
+        if verb == "ask" {
+            return self.ask(moment);
+        }
+        if verb == "reply" {
+            let ask = words.number()?;
+            let outcome = Outcome::from_name(words.next().as_bytes()).ok_or("no outcome")?;
+            return self.record(moment, ask, outcome);
+        }
+        if verb == "join" {
+            let action = words.number()?;
+            return self.join(moment, action, words.left);
+        }
+        self.order(moment, &words.order(verb)?)
+    }
+
+    /// What there is now that a refusal is to keep.
+    fn seen(&mut self) -> Seen {
+        [
+            self.office.status(self.rt, &mut self.clerk, 1).ok(),
+            self.office.member_status(self.rt, &mut self.clerk, 1).ok(),
+        ]
+    }
+
+    /// That refused memory has changed nothing.
+    fn require_seen(&mut self, seen: Seen) -> Result<(), Fail> {
+        if self.seen() != seen {
+            return Err("refused memory has changed something")?;
+        }
+        Ok(())
+    }
+
+    fn put(&mut self, answer: Result<Told, OfficeRefusal>) -> Result<(), Fail> {
+        match answer {
+            Ok(told) => writeln!(self.text, "{told:?}")?,
+            Err(OfficeRefusal::Refused(refusal)) => writeln!(self.text, "refused {refusal:?}")?,
+            Err(OfficeRefusal::Worn) => return Err("the lock is worn")?,
+        }
+        Ok(())
+    }
+
+    /// Has a member join. The addresses are read again where memory was refused.
+    fn join(&mut self, moment: u64, action: u64, addresses: &str) -> Result<(), Fail> {
+        let uris = match (Words { left: addresses }).uris(self.alloc) {
+            Ok(uris) => uris,
+            Err(_) => (Words { left: addresses }).uris(self.alloc)?,
+        };
+        self.order(
+            moment,
+            &Order::Join {
+                action,
+                uris: &uris,
+            },
+        )
+    }
+
+    /// Gives an order, twice where memory was refused.
+    fn order(&mut self, moment: u64, order: &Order<'_>) -> Result<(), Fail> {
+        let seen = self.seen();
+        let mut answer = named(self.rt, &self.office, &mut self.clerk, moment, order);
+        if answer == Err(NO_MEMORY) {
+            self.require_seen(seen)?;
+            answer = named(self.rt, &self.office, &mut self.clerk, moment, order);
+        }
+        self.put(answer)
+    }
+
+    /// Asks, and holds the errand. Twice where memory was refused.
+    fn ask(&mut self, moment: u64) -> Result<(), Fail> {
+        let seen = self.seen();
+        let asked = match self.office.next_ask(self.rt, &mut self.clerk, moment) {
+            Err(NO_MEMORY) => {
+                self.require_seen(seen)?;
+                self.office.next_ask(self.rt, &mut self.clerk, moment)
+            }
+            other => other,
+        };
+        match asked {
+            Err(refusal) => self.put(Err(refusal)),
+            Ok(None) => self.put(Ok(Told::Idle)),
+            Ok(Some(errand)) => self.held.hold(errand, &mut self.text),
+        }
+    }
+
+    fn discard(&mut self, ask: u64) -> Result<(), Fail> {
+        self.held.discard(ask)?;
+        writeln!(self.text, "discarded")?;
+        Ok(())
+    }
+
+    /// Records what came of an ask, twice where memory was refused. An errand that is handed back stays held.
+    fn record(&mut self, moment: u64, ask: u64, outcome: Outcome) -> Result<(), Fail> {
+        let seen = self.seen();
+        let mut answer = self.record_once(moment, ask, outcome)?;
+        if answer == Err(NO_MEMORY) {
+            self.require_seen(seen)?;
+            answer = self.record_once(moment, ask, outcome)?;
+        }
+        self.put(answer)
+    }
+
+    fn record_once(
+        &mut self,
+        moment: u64,
+        ask: u64,
+        outcome: Outcome,
+    ) -> Result<Result<Told, OfficeRefusal>, Fail> {
+        let Some(errand) = self.held.take(ask) else {
+            return Err("no errand is held")?;
+        };
+        if !suits(errand.kind(), outcome) {
+            errand.discard();
+            return Err("the outcome doesn't suit")?;
+        }
+        match self
+            .office
+            .record(self.rt, &mut self.clerk, moment, errand, outcome)
+        {
+            Ok(told) => Ok(Ok(told)),
+            Err((errand, refusal)) => {
+                self.held.hold_again(errand)?;
+                Ok(Err(refusal))
+            }
+        }
+    }
+}
+
+/// Gives an order by the call of its name.
+fn named<V: Serving, R: Wait>(
+    rt: &R,
+    office: &Office<V>,
+    clerk: &mut Clerk<V>,
+    moment: u64,
+    order: &Order<'_>,
+) -> Result<Told, OfficeRefusal>
+    requires { IsClerkOf office.now.lock clerk.old }
+    ensures { IsClerkOf office.now.lock clerk.new }
+{
+    match *order {
+        Order::Start { parent, limit } => office.start(rt, clerk, moment, parent, limit),
+        Order::Join { action, uris } => office.join(rt, clerk, moment, action, uris),
+        Order::Leave { action, member } => office.leave(rt, clerk, moment, action, member),
+        Order::Close { action } => office.close(rt, clerk, moment, action),
+        Order::Cancel { action } => office.cancel(rt, clerk, moment, action),
+        Order::Tick => office.tick(rt, clerk, moment),
+        Order::Report { member, ending } => office.report(rt, clerk, moment, member, ending),
+        Order::Restart => office.restart(rt, clerk, moment),
+        Order::Renew { action, limit } => office.renew(rt, clerk, moment, action, limit),
+        Order::Status { action } => office.status(rt, clerk, action),
+        Order::MemberStatus { member } => office.member_status(rt, clerk, member),
+    }
+}
+
+/// Whether a line of a script is a command that the clerk gives, or discards an errand.
+fn is_given(line: &str) -> bool {
+    line.starts_with("1 ") || line.starts_with("discard ")
+}
+
+/// What is to come of a script: the commands that are given, with their answers; and the journal, which is the lines that they
+/// append, after a header.
+fn wanted(alloc: Global, script: &str) -> Result<(Vec<u8>, Vec<u8>), AllocError> {
+    let mut answers = Vec::with_capacity(alloc, ROOM)?;
+    let mut journal = Vec::with_capacity(alloc, ROOM)?;
+    journal.extend_from_slice(b"lra-journal 2 7\n")?;
+    for line in script.lines() {
+        if is_given(line) {
+            answers.extend_from_slice(line.as_bytes())?;
+            answers.push(b'\n')?;
+        }
+        if let Some(appended) = line.strip_prefix("+ ") {
+            journal.extend_from_slice(appended.as_bytes())?;
+            journal.push(b'\n')?;
+        }
+    }
+    Ok((answers, journal))
+}
+
+/// A writer in memory that takes no more of it.
+fn writer(alloc: Global) -> Result<Vec<u8>, AllocError> {
+    match Vec::with_capacity(alloc, ROOM) {
+        Ok(writer) => Ok(writer),
+        Err(_) => Vec::with_capacity(alloc, ROOM),
+    }
+}
+
+/// Enrols the first clerk of an office, the second time where memory was refused.
+fn enrolled<V: Serving, R: Wait>(
+    rt: &R,
+    office: &Office<V>,
+    pass: Pass<V>,
+    moment: u64,
+) -> Option<Clerk<V>>
+    requires lock { pass_id pass ≡ lock_id office.now.lock }
+    requires newcomer { (pass_view pass).number ≡ 0 }
+    ensures { IfSome result (IsClerkOf office.now.lock) }
+{
+    match office.clerk(rt, pass, moment) {
+        Ok(clerk) => Some(clerk),
+        Err((pass, NO_MEMORY)) => office.clerk(rt, pass, moment).ok(),
+        Err(_) => None,
+    }
+}
+
+/// An office and its clerk after a script, and the answers to its commands.
+fn played_at<V: Serving, R: Wait>(
+    rt: &R,
+    alloc: Global,
+    office: Office<V>,
+    pass: Pass<V>,
+    script: &str,
+) -> Result<(Office<V>, Clerk<V>, Vec<u8>), Fail>
+    requires lock { pass_id pass ≡ lock_id office.lock }
+    requires newcomer { (pass_view pass).number ≡ 0 }
+    ensures { IfOk result (λ r. IsClerkOf r.0.lock r.1) }
+{
+    let moment = enrolment(script)?;
+    let Some(clerk) = enrolled(rt, &office, pass, moment) else {
+        return Err("a clerk can be enrolled")?;
+    };
+    let mut player = Player {
+        rt,
+        alloc,
+        office,
+        clerk,
+        held: Errands::new(alloc),
+        text: Vec::new(alloc),
+    };
+    player.play(script)?;
+    let Player {
+        office,
+        clerk,
+        text,
+        ..
+    } = player;
+    Ok((office, clerk, text))
+}
+
+/// The journal of an office that is shut.
+fn shut(office: Office<Kept>, clerk: Clerk<Kept>) -> Result<Vec<u8>, Fail>
+    requires { IsClerkOf office.lock clerk }
+{
+    match office.shut(clerk) {
+        Ok((_, scribe)) => Ok(scribe.into_writer()),
+        Err(_) => Err("the lock is free")?,
+    }
+}
+
+/// The answers to a script's commands at a new office, and its journal. Nothing, where no office could be made.
+fn played_once<R: Wait>(
+    rt: &R,
+    alloc: Global,
+    script: &str,
+) -> Result<Option<(Vec<u8>, Vec<u8>)>, Fail> {
+    let (Some(instance), Some(base), Ok(writer)) = (Instance::new(7), base(alloc), writer(alloc))
+    else {
+        return Ok(None);
+    };
+    match Office::create(alloc, instance, base, Limits::usual(), writer) {
+        Ok((office, pass)) => {
+            let (office, clerk, text) = played_at(rt, alloc, office, pass, script)?;
+            Ok(Some((text, shut(office, clerk)?)))
+        }
+        Err(_) => Ok(None),
+    }
+}
+
+/// The same, with memory for the office the second time.
+fn played<R: Wait>(rt: &R, alloc: Global, script: &str) -> Result<(Vec<u8>, Vec<u8>), Fail> {
+    if let Some(played) = played_once(rt, alloc, script)? {
+        return Ok(played);
+    }
+    match played_once(rt, alloc, script)? {
+        Some(played) => Ok(played),
+        None => Err("an office can be made")?,
+    }
+}
+
+/// The moment of a script's first line, which enrols its clerk.
+fn enrolment(script: &str) -> Result<u64, Fail> {
+    let mut words = Words { left: script };
+    words.next();
+    words.number()
+}
+
+#[test]
+fn scripts_come_to_what_they_say(rt: HostRuntime) -> Result<(), Fail> {
+    let alloc = rt.alloc();
+    for script in SCRIPTS.split("\n\n") {
+        let (text, journal) = played(&rt, alloc, script)?;
+        let (answers, lines) = match wanted(alloc, script) {
+            Ok(wanted) => wanted,
+            Err(_) => wanted(alloc, script)?,
+        };
+        assert_eq!(rt; from_utf8(&text)?, from_utf8(&answers)?);
+        assert_eq!(rt; from_utf8(&journal)?, from_utf8(&lines)?);
+    }
+    Ok(())
+}
+
+/// Whether a renewal is refused at an office that goes on from the torn journal, and what it writes. Nothing, where memory was
+/// refused before it was reopened.
+fn renewed_once<R: Wait>(rt: &R, alloc: Global) -> Result<Option<(bool, Vec<u8>)>, Fail> {
+    let (Ok(journal), Some(base), Ok(writer)) = (
+        Vec::from_slice(alloc, TORN[0].as_bytes()),
+        base(alloc),
+        writer(alloc),
+    ) else {
+        return Ok(None);
+    };
+    match Office::reopen(alloc, journal, base, Limits::usual(), writer, 9) {
+        Ok((office, mut clerk)) => {
+            let renewed = office.renew(rt, &mut clerk, 9, 1, 5);
+            let is_refused = renewed == Err(OfficeRefusal::Refused(Refusal::OldJournal));
+            Ok(Some((is_refused, shut(office, clerk)?)))
+        }
+        Err((ReopenFault::Memory, None)) => Ok(None),
+        Err(_) => Err("the journal is sound")?,
+    }
+}
+
+/// The same, once more where memory was refused.
+fn renewed<R: Wait>(rt: &R, alloc: Global) -> Result<(bool, Vec<u8>), Fail> {
+    if let Some(renewed) = renewed_once(rt, alloc)? {
+        return Ok(renewed);
+    }
+    match renewed_once(rt, alloc)? {
+        Some(renewed) => Ok(renewed),
+        None => Err("memory is refused once")?,
+    }
+}
+
+#[test]
+fn a_journal_is_gone_on_from_in_its_version(rt: HostRuntime) -> Result<(), Fail> {
+    let (is_refused, journal) = renewed(&rt, rt.alloc())?;
+    assert!(rt; is_refused);
+    let wanted = "2 9 enrol\n2 9 skip 1\n2 9 end 1 Closed\n2 9 restart\n";
+    assert_eq!(rt; from_utf8(&journal)?, wanted);
+    Ok(())
+}

@@ -1,0 +1,13 @@
+//! Tests of what goes over connections: HTTP messages, the interface that answers them, and callbacks to members.
+#![tactic(auto)]
+
+#[cfg(test)]
+mod coordinator;
+#[cfg(test)]
+mod courier;
+#[cfg(test)]
+mod front;
+#[cfg(test)]
+mod pieces;
+#[cfg(test)]
+mod wire;

@@ -1,0 +1,60 @@
+//! A reader that gives its bytes in pieces, and a writer that takes some bytes a call.
+use lra_wire::Inbox;
+use std::alloc::{AllocError, Global};
+use std::io;
+use std::io::{Read, Write};
+
+/// Gives at most `size` bytes a call. At the end it fails, where it is told to.
+#[derive(Drop)]
+pub struct Pieces<'a> {
+    pub rest: &'a [u8],
+    pub size: usize,
+    pub fails: bool,
+}
+
+impl Read for Pieces<'_> {
+    fn read(&mut self, buf: &mut [u8]) -> io::Result<usize> {
+        if self.fails && self.rest.is_empty() {
+            return Err(io::ErrorKind::Other.into());
+        }
+        let count = self.size.min(self.rest.len()).min(buf.len());
+        let (front, rest) = self.rest.split_at(count);
+        buf[..count].copy_from_slice(front);
+        self.rest = rest;
+        Ok(count)
+    }
+}
+
+/// An inbox over bytes that come in pieces of this size. Then they end, or the reader fails.
+pub fn in_pieces(
+    alloc: Global,
+    rest: &[u8],
+    size: usize,
+    fails: bool,
+) -> Result<Inbox<Pieces<'_>>, AllocError> {
+    Inbox::new(alloc, Pieces { rest, size, fails })
+}
+
+/// Takes at most `size` bytes a call, and `room` in all, and then fails.
+#[derive(Drop)]
+pub struct Sink {
+    pub taken: Vec<u8>,
+    pub size: usize,
+    pub room: usize,
+}
+
+impl Write for Sink {
+    fn write(&mut self, buf: &[u8]) -> io::Result<usize> {
+        let left = self.room.saturating_sub(self.taken.len());
+        if left == 0 {
+            return Err(io::ErrorKind::Other.into());
+        }
+        let count = self.size.min(left).min(buf.len());
+        self.taken.extend_from_slice(&buf[..count])?;
+        Ok(count)
+    }
+
+    fn flush(&mut self) -> io::Result<()> {
+        Ok(())
+    }
+}

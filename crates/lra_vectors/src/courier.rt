@@ -1,5 +1,0 @@
-//! Callbacks: what is written, what replies come to, and streams that fail.
-mod limits;
-mod replies;
-mod streams;
-mod tcp;

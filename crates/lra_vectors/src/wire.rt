@@ -1,7 +1,0 @@
-//! HTTP/1.1 messages, read in pieces and written by turns.
-mod faults;
-mod memory;
-pub(crate) mod pieces;
-mod requests;
-mod responses;
-mod writing;
