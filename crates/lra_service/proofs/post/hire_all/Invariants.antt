@@ -1,0 +1,9 @@
+use Rattle.std.proofs.Common.{All}
+use Rattle.lra_service.specs.Opened.{IsAt}
+use Rattle.lra_service.proofs.post.hire_all.Given as goal
+
+abbrev pub invariant-loop : goal.invariant-loop
+invariant-loop g l = record {
+  next : IsAt g.V.Serving.setting l.office l.next;
+  hired : All (λ job. IsAt g.V.Serving.setting l.office job.1) l.jobs.items;
+}

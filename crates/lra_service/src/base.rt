@@ -1,0 +1,49 @@
+//! The address that is served, as a base of identifiers and as a socket's.
+
+ghost use Rattle.std.specs.Prelude.{◌≡◌, true, IfOk};
+ghost use Rattle.lra_ids.specs.Addresses.{is_base};
+ghost use Rattle.lra_service.specs.Faults.{base_text};
+
+use crate::fault::ServeFault;
+use lra_ids::{Address, UriFault, address};
+use std::alloc::Global;
+use std::net::{Net, TcpListener};
+
+/// The base of the identifiers that are served at an address: `http://`, the address and `/`, where that text is a base as it stands.
+pub(crate) fn base_of(alloc: Global, to: &str) -> Result<Address, ServeFault>
+    ensures text { IfOk result (λ base. base ≡ base_text to.now) }
+    ensures base { IfOk result (λ base. is_base base ≡ true) }
+{
+    let Ok(text) = format!(in alloc; "http://{to}/") else {
+        return Err(ServeFault::Memory);
+    };
+    let base = match address(alloc, &text) {
+        Ok(base) => base,
+        Err(UriFault::Memory) => return Err(ServeFault::Memory),
+        Err(_) => return Err(ServeFault::Address),
+    };
+    if base.as_str() == text.as_str() && base.is_base() {
+        Ok(base)
+    } else {
+        Err(ServeFault::Address)
+    }
+}
+
+/// A listener at a base's host and port: port 80 where it names none.
+pub(crate) fn bind<R: Net>(
+    alloc: Global,
+    rt: &R,
+    base: &Address,
+) -> Result<R::Listener, ServeFault> {
+    let host = base.authority();
+    let bound = match base.port() {
+        Some(_) => TcpListener::bind(rt, host),
+        None => {
+            let Ok(host) = format!(in alloc; "{host}:80") else {
+                return Err(ServeFault::Memory);
+            };
+            TcpListener::bind(rt, host.as_str())
+        }
+    };
+    bound.map_err(|_| ServeFault::Address)
+}

@@ -1,0 +1,38 @@
+//! The system's clock.
+
+use lra_front::Clock;
+use std::time;
+use std::time::{SystemTime, UNIX_EPOCH};
+
+/// The milliseconds since 1970, where the system's clock tells them.
+pub(crate) fn milliseconds<R: time::Clock>(rt: &R) -> Option<u64> {
+    let since = SystemTime::now(rt).ok()?.duration_since(UNIX_EPOCH).ok()?;
+    u64::try_from(since.as_millis()).ok()
+}
+
+/// The system's clock, in milliseconds since 1970. Where it can't be read it stands still.
+#[derive(Drop)]
+pub struct SystemClock<'a, R> {
+    rt: &'a R,
+    last: u64,
+}
+
+impl<'a, R: time::Clock> SystemClock<'a, R> {
+    /// A clock that stands at a moment until it is read.
+    pub fn new(rt: &'a R, moment: u64) -> SystemClock<'a, R> {
+        SystemClock { rt, last: moment }
+    }
+}
+
+impl<R: time::Clock> Clock for SystemClock<'_, R> {
+    ghost use Rattle.std.specs.Prelude.{◌≡◌};
+
+    ghost tells = { λ _ moment after. after.last ≡ moment };
+
+    fn now(&mut self) -> u64 {
+        if let Some(moment) = milliseconds(self.rt) {
+            self.last = moment;
+        }
+        self.last
+    }
+}

@@ -1,0 +1,61 @@
+//! Where clients' connections come in.
+
+use crate::session::Session;
+use lra_durable::{Disk, Progress};
+use lra_workers::Door;
+use std::io;
+use std::net::{TcpListener, TcpStream};
+use std::sync::{Mutex, Wait};
+use std::thread::sleep;
+use std::time::{Clock, Duration};
+
+/// How many milliseconds pass before a connection is awaited again, once one couldn't be accepted.
+const PAUSE: u64 = 100;
+
+/// A listener of which one thread at a time awaits a connection.
+#[derive(Drop)]
+pub struct Entrance<'a, R, D: Disk> {
+    rt: &'a R,
+    progress: &'a Progress<D>,
+    listener: Mutex<TcpListener>,
+}
+
+impl<'a, R: Wait + Clock, D: Disk> Entrance<'a, R, D> {
+    pub fn new(rt: &'a R, progress: &'a Progress<D>, listener: TcpListener) -> Entrance<'a, R, D> {
+        Entrance {
+            rt,
+            progress,
+            listener: Mutex::new(listener),
+        }
+    }
+
+    /// The next connection, unless none can be accepted: then none is there where the listener is gone.
+    fn accept(&self) -> io::Result<Option<TcpStream>> {
+        let listener = self.listener.lock(self.rt);
+        match listener.accept() {
+            Ok((stream, _)) => Ok(Some(stream)),
+            Err(_) => {
+                listener.local_addr()?;
+                Ok(None)
+            }
+        }
+    }
+}
+
+impl<'a, R: Wait + Clock, D: Disk> Door for Entrance<'a, R, D> {
+    type Line = Session<'a, R, D>;
+
+    /// Waits for a connection. One that can't be accepted, as where too many files are open, is waited out.
+    fn open<S: Wait>(&self, rt: &S) -> io::Result<Session<'a, R, D>> {
+        for _ in rt.forever() {
+            if let Some(stream) = self.accept()? {
+                if let Ok(session) = Session::new(self.rt, self.progress, stream) {
+                    return Ok(session);
+                }
+            } else {
+                sleep(self.rt, Duration::from_millis(PAUSE));
+            }
+        }
+        unreachable!()
+    }
+}

@@ -1,0 +1,76 @@
+//! The office of a service, and its first clerk.
+
+ghost use Rattle.std.specs.Prelude.{◌≡◌, [], true, IfOk};
+ghost use Rattle.lra_ids.specs.Addresses.{is_base};
+ghost use Rattle.lra_office.specs.Wholes.{whole_lines};
+ghost use Rattle.lra_service.specs.Opened.{GoesOn};
+
+use crate::fault::ServeFault;
+use crate::post::enrol_fault;
+use lra_commands::Limits;
+use lra_ids::{Address, Instance};
+use lra_office::{Clerk, Desk, Office, ReopenFault, StartFault};
+use std::alloc::Global;
+use std::io::Write;
+use std::sync::Wait;
+
+/// Why nothing is served, where that is what keeps a new office from being made.
+fn start_fault(fault: StartFault) -> ServeFault {
+    match fault {
+        StartFault::Stopped => ServeFault::Write,
+        StartFault::Memory => ServeFault::Memory,
+    }
+}
+
+/// Why nothing is served, where that is what keeps a journal from being gone on from.
+fn reopen_fault(fault: ReopenFault) -> ServeFault {
+    match fault {
+        ReopenFault::Stopped => ServeFault::Write,
+        ReopenFault::Memory => ServeFault::Memory,
+        ReopenFault::Full | ReopenFault::Unsound { .. } => ServeFault::Address,
+    }
+}
+
+/// An office with a new journal, whose instance is the moment.
+fn begin<W: Write + Drop, R: Wait>(
+    rt: &R,
+    alloc: Global,
+    base: Address,
+    writer: W,
+    moment: u64,
+) -> Result<(Office<Desk<W>>, Clerk<Desk<W>>), ServeFault>
+    requires { is_base base ≡ true }
+    ensures { IfOk result (λ opened. GoesOn base [] opened.0 opened.1) }
+{
+    let Some(instance) = Instance::new(moment) else {
+        return Err(ServeFault::Address);
+    };
+    match Office::create(alloc, instance, base, Limits::usual(), writer) {
+        Ok((office, pass)) => match office.clerk(rt, pass, moment) {
+            Ok(clerk) => Ok((office, clerk)),
+            Err((_, refusal)) => Err(enrol_fault(refusal)),
+        },
+        Err((fault, _)) => Err(start_fault(fault)),
+    }
+}
+
+/// An office that goes on from a journal, or begins one where there is none.
+pub(crate) fn open_office<W: Write + Drop, R: Wait>(
+    rt: &R,
+    alloc: Global,
+    base: Address,
+    journal: Vec<u8>,
+    writer: W,
+    moment: u64,
+) -> Result<(Office<Desk<W>>, Clerk<Desk<W>>), ServeFault>
+    requires { is_base base ≡ true }
+    ensures { IfOk result (λ opened. GoesOn base (whole_lines journal.items) opened.0 opened.1) }
+{
+    if journal.is_empty() {
+        return begin(rt, alloc, base, writer, moment);
+    }
+    match Office::reopen(alloc, journal, base, Limits::usual(), writer, moment) {
+        Ok(opened) => Ok(opened),
+        Err((fault, _)) => Err(reopen_fault(fault)),
+    }
+}

@@ -1,0 +1,175 @@
+//! The run of a service.
+
+ghost use Rattle.std.specs.Prelude.{◌≡◌, true};
+ghost use Rattle.lra_ids.specs.Addresses.{is_base};
+ghost use Rattle.lra_service.specs.Opened.{IsAt};
+
+use crate::base::{base_of, bind};
+use crate::clock::milliseconds;
+use crate::disk::JournalFile;
+use crate::entrance::Entrance;
+use crate::fault::ServeFault;
+use crate::file::{cut, find, make};
+use crate::opening::open_office;
+use crate::post::hire_all;
+use crate::shift::{Shift, work};
+use lra_durable::{Keeper, Progress};
+use lra_ids::Address;
+use lra_journal::whole;
+use lra_office::{Clerk, Office, Serving};
+use lra_runs::{RunFault, audit_run};
+use std::alloc::Global;
+use std::fs::File;
+use std::io::Write;
+use std::marker::{Send, Sync};
+use std::net::{Net, TcpListener, TcpStream};
+use std::rt::Files;
+use std::sync::Wait;
+use std::sync::atomic::{AtomicBool, AtomicU64};
+use std::thread::Threads;
+use std::time::Clock;
+
+/// Audits a journal: a sound one leaves the output as it is, and else the fault is written as `lra audit` does, and the answer is the
+/// program's status.
+fn audit_front<W: Write>(alloc: Global, front: &[u8], writer: &mut W) -> Result<u8, ServeFault> {
+    let mut report = Vec::new(alloc);
+    match audit_run(alloc, front, &mut report) {
+        Ok(0) => Ok(0),
+        Ok(status) => match writer.write_all(&report) {
+            Ok(()) => Ok(status),
+            Err(_) => Err(ServeFault::Output),
+        },
+        Err(RunFault::Read) => Err(ServeFault::Read),
+        Err(_) => Err(ServeFault::Memory),
+    }
+}
+
+/// What serves, and the words that say what.
+#[derive(Drop)]
+struct Service<'a, R> {
+    rt: &'a R,
+    alloc: Global,
+    address: &'a str,
+    workers: u32,
+}
+
+impl<R: Threads + Wait + Clock + Net<Stream = TcpStream, Listener = TcpListener> + Sync> Service<
+    '_,
+    R,
+> {
+    /// Says that it serves, and serves connections until none can come any more.
+    fn serve_office<V: Serving + Send, W: Write>(
+        &self,
+        listener: TcpListener,
+        progress: &Progress<JournalFile>,
+        office: &Office<V>,
+        clerk: Clerk<V>,
+        moment: u64,
+        writer: &mut W,
+    ) -> Result<(), ServeFault>
+        requires { IsAt V.setting office.now clerk }
+    {
+        let jobs = hire_all(self.rt, self.alloc, office, clerk, moment, self.workers)?;
+        self.say(writer)?;
+        let shift = Shift {
+            rt: self.rt,
+            alloc: self.alloc,
+            door: Entrance::new(self.rt, progress, listener),
+            progress,
+            moment,
+            answering: AtomicU64::new(u64::from(self.workers)),
+            has_ended: AtomicBool::new(false),
+        };
+        work(&shift, office, jobs)?;
+        Ok(())
+    }
+
+    /// Says that it serves.
+    fn say<W: Write>(&self, writer: &mut W) -> Result<(), ServeFault> {
+        let address = self.address;
+        let Ok(line) = format!(in self.alloc; "serving {address}\n") else {
+            return Err(ServeFault::Memory);
+        };
+        if writer.write_all(line.as_bytes()).is_err() || writer.flush().is_err() {
+            return Err(ServeFault::Output);
+        }
+        Ok(())
+    }
+
+    /// Opens the office of a journal, and serves.
+    fn serve_journal<K: Write + Drop + Send, W: Write>(
+        &self,
+        base: Address,
+        listener: TcpListener,
+        progress: &Progress<JournalFile>,
+        journal: Vec<u8>,
+        keeper: K,
+        moment: u64,
+        writer: &mut W,
+    ) -> Result<(), ServeFault>
+        requires { is_base base ≡ true }
+    {
+        let (office, clerk) = open_office(self.rt, self.alloc, base, journal, keeper, moment)?;
+        self.serve_office(listener, progress, &office, clerk, moment, writer)
+    }
+
+    /// The same, of a journal's file.
+    fn serve_file<W: Write>(
+        &self,
+        base: Address,
+        listener: TcpListener,
+        file: File,
+        journal: Vec<u8>,
+        writer: &mut W,
+    ) -> Result<(), ServeFault>
+        requires { is_base base ≡ true }
+    {
+        let Some(moment) = milliseconds(self.rt) else {
+            return Err(ServeFault::Address);
+        };
+        let Ok(progress) = Progress::open(JournalFile::new(file)) else {
+            return Err(ServeFault::Write);
+        };
+        let keeper = Keeper::new(self.rt, &progress);
+        self.serve_journal(base, listener, &progress, journal, keeper, moment, writer)
+    }
+}
+
+/// Serves the coordinator of a journal's file at an address, by so many threads that answer connections and as many that carry errands,
+/// until the last of the former has ended: then the answer is [`ServeFault::Address`]. Where the file isn't sound, that is written as
+/// `lra audit` does, and the answer is the program's status.
+pub fn serve<
+    R: Threads
+        + Wait
+        + Clock
+        + Net<Stream = TcpStream, Listener = TcpListener>
+        + Files<File = File>
+        + AllocGlobal
+        + Sync,
+    W: Write,
+>(rt: &R, address: &str, file: &str, workers: u32, writer: &mut W) -> Result<u8, ServeFault> {
+    let alloc = rt.alloc();
+    let base = base_of(alloc, address)?;
+    let (found, journal) = find(alloc, rt, file)?;
+    let front = whole(&journal);
+    if !journal.is_empty() {
+        let status = audit_front(alloc, &journal[..front], writer)?;
+        if status != 0 {
+            return Ok(status);
+        }
+    }
+    let listener = bind(alloc, rt, &base)?;
+    let file = if journal.is_empty() {
+        make(rt, file, found)?
+    } else {
+        cut(found, front, journal.len())?
+    };
+    let service = Service {
+        rt,
+        alloc,
+        address,
+        workers,
+    };
+    service.serve_file(base, listener, file, journal, writer)?;
+    Err(ServeFault::Address)
+}

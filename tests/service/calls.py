@@ -1,0 +1,81 @@
+"""How the program is called: its faults, each in one line on standard error with status 2, and what it prints otherwise."""
+import os
+import socket
+
+import journal
+from files import UNSOUND, VERDICT
+from service import HOST, check, equal, free_port
+
+
+def told(setting, line, *words):
+    """Runs the program, which has to tell this fault and to make no file."""
+    before = os.listdir(setting.folder)
+    equal(" ".join(words), setting.run(*words), (2, "", line + "\n"))
+    equal("the folder", os.listdir(setting.folder), before)
+
+
+def test_usage(setting):
+    address = f"{HOST}:{free_port()}"
+    for workers in ("0", "17", "x", "", "04", "+4", "-1", " 4", "4 ", "4.0", "18446744073709551620"):
+        told(setting, "lra: usage", "serve", address, setting.journal, workers)
+    for words in (["serve"], ["serve", address], ["serve", address, setting.journal], ["serve", address, setting.journal, "4", "5"]):
+        told(setting, "lra: usage", *words)
+    for words in (["--helps"], ["--help", "serve"], ["-h"], ["--version", "1"]):
+        told(setting, "lra: usage", *words)
+
+
+def test_one_and_sixteen_workers_serve(setting):
+    for workers in (1, 16):
+        with setting.serve(workers) as service, service.client() as client:
+            client.start()
+
+
+def test_help_and_version(setting):
+    wanted_texts = {"--help": ("audit", "show", "upgrade", "play", "serve ADDRESS FILE WORKERS"), "--version": ("lra ", "rattle-kit")}
+    for word, wanted in wanted_texts.items():
+        status, output, fault = setting.run(word)
+        equal(word, (status, fault), (0, ""))
+        for text in wanted:
+            check(f"{word} prints {output!r}, without {text!r}", text in output)
+
+
+def test_an_address_that_is_no_base_cannot_be_served(setting):
+    good = f"{HOST}:{free_port()}"
+    for address in ("", good + "/", good + "/x", good + "?", good + " ", f"{HOST}:99999", f"{HOST}:x", f"{HOST}:80", "a b:80"):
+        told(setting, f"lra: cannot serve {address}", "serve", address, setting.journal, "2")
+
+
+def test_an_address_in_use_cannot_be_served(setting):
+    with socket.socket() as listener:
+        port = free_port()
+        listener.bind((HOST, port))
+        listener.listen()
+        told(setting, f"lra: cannot serve {HOST}:{port}", "serve", f"{HOST}:{port}", setting.journal, "2")
+
+
+def test_an_address_of_another_machine_cannot_be_served(setting):
+    told(setting, "lra: cannot serve 192.0.2.1:8080", "serve", "192.0.2.1:8080", setting.journal, "2")
+
+
+def test_a_file_that_cannot_be_read(setting):
+    told(setting, f"lra: cannot read {setting.folder}", "serve", f"{HOST}:{free_port()}", setting.folder, "2")
+
+
+def test_a_file_in_a_folder_that_is_missing(setting):
+    path = setting.folder + "/missing/journal"
+    told(setting, f"lra: cannot write {path}", "serve", f"{HOST}:{free_port()}", path, "2")
+
+
+def test_faults_come_in_their_order(setting):
+    journal.write(setting.journal, UNSOUND)
+    with socket.socket() as listener:
+        port = free_port()
+        listener.bind((HOST, port))
+        listener.listen()
+        used = f"{HOST}:{port}"
+        told(setting, "lra: usage", "serve", "a b", setting.journal, "0")
+        told(setting, "lra: cannot serve a b", "serve", "a b", setting.folder, "2")
+        told(setting, f"lra: cannot read {setting.folder}", "serve", used, setting.folder, "2")
+        equal("an unsound file", setting.run("serve", used, setting.journal, "2"), (1, VERDICT, ""))
+        missing = setting.folder + "/missing/journal"
+        told(setting, f"lra: cannot serve {used}", "serve", used, missing, "2")

@@ -1,0 +1,136 @@
+"""A service that is killed again and again under many clients: what it has answered is in the file, and the file is sound."""
+import http.client
+import random
+import threading
+import time
+from collections import Counter
+
+import journal
+from participant import Participant, wait_until
+from service import Client, check, equal, free_port, id_of, number_of
+
+ROUNDS = 50
+CLIENTS = 8
+SEED = 7
+
+
+class Told:
+    """What clients were told: the lines that have to be in the file, in the spelling of `line_of`."""
+
+    def __init__(self):
+        self.lines = []
+        self.faults = []
+
+
+def line_of(it):
+    """What a client can know of an entry."""
+    shown = {"start": 1, "join": 2, "leave": 1, "renew": 2, "close": 2, "cancel": 2, "end": 2}
+    return (it.deed, *it.fields[: shown.get(it.deed, 0)])
+
+
+def turn(client, member, told, chance):
+    """Gives some commands at an action of its own."""
+    number = str(number_of(action := client.start()))
+    told.lines.append(("start", number))
+    if chance.random() < 0.3:
+        recovery = client.join(action, **member.addresses("compensate", "complete", "after"))
+        told.lines.append(("join", str(number_of(recovery)), number))
+    elif chance.random() < 0.3:
+        left = client.join(action, **member.addresses("after"))
+        equal("leaving", client.call("PUT", f"/lra-coordinator/{id_of(action)}/remove", recovery=left).code, 200)
+        told.lines.append(("leave", str(number_of(left))))
+    if chance.random() < 0.2:
+        equal("renewing", client.call("PUT", f"/lra-coordinator/{id_of(action)}/renew", limit=10**9).code, 200)
+        told.lines.append(("renew", number, str(10**9)))
+    if chance.random() < 0.9:
+        how = chance.choice(("close", "cancel"))
+        status = client.end(action, how)
+        told.lines.append((how, number, "client"))
+        if status in ("Closed", "Cancelled"):
+            told.lines.append(("end", number, status))
+
+
+def work(port, member, told, seed):
+    """Gives commands until the service is gone."""
+    chance = random.Random(seed)
+    try:
+        with Client(port) as client:
+            while True:
+                turn(client, member, told, chance)
+    except (OSError, http.client.HTTPException):
+        return
+    except AssertionError as fault:
+        told.faults.append(str(fault))
+
+
+def kill_under_load(setting, port, member, told, number):
+    """Kills a service that eight clients call."""
+    with setting.serve(4, port) as service:
+        clients = [threading.Thread(target=work, args=(port, member, told, SEED + CLIENTS * number + n)) for n in range(CLIENTS)]
+        for client in clients:
+            client.start()
+        time.sleep(random.Random(SEED * number).uniform(0.02, 0.2))
+        service.kill()
+    for client in clients:
+        client.join()
+
+
+class Watch:
+    """What the file said so far."""
+
+    def __init__(self, setting):
+        self.setting = setting
+        self.front = b""
+        self.lines = set()
+        self.asks = Counter()
+        self.members = Counter()
+
+    def look(self):
+        """Takes what was added to the file: what stood there before is there still, and the whole of it is sound."""
+        data = journal.whole(journal.read(self.setting.journal))
+        check("the file keeps what it had", data.startswith(self.front))
+        journal.check_sound(self.setting.program, data, self.setting.folder)
+        _, _, lines = data.partition(b"\n") if not self.front else (None, None, data[len(self.front) :])
+        for it in journal.entries_of(lines):
+            self.lines.add(line_of(it))
+            if it.deed == "ask":
+                self.asks[it.fields[1], it.fields[2]] += 1
+        self.front = data
+
+    def check_told(self, told):
+        missing = [line for line in told.lines if line not in self.lines]
+        equal("answered, and not in the file", missing[:5], [])
+
+    def check_asked(self, requests):
+        """Each request that a member got is of an ask in the file."""
+        got = Counter((str(number_of(it.fields["Long-Running-Action-Recovery"])), it.path[1:]) for it in requests)
+        missing = [member for member, count in got.items() if self.asks[member] < count]
+        equal("asked, and not in the file", missing[:5], [])
+
+
+def ends(client, told):
+    """Waits until the actions that were told to end have ended."""
+
+    def has_ended(number):
+        path = f"/lra-coordinator/{client.prefix}{int(number):012x}"
+        return client.call("GET", path).body["status"] in ("Closed", "Cancelled")
+
+    for deed, number, *_ in told.lines:
+        if deed in ("close", "cancel"):
+            wait_until(f"the end of action {number}", lambda number=number: has_ended(number), 60)
+
+
+def test_what_is_answered_is_in_the_file_after_each_of_fifty_kills(setting):
+    told, watch, port = Told(), Watch(setting), free_port()
+    with Participant() as member:
+        for number in range(ROUNDS):
+            kill_under_load(setting, port, member, told, number)
+            equal("what clients met", told.faults, [])
+            watch.look()
+            watch.check_told(told)
+            watch.check_asked(member.requests)
+        check(f"only {len(told.lines)} commands were answered", len(told.lines) > 10 * ROUNDS)
+        with setting.serve(4, port) as service, service.client() as client:
+            client.prefix = id_of(client.start())[:-12]
+            ends(client, told)
+    watch.look()

@@ -1,0 +1,162 @@
+"""The journal's file: what is there when the service begins, and when it can't be written any more."""
+import os
+import resource
+import signal
+import time
+from subprocess import Popen
+
+import journal
+from participant import wait_until
+from service import HOST, Client, check, equal, free_port, id_of, run, started
+
+SOUND = b"lra-journal 2 7\n1 0 enrol\n1 5 start 1 * 0\n1 6 start 2 1 0\n1 7 close 2 client\n1 7 end 2 Closed\n"
+FIRST = "/lra-coordinator/00000000-0000-8007-8000-000000000001"
+UNSOUND = SOUND + b"1 9 end 1 Closed\n"
+VERDICT = "unsound line 7 unsettled\n"
+
+
+def stopped(client, method, path, **keys):
+    reply = client.call(method, path, **keys)
+    equal(f"{method} {path}", (reply.code, reply.phrase, reply.body), (503, "Service Unavailable", {"error": "Stopped"}))
+
+
+def fill(service, setting, spare):
+    """Lets the file grow by so many bytes, and no more."""
+    most = os.path.getsize(setting.journal) + spare
+    resource.prlimit(service.process.pid, resource.RLIMIT_FSIZE, (most, resource.RLIM_INFINITY))
+
+
+def full_disk(setting, spare):
+    """A disk that is full in the middle of a command's lines, after so many bytes."""
+    with setting.serve() as service, service.client() as client:
+        action = client.start()
+        path = "/lra-coordinator/" + id_of(action)
+        fill(service, setting, spare)
+        stopped(client, "PUT", path, compensate="http://127.0.0.1:1/" + "u" * 100)
+        equal("a read", client.status(action), "Active")
+        resource.prlimit(service.process.pid, resource.RLIMIT_FSIZE, (resource.RLIM_INFINITY, resource.RLIM_INFINITY))
+        stopped(client, "POST", "/lra-coordinator")
+        stopped(client, "PUT", path + "/close")
+        equal("a later read", client.status(action), "Active")
+    front = journal.whole(journal.read(setting.journal))
+    journal.check_sound(setting.program, front, setting.folder)
+    with setting.serve() as service, service.client() as client:
+        equal("the action", client.status(action.replace(action.split("/")[2], service.address)), "Active")
+        check("the front stays", journal.read(setting.journal).startswith(front))
+        equal("a close", client.end(action, "close"), "Closed")
+
+
+def test_a_full_disk_stops_commands_and_no_reads(setting):
+    full_disk(setting, 40)
+
+
+def test_a_disk_that_is_full_at_a_line_end_stops_commands(setting):
+    full_disk(setting, 0)
+
+
+def test_a_disk_that_is_full_from_the_start_is_told(setting):
+    words = ["-c", "trap '' XFSZ; ulimit -f 0; exec \"$@\"", "sh", setting.program, "serve", f"{HOST}:{free_port()}", setting.journal, "2"]
+    equal("the program", run("sh", *words), (2, "", f"lra: cannot write {setting.journal}\n"))
+
+
+def test_a_new_file_begins_with_the_time_as_its_instance(setting):
+    before = time.time_ns() // 10**6
+    with setting.serve(3):
+        data = journal.read(setting.journal)
+    words = data.split(b"\n")[0].split(b" ")
+    equal("the header", words[:2], [b"lra-journal", b"2"])
+    check(f"the instance is {words[2]}", before <= int(words[2]) <= time.time_ns() // 10**6)
+    journal.check_sound(setting.program, data, setting.folder)
+
+
+def test_an_empty_file_is_a_new_one(setting):
+    journal.write(setting.journal, b"")
+    with setting.serve() as service, service.client() as client:
+        client.start()
+    check("a header", journal.read(setting.journal).startswith(b"lra-journal 2 "))
+
+
+def goes_on(setting, front, tail):
+    """A service goes on from the whole lines of a file, and cuts what stands behind them."""
+    journal.write(setting.journal, front + tail)
+    with setting.serve() as service, service.client() as client:
+        reply = client.call("GET", FIRST)
+        equal("the action", reply.body, {"lra": f"http://{service.address}{FIRST}", "status": "Active"})
+        equal("a close", client.call("PUT", FIRST + "/close").body, {"status": "Closed"})
+    data = journal.read(setting.journal)
+    check("the whole lines stay", data.startswith(front))
+    equal("what follows", data[len(front) :].split(b"\n")[0].split(b" ")[2], b"enrol")
+    return journal.check_sound(setting.program, data, setting.folder)
+
+
+def test_a_journal_is_gone_on_from(setting):
+    goes_on(setting, SOUND, b"")
+
+
+def test_a_torn_last_line_is_cut_off(setting):
+    goes_on(setting, SOUND, b"1 9 close 1 cl")
+
+
+def test_a_journal_of_version_1_goes_on_in_its_version(setting):
+    goes_on(setting, SOUND.replace(b"journal 2", b"journal 1"), b"1")
+
+
+def refused_unchanged(setting, data, verdict):
+    journal.write(setting.journal, data)
+    told = setting.run("serve", "127.0.0.1:2", setting.journal, "2")
+    equal("the program", told, (1, verdict, ""))
+    equal("the file", journal.read(setting.journal), data)
+
+
+def test_an_unsound_file_is_told_and_unchanged(setting):
+    refused_unchanged(setting, UNSOUND, VERDICT)
+
+
+def test_an_unsound_file_with_a_torn_line_is_told_and_unchanged(setting):
+    refused_unchanged(setting, UNSOUND + b"1 9 clo", VERDICT)
+
+
+def test_a_file_without_a_whole_line_is_unsound(setting):
+    refused_unchanged(setting, b"lra-journal 2 7", "unsound line 1 header\n")
+
+
+def test_a_second_service_on_the_same_file_is_refused(setting):
+    with setting.serve() as service, service.client() as client:
+        action = client.start()
+        before = journal.read(setting.journal)
+        told = setting.run("serve", "127.0.0.1:2", setting.journal, "2")
+        equal("the second one", told, (2, "", f"lra: cannot write {setting.journal}\n"))
+        equal("the file", journal.read(setting.journal), before)
+        equal("the first one", client.end(action, "close"), "Closed")
+
+
+def test_a_service_that_is_terminated_ends_and_the_next_goes_on(setting):
+    with setting.serve() as service, service.client() as client:
+        action = client.start()
+        equal("its status", service.kill(signal.SIGTERM), -signal.SIGTERM)
+    with setting.serve() as service, service.client() as client:
+        equal("the action", client.status(action), "Active")
+
+
+def test_a_program_without_standard_streams_keeps_the_file_sound(setting):
+    """Where they are closed the system gives their numbers to other files; no line for them may go into the journal."""
+    port = free_port()
+    words = ["sh", "-c", 'exec "$@" <&- >&- 2>&-', "sh", setting.program, "serve", f"{HOST}:{port}", setting.journal, "2"]
+    process = Popen(words)
+    started.append(process)
+    try:
+        wait_until("its end or its answer", lambda: process.poll() is not None or answers(port))
+    finally:
+        process.kill()
+        process.wait()
+    if os.path.exists(setting.journal) and os.path.getsize(setting.journal):
+        journal.check_sound(setting.program, journal.read(setting.journal), setting.folder)
+
+
+def answers(port):
+    """Whether a service is there."""
+    try:
+        with Client(port) as client:
+            return client.call("GET", "/lra").code == 404
+    except OSError:
+        return False

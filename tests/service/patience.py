@@ -1,0 +1,203 @@
+"""Clients and members that take their time: each is waited for so long and no longer, and others are served meanwhile."""
+import resource
+import select
+import socket
+import time
+
+import journal
+from asks import recorded
+from participant import Participant
+from service import HOST, check, equal, number_of
+
+# How many seconds a client has between requests, and for one message; and a member to take a connection, and in all.
+BETWEEN, MESSAGE, CONNECT, WHOLE = 30, 10, 5, 30
+# How many seconds late an end may be noticed on a busy machine.
+LATE = 5
+
+
+def check_about(what, seconds, wanted):
+    check(f"{what} after {seconds:.1f} s, wanted {wanted}", wanted - 0.5 <= seconds <= wanted + LATE)
+
+
+def serves(service):
+    """Fails where a new client isn't served at once."""
+    begun = time.monotonic()
+    with service.client(keep=False) as client:
+        client.start()
+    check("another client waits", time.monotonic() - begun < 2)
+
+
+def seconds_until_closed(service, stream, each_second, most):
+    """How long it takes until the service closes a connection, while others are served."""
+    begun = time.monotonic()
+    while time.monotonic() - begun < most:
+        each_second()
+        serves(service)
+        ready, _, _ = select.select([stream], [], [], 1)
+        if ready:
+            equal("what comes", received(stream), b"")
+            return time.monotonic() - begun
+    raise AssertionError(f"the connection is still there after {most} s")
+
+
+def received(stream):
+    """What comes next: nothing where the connection is closed or reset."""
+    try:
+        return stream.recv(65536)
+    except ConnectionError:
+        return b""
+
+
+def test_a_client_that_sends_nothing_is_left_after_half_a_minute(setting):
+    with setting.serve(2) as service, service.connect() as stream:
+        seconds = seconds_until_closed(service, stream, lambda: None, BETWEEN + 2 * LATE)
+        check_about("it was left", seconds, BETWEEN)
+
+
+def test_a_client_that_rests_between_requests_is_left_after_half_a_minute(setting):
+    with setting.serve(2) as service, service.connect() as stream:
+        time.sleep(4)
+        stream.sendall(b"GET /lra HTTP/1.1\r\nHost: h\r\n\r\n")
+        check("a reply", received(stream).startswith(b"HTTP/1.1 404 "))
+        seconds = seconds_until_closed(service, stream, lambda: None, BETWEEN + 2 * LATE)
+        check_about("it was left", seconds, BETWEEN)
+
+
+def test_a_client_that_sends_a_byte_a_second_is_left_after_ten_seconds(setting):
+    request = b"GET /lra-coordinator/a-long-way-to-go HTTP/1.1\r\nHost: h\r\n\r\n"
+    bytes_left = [request[place : place + 1] for place in range(len(request))]
+
+    with setting.serve(2) as service, service.connect() as stream:
+        seconds = seconds_until_closed(service, stream, lambda: stream.send(bytes_left.pop(0)), MESSAGE + 2 * LATE)
+        check_about("it was left", seconds, MESSAGE)
+
+
+def test_a_client_that_sends_a_body_slowly_is_left_after_ten_seconds(setting):
+    with setting.serve(2) as service, service.connect() as stream:
+        stream.sendall(b"POST /lra-coordinator HTTP/1.1\r\nHost: h\r\nContent-Length: 1000\r\n\r\n")
+        seconds = seconds_until_closed(service, stream, lambda: stream.send(b" "), MESSAGE + 2 * LATE)
+        check_about("it was left", seconds, MESSAGE)
+
+
+def silent_after(setting, addresses, wanted):
+    """Two workers, a member that takes its time, and one that answers: when the first one's reply is recorded as silent."""
+    with setting.serve(2) as service, Participant() as other, service.client() as client:
+        slow = client.start()
+        recovery = client.join(slow, **addresses)
+        client.end(slow, "cancel")
+        begun = time.monotonic()
+        while time.monotonic() - begun < wanted - 2:
+            swift = client.start()
+            beside = client.join(swift, **other.addresses("compensate"))
+            client.end(swift, "cancel")
+            recorded(setting, beside, 1)
+            equal("the other action", client.status(swift), "Cancelled")
+            time.sleep(1)
+        check("it was given up early", journal.outstanding(journal.entries(setting.journal), number_of(recovery)))
+        kind, asked, outcome, replied = recorded(setting, recovery, 1)[0]
+        equal("its reply", (kind, outcome), ("compensate", "silent"))
+        check_about("it was given up", (replied - asked) / 1000, wanted)
+
+
+def test_a_member_that_never_answers_is_given_up_after_half_a_minute(setting):
+    def never(_):
+        time.sleep(WHOLE + 2 * LATE)
+
+    with Participant(never) as member:
+        silent_after(setting, member.addresses("compensate"), WHOLE)
+
+
+def test_a_member_that_answers_without_end_is_given_up_after_half_a_minute(setting):
+    def endless(_):
+        yield b"HTTP/1.1 200 OK\r\n\r\n"
+        while True:
+            yield b"x"
+            time.sleep(0.5)
+
+    with Participant(endless) as member:
+        silent_after(setting, member.addresses("compensate"), WHOLE)
+
+
+def test_a_member_whose_head_has_no_end_is_given_up_after_half_a_minute(setting):
+    def endless(_):
+        yield b"HTTP/1.1 200 OK\r\nX: "
+        while True:
+            yield b"x"
+            time.sleep(0.5)
+
+    with Participant(endless) as member:
+        silent_after(setting, member.addresses("compensate"), WHOLE)
+
+
+def test_a_member_that_answers_too_much_is_given_up_at_once(setting):
+    def flood(_):
+        yield b"HTTP/1.1 200 OK\r\n\r\n"
+        while True:
+            yield b"x" * 65536
+
+    with setting.serve() as service, Participant(flood) as member, service.client() as client:
+        action = client.start()
+        recovery = client.join(action, **member.addresses("compensate"))
+        client.end(action, "cancel")
+        kind, asked, outcome, replied = recorded(setting, recovery, 1)[0]
+        equal("its reply", (kind, outcome), ("compensate", "silent"))
+        check("it was waited for", replied - asked < 5000)
+
+
+def test_a_member_that_takes_no_connection_is_given_up_after_five_seconds(setting):
+    with socket.socket() as listener:
+        listener.bind((HOST, 0))
+        listener.listen(0)
+        port = listener.getsockname()[1]
+        waiting = [socket.socket() for _ in range(4)]
+        for stream in waiting:
+            stream.setblocking(False)
+            stream.connect_ex((HOST, port))
+        silent_after(setting, {"compensate": f"http://{HOST}:{port}/u"}, CONNECT)
+        for stream in waiting:
+            stream.close()
+
+
+def test_a_service_without_files_left_waits_and_goes_on(setting):
+    with setting.serve(2) as service:
+        pid = service.process.pid
+        before = resource.prlimit(pid, resource.RLIMIT_NOFILE)
+        resource.prlimit(pid, resource.RLIMIT_NOFILE, (3, before[1]))
+        # For a connection that it awaits already it has a file.
+        streams = [service.connect() for _ in range(3)]
+        for stream in streams:
+            stream.sendall(b"GET /lra HTTP/1.1\r\nHost: h\r\nConnection: close\r\n\r\n")
+        time.sleep(1)
+        used = service.seconds()
+        time.sleep(1)
+        check("waiting takes a processor", service.seconds() - used < 0.3)
+        check("replies without files", len(select.select(streams, [], [], 0)[0]) <= 1)
+        resource.prlimit(pid, resource.RLIMIT_NOFILE, before)
+        for stream in streams:
+            check("a reply", received(stream).startswith(b"HTTP/1.1 404 "))
+            stream.close()
+        serves(service)
+
+
+def test_a_client_waits_while_all_threads_are_taken(setting):
+    with setting.serve(1) as service, service.client() as first:
+        first.start()
+        with service.connect() as second:
+            second.sendall(b"GET /lra HTTP/1.1\r\nHost: h\r\n\r\n")
+            ready, _, _ = select.select([second], [], [], 1)
+            check("a reply without a thread", not ready)
+            first.start()
+            first.connection.close()
+            check("a reply", received(second).startswith(b"HTTP/1.1 404 "))
+
+
+def test_clients_that_break_off_do_no_harm(setting):
+    with setting.serve(2) as service:
+        for data in (b"", b"GET", b"POST /lra-coordinator HTTP/1.1\r\nHost: h\r\n\r\n" * 50):
+            for _ in range(10):
+                stream = service.connect()
+                # Closing it resets the connection.
+                stream.setsockopt(socket.SOL_SOCKET, socket.SO_LINGER, b"\x01\x00\x00\x00\x00\x00\x00\x00")
+                stream.sendall(data)
+                stream.close()
+        serves(service)

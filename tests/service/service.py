@@ -1,0 +1,176 @@
+"""A running `lra serve`, and clients that call it."""
+import http.client
+import json
+import os
+import random
+import select
+import signal
+import socket
+import subprocess
+import threading
+import uuid
+from collections import namedtuple
+
+HOST = "127.0.0.1"
+# How many seconds anything may take that has no limit of its own.
+PATIENCE = 20
+
+Reply = namedtuple("Reply", "code phrase fields body")
+Run = namedtuple("Run", "status output told")
+
+lock = threading.Lock()
+given_ports = set()
+started = []
+
+
+class LeftOut(Exception):
+    """The system can't do what the test wants of it."""
+
+
+def equal(what, got, wanted):
+    """Fails the test where the two differ."""
+    if got != wanted:
+        raise AssertionError(f"{what}: {got!r}, wanted {wanted!r}")
+
+
+def check(what, holds):
+    """Fails the test where this doesn't hold."""
+    if not holds:
+        raise AssertionError(what)
+
+
+def free_port():
+    """A port of four digits that nothing listens at, and that wasn't given before. The system chooses none of these itself. It is asked
+    by a connection: a socket that was bound to it would be held for a while by a process that another thread is just starting."""
+    while True:
+        port = random.randint(2000, 9999)
+        with lock, socket.socket() as probe:
+            if port not in given_ports and probe.connect_ex((HOST, port)) != 0:
+                given_ports.add(port)
+                return port
+
+
+def number_of(uri):
+    """The number of the action or member that a URI names."""
+    return uuid.UUID(uri.rsplit("/", 1)[1]).int & (2**62 - 1)
+
+
+def id_of(uri):
+    """The identifier in a URI."""
+    return uri.rsplit("/", 1)[1]
+
+
+def run(program, *words):
+    """Runs the program to its end."""
+    done = subprocess.run([program, *words], stdin=subprocess.DEVNULL, capture_output=True, timeout=PATIENCE, check=False)
+    return Run(done.returncode, done.stdout.decode(), done.stderr.decode())
+
+
+class Client:
+    """Calls a service by HTTP, over one connection that is kept, or over one for each request."""
+
+    def __init__(self, port, keep=True):
+        self.connection = http.client.HTTPConnection(HOST, port, timeout=PATIENCE)
+        self.keep = keep
+
+    def __enter__(self):
+        return self
+
+    def __exit__(self, *_):
+        self.connection.close()
+
+    def call(self, method, path, **keys):
+        """A request with these keys in its body, and its reply."""
+        body = json.dumps(keys) if keys else None
+        fields = {} if self.keep else {"Connection": "close"}
+        self.connection.request(method, path, body, fields)
+        reply = self.connection.getresponse()
+        text = reply.read()
+        if not self.keep:
+            self.connection.close()
+        return Reply(reply.status, reply.reason, dict(reply.getheaders()), json.loads(text) if text else None)
+
+    def start(self, **keys):
+        """Starts an action, and answers its URI."""
+        reply = self.call("POST", "/lra-coordinator", **keys)
+        equal("a start", reply.code, 201)
+        return reply.body["lra"]
+
+    def join(self, action, **addresses):
+        """Joins an action, and answers the member's recovery URI."""
+        reply = self.call("PUT", "/lra-coordinator/" + id_of(action), **addresses)
+        equal("a join", reply.code, 200)
+        return reply.body["recovery"]
+
+    def end(self, action, how):
+        """Closes or cancels an action, and answers the status that is told."""
+        reply = self.call("PUT", f"/lra-coordinator/{id_of(action)}/{how}")
+        check(f"a {how}: {reply}", reply.code in (200, 202))
+        return reply.body["status"]
+
+    def status(self, action):
+        """The status of an action."""
+        reply = self.call("GET", "/lra-coordinator/" + id_of(action))
+        equal("a status", reply.code, 200)
+        return reply.body["status"]
+
+
+class Service:
+    """The program, serving a journal at an address."""
+
+    def __init__(self, program, journal, workers=2, port=None):
+        self.journal = journal
+        self.port = port or free_port()
+        self.address = f"{HOST}:{self.port}"
+        self.words = [program, "serve", self.address, journal, str(workers)]
+
+    def __enter__(self):
+        # SIGXFSZ stays ignored, as Python has it: else a file that may not grow would end the program.
+        self.process = subprocess.Popen(
+            self.words, stdin=subprocess.DEVNULL, stdout=subprocess.PIPE, stderr=subprocess.STDOUT, restore_signals=False
+        )
+        with lock:
+            started.append(self.process)
+        line = self.first_line()
+        if line != f"serving {self.address}\n":
+            self.kill()
+            raise AssertionError(f"the service says {line!r}, wanted 'serving {self.address}'")
+        return self
+
+    def first_line(self):
+        ready, _, _ = select.select([self.process.stdout], [], [], PATIENCE)
+        return self.process.stdout.readline().decode() if ready else "nothing"
+
+    def __exit__(self, *_):
+        self.kill()
+
+    def kill(self, signal_number=signal.SIGKILL):
+        """Ends the program by a signal, and answers its status."""
+        self.process.send_signal(signal_number)
+        try:
+            status = self.process.wait(PATIENCE)
+        finally:
+            self.process.kill()
+            self.process.wait()
+            self.process.stdout.close()
+        return status
+
+    def client(self, keep=True):
+        return Client(self.port, keep)
+
+    def connect(self):
+        """A bare connection."""
+        stream = socket.create_connection((HOST, self.port), timeout=PATIENCE)
+        stream.setsockopt(socket.IPPROTO_TCP, socket.TCP_NODELAY, 1)
+        return stream
+
+    def seconds(self):
+        """The processor time that the program has taken."""
+        with open(f"/proc/{self.process.pid}/stat", "rb") as it:
+            fields = it.read().rsplit(b")", 1)[1].split()
+        return (int(fields[11]) + int(fields[12])) / os.sysconf("SC_CLK_TCK")
+
+
+def left_over():
+    """The programs that were started and still run."""
+    return [process.pid for process in started if process.poll() is None]
