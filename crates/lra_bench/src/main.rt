@@ -12,6 +12,7 @@ mod memory;
 mod office;
 mod pieces;
 mod requests;
+mod serve;
 mod setting;
 mod stopwatch;
 mod tables;
@@ -30,6 +31,7 @@ ids       address texts tested a second, short and long
 lock      handovers of the ticket lock, beside a Mutex
 office    commands a second through an office by several threads, beside a Mutex and one thread alone
 requests  HTTP requests answered a second, beside reading them and beside their commands
+serve     requests a second over loopback by 1, 4 and 16 connections, beside a server with one reply
 tables    what commands cost the tables, as their members grow from 1,000 to 400,000
 timers    the calls of an agenda, as its pairs grow from 1,000 to 400,000
 wire      requests read a second, whole and in small pieces";
@@ -73,6 +75,7 @@ fn main(rt: HostRuntime) -> anyhow::Result<ExitCode> {
     match name.as_str() {
         "lock" => lock::run(&rt, rt.alloc())?,
         "office" => office::run(&rt, rt.alloc())?,
+        "serve" => serve::run(&rt, rt.alloc())?,
         name => return status(&rt, name),
     }
     Ok(ExitCode::SUCCESS)
