@@ -1,5 +1,5 @@
 //! Requests answered a second over loopback, by an office whose journal is in memory, beside a server that gives the same reply to
-//! whatever head it reads. The requests are starts and status reads in turn.
+//! whatever head it reads: starts and status reads in turn. And starts a second where the journal is a file, and replies wait for it.
 
 ghost use Rattle.std.specs.Prelude.{◌≡◌, All, IfOk};
 ghost use Rattle.lra_office.specs.Clerks.{clerk_view, IsClerkOf};
@@ -8,46 +8,40 @@ ghost use Rattle.lra_ticket.specs.Locks.{lock_id, pass_id, pass_view};
 
 mod bare;
 mod clients;
+mod doorway;
+mod file;
 
 use crate::coordinator::desk::limits;
-use crate::front::Still;
 use crate::lock::a_second;
 use crate::setting::{base, instance};
-use anyhow::{Result, bail, ensure};
+use anyhow::{Result, bail};
 use bare::answer_barely;
-use clients::{REQUESTS, ask_all};
+use clients::{Load, MOST_REQUESTS, Mix, ask_all, ensure_all};
+use doorway::Doorway;
+use file::time_file;
 use lra_office::{Clerk, Office, Serving};
 use lra_ticket::Pass;
-use lra_workers::{ServeEnd, serve_connections};
 use std::alloc::{AllocError, Global};
+use std::fs::File;
 use std::io::{Print, Write};
-use std::marker::Send;
+use std::marker::{Send, Sync};
 use std::net::{Ipv4Addr, Net, SocketAddr, TcpListener, TcpStream};
+use std::rt::Files;
 use std::sync::{Mutex, Wait};
 use std::thread::{self, Threads, join};
 use std::time::{Clock, Duration, Instant};
 
-/// The connections of one measurement, by all clients together: each has as many requests as a stream may have.
+/// The connections of one measurement, by all clients together.
 const CONNECTIONS: u64 = 48;
 
-/// How often the same is measured: the shortest time counts.
+/// How often the same is measured in memory: the shortest time counts.
 const TIMES: u32 = 3;
 
-/// Answers so many connections as a clerk of an office, and tells whether all were accepted.
-fn answer<V: Serving, R: Wait>(
-    rt: &R,
-    alloc: Global,
-    door: &Mutex<TcpListener>,
-    office: &Office<V>,
-    clerk: Clerk<V>,
-    count: u64,
-) -> bool
-    requires { IsClerkOf office.now.lock clerk × IsOfficeOf (V.setting (clerk_view clerk).origin) office.now }
-{
-    let mut clock = Still { moment: 0 };
-    let (_, end) = serve_connections(rt, alloc, door, office, clerk, &mut clock, count);
-    end == ServeEnd::Done
-}
+/// The connections of one measurement with a file, by all clients together.
+const FILE_CONNECTIONS: u64 = 16;
+
+/// The requests of such a connection.
+const FILE_REQUESTS: u64 = 500;
 
 /// A clerk that is enrolled, and the pass of whoever is enrolled next.
 fn enrol<V: Serving, R: Wait>(
@@ -93,10 +87,10 @@ fn clerks<V: Serving, R: Wait>(
 }
 
 /// Lets each clerk answer so many connections in a thread of its own, and tells of each whether all were accepted.
-fn answer_all<V: Serving + Send, R: Threads + Wait + Sync>(
+fn answer_all<V: Serving + Send, R: Threads + Wait + Clock + Sync>(
     rt: &R,
     alloc: Global,
-    door: &Mutex<TcpListener>,
+    door: &Doorway<'_, R>,
     office: &Office<V>,
     clerks: Vec<Clerk<V>>,
     count: u64,
@@ -108,7 +102,7 @@ fn answer_all<V: Serving + Send, R: Threads + Wait + Sync>(
         clerks,
         &|clerk: Clerk<V>| -> bool
             requires { IsClerkOf office.now.lock clerk × IsOfficeOf (V.setting (clerk_view clerk).origin) office.now }
-        { answer(rt, alloc, door, office, clerk, count) },
+        { door.answer(rt, alloc, office, clerk, count) },
     )
 }
 
@@ -116,9 +110,11 @@ fn answer_all<V: Serving + Send, R: Threads + Wait + Sync>(
 fn time_at<V: Serving + Send, R>(
     rt: &R,
     alloc: Global,
+    door: &Doorway<'_, R>,
+    address: SocketAddr,
     office: &Office<V>,
     pass: Pass<V>,
-    clients: u64,
+    load: Load,
 ) -> Result<Duration>
 where
     R: Net<Listener = TcpListener, Stream = TcpStream> + Threads + Wait + Clock + Sync,
@@ -126,21 +122,17 @@ where
     requires newcomer { (pass_view pass).number ≡ 0 }
     requires made { IsOfficeOf (V.setting (pass_view pass).origin) office.now }
 {
-    let (listener, address) = listen(rt)?;
-    let connections = CONNECTIONS / clients.max(1);
-    let door = Mutex::new(listener);
-    let clerks = clerks(rt, alloc, office, pass, clients)?;
+    let clerks = clerks(rt, alloc, office, pass, load.clients)?;
     let start = Instant::now(rt)?;
     let (answered, asked) = join(
         rt,
         || -> Result<Vec<bool>, AllocError>
             requires { All (λ clerk. IsClerkOf office.now.lock clerk × IsOfficeOf (V.setting (clerk_view clerk).origin) office.now) clerks.items }
-        { answer_all(rt, alloc, &door, office, clerks, connections) },
-        || ask_all(rt, alloc, address, clients, connections),
+        { answer_all(rt, alloc, door, office, clerks, load.connections) },
+        || ask_all(rt, alloc, address, load),
     );
     let time = start.elapsed(rt)?;
-    ensure!(!answered?.contains(&false), "a connection isn't accepted");
-    ensure!(!asked?.contains(&false), "a request isn't answered");
+    ensure_all(answered, asked)?;
     Ok(time)
 }
 
@@ -149,7 +141,9 @@ fn time_office<W: Write + Drop + Send, R>(
     rt: &R,
     alloc: Global,
     writer: W,
-    clients: u64,
+    door: &Doorway<'_, R>,
+    address: SocketAddr,
+    load: Load,
 ) -> Result<Duration>
 where
     R: Net<Listener = TcpListener, Stream = TcpStream> + Threads + Wait + Clock + Sync,
@@ -158,17 +152,26 @@ where
     else {
         bail!("no office is made");
     };
-    time_at(rt, alloc, &office, pass, clients)
+    time_at(rt, alloc, door, address, &office, pass, load)
+}
+
+/// How long the clients take at an office whose journal is in memory.
+fn time_memory<R>(rt: &R, alloc: Global, load: Load) -> Result<Duration>
+where
+    R: Net<Listener = TcpListener, Stream = TcpStream> + Threads + Wait + Clock + Sync,
+{
+    let (listener, address) = listen(rt)?;
+    let door = Doorway::Plain(Mutex::new(listener));
+    time_office(rt, alloc, Vec::new(alloc), &door, address, load)
 }
 
 /// How long the clients take at the server that gives one reply.
-fn time_bare<R>(rt: &R, alloc: Global, clients: u64) -> Result<Duration>
+fn time_bare<R>(rt: &R, alloc: Global, load: Load) -> Result<Duration>
 where
     R: Net<Listener = TcpListener, Stream = TcpStream> + Threads + Wait + Clock + Sync,
 {
     let (listener, address) = listen(rt)?;
     let door = Mutex::new(listener);
-    let connections = CONNECTIONS / clients.max(1);
     let start = Instant::now(rt)?;
     let (answered, asked) = join(
         rt,
@@ -176,15 +179,14 @@ where
             thread::map_indices(
                 rt,
                 alloc,
-                clients as usize,
-                &|_| { answer_barely(rt, &door, connections) },
+                load.clients as usize,
+                &|_| { answer_barely(rt, &door, load.connections) },
             )
         },
-        || ask_all(rt, alloc, address, clients, connections),
+        || ask_all(rt, alloc, address, load),
     );
     let time = start.elapsed(rt)?;
-    ensure!(!answered?.contains(&false), "a connection isn't accepted");
-    ensure!(!asked?.contains(&false), "a request isn't answered");
+    ensure_all(answered, asked)?;
     Ok(time)
 }
 
@@ -198,21 +200,68 @@ where
     Ok((listener, address))
 }
 
-/// Prints a line for 1, 4 and 16 connections at once: requests a second at the office and at the bare server, and the first as
-/// hundredths of the second.
-pub fn run<R>(rt: &R, alloc: Global) -> Result<()>
+/// Prints requests a second at the office with its journal in memory and at the bare server, and the first as hundredths of the
+/// second.
+fn measure_memory<R>(rt: &R, alloc: Global, clients: u64) -> Result<()>
 where
     R: Net<Listener = TcpListener, Stream = TcpStream> + Threads + Wait + Clock + Print + Sync,
 {
+    let load = Load {
+        mix: Mix::StartsAndReads,
+        clients,
+        connections: CONNECTIONS / clients.max(1),
+        requests: MOST_REQUESTS,
+    };
+    let mut least = [Duration::MAX; 2];
+    for _ in 0..TIMES {
+        least[0] = least[0].min(time_memory(rt, alloc, load)?);
+        least[1] = least[1].min(time_bare(rt, alloc, load)?);
+    }
+    let [ours, bare] = least.map(|time| a_second(CONNECTIONS * MOST_REQUESTS, time));
+    let percent = ours.saturating_mul(100) / bare.max(1);
+    println!(rt; "serve connections {clients} office {ours} bare {bare} percent {percent}")?;
+    Ok(())
+}
+
+/// Prints commands and syncs a second with a journal's file, and how many commands shared a sync on average.
+fn measure_file<R>(rt: &R, alloc: Global, clients: u64) -> Result<()>
+where
+    R: Net<Listener = TcpListener, Stream = TcpStream>
+        + Threads
+        + Wait
+        + Clock
+        + Print
+        + Files<File = File>
+        + Sync,
+{
+    let load = Load {
+        mix: Mix::Starts,
+        clients,
+        connections: FILE_CONNECTIONS / clients.max(1),
+        requests: FILE_REQUESTS,
+    };
+    let (time, syncs) = time_file(rt, alloc, load)?;
+    let commands = FILE_CONNECTIONS * FILE_REQUESTS;
+    let each = (commands + syncs / 2) / syncs.max(1);
+    let (commands, syncs) = (a_second(commands, time), a_second(syncs, time));
+    println!(rt; "serve file connections {clients} commands {commands} syncs {syncs} each {each}")?;
+    Ok(())
+}
+
+/// Prints two lines for 1, 4 and 16 connections at once: one with the journal in memory, and one with a file.
+pub fn run<R>(rt: &R, alloc: Global) -> Result<()>
+where
+    R: Net<Listener = TcpListener, Stream = TcpStream>
+        + Threads
+        + Wait
+        + Clock
+        + Print
+        + Files<File = File>
+        + Sync,
+{
     for clients in [1u64, 4, 16] {
-        let mut least = [Duration::MAX; 2];
-        for _ in 0..TIMES {
-            least[0] = least[0].min(time_office(rt, alloc, Vec::new(alloc), clients)?);
-            least[1] = least[1].min(time_bare(rt, alloc, clients)?);
-        }
-        let [ours, bare] = least.map(|time| a_second(CONNECTIONS * REQUESTS, time));
-        let percent = ours.saturating_mul(100) / bare.max(1);
-        println!(rt; "serve connections {clients} office {ours} bare {bare} percent {percent}")?;
+        measure_memory(rt, alloc, clients)?;
+        measure_file(rt, alloc, clients)?;
     }
     Ok(())
 }

@@ -1,8 +1,9 @@
 //! A server that gives one reply to whatever head it reads.
 
-use super::clients::REQUESTS;
+use super::clients::MOST_REQUESTS;
 use httparse::Status;
 use httparse::spans::{EMPTY_HEADER_SPAN, parse_request};
+use lra_workers::Door;
 use std::io::{self, Read, Write};
 use std::net::{TcpListener, TcpStream};
 use std::sync::{Mutex, Wait};
@@ -48,7 +49,7 @@ fn exchange(stream: &TcpStream) -> io::Result<bool> {
 
 /// Answers the requests of a connection.
 fn answer(stream: &TcpStream) -> io::Result<()> {
-    for _ in 0..REQUESTS {
+    for _ in 0..MOST_REQUESTS {
         if !exchange(stream)? {
             return Ok(());
         }
@@ -56,17 +57,10 @@ fn answer(stream: &TcpStream) -> io::Result<()> {
     Ok(())
 }
 
-fn accept<R: Wait>(rt: &R, door: &Mutex<TcpListener>) -> io::Result<TcpStream> {
-    let listener = door.lock(rt);
-    let (stream, _) = listener.accept()?;
-    stream.set_nodelay(true)?;
-    Ok(stream)
-}
-
 /// Answers so many connections, and tells whether all were accepted.
 pub fn answer_barely<R: Wait>(rt: &R, door: &Mutex<TcpListener>, count: u64) -> bool {
     for _ in 0..count {
-        let Ok(stream) = accept(rt, door) else {
+        let Ok(stream) = door.open(rt) else {
             return false;
         };
         if answer(&stream).is_err() {
