@@ -6,6 +6,7 @@ mod texts;
 
 use lra_runs::{Invocation, RunFault, Sources, Task, error_line, input_name, read_task, run};
 use lra_service::{fault_line, serve};
+use std::alloc::AllocError;
 use std::fs::{File, OpenOptions};
 use std::io::Write;
 use std::marker::Sync;
@@ -41,9 +42,9 @@ impl<R: Files + Input> Sources for System<'_, R> {
     }
 }
 
-/// Prints the line of a fault on standard error.
-fn tell<R: AllocGlobal + Eprint>(rt: &R, fault: RunFault, input: &str) {
-    let _ = match error_line(rt.alloc(), fault, input) {
+/// Prints the line of a fault on standard error, or that there was no memory for it.
+fn tell<R: Eprint>(rt: &R, line: Result<String, AllocError>) {
+    let _ = match line {
         Ok(line) => eprint!(rt; "{line}"),
         Err(_) => eprintln!(rt; "lra: out of memory"),
     };
@@ -57,7 +58,8 @@ fn answer_run<R: AllocGlobal + Files + Input + Print + Eprint>(
     match run(rt.alloc(), &System { rt }, invocation, &mut io::writer(rt)) {
         Ok(status) => status,
         Err(fault) => {
-            tell(rt, fault, input_name(invocation));
+            let input = input_name(invocation);
+            tell(rt, error_line(rt.alloc(), fault, input));
             FAULT
         }
     }
@@ -94,10 +96,7 @@ fn answer_serve<
     match serve(rt, address, file, workers, &mut io::writer(rt)) {
         Ok(status) => status,
         Err(fault) => {
-            let _ = match fault_line(rt.alloc(), fault, address, file) {
-                Ok(line) => eprint!(rt; "{line}"),
-                Err(_) => eprintln!(rt; "lra: out of memory"),
-            };
+            tell(rt, fault_line(rt.alloc(), fault, address, file));
             FAULT
         }
     }
@@ -108,7 +107,7 @@ fn answer_text<R: AllocGlobal + Print + Eprint>(rt: &R, text: &str) -> u8 {
     match io::writer(rt).write_all(text.as_bytes()) {
         Ok(()) => 0,
         Err(_) => {
-            tell(rt, RunFault::Write, "-");
+            tell(rt, error_line(rt.alloc(), RunFault::Write, "-"));
             FAULT
         }
     }
@@ -158,7 +157,7 @@ fn main(rt: HostRuntime) -> ExitCode {
     let status = match words_of(&rt) {
         Ok(words) => answer(&rt, &words),
         Err(error) if error.kind() == io::ErrorKind::OutOfMemory => {
-            tell(&rt, RunFault::Memory, "-");
+            tell(&rt, error_line(rt.alloc(), RunFault::Memory, "-"));
             FAULT
         }
         Err(_) => {

@@ -1,4 +1,5 @@
 pub mod Replies
 pub mod Callbacks
 pub mod Exchanges
+pub mod Sockets
 pub mod inner

@@ -5,37 +5,23 @@ ghost use Rattle.lra_model.specs.Words.{outcome_suits};
 
 use crate::callback::Callback;
 use crate::courier::Courier;
+use crate::deadline::{seconds_on, time_until};
+use crate::socket::socket_text;
 use lra_core::Errand;
 use lra_ids::address;
 use lra_model::Outcome;
 use lra_wire::Inbox;
 use std::alloc::Global;
 use std::io;
-use std::io::{ErrorKind, Read, Write};
+use std::io::{Read, Write};
 use std::net::{Net, OpenStream, SocketAddr, TcpStream, ToSocketAddrs};
-use std::time::{Clock, Duration, Instant};
+use std::time::{Clock, Instant};
 
 /// How many seconds a member has to take the connection.
 const CONNECT_SECS: u64 = 5;
 
 /// How many seconds there are in all, until the whole reply has come.
 const REPLY_SECS: u64 = 30;
-
-/// The moment so many seconds from now.
-fn seconds_on<R: Clock>(clock: &R, secs: u64) -> Option<Instant> {
-    Instant::now(clock)
-        .ok()?
-        .checked_add(Duration::from_secs(secs))
-}
-
-/// How long it is until then, where that is some time.
-fn time_until<R: Clock>(clock: &R, end: Instant) -> io::Result<Duration> {
-    let left = end.saturating_duration_since(Instant::now(clock)?);
-    if left.is_zero() {
-        return Err(io::Error::from(ErrorKind::TimedOut));
-    }
-    Ok(left)
-}
 
 /// A stream that is read and written until a moment, and fails from then on.
 #[derive(Drop)]
@@ -93,7 +79,7 @@ impl<R: Net + Clock> TcpCourier<R> {
     fn reply(&self, callback: &Callback<'_>) -> Option<Outcome>
         ensures { IfSome result (λ outcome. IsTrue (outcome_suits callback.now.kind outcome)) }
     {
-        let end = seconds_on(&self.rt, REPLY_SECS)?;
+        let end = seconds_on(&self.rt, REPLY_SECS).ok()?;
         let stream = self.connect(callback.address)?;
         let mut stream = Timed {
             stream,
@@ -107,24 +93,15 @@ impl<R: Net + Clock> TcpCourier<R> {
 
     /// A connection to the host of an address.
     fn connect(&self, to: &str) -> Option<R::Stream> {
-        let end = seconds_on(&self.rt, CONNECT_SECS)?;
-        let host = self.host(to)?;
-        for addr in host.as_str().to_socket_addrs(&self.rt).ok()? {
+        let end = seconds_on(&self.rt, CONNECT_SECS).ok()?;
+        let to = address(self.alloc, to).ok()?;
+        let socket = socket_text(self.alloc, &to).ok()?;
+        for addr in socket.as_str().to_socket_addrs(&self.rt).ok()? {
             if let Some(stream) = self.open(&addr, end) {
                 return Some(stream);
             }
         }
         None
-    }
-
-    /// Host, `:` and port of an address: port 80 where it names none.
-    fn host(&self, to: &str) -> Option<String> {
-        let to = address(self.alloc, to).ok()?;
-        let host = to.authority();
-        match to.port() {
-            Some(_) => String::from_str(self.alloc, host).ok(),
-            None => format!(in self.alloc; "{host}:80").ok(),
-        }
     }
 
     fn open(&self, addr: &SocketAddr, end: Instant) -> Option<R::Stream> {

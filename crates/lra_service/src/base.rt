@@ -5,7 +5,9 @@ ghost use Rattle.lra_ids.specs.Addresses.{is_base};
 ghost use Rattle.lra_service.specs.Faults.{base_text};
 
 use crate::fault::ServeFault;
+use lra_courier::socket_text;
 use lra_ids::{Address, UriFault, address};
+use lra_runs::RunFault;
 use std::alloc::Global;
 use std::net::{Net, TcpListener};
 
@@ -15,11 +17,11 @@ pub(crate) fn base_of(alloc: Global, to: &str) -> Result<Address, ServeFault>
     ensures base { IfOk result (λ base. is_base base ≡ true) }
 {
     let Ok(text) = format!(in alloc; "http://{to}/") else {
-        return Err(ServeFault::Memory);
+        return Err(ServeFault::Run(RunFault::Memory));
     };
     let base = match address(alloc, &text) {
         Ok(base) => base,
-        Err(UriFault::Memory) => return Err(ServeFault::Memory),
+        Err(UriFault::Memory) => return Err(ServeFault::Run(RunFault::Memory)),
         Err(_) => return Err(ServeFault::Address),
     };
     if base.as_str() == text.as_str() && base.is_base() {
@@ -29,21 +31,14 @@ pub(crate) fn base_of(alloc: Global, to: &str) -> Result<Address, ServeFault>
     }
 }
 
-/// A listener at a base's host and port: port 80 where it names none.
+/// A listener at a base's host and port.
 pub(crate) fn bind<R: Net>(
     alloc: Global,
     rt: &R,
     base: &Address,
 ) -> Result<R::Listener, ServeFault> {
-    let host = base.authority();
-    let bound = match base.port() {
-        Some(_) => TcpListener::bind(rt, host),
-        None => {
-            let Ok(host) = format!(in alloc; "{host}:80") else {
-                return Err(ServeFault::Memory);
-            };
-            TcpListener::bind(rt, host.as_str())
-        }
+    let Ok(socket) = socket_text(alloc, base) else {
+        return Err(ServeFault::Run(RunFault::Memory));
     };
-    bound.map_err(|_| ServeFault::Address)
+    TcpListener::bind(rt, socket.as_str()).map_err(|_| ServeFault::Address)
 }

@@ -3,7 +3,6 @@
 
 mod base;
 mod clock;
-mod deadline;
 mod disk;
 mod entrance;
 mod fault;

@@ -10,6 +10,7 @@ use crate::post::enrol_fault;
 use lra_commands::Limits;
 use lra_ids::{Address, Instance};
 use lra_office::{Clerk, Desk, Office, ReopenFault, StartFault};
+use lra_runs::RunFault;
 use std::alloc::Global;
 use std::io::Write;
 use std::sync::Wait;
@@ -17,16 +18,16 @@ use std::sync::Wait;
 /// Why nothing is served, where that is what keeps a new office from being made.
 fn start_fault(fault: StartFault) -> ServeFault {
     match fault {
-        StartFault::Stopped => ServeFault::Write,
-        StartFault::Memory => ServeFault::Memory,
+        StartFault::Stopped => ServeFault::File,
+        StartFault::Memory => ServeFault::Run(RunFault::Memory),
     }
 }
 
 /// Why nothing is served, where that is what keeps a journal from being gone on from.
 fn reopen_fault(fault: ReopenFault) -> ServeFault {
     match fault {
-        ReopenFault::Stopped => ServeFault::Write,
-        ReopenFault::Memory => ServeFault::Memory,
+        ReopenFault::Stopped => ServeFault::File,
+        ReopenFault::Memory => ServeFault::Run(RunFault::Memory),
         ReopenFault::Full | ReopenFault::Unsound { .. } => ServeFault::Address,
     }
 }

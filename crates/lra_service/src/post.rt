@@ -7,6 +7,7 @@ ghost use Rattle.lra_service.specs.Opened.{IsAt};
 use crate::fault::ServeFault;
 use lra_commands::Refusal;
 use lra_office::{Clerk, Office, OfficeRefusal, Serving};
+use lra_runs::RunFault;
 use std::alloc::Global;
 use std::sync::Wait;
 
@@ -22,8 +23,8 @@ pub(crate) enum Duty {
 /// Why nothing is served, where that is what keeps a clerk from being enrolled.
 pub(crate) fn enrol_fault(refusal: OfficeRefusal) -> ServeFault {
     match refusal {
-        OfficeRefusal::Refused(Refusal::Memory) => ServeFault::Memory,
-        OfficeRefusal::Refused(Refusal::Stopped) => ServeFault::Write,
+        OfficeRefusal::Refused(Refusal::Memory) => ServeFault::Run(RunFault::Memory),
+        OfficeRefusal::Refused(Refusal::Stopped) => ServeFault::File,
         _ => ServeFault::Address,
     }
 }

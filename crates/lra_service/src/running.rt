@@ -37,10 +37,11 @@ fn audit_front<W: Write>(alloc: Global, front: &[u8], writer: &mut W) -> Result<
         Ok(0) => Ok(0),
         Ok(status) => match writer.write_all(&report) {
             Ok(()) => Ok(status),
-            Err(_) => Err(ServeFault::Output),
+            Err(_) => Err(ServeFault::Run(RunFault::Write)),
         },
-        Err(RunFault::Read) => Err(ServeFault::Read),
-        Err(_) => Err(ServeFault::Memory),
+        // The report is written into memory.
+        Err(RunFault::Write) => Err(ServeFault::Run(RunFault::Memory)),
+        Err(fault) => Err(ServeFault::Run(fault)),
     }
 }
 
@@ -88,10 +89,10 @@ impl<R: Threads + Wait + Clock + Net<Stream = TcpStream, Listener = TcpListener>
     fn say<W: Write>(&self, writer: &mut W) -> Result<(), ServeFault> {
         let address = self.address;
         let Ok(line) = format!(in self.alloc; "serving {address}\n") else {
-            return Err(ServeFault::Memory);
+            return Err(ServeFault::Run(RunFault::Memory));
         };
         if writer.write_all(line.as_bytes()).is_err() || writer.flush().is_err() {
-            return Err(ServeFault::Output);
+            return Err(ServeFault::Run(RunFault::Write));
         }
         Ok(())
     }
@@ -128,7 +129,7 @@ impl<R: Threads + Wait + Clock + Net<Stream = TcpStream, Listener = TcpListener>
             return Err(ServeFault::Address);
         };
         let Ok(progress) = Progress::open(JournalFile::new(file)) else {
-            return Err(ServeFault::Write);
+            return Err(ServeFault::File);
         };
         let keeper = Keeper::new(self.rt, &progress);
         self.serve_journal(base, listener, &progress, journal, keeper, moment, writer)

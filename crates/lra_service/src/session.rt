@@ -2,7 +2,7 @@
 
 ghost use Rattle.lra_durable.specs.Leaves.{IsKnown};
 
-use crate::deadline::{seconds_on, time_until};
+use lra_courier::{seconds_on, time_until};
 use lra_durable::{Disk, Progress, Standing, send};
 use lra_workers::Line;
 use std::cell::Cell;

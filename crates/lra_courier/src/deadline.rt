@@ -1,0 +1,32 @@
+//! Moments until which something may take.
+
+ghost use Rattle.std.specs.Prelude.{◌≤◌, ◌<◌, ◌*◌, IfOk};
+ghost use Rattle.std.specs.Duration.{as_nanos};
+ghost use Rattle.std.specs.Time.{instant_nanos};
+
+use std::io;
+use std::io::ErrorKind;
+use std::time::{Clock, Duration, Instant};
+
+/// The moment so many seconds from now. Which moment a clock tells as now isn't known, and so of the result only how early it can be.
+pub fn seconds_on<R: Clock>(clock: &R, secs: u64) -> io::Result<Instant>
+    ensures { IfOk result (λ end. secs * 1_000_000_000 ≤ instant_nanos end) }
+{
+    let now = Instant::now(clock)?;
+    match now.checked_add(Duration::from_secs(secs)) {
+        Some(end) => Ok(end),
+        None => Err(io::Error::from(ErrorKind::TimedOut)),
+    }
+}
+
+/// How long it is until then, where that is some time: a socket takes no time-out of zero.
+pub fn time_until<R: Clock>(clock: &R, end: Instant) -> io::Result<Duration>
+    ensures some { IfOk result (λ left. 0 < as_nanos left) }
+    ensures most { IfOk result (λ left. as_nanos left ≤ instant_nanos end) }
+{
+    let left = end.saturating_duration_since(Instant::now(clock)?);
+    if left.is_zero() {
+        return Err(io::Error::from(ErrorKind::TimedOut));
+    }
+    Ok(left)
+}
