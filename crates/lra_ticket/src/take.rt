@@ -16,8 +16,11 @@ use std::sync::Wait;
 use std::thread::yield_now;
 use std::time::Duration;
 
-/// How often a caller looks whether the lock is free before it sleeps.
+/// How often a caller looks whether the lock is free before it lets other threads run.
 const LOOKS: u32 = 30;
+
+/// How often it lets them run before it sleeps.
+const TURNS: u32 = 5;
 
 /// How often a caller sleeps before it draws a ticket of a lock that isn't free.
 const NAPS: u32 = 50;
@@ -44,6 +47,12 @@ impl<V: Kept> TicketLock<V> {
     /// thread that is; while callers draw none, the lock goes to one that runs already, and no turn is spent on waking another.
     fn linger<R: Wait>(&self, rt: &R) {
         let shared = &self.table.shared;
+        for _ in 0..TURNS {
+            if self.looks_free() {
+                return;
+            }
+            yield_now();
+        }
         let nap = Duration::from_micros(NAP);
         for _ in 0..NAPS {
             if self.looks_free() {
