@@ -134,3 +134,5 @@ def test_what_is_answered_is_in_the_file_after_each_of_fifty_kills(setting):
             client.prefix = id_of(client.start())[:-12]
             ends(client, told)
     watch.look()
+    asks = sum(watch.asks.values())
+    return f"{len(told.lines)} lines that answers told of, {asks} asks, {watch.front.count(10) - 1} entries"
