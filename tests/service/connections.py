@@ -57,17 +57,6 @@ def meddles(history, requests, replies):
     return None
 
 
-def received(stream):
-    """What comes until the connection is closed."""
-    data = b""
-    try:
-        while piece := stream.recv(65536):
-            data += piece
-    except ConnectionResetError:
-        pass  # it was closed before all that was sent was read
-    return data
-
-
 def replies_of(setting, path, head, requests):
     """The replies of a service that goes on from this journal, with its port in them."""
     journal.write(path, head)
@@ -77,7 +66,8 @@ def replies_of(setting, path, head, requests):
             stream.shutdown(socket.SHUT_WR)
         except OSError:
             pass  # it is closed already
-        return received(stream).replace(it.address.encode(), BASE)
+        data, _ = service.received(stream)  # it may be closed before all that was sent was read
+        return data.replace(it.address.encode(), BASE)
 
 
 def compare(setting, name, wanted):

@@ -35,12 +35,12 @@ def seconds_until_closed(service, stream, each_second, most):
         serves(service)
         ready, _, _ = select.select([stream], [], [], 1)
         if ready:
-            equal("what comes", received(stream), b"")
+            equal("what comes", next_piece(stream), b"")
             return time.monotonic() - begun
     raise AssertionError(f"the connection is still there after {most} s")
 
 
-def received(stream):
+def next_piece(stream):
     """What comes next: nothing where the connection is closed or reset."""
     try:
         return stream.recv(65536)
@@ -58,7 +58,7 @@ def test_a_client_that_rests_between_requests_is_left_after_half_a_minute(settin
     with setting.serve(2) as service, service.connect() as stream:
         time.sleep(4)
         stream.sendall(b"GET /lra HTTP/1.1\r\nHost: h\r\n\r\n")
-        check("a reply", received(stream).startswith(b"HTTP/1.1 404 "))
+        check("a reply", next_piece(stream).startswith(b"HTTP/1.1 404 "))
         seconds = seconds_until_closed(service, stream, lambda: None, BETWEEN + 2 * LATE)
         check_about("it was left", seconds, BETWEEN)
 
@@ -174,7 +174,7 @@ def test_a_service_without_files_left_waits_and_goes_on(setting):
         check("replies without files", len(select.select(streams, [], [], 0)[0]) <= 1)
         resource.prlimit(pid, resource.RLIMIT_NOFILE, before)
         for stream in streams:
-            check("a reply", received(stream).startswith(b"HTTP/1.1 404 "))
+            check("a reply", next_piece(stream).startswith(b"HTTP/1.1 404 "))
             stream.close()
         serves(service)
 
@@ -188,7 +188,7 @@ def test_a_client_waits_while_all_threads_are_taken(setting):
             check("a reply without a thread", not ready)
             first.start()
             first.connection.close()
-            check("a reply", received(second).startswith(b"HTTP/1.1 404 "))
+            check("a reply", next_piece(second).startswith(b"HTTP/1.1 404 "))
 
 
 def test_clients_that_break_off_do_no_harm(setting):

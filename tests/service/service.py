@@ -50,6 +50,17 @@ def free_port():
                 return port
 
 
+def received(stream):
+    """What comes until a connection ends, and whether it ends without being reset."""
+    data = b""
+    try:
+        while piece := stream.recv(65536):
+            data += piece
+    except ConnectionResetError:
+        return data, False
+    return data, True
+
+
 def number_of(uri):
     """The number of the action or member that a URI names."""
     return uuid.UUID(uri.rsplit("/", 1)[1]).int & (2**62 - 1)
