@@ -30,6 +30,6 @@ impl<W: Write + Drop> Office<Desk<W>> {
             front: _,
             had: _,
         } = self.into_kept(clerk)?;
-        Ok((coordinator, scribe))
+        Ok((Box::into_inner(coordinator), scribe))
     }
 }
