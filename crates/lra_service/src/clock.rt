@@ -1,5 +1,7 @@
 //! The system's clock.
 
+ghost use Rattle.std.specs.Prelude.{◌≡◌};
+
 use lra_front::Clock;
 use std::time;
 use std::time::{SystemTime, UNIX_EPOCH};
@@ -19,7 +21,9 @@ pub struct SystemClock<'a, R> {
 
 impl<'a, R: time::Clock> SystemClock<'a, R> {
     /// A clock that stands at a moment until it is read.
-    pub fn new(rt: &'a R, moment: u64) -> SystemClock<'a, R> {
+    pub fn new(rt: &'a R, moment: u64) -> SystemClock<'a, R>
+        ensures { result.last ≡ moment }
+    {
         SystemClock { rt, last: moment }
     }
 }
@@ -30,9 +34,8 @@ impl<R: time::Clock> Clock for SystemClock<'_, R> {
     ghost tells = { λ _ moment after. after.last ≡ moment };
 
     fn now(&mut self) -> u64 {
-        if let Some(moment) = milliseconds(self.rt) {
-            self.last = moment;
-        }
-        self.last
+        let moment = milliseconds(self.rt).unwrap_or(self.last);
+        self.last = moment;
+        moment
     }
 }

@@ -2,6 +2,7 @@
 #![tactic(auto)]
 
 mod base;
+mod client;
 mod clock;
 mod disk;
 mod entrance;

@@ -1,5 +1,7 @@
 //! A courier that waits for the disk.
 
+ghost use Rattle.std.specs.Prelude.{◌≡◌};
+
 use lra_core::Errand;
 use lra_courier::Courier;
 use lra_durable::{Disk, Progress, Standing};
@@ -16,7 +18,9 @@ pub struct Patient<'a, R, D: Disk, C> {
 }
 
 impl<'a, R: Wait, D: Disk, C: Courier + Drop> Patient<'a, R, D, C> {
-    pub fn new(rt: &'a R, progress: &'a Progress<D>, courier: C) -> Patient<'a, R, D, C> {
+    pub fn new(rt: &'a R, progress: &'a Progress<D>, courier: C) -> Patient<'a, R, D, C>
+        ensures { result.courier ≡ courier }
+    {
         Patient {
             rt,
             progress,
@@ -29,16 +33,19 @@ impl<R: Wait, D: Disk, C: Courier + Drop> Courier for Patient<'_, R, D, C> {
     ghost use Rattle.std.specs.Prelude.{◌≡◌, ◌⊎◌};
     ghost use Rattle.std.proofs.Common.{inl, inr};
     ghost use Rattle.lra_model.specs.declared.asks.Outcome.TheVariants.{Silent};
+    ghost use Rattle.lra_durable.specs.declared.progress.Standing.TheVariants.{Sound};
+    ghost use Rattle.lra_durable.specs.Leaves.{HasLeave};
     ghost use Rattle.lra_service.specs.Outcomes.{silence_suits};
 
-    ghost gives = { λ ask kind outcome. C.gives ask kind outcome ⊎ (outcome ≡ Silent) };
+    ghost gives = { λ ask kind outcome. (HasLeave D.keeps D.failed Sound × C.gives ask kind outcome) ⊎ (outcome ≡ Silent) };
 
     fn carry(&mut self, errand: &Errand) -> Outcome {
-        match self.progress.settle(self.rt, Standing::Sound) {
+        let tally = self.progress.tally(self.rt);
+        match tally.settle(self.rt, Standing::Sound) {
             Ok(_) => self.courier.carry(errand),
             Err(_) => Outcome::Silent,
         }
     }
 
-    ghost suits = { λ ask kind outcome. elim [ inl given ↦ C.suits ask kind outcome given | inr silent ↦ silence_suits kind outcome silent ] };
+    ghost suits = { λ ask kind outcome. elim [ inl given ↦ C.suits ask kind outcome given.1 | inr silent ↦ silence_suits kind outcome silent ] };
 }

@@ -1,6 +1,6 @@
 -- Calls that a worker gives, one after another.
-use Rattle.std.proofs.Common.{◌≡◌, ℕ, suc, refl, sym, ◌∙◌, ap, subst, inl, inr, Option, Some}
-use Rattle.std.specs.Prelude.{Result, Ok, Err, MatchResult}
+use Rattle.std.proofs.Common.{◌≡◌, ℕ, suc, refl, sym, ◌∙◌, ap, subst, inl, inr, Option, Some, None}
+use Rattle.std.specs.Prelude.{Result, Ok, Err, IfOk, IfSome, MatchResult}
 use Rattle.lra_model.specs.declared.asks.AskKind.{AskKind}
 use Rattle.lra_model.specs.declared.asks.Outcome.{Outcome}
 use Rattle.lra_model.specs.History.{History}
@@ -17,16 +17,22 @@ use Rattle.lra_core.specs.Performs.{IsRecording, RecordsAs}
 use Rattle.lra_commands.specs.declared.refusal.Refusal.TheVariants.{NotAsked}
 use Rattle.lra_office.specs.declared.fault.OfficeRefusal.{OfficeRefusal}
 use Rattle.lra_office.specs.declared.fault.OfficeRefusal.TheVariants as office
-use Rattle.lra_office.specs.Orders.{IsGrown, IsNotGiven}
+use Rattle.lra_office.specs.Orders.{IsGrown, IsNotGiven, IsErrand}
 use Rattle.lra_workers.specs.declared.worker.WorkerEnd.{WorkerEnd}
 use Rattle.lra_workers.specs.declared.worker.WorkerEnd.TheVariants as worker
-use Rattle.lra_workers.specs.Work.{Post, post, IsWorkersCommand, Fails, Does, WorksIn, Works, EndsWork}
+use Rattle.lra_workers.specs.Work.{Post, post, IsWorkersCommand, Fails, Does, WorksIn, Works, WorksUpTo, EndsWork}
 
 -- an errand that was given is of an ask in what is seen then
 pub given_of_ask : {O : Type 0} → ErrandsAreOfAsks → (g : Setting) (v w : View O) (c : Call) (t : Told) (o : Option Asking) (e : Asking) → IsCall c → IsGrown g v c t o w → o ≡ Some e → IsOfAsk w.seen e
 given_of_ask law g v w c t o e is h some =
     let k = h.met.kept in
     subst (λ (J : History). IsOfAsk J e) (sym (ap (λ (x : View _). x.seen) h.after ∙ h.done.grown)) (law g h.history c t e k.limits k.lawful is h.done.answered (sym h.done.errand ∙ some))
+
+-- the same, of what a call for an errand answers
+pub asked_of_ask : {O : Type 0} → ErrandsAreOfAsks → (g : Setting) (v w : View O) (c : Call) (r : Result (Option Asking) OfficeRefusal) → IsCall c → IsErrand g v c r w → IfOk r (λ o. IfSome o (λ e. IsOfAsk w.seen e))
+asked_of_ask law g v w c (Ok None) is h = tt
+asked_of_ask law g v w c (Ok (Some e)) is h = given_of_ask law g v w c h.0 (Some e) e is h.1 refl
+asked_of_ask law g v w c (Err r) is h = tt
 
 -- what a courier may answer of an errand is recorded
 recording_is_own : (gives : ℕ → AskKind → Outcome → Type 0) (J : History) (e : Asking) (o : Outcome) (c : Command) → IsRecording e o c → IsOfAsk J e → gives e.ask e.kind o → IsWorkersCommand gives J c
@@ -72,6 +78,12 @@ module _ {O K : Type 0} (setting : O → Setting) (gives : ℕ → AskKind → O
   pub fails : (v w : View O) (k l : K) (c : Call) (r : OfficeRefusal) → c.by ≡ v.number → IsWorkersCommand gives v.seen c.command → tells k c.moment l → IsNotGiven (setting v.origin) v c r w
       → Fails setting gives tells (post v k) r (post w l)
   fails v w k l c r by own clocked given = record { call = c; own = record { by = by; command = own }; clocked = clocked; given = given }
+
+  -- an errand was asked for
+  pub asked : (s : Post O K) (v w : View O) (k l : K) (c : Call) (r : Result (Option Asking) OfficeRefusal) → IsErrand (setting v.origin) v c r w → Works setting gives tells s (post v k) → c.by ≡ v.number → IsWorkersCommand gives v.seen c.command
+      → tells k c.moment l → MatchResult r (λ _. Works setting gives tells s (post w l)) (λ x. WorksUpTo setting gives tells s x (post w l))
+  asked s v w k l c (Ok e) h before by own clocked = works_on s (post v k) (post w l) before (does v w k l c h.0 e by own clocked h.1)
+  asked s v w k l c (Err x) h before by own clocked = (post v k, before, fails v w k l c x by own clocked h)
 
   -- what came of an errand was recorded
   pub records : (v w : View O) (k l : K) (c : Call) (number at : ℕ) (a : Asking) (o : Outcome) (t : Told) (e : Option Asking) → RecordsAs c number at a o → v.number ≡ number → IsOfAsk v.seen a → gives a.ask a.kind o → tells k at l

@@ -1,6 +1,6 @@
 //! A worker's turns.
 
-ghost use Rattle.std.specs.Prelude.{◌≡◌, true, ℕ, IfErr, MatchResult};
+ghost use Rattle.std.specs.Prelude.{◌≡◌, true, ℕ, IfOk, IfSome, IfErr, MatchResult};
 ghost use Rattle.lra_model.specs.declared.asks.AskKind.{AskKind};
 ghost use Rattle.lra_model.specs.declared.asks.Outcome.{Outcome as OutcomeValue};
 ghost use Rattle.lra_commands.specs.Given.{IsOfAsk};
@@ -15,6 +15,7 @@ use lra_commands::{Refusal, Told};
 use lra_core::{Errand, errands_are_of_asks};
 use lra_courier::Courier;
 use lra_front::Clock;
+use lra_model::Outcome;
 use lra_office::{Clerk, Office, OfficeRefusal, Serving};
 use std::sync::Wait;
 
@@ -75,7 +76,58 @@ fn after_refusal(refusal: OfficeRefusal) -> Result<(), WorkerEnd>
     }
 }
 
-/// Carries an errand and records what came of it, where the gate lets it. An errand whose ask isn't outstanding any more is let go.
+/// The errand of something that is due, where anything is.
+fn next_errand<V: Serving, R: Wait, C: Courier, K: Clock>(
+    rt: &R,
+    office: &Office<V>,
+    clerk: &mut Clerk<V>,
+    clock: &mut K,
+) -> Result<Option<Errand>, OfficeRefusal>
+    requires { IsClerkOf office.now.lock clerk.old }
+    ensures clerk { IsClerkOf office.now.lock clerk.new }
+    ensures number { clerk.new.number ≡ clerk.old.number }
+    ensures of_ask { IfOk result (λ errand. IfSome errand (λ e. IsOfAsk (clerk_view clerk.new).seen e)) }
+    ensures work { (s : Post V.Origin K) → Works V.setting C.gives K.tells s (post (clerk_view clerk.old) clock.old)
+        → MatchResult result (λ _. Works V.setting C.gives K.tells s (post (clerk_view clerk.new) clock.new)) (λ r. WorksUpTo V.setting C.gives K.tells s r (post (clerk_view clerk.new) clock.new)) }
+{
+    errands_are_of_asks();
+    let moment = clock.now();
+    office.next_ask(rt, clerk, moment)
+}
+
+/// Records what came of an errand. One whose ask isn't outstanding any more is let go.
+fn record<V: Serving, R: Wait, C: Courier, G: Gate, K: Clock>(
+    rt: &R,
+    office: &Office<V>,
+    clerk: &mut Clerk<V>,
+    gate: &mut G,
+    clock: &mut K,
+    errand: Errand,
+    outcome: Outcome,
+) -> Result<(), WorkerEnd>
+    requires clerk { IsClerkOf office.now.lock clerk.old }
+    requires of_ask { IsOfAsk (clerk_view clerk.old).seen errand }
+    requires given { C.gives errand.ask errand.kind outcome }
+    ensures clerk { IsClerkOf office.now.lock clerk.new }
+    ensures number { clerk.new.number ≡ clerk.old.number }
+    ensures work { (s : Post V.Origin K) → Works V.setting C.gives K.tells s (post (clerk_view clerk.old) clock.old)
+        → MatchResult result (λ _. Works V.setting C.gives K.tells s (post (clerk_view clerk.new) clock.new)) (λ end. EndsWork V.setting C.gives K.tells s end (post (clerk_view clerk.new) clock.new)) }
+{
+    let ask = errand.ask();
+    let moment = clock.now();
+    match office.record(rt, clerk, moment, errand, outcome) {
+        Ok(_) => {
+            gate.answered(ask);
+            Ok(())
+        }
+        Err((errand, refusal)) => {
+            errand.discard();
+            after_refusal(refusal)
+        }
+    }
+}
+
+/// Carries an errand and records what came of it, where the gate lets it.
 fn carry<V: Serving, R: Wait, C: Courier, G: Gate, K: Clock>(
     rt: &R,
     office: &Office<V>,
@@ -92,23 +144,12 @@ fn carry<V: Serving, R: Wait, C: Courier, G: Gate, K: Clock>(
     ensures work { (s : Post V.Origin K) → Works V.setting C.gives K.tells s (post (clerk_view clerk.old) clock.old)
         → MatchResult result (λ _. Works V.setting C.gives K.tells s (post (clerk_view clerk.new) clock.new)) (λ end. EndsWork V.setting C.gives K.tells s end (post (clerk_view clerk.new) clock.new)) }
 {
-    let ask = errand.ask();
-    if !is_let_go(gate, ask) {
+    if !is_let_go(gate, errand.ask()) {
         errand.discard();
         return Err(WorkerEnd::Held);
     }
     let outcome = courier.carry(&errand);
-    let moment = clock.now();
-    match office.record(rt, clerk, moment, errand, outcome) {
-        Ok(_) => {
-            gate.answered(ask);
-            Ok(())
-        }
-        Err((errand, refusal)) => {
-            errand.discard();
-            after_refusal(refusal)
-        }
-    }
+    record::<V, R, C, G, K>(rt, office, clerk, gate, clock, errand, outcome)
 }
 
 /// Lets limits fire, and carries one errand, where one is due.
@@ -126,12 +167,10 @@ fn take_turn<V: Serving, R: Wait, C: Courier, G: Gate, K: Clock>(
     ensures work { (s : Post V.Origin K) → Works V.setting C.gives K.tells s (post (clerk_view clerk.old) clock.old)
         → MatchResult result (λ _. Works V.setting C.gives K.tells s (post (clerk_view clerk.new) clock.new)) (λ end. EndsWork V.setting C.gives K.tells s end (post (clerk_view clerk.new) clock.new)) }
 {
-    errands_are_of_asks();
     if let Err(refusal) = fire::<V, R, C, K>(rt, office, clerk, clock) {
         return Err(WorkerEnd::Refused(refusal));
     }
-    let moment = clock.now();
-    match office.next_ask(rt, clerk, moment) {
+    match next_errand::<V, R, C, K>(rt, office, clerk, clock) {
         Ok(Some(errand)) => carry(rt, office, clerk, courier, gate, clock, errand),
         Ok(None) => Ok(()),
         Err(refusal) => Err(WorkerEnd::Refused(refusal)),
