@@ -10,4 +10,6 @@ mod office;
 #[cfg(test)]
 mod rows;
 #[cfg(test)]
+mod spelling;
+#[cfg(test)]
 mod words;

@@ -9,29 +9,47 @@ ghost use Rattle.lra_ticket.specs.Locks.{lock_id, pass_id, pass_view};
 
 use crate::coordinator::base;
 use crate::errands::Errands;
-use crate::rows::{SCRIPTS, TORN};
+use crate::rows::{REOPENED, SCRIPTS};
+use crate::spelling::spell_journal;
 use crate::words::Words;
 use lra_commands::Order;
 use lra_core::{Errand, Instance, Limits, Refusal, Told};
-use lra_model::{Outcome, Uris, suits};
+use lra_journal::whole;
+use lra_model::{Outcome, suits};
 use lra_office::{Clerk, Desk, Office, OfficeRefusal, ReopenFault, Serving};
 use lra_ticket::Pass;
 use std::alloc::{AllocError, Global};
-use std::io::Write;
+use std::io::{self, Write};
 use std::str::from_utf8;
-use std::sync::Wait;
+use std::sync::{Mutex, Wait};
 use std::test::Fail;
-
-/// What stands behind the office's lock: a coordinator that writes its journal to memory.
-type Kept = Desk<Vec<u8>>;
 
 /// How many bytes come of a script at most.
 const ROOM: usize = 8_192;
 
 const NO_MEMORY: OfficeRefusal = OfficeRefusal::Refused(Refusal::Memory);
 
-/// What is to stay as it is where memory is refused: the statuses of the first action and member.
-type Seen = [Option<Told>; 2];
+/// What is to stay as it is where memory is refused: how long the journal is, to which text is added alone, and the statuses of the
+/// first actions and members.
+type Seen = (usize, [Option<Told>; 4]);
+
+/// A writer in memory that is looked at while an office has it.
+#[derive(Drop)]
+struct Shared<'a, R> {
+    rt: &'a R,
+    taken: &'a Mutex<Vec<u8>>,
+}
+
+impl<R: Wait> Write for Shared<'_, R> {
+    fn write(&mut self, buf: &[u8]) -> io::Result<usize> {
+        self.taken.lock(self.rt).extend_from_slice(buf)?;
+        Ok(buf.len())
+    }
+
+    fn flush(&mut self) -> io::Result<()> {
+        Ok(())
+    }
+}
 
 /// A clerk that gives the commands of a script to its office.
 #[derive(Drop)]
@@ -40,6 +58,8 @@ struct Player<'a, V: Serving, R> {
     alloc: Global,
     office: Office<V>,
     clerk: Clerk<V>,
+    /// What the office's writer has taken.
+    journal: &'a Mutex<Vec<u8>>,
     held: Errands,
     /// The commands, each with its answer.
     text: Vec<u8>,
@@ -92,10 +112,13 @@ impl<V: Serving, R: Wait> Player<'_, V, R> {
 
     /// What there is now that a refusal is to keep.
     fn seen(&mut self) -> Seen {
-        [
+        let statuses = [
             self.office.status(self.rt, &mut self.clerk, 1).ok(),
+            self.office.status(self.rt, &mut self.clerk, 2).ok(),
             self.office.member_status(self.rt, &mut self.clerk, 1).ok(),
-        ]
+            self.office.member_status(self.rt, &mut self.clerk, 2).ok(),
+        ];
+        (self.journal.lock(self.rt).len(), statuses)
     }
 
     /// That refused memory has changed nothing.
@@ -251,10 +274,10 @@ fn wanted(alloc: Global, script: &str) -> Result<(Vec<u8>, Vec<u8>), AllocError>
     Ok((answers, journal))
 }
 
-/// A writer in memory that takes no more of it.
-fn writer(alloc: Global) -> Result<Vec<u8>, AllocError> {
+/// Room for what comes of a script, so that taking it down takes no memory.
+fn room(alloc: Global) -> Result<Vec<u8>, AllocError> {
     match Vec::with_capacity(alloc, ROOM) {
-        Ok(writer) => Ok(writer),
+        Ok(room) => Ok(room),
         Err(_) => Vec::with_capacity(alloc, ROOM),
     }
 }
@@ -283,6 +306,7 @@ fn played_at<V: Serving, R: Wait>(
     alloc: Global,
     office: Office<V>,
     pass: Pass<V>,
+    journal: &Mutex<Vec<u8>>,
     script: &str,
 ) -> Result<(Office<V>, Clerk<V>, Vec<u8>), Fail>
     requires lock { pass_id pass ≡ lock_id office.lock }
@@ -298,6 +322,7 @@ fn played_at<V: Serving, R: Wait>(
         alloc,
         office,
         clerk,
+        journal,
         held: Errands::new(alloc),
         text: Vec::new(alloc),
     };
@@ -311,42 +336,55 @@ fn played_at<V: Serving, R: Wait>(
     Ok((office, clerk, text))
 }
 
-/// The journal of an office that is shut.
-fn shut(office: Office<Kept>, clerk: Clerk<Kept>) -> Result<Vec<u8>, Fail>
+/// The journal by the coordinator of an office, which is shut. It takes no memory where there is room.
+fn shut<W: Write + Drop>(
+    office: Office<Desk<W>>,
+    clerk: Clerk<Desk<W>>,
+    mut room: Vec<u8>,
+) -> Result<Vec<u8>, Fail>
     requires { IsClerkOf office.lock clerk }
 {
     match office.shut(clerk) {
-        Ok((_, scribe)) => Ok(scribe.into_writer()),
+        Ok((coordinator, _)) => {
+            spell_journal(&coordinator, &mut room)?;
+            Ok(room)
+        }
         Err(_) => Err("the lock is free")?,
     }
 }
 
-/// The answers to a script's commands at a new office, and its journal. Nothing, where no office could be made.
+/// What comes of a script at a new office: the answers to its commands, and the journal by the office's coordinator. Nothing, where no
+/// office could be made.
 fn played_once<R: Wait>(
     rt: &R,
     alloc: Global,
     script: &str,
+    taken: &Mutex<Vec<u8>>,
 ) -> Result<Option<(Vec<u8>, Vec<u8>)>, Fail> {
-    let (Some(instance), Some(base), Ok(writer)) = (Instance::new(7), base(alloc), writer(alloc))
-    else {
+    let kept = room(alloc)?;
+    let (Some(instance), Some(base)) = (Instance::new(7), base(alloc)) else {
         return Ok(None);
     };
+    let writer = Shared { rt, taken };
     match Office::create(alloc, instance, base, Limits::usual(), writer) {
         Ok((office, pass)) => {
-            let (office, clerk, text) = played_at(rt, alloc, office, pass, script)?;
-            Ok(Some((text, shut(office, clerk)?)))
+            let (office, clerk, text) = played_at(rt, alloc, office, pass, taken, script)?;
+            Ok(Some((text, shut(office, clerk, kept)?)))
         }
         Err(_) => Ok(None),
     }
 }
 
-/// The same, with memory for the office the second time.
-fn played<R: Wait>(rt: &R, alloc: Global, script: &str) -> Result<(Vec<u8>, Vec<u8>), Fail> {
-    if let Some(played) = played_once(rt, alloc, script)? {
-        return Ok(played);
+/// The same, with memory for the office the second time, and what its writer took.
+fn played<R: Wait>(rt: &R, alloc: Global, script: &str) -> Result<[Vec<u8>; 3], Fail> {
+    let taken = Mutex::new(room(alloc)?);
+    let mut played = played_once(rt, alloc, script, &taken)?;
+    if played.is_none() {
+        taken.lock(rt).clear();
+        played = played_once(rt, alloc, script, &taken)?;
     }
-    match played_once(rt, alloc, script)? {
-        Some(played) => Ok(played),
+    match played {
+        Some((text, kept)) => Ok([text, taken.into_inner(), kept]),
         None => Err("an office can be made")?,
     }
 }
@@ -362,54 +400,95 @@ fn enrolment(script: &str) -> Result<u64, Fail> {
 fn scripts_come_to_what_they_say(rt: HostRuntime) -> Result<(), Fail> {
     let alloc = rt.alloc();
     for script in SCRIPTS.split("\n\n") {
-        let (text, journal) = played(&rt, alloc, script)?;
+        let [text, taken, kept] = played(&rt, alloc, script)?;
         let (answers, lines) = match wanted(alloc, script) {
             Ok(wanted) => wanted,
             Err(_) => wanted(alloc, script)?,
         };
         assert_eq!(rt; from_utf8(&text)?, from_utf8(&answers)?);
-        assert_eq!(rt; from_utf8(&journal)?, from_utf8(&lines)?);
+        assert_eq!(rt; from_utf8(&taken)?, from_utf8(&lines)?);
+        assert_eq!(rt; from_utf8(&kept)?, from_utf8(&lines)?);
     }
     Ok(())
 }
 
-/// Whether a renewal is refused at an office that goes on from the torn journal, and what it writes. Nothing, where memory was
-/// refused before it was reopened.
-fn renewed_once<R: Wait>(rt: &R, alloc: Global) -> Result<Option<(bool, Vec<u8>)>, Fail> {
-    let (Ok(journal), Some(base), Ok(writer)) = (
-        Vec::from_slice(alloc, TORN[0].as_bytes()),
-        base(alloc),
-        writer(alloc),
-    ) else {
+/// A journal that an office goes on from at a moment, and what is written then.
+#[derive(Clone, Copy)]
+struct Reopening<'a> {
+    moment: u64,
+    journal: &'a str,
+    written: &'a str,
+}
+
+/// What a renewal is refused by at the office of a journal, and the journal by its coordinator. Nothing, where memory was refused.
+fn goes_on<R: Wait>(
+    rt: &R,
+    alloc: Global,
+    row: Reopening<'_>,
+    taken: &Mutex<Vec<u8>>,
+) -> Result<Option<(Refusal, Vec<u8>)>, Fail> {
+    let kept = room(alloc)?;
+    let (Ok(journal), Some(base)) = (Vec::from_slice(alloc, row.journal.as_bytes()), base(alloc))
+    else {
         return Ok(None);
     };
-    match Office::reopen(alloc, journal, base, Limits::usual(), writer, 9) {
+    let writer = Shared { rt, taken };
+    match Office::reopen(alloc, journal, base, Limits::usual(), writer, row.moment) {
         Ok((office, mut clerk)) => {
-            let renewed = office.renew(rt, &mut clerk, 9, 1, 5);
-            let is_refused = renewed == Err(OfficeRefusal::Refused(Refusal::OldJournal));
-            Ok(Some((is_refused, shut(office, clerk)?)))
+            let renewed = office.renew(rt, &mut clerk, row.moment, 1, 5);
+            let kept = shut(office, clerk, kept)?;
+            let Err(OfficeRefusal::Refused(refusal)) = renewed else {
+                return Err("a renewal is refused")?;
+            };
+            Ok(Some((refusal, kept)))
         }
         Err((ReopenFault::Memory, None)) => Ok(None),
         Err(_) => Err("the journal is sound")?,
     }
 }
 
-/// The same, once more where memory was refused.
-fn renewed<R: Wait>(rt: &R, alloc: Global) -> Result<(bool, Vec<u8>), Fail> {
-    if let Some(renewed) = renewed_once(rt, alloc)? {
-        return Ok(renewed);
+/// The same with what was written, once more where memory was refused. Then nothing had been written, or all.
+fn gone_on<R: Wait>(
+    rt: &R,
+    alloc: Global,
+    row: Reopening<'_>,
+) -> Result<(Refusal, Vec<u8>, Vec<u8>), Fail> {
+    let taken = Mutex::new(room(alloc)?);
+    let mut gone_on = goes_on(rt, alloc, row, &taken)?;
+    if gone_on.is_none() {
+        let mut before = taken.lock(rt);
+        if !before.is_empty() && before.as_slice() != row.written.as_bytes() {
+            return Err("a part was written")?;
+        }
+        before.clear();
+        drop(before);
+        gone_on = goes_on(rt, alloc, row, &taken)?;
     }
-    match renewed_once(rt, alloc)? {
-        Some(renewed) => Ok(renewed),
+    match gone_on {
+        Some((refusal, kept)) => Ok((refusal, kept, taken.into_inner())),
         None => Err("memory is refused once")?,
     }
 }
 
 #[test]
 fn a_journal_is_gone_on_from_in_its_version(rt: HostRuntime) -> Result<(), Fail> {
-    let (is_refused, journal) = renewed(&rt, rt.alloc())?;
-    assert!(rt; is_refused);
-    let wanted = "2 9 enrol\n2 9 skip 1\n2 9 end 1 Closed\n2 9 restart\n";
-    assert_eq!(rt; from_utf8(&journal)?, wanted);
+    for row in REOPENED.split('|') {
+        let (line, row) = row.split_once('\n').ok_or("no journal")?;
+        let (moment, wanted) = line.split_once(' ').ok_or("no refusal")?;
+        let (journal, written) = row.split_once('>').ok_or("nothing is written")?;
+        let row = Reopening {
+            moment: moment.parse()?,
+            journal,
+            written,
+        };
+        let (refusal, kept, taken) = gone_on(&rt, rt.alloc(), row)?;
+        assert_eq!(rt; refusal.name(), wanted);
+        assert_eq!(rt; from_utf8(&taken)?, written);
+        let (lines, _) = journal.as_bytes().split_at(whole(journal.as_bytes()));
+        assert_eq!(rt;
+            kept.as_slice().strip_prefix(lines),
+            Some(written.as_bytes())
+        );
+    }
     Ok(())
 }

@@ -402,3 +402,32 @@ lra-journal 1 7
 2 9 renew 1 5 -> refused OldJournal
 ",
 ];
+
+/// Between `|`: a moment and what a renewal is then refused by, the journal that is reopened, and after `>` what is written of it.
+pub const REOPENED: &str = "\
+9 OldJournal
+lra-journal 1 7
+1 0 enrol
+1 0 start 1 * 0
+1 1 join 1 1 http://p.test/u * * * *
+1 2 close 1 client
+1 2 sk>2 9 enrol
+2 9 skip 1
+2 9 end 1 Closed
+2 9 restart
+|40 NotActive
+lra-journal 2 7
+1 0 enrol
+1 10 start 1 * 0
+1 11 join 1 1 http://p.test/u http://p.test/c http://p.test/s * *
+1 12 join 2 1 http://q.test/u http://q.test/c * * *
+1 20 close 1 client
+1 21 ask 1 1 complete
+1 22 ask 2 2 complete
+1 23 reply 2 done
+1 24 reply 1 accepted
+1 30 report 1 done
+>2 40 enrol
+2 40 end 1 Closed
+2 40 restart
+";

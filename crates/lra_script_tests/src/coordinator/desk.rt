@@ -4,6 +4,7 @@ ghost use Rattle.std.specs.Prelude.{◌≡◌, true};
 ghost use Rattle.lra_core.specs.Prepares.{is_suited};
 
 use crate::errands::Errands;
+use crate::spelling::spell_entries;
 use crate::words::Words;
 use lra_auditor::{Summary, Verdict, check};
 use lra_commands::Order;
@@ -16,8 +17,8 @@ use std::test::Fail;
 /// How many bytes come of a script at most.
 const ROOM: usize = 32_768;
 
-/// What is to stay as it is where memory is refused: how many entries there are, and the statuses of the first actions and members.
-type Kept = (usize, [Option<Told>; 4]);
+/// What is to stay as it is where memory is refused, beside the entries: the statuses of the first actions and members.
+type Kept = [Option<Told>; 4];
 
 /// A coordinator, the errands that it gave, and what came of its commands.
 #[derive(Drop)]
@@ -29,6 +30,12 @@ struct Desk<'a> {
     text: Vec<u8>,
     /// The lines that a command would append.
     lines: Vec<u8>,
+    /// The lines of all entries so far.
+    journal: Vec<u8>,
+    /// The entries are spelled here where they are looked at.
+    spelled: Vec<u8>,
+    /// Refused memory has changed something.
+    has_changed: bool,
 }
 
 /// Gives a coordinator each command of a script, whose lines are `COMMAND -> ANSWER`, or `+ ` and a line of the journal. What came
@@ -40,6 +47,9 @@ pub fn played(alloc: Global, coordinator: &mut Coordinator, script: &str) -> Res
         held: Errands::new(alloc),
         text: Vec::new(alloc),
         lines: Vec::new(alloc),
+        journal: Vec::new(alloc),
+        spelled: Vec::new(alloc),
+        has_changed: false,
     };
     desk.play(script)?;
     Ok(desk.text)
@@ -50,14 +60,25 @@ impl Desk<'_> {
     fn make_room(&mut self) -> Result<(), AllocError> {
         self.held.make_room()?;
         self.text.reserve(ROOM)?;
-        self.lines.reserve(ROOM)
+        self.lines.reserve(ROOM)?;
+        self.journal.reserve(ROOM)?;
+        self.spelled.reserve(ROOM)
     }
 
-    /// Gives each command. One that is refused memory is given again.
+    /// Gives each command. One that is refused memory is given again. At the end the entries are those whose lines were taken down.
     fn play(&mut self, script: &str) -> Result<(), Fail> {
         if self.make_room().is_err() {
             self.make_room()?;
         }
+        spell_entries(self.coordinator, &mut self.journal)?;
+        self.give_all(script)?;
+        if self.has_changed || !self.has_journal() {
+            return Err("an entry or a status isn't as it was, or as it is to be")?;
+        }
+        Ok(())
+    }
+
+    fn give_all(&mut self, script: &str) -> Result<(), Fail> {
         for line in script.lines() {
             if line.starts_with("+ ") {
                 continue;
@@ -111,23 +132,26 @@ impl Desk<'_> {
         self.record(by, moment, ask, outcome)
     }
 
-    /// What there is now that a refusal is to keep.
+    /// What there is now that a refusal is to keep, beside the entries.
     fn kept(&self) -> Kept {
-        let statuses = [
+        [
             self.coordinator.status(1, 1).ok(),
             self.coordinator.status(1, 2).ok(),
             self.coordinator.member_status(1, 1).ok(),
             self.coordinator.member_status(1, 2).ok(),
-        ];
-        (self.coordinator.entries().len(), statuses)
+        ]
     }
 
-    /// That refused memory has changed nothing.
-    fn require_kept(&self, kept: Kept) -> Result<(), Fail> {
-        if self.kept() != kept {
-            return Err("refused memory has changed something")?;
-        }
-        Ok(())
+    /// Whether the entries are those whose lines were taken down.
+    fn has_journal(&mut self) -> bool {
+        self.spelled.clear();
+        spell_entries(self.coordinator, &mut self.spelled).is_ok()
+            && self.spelled.as_slice() == self.journal.as_slice()
+    }
+
+    /// Takes down whether refused memory has changed something.
+    fn look_back(&mut self, kept: Kept) {
+        self.has_changed = self.has_changed || self.kept() != kept || !self.has_journal();
     }
 
     fn put_told(&mut self, told: Told) -> Result<(), Fail> {
@@ -155,6 +179,7 @@ impl Desk<'_> {
                 self.text.push(b'\n')?;
             }
         }
+        self.journal.extend_from_slice(self.lines.as_slice())?;
         self.lines.clear();
         Ok(())
     }
@@ -164,8 +189,12 @@ impl Desk<'_> {
         requires { is_suited command.now ≡ true }
     {
         self.lines.clear();
+        let kept = self.kept();
         let prepared = match self.coordinator.prepare(by, moment, command) {
-            Err(Refusal::Memory) => self.coordinator.prepare(by, moment, command),
+            Err(Refusal::Memory) => {
+                self.look_back(kept);
+                self.coordinator.prepare(by, moment, command)
+            }
             other => other,
         };
         if let Ok(Prepared::Block(block)) = prepared
@@ -180,7 +209,7 @@ impl Desk<'_> {
         let kept = self.kept();
         let mut answer = self.coordinator.enrol(moment);
         if answer == Err(Refusal::Memory) {
-            self.require_kept(kept)?;
+            self.look_back(kept);
             answer = self.coordinator.enrol(moment);
         }
         self.put_answer(answer)?;
@@ -209,7 +238,7 @@ impl Desk<'_> {
         let kept = self.kept();
         let mut answer = named(self.coordinator, by, moment, order);
         if answer == Err(Refusal::Memory) {
-            self.require_kept(kept)?;
+            self.look_back(kept);
             answer = named(self.coordinator, by, moment, order);
         }
         self.put_answer(answer)?;
@@ -221,7 +250,10 @@ impl Desk<'_> {
         self.look(by, moment, &Command::NextAsk);
         let kept = self.kept();
         let asked = match self.coordinator.next_ask(by, moment) {
-            Err(Refusal::Memory) if self.kept() == kept => self.coordinator.next_ask(by, moment),
+            Err(Refusal::Memory) => {
+                self.look_back(kept);
+                self.coordinator.next_ask(by, moment)
+            }
             other => other,
         };
         match asked {
@@ -245,12 +277,12 @@ impl Desk<'_> {
         };
         self.look_at_record(by, moment, &errand, outcome);
         let kept = self.kept();
-        let (is_kept, answer) = match recorded(self.coordinator, by, moment, errand, outcome) {
-            Err((Refusal::Memory, errand)) => (
-                self.kept() == kept,
-                recorded(self.coordinator, by, moment, errand, outcome),
-            ),
-            other => (true, other),
+        let answer = match recorded(self.coordinator, by, moment, errand, outcome) {
+            Err((Refusal::Memory, errand)) => {
+                self.look_back(kept);
+                recorded(self.coordinator, by, moment, errand, outcome)
+            }
+            other => other,
         };
         match answer {
             Ok(told) => self.put_told(told)?,
@@ -258,9 +290,6 @@ impl Desk<'_> {
                 self.held.hold_again(errand)?;
                 self.put_refusal(refusal)?;
             }
-        }
-        if !is_kept {
-            return Err("refused memory has changed something")?;
         }
         self.put_lines()
     }
