@@ -1,7 +1,7 @@
 //! Errands of a coordinator, carried over streams in memory until the member has answered.
 
 use crate::coordinator::coordinator;
-use lra_core::{Coordinator, Errand};
+use lra_core::{Coordinator, Errand, Refusal};
 use lra_courier::exchange;
 use lra_model::{Outcome, Uris, suits};
 use std::alloc::{AllocError, Global};
@@ -149,4 +149,71 @@ fn chunked_bodies_come_to_outcomes(rt: HostRuntime) -> Result<(), Fail> {
         assert!(rt; text.as_slice().ends_with(wanted.as_bytes()), "{row}");
     }
     Ok(())
+}
+
+/// The first errand of a coordinator, whose one action is closed.
+fn asked(coordinator: &mut Coordinator, member: &Uris) -> Result<Option<Errand>, Refusal> {
+    coordinator.enrol(0)?;
+    coordinator.start(1, 0, None, 0)?;
+    coordinator.join(1, 0, 1, member)?;
+    coordinator.close(1, 0, 1)?;
+    coordinator.next_ask(1, PAUSE)
+}
+
+/// The same of a coordinator of its own. Nothing, where memory is refused.
+fn first_errand(alloc: Global) -> Option<Errand> {
+    let member = member(alloc).ok()?;
+    let mut coordinator = coordinator(alloc)?;
+    asked(&mut coordinator, &member).ok()?
+}
+
+/// What goes out for an errand that the member has done, and what comes of it. Nothing, where there is no memory for that text.
+fn exchanged(alloc: Global, errand: &Errand) -> Option<(Vec<u8>, Outcome)> {
+    let response: &[u8] = b"HTTP/1.1 200 OK\r\nContent-Length: 9\r\n\r\nCompleted";
+    let mut taken = Vec::with_capacity(alloc, 1024).ok()?;
+    let outcome = exchange(alloc, response, &mut taken, errand);
+    Some((taken, outcome))
+}
+
+/// The line ends of a request aside, whether these are the bytes of the first request above.
+fn is_first_request(taken: &[u8]) -> bool {
+    let mut left = taken;
+    for line in ASKED.lines().take(6) {
+        let Some(rest) = left.strip_prefix(line.as_bytes()) else {
+            return false;
+        };
+        let Some(rest) = rest.strip_prefix(b"\r\n") else {
+            return false;
+        };
+        left = rest;
+    }
+    left == b"\r\n".as_slice()
+}
+
+/// Whether an exchange went well.
+fn is_done(exchanged: &Option<(Vec<u8>, Outcome)>) -> bool {
+    match exchanged {
+        Some((taken, Outcome::Done)) => is_first_request(taken.as_slice()),
+        _ => false,
+    }
+}
+
+/// Whether an exchange is as one that was refused memory: nothing was sent, or all, and nothing came of it.
+fn is_refused(exchanged: &Option<(Vec<u8>, Outcome)>) -> bool {
+    match exchanged {
+        Some((taken, Outcome::Silent)) => taken.is_empty() || is_first_request(taken.as_slice()),
+        Some(_) => false,
+        None => true,
+    }
+}
+
+// Run with one growth refused in turn: the outcome is then Silent, and the same errand is carried well again.
+#[test]
+fn a_refused_growth_is_silent(rt: HostRuntime) {
+    if let Some(errand) = first_errand(rt.alloc()) {
+        let first = exchanged(rt.alloc(), &errand);
+        let second = exchanged(rt.alloc(), &errand);
+        errand.discard();
+        assert!(rt; is_done(&first) || is_refused(&first) && is_done(&second));
+    }
 }

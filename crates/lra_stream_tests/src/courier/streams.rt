@@ -230,10 +230,3 @@ fn a_callback_whose_writer_fails_is_silent(rt: HostRuntime) {
         assert_eq!(rt; writer.taken.len(), room);
     }
 }
-
-// With one growth refused the outcome is Silent, or that of the response.
-#[test]
-fn a_refused_growth_is_silent(rt: HostRuntime) {
-    let found = outcome(rt.alloc(), DONE, 4096, false);
-    assert!(rt; matches!(found, Outcome::Done | Outcome::Silent));
-}
