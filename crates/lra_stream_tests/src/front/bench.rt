@@ -250,7 +250,7 @@ pub(super) fn enrolled(alloc: Global) -> Option<Bench> {
 const START: &str = "POST /lra-coordinator HTTP/1.1\r\nHost: 127.0.0.1:8080\r\n\r\n";
 
 /// The reply to the first start, byte for byte.
-const STARTED: &str = "HTTP/1.1 201 Created\r
+pub(super) const STARTED: &str = "HTTP/1.1 201 Created\r
 Content-Type: application/json\r
 Content-Length: 84\r
 Location: http://127.0.0.1:8080/lra-coordinator/00000000-0000-8007-8000-000000000001\r

@@ -1,19 +1,94 @@
 //! What a stream comes to where a growth is refused: run with one allocation failing in turn.
 
-use super::bench::enrolled;
-use super::counter::Still;
+use super::bench::{STARTED, enrolled};
 use crate::pieces::{Pieces, Sink};
-use lra_front::{StreamEnd, serve_stream};
-use lra_wire::WireFault;
+use lra_front::{Clock, StreamEnd, serve_stream};
 use std::alloc::Global;
+use std::fmt::Write;
 use std::test::Fail;
 
 /// A start with a body, and a status read of what it starts.
 const STREAM: &str =
     "POST /lra-coordinator HTTP/1.1\r\nHost: h\r\nContent-Length: 11\r\n\r\n{\"limit\":5}GET /lra-coordinator/00000000-0000-8007-8000-000000000001 HTTP/1.1\r\nHost: h\r\n\r\n";
 
-/// What a writer takes of the stream, and how it ends: nothing where memory was refused before it began.
-fn replies(alloc: Global) -> Option<(Vec<u8>, StreamEnd)> {
+/// The other replies that there are to it, byte for byte: the action as it is; that there is none; and that memory was refused, in a
+/// request or in reading one.
+const FOUND: &str = "HTTP/1.1 200 OK\r
+Content-Type: application/json\r
+Content-Length: 102\r
+\r
+{\"lra\":\"http://127.0.0.1:8080/lra-coordinator/00000000-0000-8007-8000-000000000001\",\"status\":\"Active\"}";
+
+const MISSING: &str = "HTTP/1.1 404 Not Found\r
+Content-Type: application/json\r
+Content-Length: 24\r
+\r
+{\"error\":\"NoSuchAction\"}";
+
+const REFUSED: &str = "HTTP/1.1 503 Service Unavailable\r
+Content-Type: application/json\r
+Content-Length: 18\r
+\r
+{\"error\":\"Memory\"}";
+
+const CLOSED: &str = "HTTP/1.1 503 Service Unavailable\r
+Content-Type: application/json\r
+Content-Length: 18\r
+Connection: close\r
+\r
+{\"error\":\"Memory\"}";
+
+/// Each reply, by its code.
+const REPLIES: [(&str, &str); 5] = [
+    ("201", STARTED),
+    ("200", FOUND),
+    ("404", MISSING),
+    ("503", REFUSED),
+    ("503 close", CLOSED),
+];
+
+/// What the stream comes to: how many requests were read and entries are there; how it ended; and the replies.
+const WHOLE: &str = "2 requests, 2 entries, Done: 201 200";
+
+/// The same where a growth was refused: in making the routes or the inbox, in reading the first request, in its body or its command, in
+/// making its reply, in reading the second request, in what that asks, and in making its reply.
+const ENDS: &str = "\
+0 requests, 1 entries, Refused(Memory):
+0 requests, 1 entries, Refused(Memory): 503 close
+2 requests, 1 entries, Done: 503 404
+1 requests, 2 entries, WriteFault:
+1 requests, 2 entries, Refused(Memory): 201 503 close
+2 requests, 2 entries, Done: 201 503
+2 requests, 2 entries, WriteFault: 201";
+
+/// A clock that counts how often it is asked, which is once for each request that was read.
+#[derive(Drop)]
+struct Asked {
+    requests: u64,
+}
+
+impl Clock for Asked {
+    ghost use Rattle.std.specs.Prelude.{◌≡◌};
+
+    ghost tells = { λ _ moment _. moment ≡ 0 };
+
+    fn now(&mut self) -> u64 {
+        self.requests = self.requests.saturating_add(1);
+        0
+    }
+}
+
+/// What the stream comes to.
+#[derive(Drop)]
+struct Come {
+    taken: Vec<u8>,
+    requests: u64,
+    entries: usize,
+    end: StreamEnd,
+}
+
+/// What the stream comes to: nothing where memory was refused before it began.
+fn serve_once(alloc: Global) -> Option<Come> {
     let reader = Pieces {
         rest: STREAM.as_bytes(),
         size: 4096,
@@ -25,53 +100,87 @@ fn replies(alloc: Global) -> Option<(Vec<u8>, StreamEnd)> {
         room: 4096,
     };
     let mut bench = enrolled(alloc)?;
-    let end = serve_stream(
-        alloc,
-        reader,
-        &mut sink,
-        &mut bench,
-        &mut Still { moment: 0 },
-    );
-    Some((sink.taken, end))
+    let mut clock = Asked { requests: 0 };
+    let end = serve_stream(alloc, reader, &mut sink, &mut bench, &mut clock);
+    let entries = bench.into_coordinator().entries().len();
+    Some(Come {
+        taken: sink.taken,
+        requests: clock.requests,
+        entries,
+        end,
+    })
 }
 
-/// The codes of the replies, and whether one says that the stream is closed, as `201 503 close`.
-fn codes(alloc: Global, taken: &[u8]) -> Option<String> {
-    let mut codes = String::new(alloc);
-    for line in str::from_utf8(taken).ok()?.split("\r\n") {
-        let word = if line == "Connection: close" {
-            "close "
-        } else {
-            match line.split_once("HTTP/1.1 ") {
-                Some((_, status)) => status.get(..4)?,
-                None => "",
-            }
-        };
-        codes.push_str(word).ok()?;
+/// The code of the reply that a text begins with, and what comes after it.
+fn first_reply(text: &[u8]) -> Option<(&'static str, &[u8])> {
+    for (code, reply) in REPLIES {
+        if let Some(rest) = text.strip_prefix(reply.as_bytes()) {
+            return Some((code, rest));
+        }
     }
-    Some(codes)
+    None
 }
 
-/// The codes that a stream may have that ends so, where one growth at most was refused.
-fn wanted(end: StreamEnd) -> &'static [&'static str] {
-    match end {
-        StreamEnd::Done => &["201 200 ", "503 404 ", "201 503 "],
-        // In making the routes or the inbox, or in reading.
-        StreamEnd::Refused(WireFault::Memory) => &["", "503 close ", "201 503 close "],
-        StreamEnd::WriteFault => &["", "201 "],
-        StreamEnd::Refused(_) => &[],
+/// Takes down what a stream came to.
+fn put(come: &Come, line: &mut String) -> Result<(), Fail> {
+    let (requests, entries, end) = (come.requests, come.entries, come.end);
+    write!(line, "{requests} requests, {entries} entries, {end:?}:")?;
+    let mut left = come.taken.as_slice();
+    for _ in 0..3 {
+        if let Some((code, rest)) = first_reply(left) {
+            write!(line, " {code}")?;
+            left = rest;
+        }
+    }
+    if !left.is_empty() {
+        write!(line, " and more")?;
+    }
+    Ok(())
+}
+
+/// What the stream comes to, taken down: nothing where memory was refused before it began.
+fn told(alloc: Global) -> Result<Option<String>, Fail> {
+    let Ok(mut line) = String::with_capacity(alloc, 128) else {
+        return Ok(None);
+    };
+    match serve_once(alloc) {
+        Some(come) => {
+            put(&come, &mut line)?;
+            Ok(Some(line))
+        }
+        None => Ok(None),
     }
 }
 
+/// Whether the stream came to what it does where nothing is refused.
+fn is_whole(told: &Option<String>) -> bool {
+    match told {
+        Some(line) => line.as_str() == WHOLE,
+        None => false,
+    }
+}
+
+/// Whether the stream came to something that it may come to where one growth is refused.
+fn is_refused(told: &Option<String>) -> bool {
+    let Some(line) = told else {
+        return true;
+    };
+    for end in ENDS.lines() {
+        if line.as_str() == end {
+            return true;
+        }
+    }
+    false
+}
+
+// With one growth refused in turn each end is one of these, and the next stream is answered whole.
 #[test]
 fn a_refused_growth_is_answered_where_it_can_be(rt: HostRuntime) -> Result<(), Fail> {
-    let Some((taken, end)) = replies(rt.alloc()) else {
-        return Ok(());
-    };
-    let told = match codes(rt.alloc(), taken.as_slice()) {
-        Some(told) => told,
-        None => codes(rt.alloc(), taken.as_slice()).ok_or("no codes")?,
-    };
-    assert!(rt; wanted(end).contains(&told.as_str()), "{told}, {end:?}");
+    let first = told(rt.alloc())?;
+    let again = told(rt.alloc())?;
+    assert!(rt;
+        is_whole(&first) || is_refused(&first) && is_whole(&again),
+        "{first:?}"
+    );
     Ok(())
 }
