@@ -7,10 +7,12 @@ import time
 import journal
 from asks import recorded
 from participant import Participant
-from service import HOST, check, equal, number_of
+from service import HOST, PATIENCE, check, equal, id_of, number_of, received
 
 # How many seconds a client has between requests, and for one message; and a member to take a connection, and in all.
 BETWEEN, MESSAGE, CONNECT, WHOLE = 30, 10, 5, 30
+# How many requests a client sends that takes no replies: as many as a connection may have.
+REQUESTS = 1000
 # How many seconds late an end may be noticed on a busy machine.
 LATE = 5
 
@@ -27,17 +29,27 @@ def serves(service):
     check("another client waits", time.monotonic() - begun < 2)
 
 
-def seconds_until_closed(service, stream, each_second, most):
-    """How long it takes until the service closes a connection, while others are served."""
+def seconds_until(ended, service, most):
+    """How long it takes until a connection has ended, while others are served: `ended` waits up to a second for it."""
     begun = time.monotonic()
     while time.monotonic() - begun < most:
-        each_second()
         serves(service)
+        if ended():
+            return time.monotonic() - begun
+    raise AssertionError(f"the connection is still there after {most} s")
+
+
+def seconds_until_closed(service, stream, each_second, most):
+    """How long it takes until the service closes a connection on which nothing comes, while others are served."""
+
+    def ended():
+        each_second()
         ready, _, _ = select.select([stream], [], [], 1)
         if ready:
             equal("what comes", next_piece(stream), b"")
-            return time.monotonic() - begun
-    raise AssertionError(f"the connection is still there after {most} s")
+        return ready
+
+    return seconds_until(ended, service, most)
 
 
 def next_piece(stream):
@@ -77,6 +89,51 @@ def test_a_client_that_sends_a_body_slowly_is_left_after_ten_seconds(setting):
         stream.sendall(b"POST /lra-coordinator HTTP/1.1\r\nHost: h\r\nContent-Length: 1000\r\n\r\n")
         seconds = seconds_until_closed(service, stream, lambda: stream.send(b" "), MESSAGE + 2 * LATE)
         check_about("it was left", seconds, MESSAGE)
+
+
+def narrow(service):
+    """A connection whose buffers hold little of what the service sends."""
+    stream = socket.socket()
+    stream.settimeout(PATIENCE)
+    stream.setsockopt(socket.SOL_SOCKET, socket.SO_RCVBUF, 4096)
+    stream.setsockopt(socket.SOL_SOCKET, socket.SO_SNDBUF, 1 << 20)
+    stream.setsockopt(socket.IPPROTO_TCP, socket.TCP_MAXSEG, 536)
+    stream.connect((HOST, service.port))
+    return stream
+
+
+def left_with_its_replies(setting, each_second):
+    """A client that asks much and takes little: its connection ends, and what it can still take is the beginning of its replies."""
+    with setting.serve(2) as service, narrow(service) as stream:
+        with service.client(keep=False) as client:
+            request = f"GET /lra-coordinator/{id_of(client.start())} HTTP/1.1\r\nHost: h\r\n\r\n".encode()
+        with service.connect() as other:
+            other.sendall(request)
+            replies = next_piece(other) * REQUESTS
+        check("a reply", replies.startswith(b"HTTP/1.1 200 OK\r\n"))
+        stream.sendall(request * REQUESTS)
+        watched = select.poll()
+        watched.register(stream, select.POLLRDHUP)
+        taken = b""
+
+        def ended():
+            nonlocal taken
+            taken += each_second(stream)
+            return watched.poll(1000)
+
+        seconds = seconds_until(ended, service, MESSAGE + 2 * LATE)
+        check_about("it was left", seconds, MESSAGE)
+        taken += received(stream)[0]
+        check(f"{len(taken)} bytes are no front of the replies", len(taken) < len(replies) and replies.startswith(taken))
+        return f"{len(taken)} of {len(replies)} bytes taken"
+
+
+def test_a_client_that_takes_no_reply_is_left_after_ten_seconds(setting):
+    return left_with_its_replies(setting, lambda stream: b"")
+
+
+def test_a_client_that_takes_a_byte_a_second_is_left_after_ten_seconds(setting):
+    return left_with_its_replies(setting, lambda stream: stream.recv(1))
 
 
 def silent_after(setting, addresses, wanted):
