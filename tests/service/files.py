@@ -13,6 +13,8 @@ SOUND = b"lra-journal 2 7\n1 0 enrol\n1 5 start 1 * 0\n1 6 start 2 1 0\n1 7 clos
 FIRST = "/lra-coordinator/00000000-0000-8007-8000-000000000001"
 UNSOUND = SOUND + b"1 9 end 1 Closed\n"
 VERDICT = "unsound line 7 unsettled\n"
+# How many bytes a file may have, and how many clerks a journal.
+LONGEST, CLERKS = 2**30, 10**6
 
 
 def stopped(client, method, path, **keys):
@@ -118,6 +120,56 @@ def test_an_unsound_file_with_a_torn_line_is_told_and_unchanged(setting):
 
 def test_a_file_without_a_whole_line_is_unsound(setting):
     refused_unchanged(setting, b"lra-journal 2 7", "unsound line 1 header\n")
+
+
+def told_and_as_it_was(setting, line, *limits):
+    """A service that begins on the file, under such limits of the shell, tells a fault and doesn't write to the file."""
+
+    def about():
+        it = os.stat(setting.journal)
+        return it.st_size, it.st_blocks, it.st_mtime_ns
+
+    before = about()
+    address = f"{HOST}:{free_port()}"
+    words = ["-c", "".join(f"ulimit {it}; " for it in limits) + 'exec "$@"', "sh", setting.program, "serve", address, setting.journal, "2"]
+    equal("the program", run("sh", *words), (2, "", line.replace("ADDRESS", address) + "\n"))
+    equal("the file", about(), before)
+
+
+def lengthen(setting, length):
+    """A sound journal with a hole behind it, which takes no room on a disk."""
+    journal.write(setting.journal, SOUND)
+    os.truncate(setting.journal, length)
+
+
+def test_a_file_that_is_too_long_is_told_and_as_it_was(setting):
+    lengthen(setting, LONGEST + 1)
+    told_and_as_it_was(setting, "lra: input too long")
+
+
+def test_a_file_of_the_longest_length_is_gone_on_from(setting):
+    lengthen(setting, LONGEST)
+    with setting.serve() as service, service.client() as client:
+        equal("the action", client.status(FIRST), "Active")
+        most = resident(service)
+    check("the whole lines stay", journal.read(setting.journal).startswith(SOUND))
+    return f"{most / 2**30:.2f} GiB of memory"
+
+
+def resident(service):
+    """The most memory that a service had."""
+    with open(f"/proc/{service.process.pid}/status", encoding="ascii") as it:
+        return next(int(line.split()[1]) for line in it if line.startswith("VmHWM:")) * 1024
+
+
+def test_a_file_that_memory_does_not_hold_is_told_and_as_it_was(setting):
+    lengthen(setting, LONGEST)
+    told_and_as_it_was(setting, "lra: out of memory", f"-v {2**19}")
+
+
+def test_a_journal_without_room_is_told_and_as_it_was(setting):
+    journal.write(setting.journal, b"lra-journal 2 7\n" + b"".join(b"%d 0 enrol\n" % clerk for clerk in range(1, CLERKS + 1)))
+    told_and_as_it_was(setting, "lra: cannot serve ADDRESS")
 
 
 def test_a_second_service_on_the_same_file_is_refused(setting):
