@@ -1,0 +1,81 @@
+"""Watches a program at each call of the system that it makes: by ptrace, on Linux and x86-64."""
+import ctypes
+import os
+import signal
+import subprocess
+
+# Of ptrace: requests, what is watched, and the stop at a call of the system.
+TRACEME, POKE_USER, SYSCALL, SETOPTIONS, GET_SYSCALL_INFO = 0, 6, 24, 0x4200, 0x420E
+OPTIONS = 0x1 | 0x8 | 0x100000  # stops are marked, threads are watched too, and the program ends with its watcher
+AT_CALL = signal.SIGTRAP | 0x80
+ENTRY, EXIT = 1, 2
+WALL = 0x40000000
+# Where the register of a call's third argument stands.
+THIRD = 12 * 8
+
+libc = ctypes.CDLL(None, use_errno=True)
+libc.ptrace.argtypes = [ctypes.c_long, ctypes.c_long, ctypes.c_void_p, ctypes.c_void_p]
+libc.ptrace.restype = ctypes.c_long
+
+
+class Refused(Exception):
+    """The system lets no program be watched."""
+
+
+class Info(ctypes.Structure):
+    """What the system tells of a call: `words` begins with its number and its arguments, or with its result."""
+
+    _fields_ = [
+        ("op", ctypes.c_uint8),
+        ("pad", ctypes.c_uint8 * 3),
+        ("arch", ctypes.c_uint32),
+        ("place", ctypes.c_uint64),
+        ("stack", ctypes.c_uint64),
+        ("words", ctypes.c_int64 * 8),
+    ]
+
+
+def begin(words, **streams):
+    """Starts a program, watched, and stopped before its first step."""
+    process = subprocess.Popen(words, preexec_fn=lambda: libc.ptrace(TRACEME, 0, None, None), **streams)
+    _, status = os.waitpid(process.pid, 0)
+    if not os.WIFSTOPPED(status) or libc.ptrace(SETOPTIONS, process.pid, None, OPTIONS) < 0:
+        process.kill()
+        raise Refused
+    return process
+
+
+def follow(process, enters, leaves):
+    """Lets a program go on from call to call until it has ended, and answers the status with which it ended, as `waitpid` has it. Each
+    call's thread, number, first and third argument are told to `enters`, and its thread and result to `leaves`."""
+    signal_number = 0
+    thread = process.pid
+    while True:
+        libc.ptrace(SYSCALL, thread, None, signal_number)
+        thread, status = os.waitpid(-1, WALL)
+        signal_number = 0
+        if os.WIFEXITED(status) or os.WIFSIGNALED(status):
+            if thread == process.pid:
+                process.returncode = os.waitstatus_to_exitcode(status)
+                return process.returncode
+            continue
+        stopped = os.WSTOPSIG(status)
+        if stopped == AT_CALL:
+            look(thread, enters, leaves)
+        elif stopped not in (signal.SIGTRAP, signal.SIGSTOP):
+            signal_number = stopped
+
+
+def look(thread, enters, leaves):
+    """Looks at the call at which a thread has stopped."""
+    info = Info()
+    libc.ptrace(GET_SYSCALL_INFO, thread, ctypes.sizeof(info), ctypes.addressof(info))
+    if info.op == ENTRY:
+        enters(thread, info.words[0], info.words[1], info.words[3])
+    elif info.op == EXIT:
+        leaves(thread, info.words[0])
+
+
+def move_one(thread):
+    """Has the call with which a thread begins, a read or a write, ask for one byte."""
+    libc.ptrace(POKE_USER, thread, THIRD, 1)
