@@ -10,8 +10,8 @@ OPTIONS = 0x1 | 0x8 | 0x100000  # stops are marked, threads are watched too, and
 AT_CALL = signal.SIGTRAP | 0x80
 ENTRY, EXIT = 1, 2
 WALL = 0x40000000
-# Where the register of a call's third argument stands.
-THIRD = 12 * 8
+# Where the registers stand of a call's result, its third argument and its number.
+RESULT, THIRD, NUMBER = 10 * 8, 12 * 8, 15 * 8
 
 libc = ctypes.CDLL(None, use_errno=True)
 libc.ptrace.argtypes = [ctypes.c_long, ctypes.c_long, ctypes.c_void_p, ctypes.c_void_p]
@@ -76,6 +76,24 @@ def look(thread, enters, leaves):
         leaves(thread, info.words[0])
 
 
-def move_one(thread):
-    """Has the call with which a thread begins, a read or a write, ask for one byte."""
-    libc.ptrace(POKE_USER, thread, THIRD, 1)
+def shorten(thread, length):
+    """Has the call with which a thread begins, a read or a write, move so many bytes."""
+    libc.ptrace(POKE_USER, thread, THIRD, length)
+
+
+def withhold(thread):
+    """Has the call with which a thread begins not be made; `answer` gives its result."""
+    libc.ptrace(POKE_USER, thread, NUMBER, ctypes.c_void_p(-1))
+
+
+def answer(thread, result):
+    """Has the call that ends have this result: of one that fails, less than 0."""
+    libc.ptrace(POKE_USER, thread, RESULT, ctypes.c_void_p(result))
+
+
+def file_of(thread, number):
+    """The name of the file that a thread has under a number, if any."""
+    try:
+        return os.readlink(f"/proc/{thread}/fd/{number}")
+    except OSError:
+        return None
