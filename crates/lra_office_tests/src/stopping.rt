@@ -6,7 +6,7 @@ use crate::making::base;
 use lra_auditor::{Verdict, audit};
 use lra_core::{Errand, Instance, Limits, Refusal, Told};
 use lra_journal::whole;
-use lra_model::{Ending, Outcome, Rule, Uris, suits};
+use lra_model::{ActionStatus, Ending, Outcome, Rule, Uris, suits};
 use lra_office::{Clerk, Desk, Office, OfficeRefusal, ReopenFault, StartFault};
 use std::alloc::Global;
 use std::io::{self, Error, ErrorKind, Write};
@@ -69,34 +69,80 @@ fn participant(alloc: Global, name: &str, has_status: bool) -> Result<Uris, Fail
     })
 }
 
-/// What came of commands: how many were told something, whether one was stopped, whether one was told something after that, and
-/// whether a status was told at the end.
-#[derive(Clone, Copy, PartialEq, Eq, Debug)]
-struct Tally {
-    told: u32,
-    stopped: bool,
-    went_on: bool,
-    reads: bool,
+/// What came of each command after the enrolment, and of a status at the end, by a letter.
+///
+/// `t` where something was told, `S` where it was refused since the writer has failed, `x` where it was refused else, and `-` where nothing
+/// was to be done; of the status `a` for Active, `g` for Closing and `d` for Closed.
+#[derive(Clone, Copy, PartialEq, Eq)]
+struct Answers {
+    letters: [u8; 10],
+    count: usize,
 }
 
-impl Tally {
-    fn note(&mut self, was_told: bool, fault: Option<OfficeRefusal>) {
-        if was_told {
-            self.told = self.told.saturating_add(1);
-            self.went_on = self.went_on || self.stopped;
+impl Answers {
+    /// Whether they are what is to come of the commands where so many were told something.
+    fn are_of(&self, told: usize) -> bool {
+        match ANSWERS.get(told) {
+            Some(letters) => letters.as_bytes() == self.letters.as_slice(),
+            None => false,
         }
-        if fault == Some(OfficeRefusal::Refused(Refusal::Stopped)) {
-            self.stopped = true;
+    }
+
+    fn new() -> Answers {
+        Answers {
+            letters: [b'-'; 10],
+            count: 0,
+        }
+    }
+
+    fn note(&mut self, letter: u8) {
+        if let Some(place) = self.letters.get_mut(self.count) {
+            *place = letter;
+            self.count = self.count.saturating_add(1);
         }
     }
 
     fn note_told(&mut self, answer: Result<Told, OfficeRefusal>) {
         match answer {
-            Ok(_) => self.note(true, None),
-            Err(fault) => self.note(false, Some(fault)),
+            Ok(Told::ActionIs(status)) => self.note(status_letter(status)),
+            Ok(_) => self.note(b't'),
+            Err(fault) => self.note(refusal_letter(fault)),
         }
     }
 }
+
+fn status_letter(status: ActionStatus) -> u8 {
+    match status {
+        ActionStatus::Active => b'a',
+        ActionStatus::Closing => b'g',
+        ActionStatus::Closed => b'd',
+        _ => b'?',
+    }
+}
+
+fn refusal_letter(fault: OfficeRefusal) -> u8 {
+    if fault == OfficeRefusal::Refused(Refusal::Stopped) {
+        b'S'
+    } else {
+        b'x'
+    }
+}
+
+/// What is to come of the commands, by how many of all ten were told something, the enrolment among them: the one whose text doesn't fit
+/// is stopped, and so is each later one that would write. What is refused anyhow, or writes nothing, is answered as ever.
+const ANSWERS: [&str; 11] = [
+    "----------",
+    "Sxxx----xx",
+    "tSSS----xa",
+    "ttSS----xa",
+    "tttS----xa",
+    "ttttSS--xg",
+    "tttttS-SSg",
+    "ttttttSSSg",
+    "tttttttSSg",
+    "ttttttttSg",
+    "tttttttttd",
+];
 
 /// Asks for something that is due.
 fn ask<R: Wait>(
@@ -104,18 +150,18 @@ fn ask<R: Wait>(
     office: &Office<Desk<Faulty>>,
     clerk: &mut Clerk<Desk<Faulty>>,
     moment: u64,
-    tally: &mut Tally,
+    answers: &mut Answers,
 ) -> Option<Errand>
     requires { IsClerkOf office.now.lock clerk.old }
     ensures { IsClerkOf office.now.lock clerk.new }
 {
     match office.next_ask(rt, clerk, moment) {
         Ok(errand) => {
-            tally.note(errand.is_some(), None);
+            answers.note(if errand.is_some() { b't' } else { b'-' });
             errand
         }
         Err(fault) => {
-            tally.note(false, Some(fault));
+            answers.note(refusal_letter(fault));
             None
         }
     }
@@ -129,12 +175,13 @@ fn record<R: Wait>(
     moment: u64,
     errand: Option<Errand>,
     outcome: Outcome,
-    tally: &mut Tally,
+    answers: &mut Answers,
 )
     requires { IsClerkOf office.now.lock clerk.old }
     ensures { IsClerkOf office.now.lock clerk.new }
 {
     let Some(errand) = errand else {
+        answers.note(b'-');
         return;
     };
     if !suits(errand.kind(), outcome) {
@@ -142,62 +189,42 @@ fn record<R: Wait>(
         return;
     }
     match office.record(rt, clerk, moment, errand, outcome) {
-        Ok(_) => tally.note(true, None),
+        Ok(_) => answers.note(b't'),
         Err((errand, fault)) => {
             errand.discard();
-            tally.note(false, Some(fault));
+            answers.note(refusal_letter(fault));
         }
     }
 }
 
-/// The commands of the journal, but for the first.
+/// The commands of the journal, but for the first, and then a status.
 fn give_all<R: Wait>(
     rt: &R,
     office: &Office<Desk<Faulty>>,
     clerk: &mut Clerk<Desk<Faulty>>,
     first: &Uris,
     second: &Uris,
-) -> Tally
+) -> Answers
     requires { IsClerkOf office.now.lock clerk.old }
     ensures { IsClerkOf office.now.lock clerk.new }
 {
-    let mut tally = Tally {
-        told: 1,
-        stopped: false,
-        went_on: false,
-        reads: false,
-    };
-    tally.note_told(office.start(rt, clerk, 10, None, 0));
-    tally.note_told(office.join(rt, clerk, 11, 1, first));
-    tally.note_told(office.join(rt, clerk, 12, 1, second));
-    tally.note_told(office.close(rt, clerk, 20, 1));
-    let one = ask(rt, office, clerk, 21, &mut tally);
-    let two = ask(rt, office, clerk, 22, &mut tally);
-    record(rt, office, clerk, 23, two, Outcome::Done, &mut tally);
-    record(rt, office, clerk, 24, one, Outcome::Accepted, &mut tally);
-    tally.note_told(office.report(rt, clerk, 30, 1, Ending::Completed));
-    tally.reads = still_reads(rt, office, clerk, tally.told);
-    tally
+    let mut answers = Answers::new();
+    answers.note_told(office.start(rt, clerk, 10, None, 0));
+    answers.note_told(office.join(rt, clerk, 11, 1, first));
+    answers.note_told(office.join(rt, clerk, 12, 1, second));
+    answers.note_told(office.close(rt, clerk, 20, 1));
+    let one = ask(rt, office, clerk, 21, &mut answers);
+    let two = ask(rt, office, clerk, 22, &mut answers);
+    record(rt, office, clerk, 23, two, Outcome::Done, &mut answers);
+    record(rt, office, clerk, 24, one, Outcome::Accepted, &mut answers);
+    answers.note_told(office.report(rt, clerk, 30, 1, Ending::Completed));
+    answers.note_told(office.status(rt, clerk, 1));
+    answers
 }
 
-/// Whether the status of the first action is told where it was started, by the second command, and else that there is none.
-fn still_reads<R: Wait>(
-    rt: &R,
-    office: &Office<Desk<Faulty>>,
-    clerk: &mut Clerk<Desk<Faulty>>,
-    told: u32,
-) -> bool
-    requires { IsClerkOf office.now.lock clerk.old }
-    ensures { IsClerkOf office.now.lock clerk.new }
-{
-    match office.status(rt, clerk, 1) {
-        Ok(_) => told >= 2,
-        Err(fault) => told < 2 && fault == OfficeRefusal::Refused(Refusal::NoSuchAction),
-    }
-}
-
-/// What is left of the commands in an office: what came of them, and the writer. Where the clerk wasn't enrolled, there is none.
-fn run<R: Wait>(rt: &R, alloc: Global, writer: Faulty) -> Result<Option<(Tally, Faulty)>, Fail> {
+/// What is left of the commands in an office: what came of them, and the writer. Where the clerk's enrolment was stopped, there is
+/// none.
+fn run<R: Wait>(rt: &R, alloc: Global, writer: Faulty) -> Result<Option<(Answers, Faulty)>, Fail> {
     let first = participant(alloc, "p", true)?;
     let second = participant(alloc, "q", false)?;
     let instance = Instance::new(7).ok_or("no instance")?;
@@ -209,23 +236,17 @@ fn run<R: Wait>(rt: &R, alloc: Global, writer: Faulty) -> Result<Option<(Tally, 
         writer,
     ) {
         Ok(made) => made,
-        Err((StartFault::Stopped, Some(writer))) => {
-            let tally = Tally {
-                told: 0,
-                stopped: true,
-                went_on: false,
-                reads: true,
-            };
-            return Ok(Some((tally, writer)));
-        }
+        Err((StartFault::Stopped, Some(writer))) => return Ok(Some((Answers::new(), writer))),
         Err(_) => return Err("no memory")?,
     };
-    let Ok(mut clerk) = office.clerk(rt, pass, 0) else {
-        return Ok(None);
+    let mut clerk = match office.clerk(rt, pass, 0) {
+        Ok(clerk) => clerk,
+        Err((_, OfficeRefusal::Refused(Refusal::Stopped))) => return Ok(None),
+        Err(_) => return Err("a clerk is enrolled, or stopped")?,
     };
-    let tally = give_all(rt, &office, &mut clerk, &first, &second);
+    let answers = give_all(rt, &office, &mut clerk, &first, &second);
     match office.shut(clerk) {
-        Ok((_, scribe)) => Ok(Some((tally, scribe.into_writer()))),
+        Ok((_, scribe)) => Ok(Some((answers, scribe.into_writer()))),
         Err(_) => Err("the lock is free")?,
     }
 }
@@ -242,40 +263,37 @@ fn count_lines(bytes: &[u8]) -> u32 {
 }
 
 /// How many commands have all their lines among so many: the first line is the header, and the last command has two.
-fn fitting(lines: u32) -> u32 {
+fn fitting(lines: u32) -> usize {
     if lines == 12 {
         return 10;
     }
-    lines.saturating_sub(1).min(9)
+    lines.saturating_sub(1).min(9) as usize
 }
 
-/// Whether a writer with so much room has taken just so many bytes, each command that fits was told something, and no other was.
+/// Whether a writer with so much room has taken just so many bytes, and the commands were answered as where that many fit.
 fn stops_in_time<R: Wait>(rt: &R, alloc: Global, room: usize) -> Result<bool, Fail> {
     let (front, _) = JOURNAL.as_bytes().split_at(room.min(JOURNAL.len()));
-    let told = fitting(count_lines(front));
+    let lines = count_lines(front);
     match run(rt, alloc, writer_with(alloc, room, 0))? {
-        Some((tally, writer)) => Ok(
-            writer.taken.as_slice() == front
-                && tally.told == told
-                && tally.stopped == (room < JOURNAL.len())
-                && tally.reads
-                && !tally.went_on,
-        ),
-        None => Ok(told == 0),
+        Some((answers, writer)) => {
+            Ok(writer.taken.as_slice() == front && answers.are_of(fitting(lines)))
+        }
+        None => Ok(lines == 1),
     }
 }
 
 /// Whether a writer whose one call goes wrong isn't called again, and has taken what was written before.
 fn is_left_alone<R: Wait>(rt: &R, alloc: Global, bad_call: u32) -> Result<bool, Fail> {
     match run(rt, alloc, writer_with(alloc, JOURNAL.len(), bad_call))? {
-        Some((tally, writer)) => Ok(
-            writer.calls == bad_call
-                && tally.stopped
-                && tally.reads
-                && !tally.went_on
-                && JOURNAL.as_bytes().starts_with(writer.taken.as_slice())
-                && count_lines(writer.taken.as_slice()).saturating_add(1) == bad_call,
-        ),
+        Some((answers, writer)) => {
+            let lines = count_lines(writer.taken.as_slice());
+            Ok(
+                writer.calls == bad_call
+                    && JOURNAL.as_bytes().starts_with(writer.taken.as_slice())
+                    && lines.saturating_add(1) == bad_call
+                    && answers.are_of(fitting(lines)),
+            )
+        }
         None => Ok(bad_call == 2),
     }
 }
