@@ -6,6 +6,8 @@ mod clerks;
 #[cfg(test)]
 mod connections;
 #[cfg(test)]
+mod keeping;
+#[cfg(test)]
 mod making;
 #[cfg(test)]
 mod stopping;
