@@ -57,20 +57,31 @@ impl Clock for Still {
     }
 }
 
-/// A gate that holds every errand back.
+/// A gate that holds each errand back so often, and ends its worker once something was answered. It counts how often it was asked.
 #[derive(Drop)]
-struct Shut;
+struct Holding {
+    holds: u32,
+    asked: u32,
+    has_answered: bool,
+}
 
-impl Gate for Shut {
+impl Gate for Holding {
     fn more(&mut self) -> bool {
-        true
+        !self.has_answered
     }
 
     fn hold(&mut self, _ask: u64) -> Go {
-        Go::NotYet
+        self.asked = self.asked.saturating_add(1);
+        if self.asked > self.holds {
+            Go::Carry
+        } else {
+            Go::NotYet
+        }
     }
 
-    fn answered(&mut self, _ask: u64) {}
+    fn answered(&mut self, _ask: u64) {
+        self.has_answered = true;
+    }
 }
 
 /// A gate that lets one errand be carried, and holds the first ask's back until the second was answered.
@@ -132,32 +143,56 @@ fn closes<V: Serving, R: Wait>(
     Ok(done)
 }
 
-/// How a worker ends that is held back.
+/// How a worker ends whose gate holds its errand back so often, and how often the gate was asked.
 fn held_at<V: Serving, R: Wait>(
     rt: &R,
     alloc: Global,
     office: &Office<V>,
     pass: Pass<V>,
-) -> Result<(Clerk<V>, bool), Fail>
+    holds: u32,
+) -> Result<(Clerk<V>, WorkerEnd, u32), Fail>
     requires lock { pass_id pass ≡ lock_id office.now.lock }
     requires newcomer { (pass_view pass).number ≡ 0 }
     ensures { IfOk result (λ r. IsClerkOf office.now.lock r.0) }
 {
     let mut clerk = enrolled(rt, office, pass)?;
-    let closed = closes(rt, alloc, office, &mut clerk, 1)?;
-    let (clerk, end) = run_worker(rt, office, clerk, &mut Prompt, &mut Shut, &mut Still);
-    Ok((clerk, closed && end == WorkerEnd::Held))
+    if !closes(rt, alloc, office, &mut clerk, 1)? {
+        return Err("an action can be closed")?;
+    }
+    let mut gate = Holding {
+        holds,
+        asked: 0,
+        has_answered: false,
+    };
+    let (clerk, end) = run_worker(rt, office, clerk, &mut Prompt, &mut gate, &mut Still);
+    Ok((clerk, end, gate.asked))
 }
+
+/// The same at a new office, with its journal.
+fn held<R: Wait>(rt: &R, alloc: Global, holds: u32) -> Result<(Vec<u8>, WorkerEnd, u32), Fail> {
+    let (office, pass) = made(alloc, Vec::new(alloc))?;
+    let (clerk, end, asked) = held_at(rt, alloc, &office, pass, holds)?;
+    Ok((shut(office, clerk)?, end, asked))
+}
+
+/// The journal of an errand that is held back, and what is added where it is answered.
+const HELD: &str =
+    "lra-journal 2 7\n1 0 enrol\n1 1 start 1 * 0\n1 2 join 1 1 http://p1.test/u http://p1.test/c * * *\n1 3 close 1 client\n1 9 ask 1 1 complete\n";
+
+const ANSWERED: &str = "1 9 reply 1 done\n1 9 end 1 Closed\n";
 
 #[test]
 fn a_worker_that_is_held_back_ends_and_leaves_its_ask(rt: HostRuntime) -> Result<(), Fail> {
-    let (office, pass) = made(rt.alloc(), Vec::new(rt.alloc()))?;
-    let (clerk, is_held) = held_at(&rt, rt.alloc(), &office, pass)?;
-    let journal = shut(office, clerk)?;
-    assert!(rt; is_held);
-    let wanted =
-        "lra-journal 2 7\n1 0 enrol\n1 1 start 1 * 0\n1 2 join 1 1 http://p1.test/u http://p1.test/c * * *\n1 3 close 1 client\n1 9 ask 1 1 complete\n";
-    assert_eq!(rt; from_utf8(&journal)?, wanted);
+    for (holds, wanted, rest) in [
+        (999, WorkerEnd::Ended, ANSWERED),
+        (1_000, WorkerEnd::Held, ""),
+        (u32::MAX, WorkerEnd::Held, ""),
+    ] {
+        let (journal, end, asked) = held(&rt, rt.alloc(), holds)?;
+        assert_eq!(rt; end, wanted);
+        assert_eq!(rt; asked, 1_000);
+        assert_eq!(rt; from_utf8(&journal)?.strip_prefix(HELD), Some(rest));
+    }
     Ok(())
 }
 
