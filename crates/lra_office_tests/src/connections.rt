@@ -20,30 +20,57 @@ use std::sync::{Mutex, Wait};
 use std::test::Fail;
 use std::thread::{Threads, join};
 
-const START: &[u8] = b"POST /lra-coordinator HTTP/1.1\r\nHost: 127.0.0.1:8080\r\n\r\n";
+/// A start; the close of what was started; a join after that; and an action that isn't there.
+const REQUESTS: &str = "POST /lra-coordinator HTTP/1.1\r
+Host: 127.0.0.1:8080\r
+\r
+PUT /lra-coordinator/00000000-0000-8007-8000-000000000001/close HTTP/1.1\r
+Host: 127.0.0.1:8080\r
+Content-Length: 0\r
+\r
+PUT /lra-coordinator/00000000-0000-8007-8000-000000000001 HTTP/1.1\r
+Host: 127.0.0.1:8080\r
+Content-Length: 32\r
+\r
+{\"compensate\":\"http://p.test/u\"}GET /lra-coordinator/00000000-0000-8007-8000-000000000002 HTTP/1.1\r
+Host: 127.0.0.1:8080\r
+\r
+";
 
-/// The reply to the first start, byte for byte.
-const STARTED: &str = "HTTP/1.1 201 Created\r
+/// The replies to them, byte for byte.
+const REPLIES: &str = "HTTP/1.1 201 Created\r
 Content-Type: application/json\r
 Content-Length: 84\r
 Location: http://127.0.0.1:8080/lra-coordinator/00000000-0000-8007-8000-000000000001\r
 Long-Running-Action: http://127.0.0.1:8080/lra-coordinator/00000000-0000-8007-8000-000000000001\r
 \r
-{\"lra\":\"http://127.0.0.1:8080/lra-coordinator/00000000-0000-8007-8000-000000000001\"}";
+{\"lra\":\"http://127.0.0.1:8080/lra-coordinator/00000000-0000-8007-8000-000000000001\"}HTTP/1.1 200 OK\r
+Content-Type: application/json\r
+Content-Length: 19\r
+\r
+{\"status\":\"Closed\"}HTTP/1.1 412 Precondition Failed\r
+Content-Type: application/json\r
+Content-Length: 39\r
+\r
+{\"error\":\"NotActive\",\"status\":\"Closed\"}HTTP/1.1 404 Not Found\r
+Content-Type: application/json\r
+Content-Length: 24\r
+\r
+{\"error\":\"NoSuchAction\"}";
 
-/// Starts an action over one connection, and gives as many bytes as the reply is to have. Then it opens one more.
+/// Sends the requests over one connection, and gives as many bytes as the replies are to have. Then it opens one more.
 fn visit<R>(rt: &R, alloc: Global, address: SocketAddr) -> io::Result<Vec<u8>>
 where
     R: Net<Listener = TcpListener, Stream = TcpStream>,
 {
-    let mut reply = Vec::new(alloc);
-    reply.resize(STARTED.len(), 0)?;
+    let mut replies = Vec::new(alloc);
+    replies.resize(REPLIES.len(), 0)?;
     let mut stream = TcpStream::connect(rt, address)?;
-    stream.write_all(START)?;
-    stream.read_exact(reply.as_mut_slice())?;
+    stream.write_all(REQUESTS.as_bytes())?;
+    stream.read_exact(replies.as_mut_slice())?;
     drop(stream);
     TcpStream::connect(rt, address)?;
-    Ok(reply)
+    Ok(replies)
 }
 
 /// Answers one connection, and tells whether it ends so.
@@ -115,7 +142,7 @@ fn visited<
 {
     let (first, pass) = office.split(enrolled(rt, office, pass)?);
     let second = enrolled(rt, office, pass)?;
-    let ((clerk, have_ended), reply) = join(
+    let ((clerk, have_ended), replies) = join(
         rt,
         move || -> (Clerk<V>, bool)
             requires { IsClerkOf office.now.lock first × IsClerkOf office.now.lock second × IsOfficeOf (V.setting (clerk_view first).origin) office.now × IsOfficeOf (V.setting (clerk_view second).origin) office.now × IsSync R.row }
@@ -123,7 +150,7 @@ fn visited<
         { two_answer(rt, alloc, door, office, first, second) },
         move || visit(rt, alloc, address),
     );
-    Ok((clerk, (have_ended, reply)))
+    Ok((clerk, (have_ended, replies)))
 }
 
 /// The same at a new office.
@@ -148,8 +175,8 @@ fn two_threads_answer_connections(rt: HostRuntime) -> Result<(), Fail> {
     let listener = TcpListener::bind(&rt, SocketAddr::from((Ipv4Addr::LOCALHOST, 0)))?;
     let address = listener.local_addr()?;
     let door = Mutex::new(listener);
-    let (_, (have_ended, reply)) = visited_at(&rt, alloc, Vec::new(alloc), &door, address)?;
+    let (_, (have_ended, replies)) = visited_at(&rt, alloc, Vec::new(alloc), &door, address)?;
     assert!(rt; have_ended);
-    assert_eq!(rt; from_utf8(&reply?)?, STARTED);
+    assert_eq!(rt; from_utf8(&replies?)?, REPLIES);
     Ok(())
 }

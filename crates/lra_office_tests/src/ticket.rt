@@ -367,6 +367,19 @@ fn the_ticket_before_the_last_is_drawn_once(rt: HostRuntime) -> Result<(), Fail>
 }
 
 #[test]
+fn a_lock_without_a_ticket_gives_its_value_back(rt: HostRuntime) -> Result<(), Fail> {
+    let mut entries = Vec::new(rt.alloc());
+    assert!(rt; push(&mut entries, entry(2, 0)));
+    let (lock, pass) = EntryLock::starting_at(rt.alloc(), entries, u64::MAX)?;
+    let pass = find_worn(&rt, &lock, pass).expect(&rt, "no ticket is left");
+    let Ok(entries) = lock.close(pass) else {
+        panic!(rt; "no one holds the lock")
+    };
+    assert!(rt; entries.len() == 1 && counts_up(&entries, 2, 0));
+    Ok(())
+}
+
+#[test]
 fn passes_are_split_met_and_joined(rt: HostRuntime) -> Result<(), Fail> {
     let (lock, first) = EntryLock::new(rt.alloc(), Vec::new(rt.alloc()))?;
     let (first, second) = lock.split(first);
