@@ -28,6 +28,7 @@ const JOURNALS: &str = "\
 0 entries, 0 actions, 0 unended, 0 closed, 0 cancelled, 0 failed: lra-journal 1 7;
 4 entries, 1 actions, 0 unended, 1 closed, 0 cancelled, 0 failed: lra-journal 1 7;1 0 enrol;1 0 start 1 * 0;1 5 close 1 client;1 5 end 1 Closed;
 2 entries, 1 actions, 1 unended, 0 closed, 0 cancelled, 0 failed: lra-journal 1 7;1 0 enrol;1 0 start 1 * 18446744073709551615;
+13 entries, 1 actions, 0 unended, 1 closed, 0 cancelled, 0 failed: lra-journal 2 7;1 0 enrol;1 10 start 1 * 0;1 11 join 1 1 http://p.test/u http://p.test/c http://p.test/s * *;1 12 join 2 1 http://q.test/u http://q.test/c * * *;1 20 close 1 client;1 21 ask 1 1 complete;1 22 ask 2 2 complete;1 23 reply 2 done;1 24 reply 1 accepted;1 30 report 1 done;2 40 enrol;2 40 end 1 Closed;2 40 restart;
 line 1 header: lra-journal 1 7
 line 1 header: lra-journal 1 é;1 0 enrol;
 line 5 grammar: lra-journal 1 7;1 0 enrol;1 0 start 1 * 0;1 5 close 1 client;1 5 end 1 Closed
@@ -131,13 +132,26 @@ fn failed_ends(rt: HostRuntime) -> Result<(), Fail> {
     Ok(())
 }
 
+/// Journals that break off in a line, each with the verdict on it: the second has a fault before that.
+const BROKEN_OFF: [(&str, &str); 2] = [
+    (
+        "lra-journal 1 7\n1 0 enrol\n1 0 start 1 * 0\n1 5 close 1 client\n1 5 end 1 Closed",
+        "line 5 grammar",
+    ),
+    (
+        "lra-journal 1 7\n1 0 enrol\n1 0 start 1 * 0\n1 5 end 1 Closed\n1 5",
+        "line 4 unsettled",
+    ),
+];
+
 #[test]
 fn pieces_of_every_size(rt: HostRuntime) -> Result<(), Fail> {
-    let journal = "lra-journal 1 7\n1 0 enrol\n1 0 start 1 * 0\n1 5 end 1 Closed\n1 5";
-    for size in 1..=journal.len() {
-        let verdict = audit_in_pieces(&rt, journal.as_bytes(), size)?;
-        let verdict = told(rt.alloc(), &verdict)?;
-        assert_eq!(rt; verdict.as_str(), "line 4 unsettled", "by {size}");
+    for (journal, want) in BROKEN_OFF {
+        for size in 1..=journal.len() {
+            let verdict = audit_in_pieces(&rt, journal.as_bytes(), size)?;
+            let verdict = told(rt.alloc(), &verdict)?;
+            assert_eq!(rt; verdict.as_str(), want, "by {size}");
+        }
     }
     Ok(())
 }
