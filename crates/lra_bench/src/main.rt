@@ -31,7 +31,7 @@ ids       address texts tested a second, short and long
 lock      handovers of the ticket lock, beside a Mutex
 office    commands a second through an office by several threads, beside a Mutex and one thread alone
 requests  HTTP requests answered a second, beside reading them and beside their commands
-serve     requests a second over loopback by 1, 4 and 16 connections, beside a server with one reply, and commands a sync of a journal's file
+serve     requests a second over loopback by 1, 4 and 16 connections, beside a server with one reply and one without a lock, and commands a sync of a journal's file
 tables    what commands cost the tables, as their members grow from 1,000 to 400,000
 timers    the calls of an agenda, as its pairs grow from 1,000 to 400,000
 wire      requests read a second, whole and in small pieces";

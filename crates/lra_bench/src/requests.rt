@@ -6,13 +6,13 @@
 ghost use Rattle.std.specs.Prelude.{◌≡◌, ◌<◌, true};
 ghost use Rattle.lra_ids.specs.Addresses.{is_base};
 
-use crate::front::{CLERK, Still};
+use crate::front::Still;
 use crate::pieces::Pieces;
-use crate::setting::{base, instance};
+use crate::setting::{base, counter, instance};
 use crate::wire::read_stream;
 use anyhow::{Result, bail, ensure};
-use lra_commands::{Counter, CounterFault, Limits};
-use lra_core::{Address, Bench, Coordinator, Instance};
+use lra_commands::{Counter, CounterFault};
+use lra_core::{Address, Bench, Instance};
 use lra_front::{StreamEnd, serve_stream};
 use lra_ids::spell_action;
 use lra_model::{Memory, Uris};
@@ -176,18 +176,10 @@ fn work_at(alloc: Global, counter: &mut Bench, streams: &[String], work: Work) -
     }
 }
 
-/// Does the work at a clerk's counter of a new coordinator, which is lent at once: to own it where there are several ways out is
-/// dear to prove.
+/// Does the work at the counter of a new coordinator.
 fn work_anew(alloc: Global, streams: &[String], work: Work) -> Result<()> {
-    let instance = instance()?;
-    let base = base(alloc)?;
-    let mut coordinator = Coordinator::new(alloc, instance, base, Limits::usual());
-    let enrolled = coordinator.enrol(0);
-    let mut counter = Bench::new(coordinator, CLERK);
-    match enrolled {
-        Ok(_) => work_at(alloc, &mut counter, streams, work),
-        Err(refusal) => Err(refusal.into()),
-    }
+    let mut counter = counter(alloc)?;
+    work_at(alloc, &mut counter, streams, work)
 }
 
 /// Seconds that it takes, the least of some runs.

@@ -1,5 +1,6 @@
 //! Requests answered a second over loopback, by an office whose journal is in memory, beside a server that gives the same reply to
-//! whatever head it reads: starts and status reads in turn. And starts a second where the journal is a file, and replies wait for it.
+//! whatever head it reads, and beside servers that have a coordinator each, and no lock: starts and status reads in turn. And starts a
+//! second where the journal is a file, and replies wait for it.
 
 ghost use Rattle.std.specs.Prelude.{◌≡◌, All, IfOk};
 ghost use Rattle.lra_office.specs.Clerks.{clerk_view, IsClerkOf};
@@ -10,17 +11,18 @@ mod bare;
 mod clients;
 mod doorway;
 mod file;
+mod servers;
 
 use crate::coordinator::desk::limits;
 use crate::lock::a_second;
 use crate::setting::{base, instance};
 use anyhow::{Result, bail};
-use bare::answer_barely;
 use clients::{Load, MOST_REQUESTS, Mix, ask_all, ensure_all};
 use doorway::Doorway;
 use file::time_file;
 use lra_office::{Clerk, Office, Serving};
 use lra_ticket::Pass;
+use servers::Server;
 use std::alloc::{AllocError, Global};
 use std::fs::File;
 use std::io::{Print, Write};
@@ -165,8 +167,8 @@ where
     time_office(rt, alloc, Vec::new(alloc), &door, address, load)
 }
 
-/// How long the clients take at the server that gives one reply.
-fn time_bare<R>(rt: &R, alloc: Global, load: Load) -> Result<Duration>
+/// How long the clients take at as many servers of a kind.
+fn time_servers<R>(rt: &R, alloc: Global, server: Server, load: Load) -> Result<Duration>
 where
     R: Net<Listener = TcpListener, Stream = TcpStream> + Threads + Wait + Clock + Sync,
 {
@@ -180,7 +182,7 @@ where
                 rt,
                 alloc,
                 load.clients as usize,
-                &|_| { answer_barely(rt, &door, load.connections) },
+                &|_| { server.answer(rt, alloc, &door, load.connections) },
             )
         },
         || ask_all(rt, alloc, address, load),
@@ -200,8 +202,8 @@ where
     Ok((listener, address))
 }
 
-/// Prints requests a second at the office with its journal in memory and at the bare server, and the first as hundredths of the
-/// second.
+/// Prints requests a second at the server that gives one reply, at the office with its journal in memory, and at servers with a
+/// coordinator each, and the latter two as hundredths of the first.
 fn measure_memory<R>(rt: &R, alloc: Global, clients: u64) -> Result<()>
 where
     R: Net<Listener = TcpListener, Stream = TcpStream> + Threads + Wait + Clock + Print + Sync,
@@ -212,14 +214,17 @@ where
         connections: CONNECTIONS / clients.max(1),
         requests: MOST_REQUESTS,
     };
-    let mut least = [Duration::MAX; 2];
+    let mut least = [Duration::MAX; 3];
     for _ in 0..TIMES {
-        least[0] = least[0].min(time_memory(rt, alloc, load)?);
-        least[1] = least[1].min(time_bare(rt, alloc, load)?);
+        least[0] = least[0].min(time_servers(rt, alloc, Server::Bare, load)?);
+        least[1] = least[1].min(time_memory(rt, alloc, load)?);
+        least[2] = least[2].min(time_servers(rt, alloc, Server::Alone, load)?);
     }
-    let [ours, bare] = least.map(|time| a_second(CONNECTIONS * MOST_REQUESTS, time));
-    let percent = ours.saturating_mul(100) / bare.max(1);
-    println!(rt; "serve connections {clients} office {ours} bare {bare} percent {percent}")?;
+    let [bare, ours, alone] = least.map(|time| a_second(CONNECTIONS * MOST_REQUESTS, time));
+    let [percent, other] = [ours, alone].map(|rate| rate.saturating_mul(100) / bare.max(1));
+    println!(rt;
+        "serve connections {clients} bare {bare} office {ours} percent {percent} alone {alone} percent {other}"
+    )?;
     Ok(())
 }
 
