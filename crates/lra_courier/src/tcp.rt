@@ -1,6 +1,6 @@
 //! Errands over TCP.
 
-ghost use Rattle.std.specs.Prelude.{IfSome, IsTrue};
+ghost use Rattle.std.specs.Prelude.{◌≡◌, IfSome, IsTrue};
 ghost use Rattle.lra_model.specs.Words.{outcome_suits};
 
 use crate::callback::Callback;
@@ -61,7 +61,9 @@ pub struct TcpCourier<R> {
 }
 
 impl<R: Net + Clock> TcpCourier<R> {
-    pub fn new(alloc: Global, rt: R) -> TcpCourier<R> {
+    pub fn new(alloc: Global, rt: R) -> TcpCourier<R>
+        ensures { result.rt ≡ rt }
+    {
         TcpCourier { alloc, rt }
     }
 
