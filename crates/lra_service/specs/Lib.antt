@@ -1,3 +1,4 @@
 pub mod Faults
 pub mod Outcomes
 pub mod Opened
+pub mod Ends

@@ -1,7 +1,8 @@
 //! The address that is served, as a base of identifiers and as a socket's.
 
-ghost use Rattle.std.specs.Prelude.{◌≡◌, true, IfOk};
+ghost use Rattle.std.specs.Prelude.{◌≡◌, true, IfOk, IfErr};
 ghost use Rattle.lra_ids.specs.Addresses.{is_base};
+ghost use Rattle.lra_service.specs.Ends.{IsOfAddress};
 ghost use Rattle.lra_service.specs.Faults.{base_text};
 
 use crate::fault::ServeFault;
@@ -15,6 +16,7 @@ use std::net::{Net, TcpListener};
 pub(crate) fn base_of(alloc: Global, to: &str) -> Result<Address, ServeFault>
     ensures text { IfOk result (λ base. base ≡ base_text to.now) }
     ensures base { IfOk result (λ base. is_base base ≡ true) }
+    ensures fault { IfErr result IsOfAddress }
 {
     let Ok(text) = format!(in alloc; "http://{to}/") else {
         return Err(ServeFault::Run(RunFault::Memory));
@@ -32,11 +34,9 @@ pub(crate) fn base_of(alloc: Global, to: &str) -> Result<Address, ServeFault>
 }
 
 /// A listener at a base's host and port.
-pub(crate) fn bind<R: Net>(
-    alloc: Global,
-    rt: &R,
-    base: &Address,
-) -> Result<R::Listener, ServeFault> {
+pub(crate) fn bind<R: Net>(alloc: Global, rt: &R, base: &Address) -> Result<R::Listener, ServeFault>
+    ensures { IfErr result IsOfAddress }
+{
     let Ok(socket) = socket_text(alloc, base) else {
         return Err(ServeFault::Run(RunFault::Memory));
     };

@@ -1,5 +1,7 @@
 //! Where clients' connections come in.
 
+ghost use Rattle.std.specs.Prelude.{◌≡◌};
+
 use crate::session::Session;
 use lra_durable::{Disk, Progress};
 use lra_workers::Door;
@@ -21,7 +23,9 @@ pub struct Entrance<'a, R, D: Disk> {
 }
 
 impl<'a, R: Wait + Clock, D: Disk> Entrance<'a, R, D> {
-    pub fn new(rt: &'a R, progress: &'a Progress<D>, listener: TcpListener) -> Entrance<'a, R, D> {
+    pub fn new(rt: &'a R, progress: &'a Progress<D>, listener: TcpListener) -> Entrance<'a, R, D>
+        ensures { (result.rt ≡ rt.entry) × (result.progress ≡ progress.entry) }
+    {
         Entrance {
             rt,
             progress,

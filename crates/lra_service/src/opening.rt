@@ -1,8 +1,9 @@
 //! The office of a service, and its first clerk.
 
-ghost use Rattle.std.specs.Prelude.{◌≡◌, [], true, IfOk};
+ghost use Rattle.std.specs.Prelude.{◌≡◌, [], true, IfOk, IfErr};
 ghost use Rattle.lra_ids.specs.Addresses.{is_base};
 ghost use Rattle.lra_office.specs.Wholes.{whole_lines};
+ghost use Rattle.lra_service.specs.Ends.{IsOfNoScript};
 ghost use Rattle.lra_service.specs.Opened.{GoesOn};
 
 use crate::fault::ServeFault;
@@ -16,7 +17,9 @@ use std::io::Write;
 use std::sync::Wait;
 
 /// Why nothing is served, where that is what keeps a new office from being made.
-fn start_fault(fault: StartFault) -> ServeFault {
+fn start_fault(fault: StartFault) -> ServeFault
+    ensures { IsOfNoScript result }
+{
     match fault {
         StartFault::Stopped => ServeFault::File,
         StartFault::Memory => ServeFault::Run(RunFault::Memory),
@@ -24,7 +27,9 @@ fn start_fault(fault: StartFault) -> ServeFault {
 }
 
 /// Why nothing is served, where that is what keeps a journal from being gone on from.
-fn reopen_fault(fault: ReopenFault) -> ServeFault {
+fn reopen_fault(fault: ReopenFault) -> ServeFault
+    ensures { IsOfNoScript result }
+{
     match fault {
         ReopenFault::Stopped => ServeFault::File,
         ReopenFault::Memory => ServeFault::Run(RunFault::Memory),
@@ -41,7 +46,8 @@ fn begin<W: Write + Drop, R: Wait>(
     moment: u64,
 ) -> Result<(Office<Desk<W>>, Clerk<Desk<W>>), ServeFault>
     requires { is_base base ≡ true }
-    ensures { IfOk result (λ opened. GoesOn base [] opened.0 opened.1) }
+    ensures opened { IfOk result (λ opened. GoesOn base [] opened.0 opened.1) }
+    ensures fault { IfErr result IsOfNoScript }
 {
     let Some(instance) = Instance::new(moment) else {
         return Err(ServeFault::Address);
@@ -65,7 +71,8 @@ pub(crate) fn open_office<W: Write + Drop, R: Wait>(
     moment: u64,
 ) -> Result<(Office<Desk<W>>, Clerk<Desk<W>>), ServeFault>
     requires { is_base base ≡ true }
-    ensures { IfOk result (λ opened. GoesOn base (whole_lines journal.items) opened.0 opened.1) }
+    ensures opened { IfOk result (λ opened. GoesOn base (whole_lines journal.items) opened.0 opened.1) }
+    ensures fault { IfErr result IsOfNoScript }
 {
     if journal.is_empty() {
         return begin(rt, alloc, base, writer, moment);

@@ -19,7 +19,7 @@ pub struct Patient<'a, R, D: Disk, C> {
 
 impl<'a, R: Wait, D: Disk, C: Courier + Drop> Patient<'a, R, D, C> {
     pub fn new(rt: &'a R, progress: &'a Progress<D>, courier: C) -> Patient<'a, R, D, C>
-        ensures { result.courier ≡ courier }
+        ensures { (result.rt ≡ rt.entry) × (result.progress ≡ progress.entry) × (result.courier ≡ courier) }
     {
         Patient {
             rt,

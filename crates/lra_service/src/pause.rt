@@ -1,5 +1,7 @@
 //! The gate of a running service.
 
+ghost use Rattle.std.specs.Prelude.{◌≡◌};
+
 use lra_workers::{Gate, Go};
 use std::sync::atomic::{AtomicBool, Ordering};
 use std::thread::sleep;
@@ -16,7 +18,9 @@ pub struct Pause<'a, R> {
 }
 
 impl<'a, R: Clock> Pause<'a, R> {
-    pub fn new(rt: &'a R, has_ended: &'a AtomicBool) -> Pause<'a, R> {
+    pub fn new(rt: &'a R, has_ended: &'a AtomicBool) -> Pause<'a, R>
+        ensures { (result.rt ≡ rt.entry) × (result.has_ended ≡ has_ended.entry) }
+    {
         Pause { rt, has_ended }
     }
 }

@@ -1,7 +1,8 @@
 //! The clerks of a service.
 
-ghost use Rattle.std.specs.Prelude.{All, IfOk};
+ghost use Rattle.std.specs.Prelude.{All, IfOk, IfErr};
 ghost use Rattle.lra_office.specs.Clerks.{IsClerkOf};
+ghost use Rattle.lra_service.specs.Ends.{IsOfNoScript};
 ghost use Rattle.lra_service.specs.Opened.{IsAt};
 
 use crate::fault::ServeFault;
@@ -21,7 +22,9 @@ pub(crate) enum Duty {
 }
 
 /// Why nothing is served, where that is what keeps a clerk from being enrolled.
-pub(crate) fn enrol_fault(refusal: OfficeRefusal) -> ServeFault {
+pub(crate) fn enrol_fault(refusal: OfficeRefusal) -> ServeFault
+    ensures { IsOfNoScript result }
+{
     match refusal {
         OfficeRefusal::Refused(Refusal::Memory) => ServeFault::Run(RunFault::Memory),
         OfficeRefusal::Refused(Refusal::Stopped) => ServeFault::File,
@@ -39,6 +42,7 @@ fn hire<V: Serving, R: Wait>(
     requires { IsAt V.setting office.now clerk }
     ensures first { IfOk result (λ clerks. IsAt V.setting office.now clerks.0) }
     ensures second { IfOk result (λ clerks. IsAt V.setting office.now clerks.1) }
+    ensures fault { IfErr result IsOfNoScript }
 {
     let (clerk, pass) = office.split(clerk);
     match office.clerk(rt, pass, moment) {
@@ -57,7 +61,8 @@ pub(crate) fn hire_all<V: Serving, R: Wait>(
     workers: u32,
 ) -> Result<Vec<(Duty, Clerk<V>)>, ServeFault>
     requires { IsAt V.setting office.now first }
-    ensures { IfOk result (λ jobs. All (λ job. IsAt V.setting office.now job.1) jobs.items) }
+    ensures hired { IfOk result (λ jobs. All (λ job. IsAt V.setting office.now job.1) jobs.items) }
+    ensures fault { IfErr result IsOfNoScript }
 {
     let mut jobs = Vec::new(alloc);
     let mut next = first;

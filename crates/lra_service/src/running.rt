@@ -1,7 +1,11 @@
 //! The run of a service.
 
-ghost use Rattle.std.specs.Prelude.{◌≡◌, true};
+ghost use Rattle.std.specs.Prelude.{◌≡◌, ◌≢◌, ℕ, List, true, Ok, IsFalse, IfOk, IfErr, OnOk};
+ghost use Rattle.std.specs.Io.KnownBytes.{Appends};
 ghost use Rattle.lra_ids.specs.Addresses.{is_base};
+ghost use Rattle.lra_runs.specs.Report.{ReportsAudit};
+ghost use Rattle.lra_service.specs.Ends.{serving_line, IsSaid, IsRefused, IsBaseless};
+ghost use Rattle.lra_service.specs.Faults.{base_text};
 ghost use Rattle.lra_service.specs.Opened.{IsAt};
 
 use crate::base::{base_of, bind};
@@ -29,9 +33,13 @@ use std::sync::atomic::{AtomicBool, AtomicU64};
 use std::thread::Threads;
 use std::time::Clock;
 
-/// Audits a journal: a sound one leaves the output as it is, and else the fault is written as `lra audit` does, and the answer is the
-/// program's status.
-fn audit_front<W: Write>(alloc: Global, front: &[u8], writer: &mut W) -> Result<u8, ServeFault> {
+/// Audits the front of a journal: a sound one leaves the output as it is, and else the fault is written as `lra audit` does, and the
+/// answer is the program's status.
+fn audit_front<W: Write>(alloc: Global, front: &[u8], writer: &mut W) -> Result<u8, ServeFault>
+    ensures sound { result ≡ Ok 0 → W.contents writer.new ≡ W.contents writer.old }
+    ensures unsound { IfOk result (λ status. status ≢ 0 → ReportsAudit front.now status (W.contents writer.old) (W.contents writer.new)) }
+    ensures fault { (address : List ℕ) → IfErr result (IsSaid address (W.contents writer.old) (W.contents writer.new)) }
+{
     let mut report = Vec::new(alloc);
     match audit_run(alloc, front, &mut report) {
         Ok(0) => Ok(0),
@@ -43,6 +51,18 @@ fn audit_front<W: Write>(alloc: Global, front: &[u8], writer: &mut W) -> Result<
         Err(RunFault::Write) => Err(ServeFault::Run(RunFault::Memory)),
         Err(fault) => Err(ServeFault::Run(fault)),
     }
+}
+
+/// The same, of the whole lines of a journal. One that has no bytes is sound.
+fn audit_journal<W: Write>(alloc: Global, journal: &[u8], writer: &mut W) -> Result<u8, ServeFault>
+    ensures sound { result ≡ Ok 0 → W.contents writer.new ≡ W.contents writer.old }
+    ensures unsound { IfOk result (λ status. status ≢ 0 → IsRefused (W.contents writer.old) (W.contents writer.new) status) }
+    ensures fault { (address : List ℕ) → IfErr result (IsSaid address (W.contents writer.old) (W.contents writer.new)) }
+{
+    if journal.is_empty() {
+        return Ok(0);
+    }
+    audit_front(alloc, &journal[..whole(journal)], writer)
 }
 
 /// What serves, and the words that say what.
@@ -69,6 +89,8 @@ impl<R: Threads + Wait + Clock + Net<Stream = TcpStream, Listener = TcpListener>
         writer: &mut W,
     ) -> Result<(), ServeFault>
         requires { IsAt V.setting office.now clerk }
+        ensures said { OnOk result (Appends (W.contents writer.old) (W.contents writer.new) (serving_line self.now.address.now)) }
+        ensures fault { IfErr result (IsSaid self.now.address.now (W.contents writer.old) (W.contents writer.new)) }
     {
         let jobs = hire_all(self.rt, self.alloc, office, clerk, moment, self.workers)?;
         self.say(writer)?;
@@ -86,7 +108,10 @@ impl<R: Threads + Wait + Clock + Net<Stream = TcpStream, Listener = TcpListener>
     }
 
     /// Says that it serves.
-    fn say<W: Write>(&self, writer: &mut W) -> Result<(), ServeFault> {
+    fn say<W: Write>(&self, writer: &mut W) -> Result<(), ServeFault>
+        ensures said { OnOk result (Appends (W.contents writer.old) (W.contents writer.new) (serving_line self.now.address.now)) }
+        ensures fault { IfErr result (IsSaid self.now.address.now (W.contents writer.old) (W.contents writer.new)) }
+    {
         let address = self.address;
         let Ok(line) = format!(in self.alloc; "serving {address}\n") else {
             return Err(ServeFault::Run(RunFault::Memory));
@@ -109,6 +134,8 @@ impl<R: Threads + Wait + Clock + Net<Stream = TcpStream, Listener = TcpListener>
         writer: &mut W,
     ) -> Result<(), ServeFault>
         requires { is_base base ≡ true }
+        ensures said { OnOk result (Appends (W.contents writer.old) (W.contents writer.new) (serving_line self.now.address.now)) }
+        ensures fault { IfErr result (IsSaid self.now.address.now (W.contents writer.old) (W.contents writer.new)) }
     {
         let (office, clerk) = open_office(self.rt, self.alloc, base, journal, keeper, moment)?;
         self.serve_office(listener, progress, &office, clerk, moment, writer)
@@ -124,6 +151,8 @@ impl<R: Threads + Wait + Clock + Net<Stream = TcpStream, Listener = TcpListener>
         writer: &mut W,
     ) -> Result<(), ServeFault>
         requires { is_base base ≡ true }
+        ensures said { OnOk result (Appends (W.contents writer.old) (W.contents writer.new) (serving_line self.now.address.now)) }
+        ensures fault { IfErr result (IsSaid self.now.address.now (W.contents writer.old) (W.contents writer.new)) }
     {
         let Some(moment) = milliseconds(self.rt) else {
             return Err(ServeFault::Address);
@@ -134,6 +163,50 @@ impl<R: Threads + Wait + Clock + Net<Stream = TcpStream, Listener = TcpListener>
         let keeper = Keeper::new(self.rt, &progress);
         self.serve_journal(base, listener, &progress, journal, keeper, moment, writer)
     }
+}
+
+/// The same, at a base that is the address's.
+fn serve_at<
+    R: Threads
+        + Wait
+        + Clock
+        + Net<Stream = TcpStream, Listener = TcpListener>
+        + Files<File = File>
+        + AllocGlobal
+        + Sync,
+    W: Write,
+>(
+    rt: &R,
+    base: Address,
+    address: &str,
+    file: &str,
+    workers: u32,
+    writer: &mut W,
+) -> Result<u8, ServeFault>
+    requires { is_base base ≡ true }
+    ensures unsound { IfOk result (IsRefused (W.contents writer.old) (W.contents writer.new)) }
+    ensures fault { IfErr result (IsSaid address.now (W.contents writer.old) (W.contents writer.new)) }
+{
+    let alloc = rt.alloc();
+    let (found, journal) = find(alloc, rt, file)?;
+    let status = audit_journal(alloc, &journal, writer)?;
+    if status != 0 {
+        return Ok(status);
+    }
+    let listener = bind(alloc, rt, &base)?;
+    let file = if journal.is_empty() {
+        make(rt, file, found)?
+    } else {
+        cut(found, whole(&journal), journal.len())?
+    };
+    let service = Service {
+        rt,
+        alloc,
+        address,
+        workers,
+    };
+    service.serve_file(base, listener, file, journal, writer)?;
+    Err(ServeFault::Address)
 }
 
 /// Serves the coordinator of a journal's file at an address, by so many threads that answer connections and as many that carry errands,
@@ -148,29 +221,11 @@ pub fn serve<
         + AllocGlobal
         + Sync,
     W: Write,
->(rt: &R, address: &str, file: &str, workers: u32, writer: &mut W) -> Result<u8, ServeFault> {
-    let alloc = rt.alloc();
-    let base = base_of(alloc, address)?;
-    let (found, journal) = find(alloc, rt, file)?;
-    let front = whole(&journal);
-    if !journal.is_empty() {
-        let status = audit_front(alloc, &journal[..front], writer)?;
-        if status != 0 {
-            return Ok(status);
-        }
-    }
-    let listener = bind(alloc, rt, &base)?;
-    let file = if journal.is_empty() {
-        make(rt, file, found)?
-    } else {
-        cut(found, front, journal.len())?
-    };
-    let service = Service {
-        rt,
-        alloc,
-        address,
-        workers,
-    };
-    service.serve_file(base, listener, file, journal, writer)?;
-    Err(ServeFault::Address)
+>(rt: &R, address: &str, file: &str, workers: u32, writer: &mut W) -> Result<u8, ServeFault>
+    ensures unsound { IfOk result (IsRefused (W.contents writer.old) (W.contents writer.new)) }
+    ensures fault { IfErr result (IsSaid address.now (W.contents writer.old) (W.contents writer.new)) }
+    ensures base { IsFalse (is_base (base_text address.now)) → IsBaseless result × (W.contents writer.new ≡ W.contents writer.old) }
+{
+    let base = base_of(rt.alloc(), address)?;
+    serve_at(rt, base, address, file, workers, writer)
 }

@@ -1,6 +1,6 @@
 //! A client's connection at a journal.
 
-ghost use Rattle.std.specs.Prelude.{IfOk};
+ghost use Rattle.std.specs.Prelude.{◌≡◌, IfOk};
 ghost use Rattle.std.specs.Io.{ReadsAtMost, WritesAtMost};
 ghost use Rattle.lra_durable.specs.Leaves.{IsKnown, HasLeave};
 ghost use Rattle.lra_durable.specs.declared.progress.Standing.{Standing as Stood};
@@ -32,7 +32,9 @@ impl<'a, R: Wait + Clock, D: Disk> Session<'a, R, D> {
         rt: &'a R,
         progress: &'a Progress<D>,
         stream: TcpStream,
-    ) -> io::Result<Session<'a, R, D>> {
+    ) -> io::Result<Session<'a, R, D>>
+        ensures { IfOk result (λ session. (session.rt ≡ rt.entry) × (session.progress ≡ progress.entry)) }
+    {
         Ok(Session {
             rt,
             progress,

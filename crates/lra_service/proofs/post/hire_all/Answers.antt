@@ -16,5 +16,5 @@ loop-preserved g c = record {
   hired = all_pushed {X = Duty × Clerk g.row.V.Denot g.row.V-Origin.Denot g.V.Kept} (λ job. IsAt g.V.Serving.setting c.args.office.now job.1) _ _ _ _ _ c.in_ok-push.ensures.items c.in_ok-push-2.ensures.items c.loop.invariant.hired c.in_ok-carrying.ensures.first c.in_ok-answering.ensures.first;
 }
 
-pub returns : goal.returns
-returns g c = all_pushed {X = Duty × Clerk g.row.V.Denot g.row.V-Origin.Denot g.V.Kept} (λ job. IsAt g.V.Serving.setting c.args.office.now job.1) _ _ _ _ _ c.in_ok-push-3.ensures.items c.in_ok-push-4.ensures.items c.loop.invariant.hired c.in_ok-carrying-2.ensures.first c.in_ok-carrying-2.ensures.second
+pub returns-clause-hired : goal.returns-clause-hired
+returns-clause-hired g c = all_pushed {X = Duty × Clerk g.row.V.Denot g.row.V-Origin.Denot g.V.Kept} (λ job. IsAt g.V.Serving.setting c.args.office.now job.1) _ _ _ _ _ c.in_ok-push-3.ensures.items c.in_ok-push-4.ensures.items c.loop.invariant.hired c.in_ok-carrying-2.ensures.first c.in_ok-carrying-2.ensures.second

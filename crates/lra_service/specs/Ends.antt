@@ -1,0 +1,55 @@
+-- What a service has told by the time that it ends, or isn't there.
+use Rattle.std.specs.Prelude.{◌≡◌, ◌⊎◌, ℕ, List, [], ◌∷◌, codes, Option, Result, Ok, Err, ⊤}
+use Rattle.std.specs.Io.KnownBytes.{Appends}
+use Rattle.lra_office.specs.Wholes.{whole_lines}
+use Rattle.lra_runs.specs.declared.fault.RunFault.TheVariants.{Read, Write, TooLong, Memory, Line}
+use Rattle.lra_runs.specs.Faults.{NamesNoLine}
+use Rattle.lra_runs.specs.Report.{joined, line_feed, ReportsAudit}
+use Rattle.lra_service.specs.declared.fault.ServeFault.{ServeFault}
+use Rattle.lra_service.specs.declared.fault.ServeFault.TheVariants.{Run, File, Address}
+
+-- a fault that isn't a script's line
+abbrev pub IsOfNoScript : ServeFault → Type 0
+IsOfNoScript (Run fault) = NamesNoLine fault
+IsOfNoScript File = ⊤
+IsOfNoScript Address = ⊤
+
+-- the line that tells that an address is served
+abbrev pub serving_line : List ℕ → List ℕ
+serving_line address = joined (codes "serving " ∷ address ∷ line_feed ∷ [])
+
+-- no word has gone out, or just the line that tells that an address is served
+abbrev pub SaysAtMost : List ℕ → Option (List ℕ) → Option (List ℕ) → Type 0
+SaysAtMost address before after = (after ≡ before) ⊎ Appends before after (serving_line address)
+
+-- what has gone out by a fault: nothing before an address is served, and that line at most where the service may have ended;
+-- where standard output can't be written nobody knows; no fault is a script's line
+abbrev pub IsSaid : List ℕ → Option (List ℕ) → Option (List ℕ) → ServeFault → Type 0
+IsSaid address before after (Run Read) = after ≡ before
+IsSaid address before after (Run TooLong) = after ≡ before
+IsSaid address before after File = after ≡ before
+IsSaid address before after (Run Memory) = SaysAtMost address before after
+IsSaid address before after Address = SaysAtMost address before after
+IsSaid address before after (Run Write) = ⊤
+IsSaid address before after (Run (Line number)) = ⊥
+
+-- what has gone out where a journal isn't served: its audit's report, which finds the whole lines of what was read unsound
+pub record IsRefused (before after : Option (List ℕ)) (status : ℕ) : Type 0 where
+  pub journal : List ℕ
+  pub reported : ReportsAudit (whole_lines journal) status before after
+  pub unsound : status ≡ 1
+
+-- a fault of an address: it is told, or there was no memory
+abbrev pub IsOfAddress : ServeFault → Type 0
+IsOfAddress Address = ⊤
+IsOfAddress (Run Memory) = ⊤
+IsOfAddress (Run Read) = ⊥
+IsOfAddress (Run Write) = ⊥
+IsOfAddress (Run TooLong) = ⊥
+IsOfAddress (Run (Line number)) = ⊥
+IsOfAddress File = ⊥
+
+-- what is answered for an address that is no base
+abbrev pub IsBaseless : {X : Type 0} → Result X ServeFault → Type 0
+IsBaseless (Err fault) = IsOfAddress fault
+IsBaseless (Ok status) = ⊥
