@@ -1,5 +1,5 @@
 -- What a service has told by the time that it ends, or isn't there.
-use Rattle.std.specs.Prelude.{◌≡◌, ◌⊎◌, ℕ, List, [], ◌∷◌, codes, Option, Result, Ok, Err, ⊤}
+use Rattle.std.specs.Prelude.{◌≡◌, ◌⊎◌, ℕ, List, [], ◌∷◌, codes, Option, ⊤}
 use Rattle.std.specs.Io.KnownBytes.{Appends}
 use Rattle.lra_office.specs.Wholes.{whole_lines}
 use Rattle.lra_runs.specs.declared.fault.RunFault.TheVariants.{Read, Write, TooLong, Memory, Line}
@@ -48,8 +48,3 @@ IsOfAddress (Run Write) = ⊥
 IsOfAddress (Run TooLong) = ⊥
 IsOfAddress (Run (Line number)) = ⊥
 IsOfAddress File = ⊥
-
--- what is answered for an address that is no base
-abbrev pub IsBaseless : {X : Type 0} → Result X ServeFault → Type 0
-IsBaseless (Err fault) = IsOfAddress fault
-IsBaseless (Ok status) = ⊥

@@ -1,10 +1,10 @@
 //! The run of a service.
 
-ghost use Rattle.std.specs.Prelude.{◌≡◌, ◌≢◌, ℕ, List, true, Ok, IsFalse, IfOk, IfErr, OnOk};
+ghost use Rattle.std.specs.Prelude.{◌≡◌, ◌≢◌, ℕ, List, true, Ok, IsFalse, IfOk, IfErr, OnOk, IsErrAnd};
 ghost use Rattle.std.specs.Io.KnownBytes.{Appends};
 ghost use Rattle.lra_ids.specs.Addresses.{is_base};
 ghost use Rattle.lra_runs.specs.Report.{ReportsAudit};
-ghost use Rattle.lra_service.specs.Ends.{serving_line, IsSaid, IsRefused, IsBaseless};
+ghost use Rattle.lra_service.specs.Ends.{serving_line, IsSaid, IsRefused, IsOfAddress};
 ghost use Rattle.lra_service.specs.Faults.{base_text};
 ghost use Rattle.lra_service.specs.Opened.{IsAt};
 
@@ -51,18 +51,6 @@ fn audit_front<W: Write>(alloc: Global, front: &[u8], writer: &mut W) -> Result<
         Err(RunFault::Write) => Err(ServeFault::Run(RunFault::Memory)),
         Err(fault) => Err(ServeFault::Run(fault)),
     }
-}
-
-/// The same, of the whole lines of a journal. One that has no bytes is sound.
-fn audit_journal<W: Write>(alloc: Global, journal: &[u8], writer: &mut W) -> Result<u8, ServeFault>
-    ensures sound { result ≡ Ok 0 → W.contents writer.new ≡ W.contents writer.old }
-    ensures unsound { IfOk result (λ status. status ≢ 0 → IsRefused (W.contents writer.old) (W.contents writer.new) status) }
-    ensures fault { (address : List ℕ) → IfErr result (IsSaid address (W.contents writer.old) (W.contents writer.new)) }
-{
-    if journal.is_empty() {
-        return Ok(0);
-    }
-    audit_front(alloc, &journal[..whole(journal)], writer)
 }
 
 /// What serves, and the words that say what.
@@ -163,50 +151,32 @@ impl<R: Threads + Wait + Clock + Net<Stream = TcpStream, Listener = TcpListener>
         let keeper = Keeper::new(self.rt, &progress);
         self.serve_journal(base, listener, &progress, journal, keeper, moment, writer)
     }
-}
 
-/// The same, at a base that is the address's.
-fn serve_at<
-    R: Threads
-        + Wait
-        + Clock
-        + Net<Stream = TcpStream, Listener = TcpListener>
-        + Files<File = File>
-        + AllocGlobal
-        + Sync,
-    W: Write,
->(
-    rt: &R,
-    base: Address,
-    address: &str,
-    file: &str,
-    workers: u32,
-    writer: &mut W,
-) -> Result<u8, ServeFault>
-    requires { is_base base ≡ true }
-    ensures unsound { IfOk result (IsRefused (W.contents writer.old) (W.contents writer.new)) }
-    ensures fault { IfErr result (IsSaid address.now (W.contents writer.old) (W.contents writer.new)) }
-{
-    let alloc = rt.alloc();
-    let (found, journal) = find(alloc, rt, file)?;
-    let status = audit_journal(alloc, &journal, writer)?;
-    if status != 0 {
-        return Ok(status);
+    /// The same, of the file of this name, once its lock is taken and its journal is audited.
+    fn serve_named<W: Write>(&self, base: Address, name: &str, writer: &mut W) -> Result<u8, ServeFault>
+    where
+        R: Files<File = File>,
+        requires { is_base base ≡ true }
+        ensures unsound { IfOk result (IsRefused (W.contents writer.old) (W.contents writer.new)) }
+        ensures fault { IfErr result (IsSaid self.now.address.now (W.contents writer.old) (W.contents writer.new)) }
+    {
+        let (found, journal) = find(self.alloc, self.rt, name)?;
+        let front = whole(&journal);
+        if !journal.is_empty() {
+            let status = audit_front(self.alloc, &journal[..front], writer)?;
+            if status != 0 {
+                return Ok(status);
+            }
+        }
+        let listener = bind(self.alloc, self.rt, &base)?;
+        let file = if journal.is_empty() {
+            make(self.rt, name, found)?
+        } else {
+            cut(found, front, journal.len())?
+        };
+        self.serve_file(base, listener, file, journal, writer)?;
+        Err(ServeFault::Address)
     }
-    let listener = bind(alloc, rt, &base)?;
-    let file = if journal.is_empty() {
-        make(rt, file, found)?
-    } else {
-        cut(found, whole(&journal), journal.len())?
-    };
-    let service = Service {
-        rt,
-        alloc,
-        address,
-        workers,
-    };
-    service.serve_file(base, listener, file, journal, writer)?;
-    Err(ServeFault::Address)
 }
 
 /// Serves the coordinator of a journal's file at an address, by so many threads that answer connections and as many that carry errands,
@@ -224,8 +194,15 @@ pub fn serve<
 >(rt: &R, address: &str, file: &str, workers: u32, writer: &mut W) -> Result<u8, ServeFault>
     ensures unsound { IfOk result (IsRefused (W.contents writer.old) (W.contents writer.new)) }
     ensures fault { IfErr result (IsSaid address.now (W.contents writer.old) (W.contents writer.new)) }
-    ensures base { IsFalse (is_base (base_text address.now)) → IsBaseless result × (W.contents writer.new ≡ W.contents writer.old) }
+    ensures base { IsFalse (is_base (base_text address.now)) → IsErrAnd result IsOfAddress × (W.contents writer.new ≡ W.contents writer.old) }
 {
-    let base = base_of(rt.alloc(), address)?;
-    serve_at(rt, base, address, file, workers, writer)
+    let alloc = rt.alloc();
+    let base = base_of(alloc, address)?;
+    let service = Service {
+        rt,
+        alloc,
+        address,
+        workers,
+    };
+    service.serve_named(base, file, writer)
 }
