@@ -153,7 +153,12 @@ impl<R: Threads + Wait + Clock + Net<Stream = TcpStream, Listener = TcpListener>
     }
 
     /// The same, of the file of this name, once its lock is taken and its journal is audited.
-    fn serve_named<W: Write>(&self, base: Address, name: &str, writer: &mut W) -> Result<u8, ServeFault>
+    fn serve_named<W: Write>(
+        &self,
+        base: Address,
+        name: &str,
+        writer: &mut W,
+    ) -> Result<u8, ServeFault>
     where
         R: Files<File = File>,
         requires { is_base base ≡ true }
