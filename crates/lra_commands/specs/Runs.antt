@@ -1,28 +1,20 @@
 -- Commands one after another, by any clerks.
-use Rattle.std.specs.Prelude.{◌≡◌, ℕ, ◌≤◌, true, List, [], ◌∷◌, length, None, All, Result}
+use Rattle.std.specs.Prelude.{◌≡◌, ℕ, ◌≤◌, true, List, [], ◌∷◌, length, None, All}
 use Rattle.lra_model.specs.History.{History, clerks, actions, members, is_among}
 use Rattle.lra_model.specs.Actions.{depth}
 use Rattle.lra_model.specs.Rules.{is_legal}
 use Rattle.lra_ids.specs.Addresses.{is_address}
 use Rattle.lra_commands.specs.declared.limits.Limits.{Limits}
-use Rattle.lra_commands.specs.declared.command.Told.{Told}
-use Rattle.lra_commands.specs.declared.refusal.Refusal.{Refusal}
 use Rattle.lra_commands.specs.declared.limits.Terms.{Terms}
 use Rattle.lra_commands.specs.Terms.{AreKeepable}
 use Rattle.lra_commands.specs.Calls.{Call, IsCall}
 use Rattle.lra_commands.specs.Refusals.{refused}
-use Rattle.lra_commands.specs.Answers.{answer, after_call}
-use Rattle.lra_commands.specs.Answers.{IsQuietAfter}
+use Rattle.lra_commands.specs.Answers.{after_call, IsQuietAfter}
 
 -- the history after calls, one after another
 abbrev pub after_calls : Terms → History → List Call → History
 after_calls s J [] = J
 after_calls s J (c ∷ cs) = after_calls s (after_call s J c) cs
-
--- the answers to calls, each at the history that those before it left
-abbrev pub answers : Terms → History → List Call → List (Result Told Refusal)
-answers s J [] = []
-answers s J (c ∷ cs) = answer s J c ∷ answers s (after_call s J c) cs
 
 -- a history has no more of anything than the limits say
 pub record IsWithin (l : Limits) (J : History) : Type 0 where

@@ -3,16 +3,9 @@ use Rattle.std.specs.Prelude.{◌≡◌, ◌⊎◌, ℕ, List, [], ◌∷◌, co
 use Rattle.std.specs.Io.KnownBytes.{Appends}
 use Rattle.lra_office.specs.Wholes.{whole_lines}
 use Rattle.lra_runs.specs.declared.fault.RunFault.TheVariants.{Read, Write, TooLong, Memory, Line}
-use Rattle.lra_runs.specs.Faults.{NamesNoLine}
 use Rattle.lra_runs.specs.Report.{joined, line_feed, ReportsAudit}
 use Rattle.lra_service.specs.declared.fault.ServeFault.{ServeFault}
 use Rattle.lra_service.specs.declared.fault.ServeFault.TheVariants.{Run, File, Address}
-
--- a fault that isn't a script's line
-abbrev pub IsOfNoScript : ServeFault → Type 0
-IsOfNoScript (Run fault) = NamesNoLine fault
-IsOfNoScript File = ⊤
-IsOfNoScript Address = ⊤
 
 -- the line that tells that an address is served
 abbrev pub serving_line : List ℕ → List ℕ

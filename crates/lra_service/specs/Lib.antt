@@ -1,4 +1,4 @@
 pub mod Faults
 pub mod Outcomes
-pub mod Opened
 pub mod Ends
+pub mod inner

@@ -3,8 +3,8 @@
 ghost use Rattle.std.specs.Prelude.{◌≡◌, [], true, IfOk, IfErr};
 ghost use Rattle.lra_ids.specs.Addresses.{is_base};
 ghost use Rattle.lra_office.specs.Wholes.{whole_lines};
-ghost use Rattle.lra_service.specs.Ends.{IsOfNoScript};
-ghost use Rattle.lra_service.specs.Opened.{GoesOn};
+ghost use Rattle.lra_service.specs.inner.Faults.{IsOfNoScript};
+ghost use Rattle.lra_service.specs.inner.Opened.{GoesOn};
 
 use crate::fault::ServeFault;
 use crate::post::enrol_fault;

@@ -2,8 +2,8 @@
 
 ghost use Rattle.std.specs.Prelude.{All, IfOk, IfErr};
 ghost use Rattle.lra_office.specs.Clerks.{IsClerkOf};
-ghost use Rattle.lra_service.specs.Ends.{IsOfNoScript};
-ghost use Rattle.lra_service.specs.Opened.{IsAt};
+ghost use Rattle.lra_service.specs.inner.Faults.{IsOfNoScript};
+ghost use Rattle.lra_service.specs.inner.Opened.{IsAt};
 
 use crate::fault::ServeFault;
 use lra_commands::Refusal;

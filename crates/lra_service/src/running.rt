@@ -6,7 +6,7 @@ ghost use Rattle.lra_ids.specs.Addresses.{is_base};
 ghost use Rattle.lra_runs.specs.Report.{ReportsAudit};
 ghost use Rattle.lra_service.specs.Ends.{serving_line, IsSaid, IsRefused, IsOfAddress};
 ghost use Rattle.lra_service.specs.Faults.{base_text};
-ghost use Rattle.lra_service.specs.Opened.{IsAt};
+ghost use Rattle.lra_service.specs.inner.Opened.{IsAt};
 
 use crate::base::{base_of, bind};
 use crate::clock::milliseconds;

@@ -1,7 +1,7 @@
 //! The threads of a service.
 
 ghost use Rattle.std.specs.Prelude.{All};
-ghost use Rattle.lra_service.specs.Opened.{IsAt};
+ghost use Rattle.lra_service.specs.inner.Opened.{IsAt};
 
 use crate::clock::SystemClock;
 use crate::disk::JournalFile;

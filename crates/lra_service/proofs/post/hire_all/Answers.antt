@@ -2,7 +2,7 @@ use Rattle.std.proofs.Common.{All, ◌≡◌, List, [], ◌∷◌, ◌++◌, sym
 use Rattle.std.proofs.lemmas.List.Elements.{All-push}
 use Rattle.lra_office.specs.declared.clerk.Clerk.{Clerk}
 use Rattle.lra_service.specs.declared.post.Duty.{Duty}
-use Rattle.lra_service.specs.Opened.{IsAt}
+use Rattle.lra_service.specs.inner.Opened.{IsAt}
 use Rattle.lra_service.proofs.post.hire_all.Goals as goal
 
 -- what holds of all of a list and of two more holds of all once they were pushed

@@ -1,5 +1,5 @@
 use Rattle.std.proofs.Common.{All}
-use Rattle.lra_service.specs.Opened.{IsAt}
+use Rattle.lra_service.specs.inner.Opened.{IsAt}
 use Rattle.lra_service.proofs.post.hire_all.Given as goal
 
 abbrev pub invariant-loop : goal.invariant-loop
