@@ -38,8 +38,8 @@ use Rattle.lra_commands.specs.Due.{due, late}
 use Rattle.lra_model.specs.Joins.{already_member}
 use Rattle.lra_commands.specs.Blocks.{block}
 use Rattle.lra_commands.specs.Refusals.{refused}
-use Rattle.lra_commands.specs.Answers.{answer, growth}
-use Rattle.lra_commands.specs.Runs.{after_calls, answers}
+use Rattle.lra_commands.specs.Answers.{answer, after_call, growth}
+use Rattle.lra_commands.specs.Runs.{after_calls}
 
 -- what a clerk says at a moment
 abbrev says : ℕ → ℕ → Command → Call
@@ -64,6 +64,11 @@ two = record { version = version.Two; limits = usual }
 -- the usual limits can be kept
 pub usual_keepable : AreKeepable usual
 usual_keepable = record { clerks = omega arith; actions = omega arith; members = omega arith; entries = omega arith }
+
+-- the answers to calls, each at the history that those before it left
+abbrev answers : Terms → History → List Call → List (Result Told Refusal)
+answers s J [] = []
+answers s J (c ∷ cs) = answer s J c ∷ answers s (after_call s J c) cs
 
 -- answers, and the history after them
 abbrev Run : Type 0
