@@ -1,11 +1,7 @@
-pub mod Lines
-pub mod Feeding
-pub mod Versions
 pub mod Growths
 pub mod Placed
 pub mod Performing
 pub mod Lined
 pub mod Playing
-pub mod Sourced
 pub mod RequestTexts
 pub mod RequestLines

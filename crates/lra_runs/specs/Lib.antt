@@ -1,11 +1,5 @@
-pub mod Report
-pub mod Faults
 pub mod Script
 pub mod Requests
 pub mod Play
-pub mod Show
-pub mod Upgrade
-pub mod Words
 pub mod Tasks
-pub mod Invoked
 pub mod inner

@@ -1,7 +1,5 @@
 -- The words that private functions and proofs alone use: no public contract stands on them.
 pub mod Causes
 pub mod Details
-pub mod Headed
-pub mod Paging
 pub mod Players
 pub mod RequestReading

@@ -1,32 +1,30 @@
-//! All that the words of a command line may ask for: a run, a service, or what the program is.
+//! All that the words of the command line of `lra` may ask for: a report, a script to be played, or a service.
 
-ghost use Rattle.std.specs.Prelude.{◌≡◌, ◌∷◌, [], ℕ, ◌≤◌, IfOk, IfErr, IfSome, IfNone};
+ghost use Rattle.std.specs.Prelude.{◌≡◌, ◌∷◌, [], ℕ, ◌≤◌, List, IfOk, IfErr, IfSome, IfNone, codes};
 ghost use Rattle.std.specs.Fmt.{decimal};
 ghost use Rattle.lra_runs.specs.declared.task.Task.{Task};
-ghost use Rattle.lra_runs.specs.Words.{texts};
+ghost use Rattle.lra_reports.specs.Words.{texts};
 ghost use Rattle.lra_runs.specs.Tasks.{IsTask};
 
-use crate::words::{Invocation, Usage, read_words};
 use itoa::Buffer;
+use lra_reports::{Question, Usage, read_question};
 
 /// How many threads of a kind a service may have.
 const MOST_WORKERS: u32 = 16;
 
-/// What the program is asked to do.
+/// What the program `lra` is asked to do.
 #[derive(Clone, Copy, Debug)]
 pub enum Task<'a> {
-    /// Run on an input.
-    Run(Invocation<'a>),
+    /// Answer what a program that reads and reports is asked.
+    Question(Question<'a>),
+    /// Play a script.
+    Play { script: &'a str },
     /// Serve the coordinator of a file's journal at an address, by so many threads that answer and as many that carry errands.
     Serve {
         address: &'a str,
         file: &'a str,
         workers: u32,
     },
-    /// Say how it is called.
-    Help,
-    /// Say which version it is.
-    Version,
 }
 
 /// The number from 1 to 16 that a text spells.
@@ -40,18 +38,6 @@ fn workers_in(text: &str) -> Option<u32>
         }
     }
     None
-}
-
-/// What a word alone asks for.
-fn task_of<'a>(word: &str) -> Result<Task<'a>, Usage>
-    ensures task { IfOk result (IsTask (word.now ∷ [])) }
-    ensures usage { IfErr result (λ _. (task : Task) → IsTask (word.now ∷ []) task → ⊥) }
-{
-    match word {
-        "--help" => Ok(Task::Help),
-        "--version" => Ok(Task::Version),
-        _ => Err(Usage),
-    }
 }
 
 /// The service that a verb and three words ask for.
@@ -74,21 +60,34 @@ fn service_of<'a>(
     }
 }
 
+/// The script that words ask to be played, if they do.
+fn script_of(words: &[String]) -> Option<&str>
+    ensures some { IfSome result (λ script. texts words.now ≡ codes "play" ∷ script.now ∷ []) }
+    ensures none { IfNone result ((script : List ℕ) → texts words.now ≡ codes "play" ∷ script ∷ [] → ⊥) }
+{
+    match words {
+        [verb, script] if verb.as_str() == "play" => Some(script.as_str()),
+        _ => None,
+    }
+}
+
 /// What these words ask for, without the program's own name.
 pub fn read_task(words: &[String]) -> Result<Task<'_>, Usage>
     ensures task { IfOk result (IsTask (texts words.now)) }
     ensures usage { IfErr result (λ _. (task : Task) → IsTask (texts words.now) task → ⊥) }
 {
+    if let Some(script) = script_of(words) {
+        return Ok(Task::Play { script });
+    }
     match words {
-        [word] => task_of(word.as_str()),
         [verb, address, file, workers] => service_of(
             verb.as_str(),
             address.as_str(),
             file.as_str(),
             workers.as_str(),
         ),
-        _ => match read_words(words) {
-            Ok(invocation) => Ok(Task::Run(invocation)),
+        _ => match read_question(words) {
+            Ok(question) => Ok(Task::Question(question)),
             Err(usage) => Err(usage),
         },
     }

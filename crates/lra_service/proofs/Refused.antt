@@ -3,7 +3,7 @@ use Rattle.std.proofs.Common.{◌≡◌, ◌≢◌, ℕ, List, Option, subst}
 use Rattle.lra_auditor.specs.declared.verdict.Verdict.{Verdict}
 use Rattle.lra_auditor.specs.declared.verdict.Verdict.TheVariants.{Sound, Unsound}
 use Rattle.lra_office.specs.Wholes.{whole_lines}
-use Rattle.lra_runs.specs.Report.{ReportsAudit, status_of}
+use Rattle.lra_reports.specs.Report.{ReportsAudit, status_of}
 use Rattle.lra_service.specs.Ends.{IsRefused}
 
 -- an audit's status that isn't 0 is 1

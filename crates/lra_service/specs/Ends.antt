@@ -2,8 +2,8 @@
 use Rattle.std.specs.Prelude.{◌≡◌, ◌⊎◌, ℕ, List, [], ◌∷◌, codes, Option, ⊤}
 use Rattle.std.specs.Io.KnownBytes.{Appends}
 use Rattle.lra_office.specs.Wholes.{whole_lines}
-use Rattle.lra_runs.specs.declared.fault.RunFault.TheVariants.{Read, Write, TooLong, Memory, Line}
-use Rattle.lra_runs.specs.Report.{joined, line_feed, ReportsAudit}
+use Rattle.lra_reports.specs.declared.fault.RunFault.TheVariants.{Read, Write, TooLong, Memory, Line}
+use Rattle.lra_reports.specs.Report.{joined, line_feed, ReportsAudit}
 use Rattle.lra_service.specs.declared.fault.ServeFault.{ServeFault}
 use Rattle.lra_service.specs.declared.fault.ServeFault.TheVariants.{Run, File, Address}
 

@@ -8,7 +8,7 @@ ghost use Rattle.lra_service.specs.Faults.{base_text};
 use crate::fault::ServeFault;
 use lra_courier::socket_text;
 use lra_ids::{Address, UriFault, address};
-use lra_runs::RunFault;
+use lra_reports::RunFault;
 use std::alloc::Global;
 use std::net::{Net, TcpListener};
 

@@ -4,7 +4,7 @@ ghost use Rattle.std.specs.Prelude.{◌≡◌, IfOk, string_bytes};
 ghost use Rattle.lra_service.specs.Faults.{fault_line};
 
 use lra_model::Memory;
-use lra_runs::{RunFault, error_line};
+use lra_reports::{RunFault, error_line};
 use std::alloc::{AllocError, AllocFailed, Global};
 use thiserror::Error;
 
@@ -36,7 +36,7 @@ impl From<RunFault> for ServeFault {
 
 impl From<AllocError> for ServeFault {
     ghost use Rattle.std.specs.Prelude.{◌≡◌};
-    ghost use Rattle.lra_runs.specs.declared.fault.RunFault.TheVariants.{Memory};
+    ghost use Rattle.lra_reports.specs.declared.fault.RunFault.TheVariants.{Memory};
     ghost use Rattle.lra_service.specs.declared.fault.ServeFault.TheVariants as served;
 
     ghost from_gives = { λ _ fault. fault ≡ served.Run Memory };
@@ -48,7 +48,7 @@ impl From<AllocError> for ServeFault {
 
 impl<T: Drop> From<AllocFailed<T>> for ServeFault {
     ghost use Rattle.std.specs.Prelude.{◌≡◌};
-    ghost use Rattle.lra_runs.specs.declared.fault.RunFault.TheVariants.{Memory};
+    ghost use Rattle.lra_reports.specs.declared.fault.RunFault.TheVariants.{Memory};
     ghost use Rattle.lra_service.specs.declared.fault.ServeFault.TheVariants as served;
 
     ghost from_gives = { λ _ fault. fault ≡ served.Run Memory };

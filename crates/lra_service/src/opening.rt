@@ -11,7 +11,7 @@ use crate::post::enrol_fault;
 use lra_commands::Limits;
 use lra_ids::{Address, Instance};
 use lra_office::{Clerk, Desk, Office, ReopenFault, StartFault};
-use lra_runs::RunFault;
+use lra_reports::RunFault;
 use std::alloc::Global;
 use std::io::Write;
 use std::sync::Wait;

@@ -8,7 +8,7 @@ ghost use Rattle.lra_service.specs.inner.Opened.{IsAt};
 use crate::fault::ServeFault;
 use lra_commands::Refusal;
 use lra_office::{Clerk, Office, OfficeRefusal, Serving};
-use lra_runs::RunFault;
+use lra_reports::RunFault;
 use std::alloc::Global;
 use std::sync::Wait;
 

@@ -3,7 +3,7 @@
 ghost use Rattle.std.specs.Prelude.{◌≡◌, ◌≢◌, ℕ, List, true, Ok, IsFalse, IfOk, IfErr, OnOk, IsErrAnd};
 ghost use Rattle.std.specs.Io.KnownBytes.{Appends};
 ghost use Rattle.lra_ids.specs.Addresses.{is_base};
-ghost use Rattle.lra_runs.specs.Report.{ReportsAudit};
+ghost use Rattle.lra_reports.specs.Report.{ReportsAudit};
 ghost use Rattle.lra_service.specs.Ends.{serving_line, IsSaid, IsRefused, IsOfAddress};
 ghost use Rattle.lra_service.specs.Faults.{base_text};
 ghost use Rattle.lra_service.specs.inner.Opened.{IsAt};
@@ -21,7 +21,7 @@ use lra_durable::{Keeper, Progress};
 use lra_ids::Address;
 use lra_journal::whole;
 use lra_office::{Clerk, Office, Serving};
-use lra_runs::{RunFault, audit_run};
+use lra_reports::{RunFault, audit_run};
 use std::alloc::Global;
 use std::fs::File;
 use std::io::Write;

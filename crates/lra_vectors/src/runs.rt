@@ -3,8 +3,30 @@
 mod fakes;
 
 use fakes::{Full, Halting, Halts, Shelf};
-use lra_runs::{Invocation, RunFault, Usage, error_line, input_name, read_words, run};
+use lra_reports::{Invocation, Question, RunFault, Sources, Usage, error_line, input_name, run};
+use lra_runs::{Task, play_file, read_task};
+use std::alloc::Global;
+use std::io::Write;
 use std::test::Fail;
+
+/// What is done with an input.
+#[derive(Clone, Copy, Debug)]
+enum Work {
+    Report(Invocation<'static>),
+    Play(&'static str),
+}
+
+fn carry_out<S: Sources, W: Write>(
+    alloc: Global,
+    sources: &S,
+    work: Work,
+    writer: &mut W,
+) -> Result<u8, RunFault> {
+    match work {
+        Work::Report(invocation) => run(alloc, sources, invocation, writer),
+        Work::Play(script) => play_file(alloc, sources, script, writer),
+    }
+}
 
 const JOURNAL: &str = "lra-journal 1 7\n1 0 enrol\n1 0 start 1 * 0\n1 5 start 2 1 0\n";
 
@@ -42,19 +64,35 @@ const SHELF: Shelf = Shelf {
 };
 
 /// What is asked for, what is printed, and the outcome.
-const RUNS: [(Invocation<'static>, &str, Result<u8, RunFault>); 7] = [
-    (Invocation::AuditInput, "unsound line 2 clerk\n", Ok(1)),
-    (Invocation::Audit { file: "journal" }, AUDITED, Ok(0)),
-    (Invocation::Show { file: "journal" }, LISTED, Ok(0)),
-    (Invocation::Upgrade { file: "journal" }, UPGRADED, Ok(0)),
-    (Invocation::Play { script: "script" }, PLAYED, Ok(1)),
+const RUNS: [(Work, &str, Result<u8, RunFault>); 7] = [
     (
-        Invocation::Play { script: "bad" },
+        Work::Report(Invocation::AuditInput),
+        "unsound line 2 clerk\n",
+        Ok(1),
+    ),
+    (
+        Work::Report(Invocation::Audit { file: "journal" }),
+        AUDITED,
+        Ok(0),
+    ),
+    (
+        Work::Report(Invocation::Show { file: "journal" }),
+        LISTED,
+        Ok(0),
+    ),
+    (
+        Work::Report(Invocation::Upgrade { file: "journal" }),
+        UPGRADED,
+        Ok(0),
+    ),
+    (Work::Play("script"), PLAYED, Ok(1)),
+    (
+        Work::Play("bad"),
         "+ lra-journal 2 7\nclerk 1\n+ 1 0 enrol\n",
         Err(RunFault::Line(2)),
     ),
     (
-        Invocation::Audit { file: "elsewhere" },
+        Work::Report(Invocation::Audit { file: "elsewhere" }),
         "",
         Err(RunFault::Read),
     ),
@@ -62,68 +100,78 @@ const RUNS: [(Invocation<'static>, &str, Result<u8, RunFault>); 7] = [
 
 #[test]
 fn invocations_are_carried_out(rt: HostRuntime) -> Result<(), Fail> {
-    for (invocation, printed, outcome) in RUNS {
+    for (work, printed, outcome) in RUNS {
         let mut out = Vec::new(rt.alloc());
-        let answer = run(rt.alloc(), &SHELF, invocation, &mut out);
-        assert_eq!(rt; answer, outcome, "of {invocation:?}");
-        assert_eq!(rt; out.as_slice(), printed.as_bytes(), "of {invocation:?}");
+        let answer = carry_out(rt.alloc(), &SHELF, work, &mut out);
+        assert_eq!(rt; answer, outcome, "of {work:?}");
+        assert_eq!(rt; out.as_slice(), printed.as_bytes(), "of {work:?}");
     }
     Ok(())
 }
 
 /// What is asked for of a file, what is read there, what is printed, and the status.
-const FILES: [(Invocation<'static>, &str, &str, u8); 5] = [
-    (Invocation::Audit { file: "it" }, JOURNAL, AUDITED, 0),
-    (Invocation::Show { file: "it" }, JOURNAL, LISTED, 0),
+const FILES: [(Work, &str, &str, u8); 5] = [
     (
-        Invocation::Upgrade { file: "it" },
+        Work::Report(Invocation::Audit { file: "it" }),
+        JOURNAL,
+        AUDITED,
+        0,
+    ),
+    (
+        Work::Report(Invocation::Show { file: "it" }),
+        JOURNAL,
+        LISTED,
+        0,
+    ),
+    (
+        Work::Report(Invocation::Upgrade { file: "it" }),
         CLOSED,
         CLOSED_UPGRADED,
         0,
     ),
     (
-        Invocation::Upgrade { file: "it" },
+        Work::Report(Invocation::Upgrade { file: "it" }),
         MISTAKEN,
         "unsound line 5 ending\n",
         1,
     ),
-    (Invocation::Play { script: "it" }, SCRIPT, PLAYED, 1),
+    (Work::Play("it"), SCRIPT, PLAYED, 1),
 ];
 
 #[test]
 fn an_input_may_halt(rt: HostRuntime) -> Result<(), Fail> {
-    for (invocation, text, printed, status) in FILES {
+    for (work, text, printed, status) in FILES {
         let mut out = Vec::new(rt.alloc());
         let source = Halts { text, fails: false };
-        let answer = run(rt.alloc(), &source, invocation, &mut out);
-        assert_eq!(rt; answer, Ok(status), "of {invocation:?}");
-        assert_eq!(rt; out.as_slice(), printed.as_bytes(), "of {invocation:?}");
+        let answer = carry_out(rt.alloc(), &source, work, &mut out);
+        assert_eq!(rt; answer, Ok(status), "of {work:?}");
+        assert_eq!(rt; out.as_slice(), printed.as_bytes(), "of {work:?}");
     }
     Ok(())
 }
 
 #[test]
 fn an_input_may_fail(rt: HostRuntime) {
-    for (invocation, text, _, _) in FILES {
+    for (work, text, _, _) in FILES {
         let mut out = Vec::new(rt.alloc());
         let source = Halts { text, fails: true };
-        let answer = run(rt.alloc(), &source, invocation, &mut out);
-        assert_eq!(rt; answer, Err(RunFault::Read), "of {invocation:?}");
-        assert!(rt; out.is_empty(), "of {invocation:?}");
+        let answer = carry_out(rt.alloc(), &source, work, &mut out);
+        assert_eq!(rt; answer, Err(RunFault::Read), "of {work:?}");
+        assert!(rt; out.is_empty(), "of {work:?}");
     }
 }
 
 #[test]
 fn an_output_may_fail(rt: HostRuntime) {
-    for (invocation, text, printed, status) in FILES {
+    for (work, text, printed, status) in FILES {
         for (room, wanted) in [
             (0, Err(RunFault::Write)),
             (printed.len().saturating_sub(1), Err(RunFault::Write)),
             (printed.len(), Ok(status)),
         ] {
             let source = Halts { text, fails: false };
-            let answer = run(rt.alloc(), &source, invocation, &mut Full { room });
-            assert_eq!(rt; answer, wanted, "of {invocation:?} with room for {room}");
+            let answer = carry_out(rt.alloc(), &source, work, &mut Full { room });
+            assert_eq!(rt; answer, wanted, "of {work:?} with room for {room}");
         }
     }
 }
@@ -131,19 +179,19 @@ fn an_output_may_fail(rt: HostRuntime) {
 /// Run with one allocation failing in turn: what is printed is what was wanted, or the first part of it.
 #[test]
 fn a_growth_may_be_refused(rt: HostRuntime) -> Result<(), Fail> {
-    for (invocation, text, printed, status) in FILES {
+    for (work, text, printed, status) in FILES {
         // The writer itself grows no more.
         let mut out = match Vec::with_capacity(rt.alloc(), 1024) {
             Ok(out) => out,
             Err(_) => Vec::with_capacity(rt.alloc(), 1024)?,
         };
         let source = Halts { text, fails: false };
-        let answer = run(rt.alloc(), &source, invocation, &mut out);
+        let answer = carry_out(rt.alloc(), &source, work, &mut out);
         if answer == Err(RunFault::Memory) {
             assert!(rt; printed.as_bytes().starts_with(out.as_slice()));
         } else {
-            assert_eq!(rt; answer, Ok(status), "of {invocation:?}");
-            assert_eq!(rt; out.as_slice(), printed.as_bytes(), "of {invocation:?}");
+            assert_eq!(rt; answer, Ok(status), "of {work:?}");
+            assert_eq!(rt; out.as_slice(), printed.as_bytes(), "of {work:?}");
         }
     }
     Ok(())
@@ -165,6 +213,16 @@ fn faults_are_told_in_a_line(rt: HostRuntime) -> Result<(), Fail> {
     Ok(())
 }
 
+/// The name of a report on the input `it`.
+fn reported(invocation: Invocation<'_>) -> Option<&'static str> {
+    match invocation {
+        Invocation::Audit { file: "it" } => Some("audit"),
+        Invocation::Show { file: "it" } => Some("show"),
+        Invocation::Upgrade { file: "it" } => Some("upgrade"),
+        _ => None,
+    }
+}
+
 /// What two words ask for: the name of the command, and of its input.
 fn asked(rt: &HostRuntime, verb: &str, file: &str) -> Result<Option<&'static str>, Fail> {
     let alloc = rt.alloc();
@@ -172,17 +230,15 @@ fn asked(rt: &HostRuntime, verb: &str, file: &str) -> Result<Option<&'static str
         String::from_str(alloc, verb)?,
         String::from_str(alloc, file)?,
     ]?;
-    Ok(match read_words(&words) {
-        Ok(Invocation::Audit { file: "it" }) => Some("audit"),
-        Ok(Invocation::Show { file: "it" }) => Some("show"),
-        Ok(Invocation::Upgrade { file: "it" }) => Some("upgrade"),
-        Ok(Invocation::Play { script: "it" }) => Some("play"),
+    Ok(match read_task(&words) {
+        Ok(Task::Question(Question::Run(invocation))) => reported(invocation),
+        Ok(Task::Play { script: "it" }) => Some("play"),
         _ => None,
     })
 }
 
 #[test]
-fn words_are_invocations(rt: HostRuntime) -> Result<(), Fail> {
+fn words_are_tasks(rt: HostRuntime) -> Result<(), Fail> {
     for (verb, file, wanted) in [
         ("audit", "it", Some("audit")),
         ("show", "it", Some("show")),
@@ -194,7 +250,7 @@ fn words_are_invocations(rt: HostRuntime) -> Result<(), Fail> {
         assert_eq!(rt; asked(&rt, verb, file)?, wanted, "of {verb} {file}");
     }
     let one = vec![in rt.alloc(); String::from_str(rt.alloc(), "audit")?]?;
-    assert!(rt; matches!(read_words(&[]), Ok(Invocation::AuditInput)));
-    assert!(rt; matches!(read_words(&one), Err(Usage)));
+    assert!(rt; matches!(read_task(&[]), Ok(Task::Question(Question::Run(Invocation::AuditInput)))));
+    assert!(rt; matches!(read_task(&one), Err(Usage)));
     Ok(())
 }

@@ -1,6 +1,6 @@
 -- Which faults a step of a service may have.
 use Rattle.std.specs.Prelude.{⊤}
-use Rattle.lra_runs.specs.Faults.{NamesNoLine}
+use Rattle.lra_reports.specs.Faults.{NamesNoLine}
 use Rattle.lra_service.specs.declared.fault.ServeFault.{ServeFault}
 use Rattle.lra_service.specs.declared.fault.ServeFault.TheVariants.{Run, File, Address}
 

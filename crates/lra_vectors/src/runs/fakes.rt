@@ -1,6 +1,6 @@
 //! Inputs and outputs in memory, some of which fail.
 
-use lra_runs::{RunFault, Sources};
+use lra_reports::{RunFault, Sources};
 use std::io;
 use std::io::{ErrorKind, Read, Write};
 

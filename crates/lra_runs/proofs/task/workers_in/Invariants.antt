@@ -1,8 +1,5 @@
 use Rattle.std.proofs.Common.{◌≡◌, ◌∷◌, [], ℕ, ◌≤◌, IfOk, IfErr, IfSome, IfNone, ◌+◌, ◌-◌, ◌*◌, ◌<◌, length}
 use Rattle.std.specs.Fmt.{decimal}
-use Rattle.lra_runs.specs.declared.task.Task.{Task}
-use Rattle.lra_runs.specs.Words.{texts}
-use Rattle.lra_runs.specs.Tasks.{IsTask}
 use Rattle.lra_runs.proofs.task.workers_in.Given as goal
 
 abbrev pub invariant-loop-number : goal.invariant-loop-number

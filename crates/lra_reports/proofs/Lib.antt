@@ -1,0 +1,4 @@
+pub mod Lines
+pub mod Feeding
+pub mod Versions
+pub mod Sourced

@@ -1,0 +1,7 @@
+pub mod Report
+pub mod Faults
+pub mod Show
+pub mod Upgrade
+pub mod Words
+pub mod Invoked
+pub mod inner

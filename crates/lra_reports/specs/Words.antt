@@ -1,0 +1,24 @@
+-- What the words of a command line ask of a journal.
+use Rattle.std.specs.Prelude.{◌≡◌, ℕ, List, [], ◌∷◌, map, codes, String, string_bytes}
+use Rattle.std.specs.Global.{Global}
+use Rattle.lra_reports.specs.declared.words.Invocation.{Invocation}
+use Rattle.lra_reports.specs.declared.words.Invocation.TheVariants.{AuditInput, Audit, Show, Upgrade}
+use Rattle.lra_reports.specs.declared.words.Question.{Question}
+use Rattle.lra_reports.specs.declared.words.Question.TheVariants.{Run, Help, Version}
+
+-- the bytes of each word
+abbrev pub texts : List (String Global) → List (List ℕ)
+texts words = map string_bytes words
+
+-- no word is to audit standard input; `audit FILE` is to audit a file, `show FILE` to list it, and `upgrade FILE` to upgrade it
+abbrev pub IsInvocation : List (List ℕ) → Invocation → Type 0
+IsInvocation words AuditInput = words ≡ []
+IsInvocation words (Audit file) = words ≡ codes "audit" ∷ file.now ∷ []
+IsInvocation words (Show file) = words ≡ codes "show" ∷ file.now ∷ []
+IsInvocation words (Upgrade file) = words ≡ codes "upgrade" ∷ file.now ∷ []
+
+-- words that ask for a run; or `--help`; or `--version`
+abbrev pub IsQuestion : List (List ℕ) → Question → Type 0
+IsQuestion words (Run invocation) = IsInvocation words invocation
+IsQuestion words Help = words ≡ codes "--help" ∷ []
+IsQuestion words Version = words ≡ codes "--version" ∷ []

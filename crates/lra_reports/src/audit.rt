@@ -1,0 +1,46 @@
+//! The audit of a journal.
+
+ghost use Rattle.std.specs.Prelude.{◌≡◌, IfOk, IfErr, IfSome, OnOk};
+ghost use Rattle.std.specs.Io.KnownBytes.{Appends};
+ghost use Rattle.lra_reports.specs.Faults.{NamesNoLine, IsMeasured, LeavesOutput};
+ghost use Rattle.lra_reports.specs.inner.Causes.{IsOfOutput};
+ghost use Rattle.lra_reports.specs.Report.{report_of, ReportsAudit};
+
+use crate::fault::RunFault;
+use crate::input::audit_input;
+use crate::output::put;
+use crate::report::{report, status};
+use lra_auditor::Verdict;
+use std::alloc::Global;
+use std::io::{Read, Write};
+
+/// Writes what is printed of a verdict.
+pub(crate) fn put_report<W: Write>(
+    alloc: Global,
+    verdict: &Verdict,
+    writer: &mut W,
+) -> Result<(), RunFault>
+    ensures written { OnOk result (Appends (W.contents writer.old) (W.contents writer.new) (report_of verdict.now)) }
+    ensures fault { IfErr result IsOfOutput }
+{
+    let text = report(alloc, verdict)?;
+    put(writer, text.as_bytes())
+}
+
+/// Audits what the reader gives, and writes the verdict. The answer is the program's status: 0 for a sound journal,
+/// else 1.
+pub fn audit_run<R: Read + Drop, W: Write>(
+    alloc: Global,
+    mut reader: R,
+    writer: &mut W,
+) -> Result<u8, RunFault>
+    ensures ok { IfOk result (λ status. IfSome (R.remaining reader) (λ input.
+        ReportsAudit input status (W.contents writer.old) (W.contents writer.new))) }
+    ensures measured { IfSome (R.remaining reader) (IsMeasured result) }
+    ensures left { LeavesOutput result (W.contents writer.old) (W.contents writer.new) }
+    ensures fault { IfErr result NamesNoLine }
+{
+    let verdict = audit_input(alloc, &mut reader)?;
+    put_report(alloc, &verdict, writer)?;
+    Ok(status(&verdict))
+}

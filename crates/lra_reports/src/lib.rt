@@ -1,0 +1,28 @@
+//! What reads an input and reports on it, over any reader and writer: an audit of a journal, a listing of its actions and members, its
+//! upgrade; and what the words of a command line ask of these.
+#![tactic(auto)]
+
+mod audit;
+mod dispatch;
+mod errors;
+mod fault;
+mod input;
+mod output;
+mod program;
+mod report;
+mod show;
+mod texts;
+mod upgrade;
+mod words;
+
+pub use audit::audit_run;
+pub use dispatch::{Sources, run};
+pub use errors::{error_line, input_name};
+pub use fault::RunFault;
+pub use input::read_input;
+pub use output::put;
+pub use program::{System, answer_question, settle, tell, tell_usage, words_of};
+pub use show::show_run;
+pub use texts::{HELP, VERSION};
+pub use upgrade::upgrade_run;
+pub use words::{Invocation, Question, Usage, read_question};

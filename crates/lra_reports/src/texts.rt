@@ -1,0 +1,16 @@
+//! What the programs say of themselves.
+
+/// How they are called.
+pub const HELP: &str = "\
+lra                               audits standard input
+lra audit FILE                    audits a journal
+lra show FILE                     lists a sound journal's actions and members
+lra upgrade FILE                  prints a sound journal in version 2
+lra play SCRIPT                   plays commands on a coordinator in memory
+lra serve ADDRESS FILE WORKERS    serves a journal's coordinator at http://ADDRESS/, by 1 to 16 threads of a kind
+lra --help                        prints these calls
+lra --version                     prints the version, and what proved it
+";
+
+/// Their version, and the identity of the toolchain that proves and builds them.
+pub const VERSION: &str = "lra unreleased\nrattle-kit-13b logic dac8208d650f15bf\n";

@@ -1,0 +1,85 @@
+//! The words of a command line.
+
+ghost use Rattle.std.specs.Prelude.{IfOk, IfErr, [], ◌∷◌};
+ghost use Rattle.lra_reports.specs.declared.words.Invocation.{Invocation};
+ghost use Rattle.lra_reports.specs.declared.words.Question.{Question};
+ghost use Rattle.lra_reports.specs.Words.{texts, IsInvocation, IsQuestion};
+
+/// A run on an input.
+#[derive(Clone, Copy, Debug)]
+pub enum Invocation<'a> {
+    /// Audit standard input.
+    AuditInput,
+    /// Audit a file.
+    Audit { file: &'a str },
+    /// List the actions and members of a file's journal.
+    Show { file: &'a str },
+    /// Upgrade a file's journal to version 2.
+    Upgrade { file: &'a str },
+}
+
+/// What a program that reads and reports is asked.
+#[derive(Clone, Copy, Debug)]
+pub enum Question<'a> {
+    /// What a run on an input comes to.
+    Run(Invocation<'a>),
+    /// How it is called.
+    Help,
+    /// Which version it is.
+    Version,
+}
+
+/// The words ask for nothing.
+#[derive(Clone, Copy, Debug, PartialEq, Eq)]
+pub struct Usage;
+
+/// The run on a file that a verb names.
+fn invocation_on<'a>(verb: &str, file: &'a str) -> Result<Invocation<'a>, Usage>
+    ensures invocation { IfOk result (IsInvocation (verb.now ∷ file.now ∷ [])) }
+    ensures usage { IfErr result (λ _. (invocation : Invocation) → IsInvocation (verb.now ∷ file.now ∷ []) invocation → ⊥) }
+{
+    match verb {
+        "audit" => Ok(Invocation::Audit { file }),
+        "show" => Ok(Invocation::Show { file }),
+        "upgrade" => Ok(Invocation::Upgrade { file }),
+        _ => Err(Usage),
+    }
+}
+
+/// The run that these words ask for.
+fn read_invocation(words: &[String]) -> Result<Invocation<'_>, Usage>
+    ensures invocation { IfOk result (IsInvocation (texts words.now)) }
+    ensures usage { IfErr result (λ _. (invocation : Invocation) → IsInvocation (texts words.now) invocation → ⊥) }
+{
+    match words {
+        [] => Ok(Invocation::AuditInput),
+        [verb, file] => invocation_on(verb.as_str(), file.as_str()),
+        _ => Err(Usage),
+    }
+}
+
+/// What a word alone asks.
+fn question_of<'a>(word: &str) -> Result<Question<'a>, Usage>
+    ensures question { IfOk result (IsQuestion (word.now ∷ [])) }
+    ensures usage { IfErr result (λ _. (question : Question) → IsQuestion (word.now ∷ []) question → ⊥) }
+{
+    match word {
+        "--help" => Ok(Question::Help),
+        "--version" => Ok(Question::Version),
+        _ => Err(Usage),
+    }
+}
+
+/// What these words ask, without the program's own name.
+pub fn read_question(words: &[String]) -> Result<Question<'_>, Usage>
+    ensures question { IfOk result (IsQuestion (texts words.now)) }
+    ensures usage { IfErr result (λ _. (question : Question) → IsQuestion (texts words.now) question → ⊥) }
+{
+    match words {
+        [word] => question_of(word.as_str()),
+        _ => match read_invocation(words) {
+            Ok(invocation) => Ok(Question::Run(invocation)),
+            Err(usage) => Err(usage),
+        },
+    }
+}
