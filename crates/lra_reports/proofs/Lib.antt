@@ -2,3 +2,4 @@ pub mod Lines
 pub mod Feeding
 pub mod Versions
 pub mod Sourced
+pub mod Worded

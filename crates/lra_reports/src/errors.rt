@@ -15,9 +15,8 @@ pub fn input_name<'a>(invocation: Invocation<'a>) -> &'a str
 {
     match invocation {
         Invocation::AuditInput => "-",
-        Invocation::Audit { file }
-        | Invocation::Show { file }
-        | Invocation::Upgrade { file } => file,
+        Invocation::Audit { file } | Invocation::Show { file } | Invocation::Upgrade { file } =>
+            file,
     }
 }
 

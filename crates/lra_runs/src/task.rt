@@ -18,7 +18,9 @@ pub enum Task<'a> {
     /// Answer what a program that reads and reports is asked.
     Question(Question<'a>),
     /// Play a script.
-    Play { script: &'a str },
+    Play {
+        script: &'a str,
+    },
     /// Serve the coordinator of a file's journal at an address, by so many threads that answer and as many that carry errands.
     Serve {
         address: &'a str,

@@ -1,16 +1,10 @@
-use Rattle.std.proofs.Common.{◌≡◌, ℕ, List, [], ◌∷◌, length, get_or, sym, ap, ◌∙◌, subst, arith}
+use Rattle.std.proofs.Common.{◌≡◌, ℕ, List, [], ◌∷◌, sym, ap, ◌∙◌, subst, arith}
 use Rattle.std.specs.Prelude.{IfOk, IfErr}
 use Rattle.lra_reports.specs.declared.words.Invocation.{Invocation}
 use Rattle.lra_reports.specs.Words.{texts, IsInvocation}
+use Rattle.lra_reports.proofs.Worded.{two}
 use Rattle.lra_reports.proofs.words.read_invocation.Goals as goal
 use Rattle.lra_reports.proofs.words.read_invocation.Goals.{After-invocation_on}
-
--- two items, by their places
-two : {W : Type 0} (ws : List W) (x y : W) → length ws ≡ 2 → x ≡ get_or ws 0 x → y ≡ get_or ws 1 y → ws ≡ x ∷ y ∷ []
-two [] x y n p q = absurd (omega arith)
-two (a ∷ []) x y n p q = absurd (omega arith)
-two (a ∷ b ∷ []) x y n p q = cc
-two (a ∷ b ∷ d ∷ ws) x y n p q = absurd (omega arith)
 
 -- the bytes of both words
 both : (c : After-invocation_on) → c.as_str.result.now ∷ c.as_str-in-len2.result.now ∷ [] ≡ texts c.args.words.now

@@ -1,4 +1,4 @@
-use Rattle.std.proofs.Common.{◌≡◌, ◌∷◌, [], ℕ, ◌≤◌, IfOk, IfErr, IfSome, IfNone, ◌+◌, ◌-◌, ◌*◌, ◌<◌, length}
+use Rattle.std.proofs.Common.{◌≡◌, ℕ, ◌≤◌, ◌<◌}
 use Rattle.std.specs.Fmt.{decimal}
 use Rattle.lra_runs.proofs.task.workers_in.Given as goal
 
