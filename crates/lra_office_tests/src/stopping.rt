@@ -224,9 +224,13 @@ fn give_all<R: Wait>(
 
 /// What is left of the commands in an office: what came of them, and the writer. Where the clerk's enrolment was stopped, there is
 /// none.
-fn run<R: Wait>(rt: &R, alloc: Global, writer: Faulty) -> Result<Option<(Answers, Faulty)>, Fail> {
-    let first = participant(alloc, "p", true)?;
-    let second = participant(alloc, "q", false)?;
+fn run<R: Wait>(
+    rt: &R,
+    alloc: Global,
+    first: &Uris,
+    second: &Uris,
+    writer: Faulty,
+) -> Result<Option<(Answers, Faulty)>, Fail> {
     let instance = Instance::new(7).ok_or("no instance")?;
     let (office, pass) = match Office::create(
         alloc,
@@ -244,7 +248,7 @@ fn run<R: Wait>(rt: &R, alloc: Global, writer: Faulty) -> Result<Option<(Answers
         Err((_, OfficeRefusal::Refused(Refusal::Stopped))) => return Ok(None),
         Err(_) => return Err("a clerk is enrolled, or stopped")?,
     };
-    let answers = give_all(rt, &office, &mut clerk, &first, &second);
+    let answers = give_all(rt, &office, &mut clerk, first, second);
     match office.shut(clerk) {
         Ok((_, scribe)) => Ok(Some((answers, scribe.into_writer()))),
         Err(_) => Err("the lock is free")?,
@@ -271,10 +275,16 @@ fn fitting(lines: u32) -> usize {
 }
 
 /// Whether a writer with so much room has taken just so many bytes, and the commands were answered as where that many fit.
-fn stops_in_time<R: Wait>(rt: &R, alloc: Global, room: usize) -> Result<bool, Fail> {
+fn stops_in_time<R: Wait>(
+    rt: &R,
+    alloc: Global,
+    first: &Uris,
+    second: &Uris,
+    room: usize,
+) -> Result<bool, Fail> {
     let (front, _) = JOURNAL.as_bytes().split_at(room.min(JOURNAL.len()));
     let lines = count_lines(front);
-    match run(rt, alloc, writer_with(alloc, room, 0))? {
+    match run(rt, alloc, first, second, writer_with(alloc, room, 0))? {
         Some((answers, writer)) => {
             Ok(writer.taken.as_slice() == front && answers.are_of(fitting(lines)))
         }
@@ -283,8 +293,15 @@ fn stops_in_time<R: Wait>(rt: &R, alloc: Global, room: usize) -> Result<bool, Fa
 }
 
 /// Whether a writer whose one call goes wrong isn't called again, and has taken what was written before.
-fn is_left_alone<R: Wait>(rt: &R, alloc: Global, bad_call: u32) -> Result<bool, Fail> {
-    match run(rt, alloc, writer_with(alloc, JOURNAL.len(), bad_call))? {
+fn is_left_alone<R: Wait>(
+    rt: &R,
+    alloc: Global,
+    first: &Uris,
+    second: &Uris,
+    bad_call: u32,
+) -> Result<bool, Fail> {
+    let writer = writer_with(alloc, JOURNAL.len(), bad_call);
+    match run(rt, alloc, first, second, writer)? {
         Some((answers, writer)) => {
             let lines = count_lines(writer.taken.as_slice());
             Ok(
@@ -363,16 +380,32 @@ fn is_full(alloc: Global) -> Result<bool, Fail> {
     }
 }
 
-#[test]
-fn a_writer_that_fails_is_called_no_more(rt: HostRuntime) -> Result<(), Fail> {
+/// The first room, or the first call, at which something else happens than what is to come of the commands.
+fn first_astray<R: Wait>(
+    rt: &R,
+    alloc: Global,
+    first: &Uris,
+    second: &Uris,
+) -> Result<Option<usize>, Fail> {
     for room in 0..JOURNAL.len() + 1 {
-        let stops = stops_in_time(&rt, rt.alloc(), room)?;
-        assert!(rt; stops, "at {room}");
+        if !stops_in_time(rt, alloc, first, second, room)? {
+            return Ok(Some(room));
+        }
     }
     for bad_call in 1..12u32 {
-        let left = is_left_alone(&rt, rt.alloc(), bad_call)?;
-        assert!(rt; left, "at call {bad_call}");
+        if !is_left_alone(rt, alloc, first, second, bad_call)? {
+            return Ok(Some(bad_call as usize));
+        }
     }
+    Ok(None)
+}
+
+#[test]
+fn a_writer_that_fails_is_called_no_more(rt: HostRuntime) -> Result<(), Fail> {
+    let first = participant(rt.alloc(), "p", true)?;
+    let second = participant(rt.alloc(), "q", false)?;
+    let astray = first_astray(&rt, rt.alloc(), &first, &second)?;
+    assert!(rt; astray.is_none());
     Ok(())
 }
 

@@ -250,7 +250,12 @@ fn words_are_tasks(rt: HostRuntime) -> Result<(), Fail> {
         assert_eq!(rt; asked(&rt, verb, file)?, wanted, "of {verb} {file}");
     }
     let one = vec![in rt.alloc(); String::from_str(rt.alloc(), "audit")?]?;
-    assert!(rt; matches!(read_task(&[]), Ok(Task::Question(Question::Run(Invocation::AuditInput)))));
+    assert!(rt;
+        matches!(
+            read_task(&[]),
+            Ok(Task::Question(Question::Run(Invocation::AuditInput)))
+        )
+    );
     assert!(rt; matches!(read_task(&one), Err(Usage)));
     Ok(())
 }
