@@ -53,26 +53,48 @@ fn passes(
     Ok(all)
 }
 
+// Each pass takes the lock this many times, in a thread of its own.
+fn hand_over_all<R: Threads + Wait + Sync>(
+    rt: &R,
+    lock: &EntryLock,
+    jobs: Vec<EntryPass>,
+    times: u64,
+) -> Result<Vec<()>, Memory>
+    requires { All (λ p. pass_id p ≡ lock_id lock.now) jobs.items }
+{
+    thread::map_vec(
+        rt,
+        jobs,
+        &|pass: EntryPass| -> ()
+            requires { pass_id pass ≡ lock_id lock.now }
+        {
+            hand_over(rt, lock, pass, times);
+        },
+    )
+}
+
+fn time_tickets<R: Threads + Wait + Clock + Sync>(
+    rt: &R,
+    alloc: Global,
+    lock: &EntryLock,
+    pass: EntryPass,
+    threads: u64,
+) -> io::Result<Duration>
+    requires { pass_id pass ≡ lock_id lock.now }
+{
+    let jobs = passes(alloc, lock, pass, threads)?;
+    let start = Instant::now(rt);
+    hand_over_all(rt, lock, jobs, HANDOVERS / threads.max(1))?;
+    start?.elapsed(rt)
+}
+
 fn through_tickets<R: Threads + Wait + Clock + Sync>(
     rt: &R,
     alloc: Global,
     threads: u64,
 ) -> io::Result<Duration> {
     let (lock, pass) = EntryLock::new(alloc, Vec::new(alloc))?;
-    let jobs = passes(alloc, &lock, pass, threads)?;
-    let shared = &lock;
-    let times = HANDOVERS / threads.max(1);
-    let start = Instant::now(rt)?;
-    thread::map_vec(
-        rt,
-        jobs,
-        &|pass: EntryPass| -> ()
-            requires { pass_id pass ≡ lock_id shared.now }
-        {
-            hand_over(rt, shared, pass, times);
-        },
-    )?;
-    start.elapsed(rt)
+    time_tickets(rt, alloc, &lock, pass, threads)
 }
 
 fn through_a_mutex<R: Threads + Wait + Clock + Sync>(

@@ -189,6 +189,25 @@ fn passes<V: Serving>(
     Ok(all)
 }
 
+/// So many rounds by each of these passes, in a thread of its own, and whether all of them were done.
+fn do_all<V: Serving + Send, R: Threads + Wait + Sync>(
+    rt: &R,
+    office: &Office<V>,
+    jobs: Vec<Pass<V>>,
+    uris: &Uris,
+    rounds: u64,
+) -> Result<Vec<bool>, AllocError>
+    requires { All (λ p. (pass_id p ≡ lock_id office.now.lock) × ((pass_view p).number ≡ 0)) jobs.items }
+{
+    thread::map_vec(
+        rt,
+        jobs,
+        &|pass: Pass<V>| -> bool
+            requires { (pass_id pass ≡ lock_id office.now.lock) × ((pass_view pass).number ≡ 0) }
+        { does_rounds_at(rt, office, pass, uris, rounds) },
+    )
+}
+
 /// How long so many rounds take by so many threads together, each with a clerk of its own.
 fn time_rounds<V: Serving + Send, R: Threads + Wait + Clock + Sync>(
     rt: &R,
@@ -199,15 +218,9 @@ fn time_rounds<V: Serving + Send, R: Threads + Wait + Clock + Sync>(
 ) -> Result<Duration>
     requires { All (λ p. (pass_id p ≡ lock_id office.now.lock) × ((pass_view p).number ≡ 0)) jobs.items }
 {
-    let start = Instant::now(rt)?;
-    let done = thread::map_vec(
-        rt,
-        jobs,
-        &|pass: Pass<V>| -> bool
-            requires { (pass_id pass ≡ lock_id office.now.lock) × ((pass_view pass).number ≡ 0) }
-        { does_rounds_at(rt, office, pass, uris, rounds) },
-    )?;
-    let time = start.elapsed(rt)?;
+    let start = Instant::now(rt);
+    let done = do_all(rt, office, jobs, uris, rounds)?;
+    let time = start?.elapsed(rt)?;
     ensure!(!done.contains(&false), "a command isn't done");
     Ok(time)
 }

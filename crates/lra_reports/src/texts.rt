@@ -13,4 +13,4 @@ lra --version                     prints the version, and what proved it
 ";
 
 /// Their version, and the identity of the toolchain that proves and builds them.
-pub const VERSION: &str = "lra unreleased\nrattle-kit-13b logic dac8208d650f15bf\n";
+pub const VERSION: &str = "lra unreleased\nrattle-kit-13f logic dac8208d650f15bf\n";
