@@ -20,7 +20,8 @@ use Rattle.lra_model.specs.Facts.{action_facts, member_facts, facts_of}
 use Rattle.lra_model.specs.Rules.{is_legal}
 use Rattle.lra_laws.proofs.Legal.{IsNumbered, numbered_among, numbered_there, actions_numbered, members_numbered, clerks_numbered, status_is_there, parent_there, children_lem}
 use Rattle.lra_laws.specs.Rows.{Standing, MemberRow, ActionRow, standing, void_asks, count_staying, count_children, is_uncompensated, action_row, member_row, state_of, row_at, stands_as}
-use Rattle.lra_laws.specs.inner.RowFacts.{settled_by, right_end_by, action_by, member_by, is_standing, member_asked, facts_by}
+use Rattle.lra_laws.specs.Ends.{settled_by, right_end_by}
+use Rattle.lra_laws.specs.inner.RowFacts.{action_by, member_by, is_standing, member_asked, facts_by}
 use Rattle.lra_laws.proofs.RowLists.{eqb_self, eqb_flip, all_by_count, all_by_count_within, none_by_count, row_there, row_absent}
 use Rattle.lra_laws.proofs.AskWords.{AsksListed, AsksStand, asks_listed, asks_stand, stands_for, stands_yet, asked_of, is_asked_by}
 use Rattle.lra_laws.proofs.Tops.{top_is_there}

@@ -11,7 +11,8 @@ use Rattle.lra_model.specs.History.{is_among}
 use Rattle.lra_model.specs.Facts.{ActionFacts}
 use Rattle.lra_model.specs.Tests.{at_action, status_is, parent_is, may_close_with_parent, may_cancel_with_parent, may_skip}
 use Rattle.lra_laws.specs.Rows.{MemberRow, ActionRow, State, row_at, change_row, change_member, change_status, with_member, with_new_member, with_child, with_new_child}
-use Rattle.lra_laws.specs.inner.RowFacts.{action_by, member_by, facts_by, settled_by}
+use Rattle.lra_laws.specs.Ends.{settled_by}
+use Rattle.lra_laws.specs.inner.RowFacts.{action_by, member_by, facts_by}
 use Rattle.lra_laws.specs.Settles.{may_skip_by, turn_by, end_by}
 use Rattle.lra_laws.proofs.RowChanges.{row_at-change_other, row_at-change_kept, row_at-push_other, length-change_row}
 

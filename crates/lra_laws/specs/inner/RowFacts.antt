@@ -1,29 +1,11 @@
 -- What the rules read of the forward state: the facts of its history, each found by a row.
-use Rattle.std.specs.Prelude.{ℕ, ◌==◌, nat_le, nat_lt, Bool, false, ◌&&◌, cond, length, Option, None, option_map}
+use Rattle.std.specs.Prelude.{ℕ, nat_le, nat_lt, Bool, false, ◌&&◌, cond, length, Option, None, option_map}
 use Rattle.std.specs.Option.{option_map_or, option_and_then}
 use Rattle.std.specs.List.{find}
-use Rattle.lra_model.specs.declared.status.ActionStatus.{ActionStatus}
-use Rattle.lra_model.specs.declared.status.ActionStatus.TheVariants as action
 use Rattle.lra_model.specs.Words.{has_ended}
 use Rattle.lra_model.specs.Facts.{ActionFacts, MemberFacts, Facts}
 use Rattle.lra_laws.specs.Rows.{Standing, MemberRow, ActionRow, State, row_at, stands_as}
-
--- whether an action may end, by its counts
-abbrev pub settled_by : ActionRow → Bool
-settled_by r = by_status r.status
-  where
-    by_status : ActionStatus → Bool
-    by_status action.Closing = (r.completing == 0) && (r.unended == 0)
-    by_status action.Cancelling = (r.compensating == 0) && (r.uncancelled == 0)
-    by_status _ = false
-
--- the status that an action ends with, by its counts
-abbrev pub right_end_by : ActionRow → ActionStatus
-right_end_by r = by_status r.status
-  where
-    by_status : ActionStatus → ActionStatus
-    by_status action.Closing = cond ((r.uncompleted == 0) && (r.failed == 0)) action.Closed action.FailedToClose
-    by_status _ = cond ((r.uncompensated == 0) && (r.failed == 0)) action.Cancelled action.FailedToCancel
+use Rattle.lra_laws.specs.Ends.{settled_by, right_end_by}
 
 -- what the rules ask of an action, by its row
 abbrev pub action_by : State → ActionRow → ActionFacts

@@ -1,0 +1,3 @@
+-- The words that private functions and proofs alone use, here and in the crates above: no public contract stands on them.
+pub mod Changes
+pub mod Standings

@@ -1,0 +1,355 @@
+//! One more entry: how it changes what the rules read.
+
+ghost use Rattle.std.specs.Prelude.{◌≡◌, ◌-◌, ◌^◌, ◌≤◌, ◌&&◌, not, ℕ, Some};
+ghost use Rattle.lra_model.specs.Addresses.{Addresses, presence_of};
+ghost use Rattle.lra_model.specs.Words as words;
+ghost use Rattle.lra_laws.specs.Rows as rows;
+ghost use Rattle.lra_states.specs.Counts.{CanCount};
+
+use crate::state::{ActionState, Awaited, Limit, MemberState, Presence, Standing};
+use lra_model::{ActionStatus, AskKind, Direction, MemberStatus, Outcome};
+
+fn is_left_to_complete(status: MemberStatus) -> bool
+    ensures { result ≡ rows.is_left_to_complete status }
+{
+    !matches!(
+        status,
+        MemberStatus::Completed | MemberStatus::FailedToComplete
+    )
+}
+
+fn is_left_to_compensate(status: MemberStatus) -> bool
+    ensures { result ≡ rows.is_left_to_compensate status }
+{
+    !matches!(
+        status,
+        MemberStatus::Compensated
+            | MemberStatus::FailedToCompensate
+            | MemberStatus::FailedToComplete
+    )
+}
+
+fn is_uncompleted(status: MemberStatus) -> bool
+    ensures { result ≡ rows.is_uncompleted status }
+{
+    !matches!(status, MemberStatus::Completed)
+}
+
+fn is_uncompensated(status: MemberStatus) -> bool
+    ensures { result ≡ rows.is_uncompensated status }
+{
+    !matches!(status, MemberStatus::Compensated)
+}
+
+fn is_uncancelled(status: ActionStatus) -> bool
+    ensures { result ≡ rows.is_uncancelled status }
+{
+    !matches!(
+        status,
+        ActionStatus::Cancelled | ActionStatus::FailedToCancel
+    )
+}
+
+/// Whether a member stays in its action.
+pub fn stays(row: &MemberState) -> bool
+    ensures { result ≡ (row.now.addresses.compensate && not (words.has_gone row.now.status)) }
+{
+    row.addresses.compensate && !row.status.has_gone()
+}
+
+fn recount(before: bool, now: bool, count: u64) -> u64
+    requires { count ≤ 2 ^ 64 - 2 }
+    ensures { result ≡ rows.recount before now count }
+{
+    (count + u64::from(now)).saturating_sub(u64::from(before))
+}
+
+/// An action, one of whose members changes.
+pub fn with_member(before: &MemberState, now: &MemberState, row: &ActionState) -> ActionState
+    requires { CanCount row.now }
+    ensures { result ≡ rows.with_member before.now now.now row.now }
+{
+    let stayed = stays(before);
+    let stay = stays(now);
+    ActionState {
+        completing: recount(
+            stayed && is_left_to_complete(before.status),
+            stay && is_left_to_complete(now.status),
+            row.completing,
+        ),
+        compensating: recount(
+            stayed && is_left_to_compensate(before.status),
+            stay && is_left_to_compensate(now.status),
+            row.compensating,
+        ),
+        uncompleted: recount(
+            stayed && is_uncompleted(before.status),
+            stay && is_uncompleted(now.status),
+            row.uncompleted,
+        ),
+        uncompensated: recount(
+            stayed && is_uncompensated(before.status),
+            stay && is_uncompensated(now.status),
+            row.uncompensated,
+        ),
+        ..*row
+    }
+}
+
+/// An action that a member joins.
+pub fn with_new_member(now: &MemberState, row: &ActionState) -> ActionState
+    requires { CanCount row.now }
+    ensures { result ≡ rows.with_new_member now.now row.now }
+{
+    let stay = stays(now);
+    ActionState {
+        completing: row.completing + u64::from(stay && is_left_to_complete(now.status)),
+        compensating: row.compensating + u64::from(stay && is_left_to_compensate(now.status)),
+        uncompleted: row.uncompleted + u64::from(stay && is_uncompleted(now.status)),
+        uncompensated: row.uncompensated + u64::from(stay && is_uncompensated(now.status)),
+        ..*row
+    }
+}
+
+/// An action, one of whose nested actions changes its status.
+pub fn with_child(before: ActionStatus, now: ActionStatus, row: &ActionState) -> ActionState
+    requires { CanCount row.now }
+    ensures { result ≡ rows.with_child before now row.now }
+{
+    ActionState {
+        unended: recount(!before.has_ended(), !now.has_ended(), row.unended),
+        uncancelled: recount(is_uncancelled(before), is_uncancelled(now), row.uncancelled),
+        failed: recount(before.has_failed(), now.has_failed(), row.failed),
+        ..*row
+    }
+}
+
+/// An action in which another is started.
+pub fn with_new_child(row: &ActionState) -> ActionState
+    requires { CanCount row.now }
+    ensures { result ≡ rows.with_new_child row.now }
+{
+    ActionState {
+        unended: row.unended + 1,
+        uncancelled: row.uncancelled + 1,
+        ..*row
+    }
+}
+
+/// What a decisive word makes of a member.
+fn decided_as(direction: Direction, outcome: Outcome, status: MemberStatus) -> MemberStatus
+    ensures { result ≡ rows.decided_as direction outcome status }
+{
+    match (direction, outcome) {
+        (Direction::Completion, Outcome::Done) if status.is_completing() => MemberStatus::Completed,
+        (Direction::Completion, Outcome::Failed) if status.is_completing() => {
+            MemberStatus::FailedToComplete
+        }
+        (Direction::Compensation, Outcome::Done) if status.is_compensating() => {
+            MemberStatus::Compensated
+        }
+        (Direction::Compensation, Outcome::Failed) if status.is_compensating() => {
+            MemberStatus::FailedToCompensate
+        }
+        _ => status,
+    }
+}
+
+/// Which way a status ask or a report of a member goes.
+fn way_of(status: MemberStatus) -> Direction
+    ensures { result ≡ rows.way_of status }
+{
+    if status.is_compensating() {
+        Direction::Compensation
+    } else {
+        Direction::Completion
+    }
+}
+
+/// Which way an ask of a member goes, by its status.
+pub fn way_asked(kind: AskKind, status: MemberStatus) -> Direction
+    ensures { result ≡ rows.way_asked kind status }
+{
+    match kind {
+        AskKind::Complete => Direction::Completion,
+        AskKind::Compensate => Direction::Compensation,
+        AskKind::Status => way_of(status),
+        AskKind::Forget | AskKind::After => Direction::Neither,
+    }
+}
+
+fn asked_as(kind: AskKind, status: MemberStatus) -> MemberStatus
+    ensures { result ≡ rows.asked_as kind status }
+{
+    match kind {
+        AskKind::Complete => MemberStatus::Completing,
+        AskKind::Compensate => MemberStatus::Compensating,
+        _ => status,
+    }
+}
+
+/// A member that is asked.
+pub fn with_ask(number: u64, kind: AskKind, row: &MemberState) -> MemberState
+    ensures { result ≡ rows.with_ask number kind row.now }
+{
+    MemberState {
+        status: asked_as(kind, row.status),
+        asked: Awaited::of(Standing {
+            number,
+            kind,
+            direction: way_asked(kind, row.status),
+        }),
+        ..*row
+    }
+}
+
+/// The last reply in completion, after one more.
+fn completion_after(direction: Direction, outcome: Outcome, row: &MemberState) -> Option<Outcome>
+    ensures { result ≡ rows.by_way direction (Some outcome) row.now.completion row.now.completion }
+{
+    match direction {
+        Direction::Completion => Some(outcome),
+        _ => row.completion,
+    }
+}
+
+/// The last reply in compensation, after one more.
+fn compensation_after(direction: Direction, outcome: Outcome, row: &MemberState) -> Option<Outcome>
+    ensures { result ≡ rows.by_way direction row.now.compensation (Some outcome) row.now.compensation }
+{
+    match direction {
+        Direction::Compensation => Some(outcome),
+        _ => row.compensation,
+    }
+}
+
+/// Whether a word decides completion, where nothing did before.
+fn completes(direction: Direction, outcome: Outcome) -> bool
+    ensures { result ≡ rows.completes direction outcome }
+{
+    matches!(direction, Direction::Completion) && matches!(outcome, Outcome::Done | Outcome::Failed)
+}
+
+/// Whether an ask to forget was answered well.
+fn forgets(kind: AskKind, outcome: Outcome) -> bool
+    ensures { result ≡ (words.same_kind kind AskKind.Forget && words.is_done outcome) }
+{
+    matches!(kind, AskKind::Forget) && matches!(outcome, Outcome::Done)
+}
+
+/// Whether a notice of the end was answered well.
+fn hears(kind: AskKind, outcome: Outcome) -> bool
+    ensures { result ≡ (words.same_kind kind AskKind.After && words.is_done outcome) }
+{
+    matches!(kind, AskKind::After) && matches!(outcome, Outcome::Done)
+}
+
+fn with_reply_to(asked: Standing, outcome: Outcome, row: &MemberState) -> MemberState
+    ensures { result ≡ rows.with_reply_to asked outcome row.now }
+{
+    MemberState {
+        status: decided_as(asked.direction, outcome, row.status),
+        completion: completion_after(asked.direction, outcome, row),
+        compensation: compensation_after(asked.direction, outcome, row),
+        completed: row.completed || completes(asked.direction, outcome),
+        asked: Awaited::none(),
+        has_forgotten: row.has_forgotten || forgets(asked.kind, outcome),
+        was_told: row.was_told || hears(asked.kind, outcome),
+        ..*row
+    }
+}
+
+/// A member that answers.
+pub fn with_reply(outcome: Outcome, row: &MemberState) -> MemberState
+    ensures { result ≡ rows.with_reply outcome row.now }
+{
+    match row.asked.get() {
+        Some(asked) => with_reply_to(asked, outcome, row),
+        None => *row,
+    }
+}
+
+/// A member that reports.
+pub fn with_report(outcome: Outcome, row: &MemberState) -> MemberState
+    ensures { result ≡ rows.with_report outcome row.now }
+{
+    MemberState {
+        status: decided_as(way_of(row.status), outcome, row.status),
+        completed: row.completed || completes(way_of(row.status), outcome),
+        ..*row
+    }
+}
+
+/// A member that is skipped.
+pub fn with_skip(row: &MemberState) -> MemberState
+    ensures { result ≡ rows.with_skip row.now }
+{
+    MemberState {
+        status: MemberStatus::Completed,
+        completed: true,
+        ..*row
+    }
+}
+
+/// A member with another status.
+pub fn with_status(status: MemberStatus, row: &MemberState) -> MemberState
+    ensures { result ≡ record row.now { status = status } }
+{
+    MemberState { status, ..*row }
+}
+
+/// An action with another status.
+pub fn turned(status: ActionStatus, row: &ActionState) -> ActionState
+    ensures { result ≡ record row.now { status = status } }
+{
+    ActionState { status, ..*row }
+}
+
+/// An action whose limit is set anew, and counts from a moment.
+pub fn renewed(length: u64, since: u64, row: &ActionState) -> ActionState
+    ensures { result ≡ record row.now { limit = record { length_of = length; since = since } } }
+{
+    ActionState {
+        limit: Limit { length, since },
+        ..*row
+    }
+}
+
+/// A member that has joined, by which addresses it has.
+pub fn new_member(action: u64, addresses: Presence) -> MemberState
+    ensures { (u : Addresses) → addresses ≡ presence_of u → result ≡ rows.new_member action u }
+{
+    MemberState {
+        action,
+        addresses,
+        status: MemberStatus::Active,
+        completion: None,
+        compensation: None,
+        completed: false,
+        asked: Awaited::none(),
+        has_forgotten: false,
+        was_told: false,
+    }
+}
+
+/// An action that has started.
+pub fn new_action(parent: Option<u64>, top: u64, limit: u64, moment: u64) -> ActionState
+    ensures { (a : ℕ) → result ≡ rows.new_action a parent top limit moment }
+{
+    ActionState {
+        parent,
+        top,
+        status: ActionStatus::Active,
+        limit: Limit {
+            length: limit,
+            since: moment,
+        },
+        completing: 0,
+        compensating: 0,
+        uncompleted: 0,
+        uncompensated: 0,
+        unended: 0,
+        uncancelled: 0,
+        failed: 0,
+    }
+}
