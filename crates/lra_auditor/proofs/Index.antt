@@ -9,10 +9,9 @@ use Rattle.lra_laws.specs.Rows.{Standing}
 use Rattle.lra_laws.specs.Rows.{State, change_row, stands_as, place_of, change_member, with_member, with_reply, with_reply_to}
 use Rattle.lra_laws.specs.inner.RowFacts.{member_asked}
 use Rattle.lra_laws.specs.Rows.{row_at}
-use Rattle.lra_model.specs.declared.status.ActionStatus.{ActionStatus}
 use Rattle.lra_model.specs.declared.asks.Outcome.{Outcome}
-use Rattle.lra_laws.specs.Rows.{ActionRow}
-use Rattle.lra_auditor.specs.inner.Changes.{with_row, CanCount, AllCanCount}
+use Rattle.lra_states.specs.inner.Changes.{with_row}
+use Rattle.lra_states.proofs.Replacing.{row_at-with_row_same, row_at-with_row_other}
 use Rattle.lra_auditor.specs.inner.Holders.{Holds, IsIndex}
 
 abbrev after : ℕ → ℕ
@@ -88,18 +87,6 @@ member_asked-free s ok n later e = rw (lt-ltb s.void n later) (sym (find-free ok
 
 -- ---- rows that are replaced
 
-slice_get-set_same : {R : Type 0} (rows : List R) (k : ℕ) (x r : R) → slice_get rows k ≡ Some x → slice_get (slice_set rows k r) k ≡ Some r
-slice_get-set_same [] k x r e = cc
-slice_get-set_same (y ∷ rows) zero x r e = refl
-slice_get-set_same (y ∷ rows) (suc k) x r e = slice_get-set_same rows k x r e
-
-slice_get-set_other : {R : Type 0} (rows : List R) (k j : ℕ) (r : R) → (j ≡ k → ⊥) → slice_get (slice_set rows k r) j ≡ slice_get rows j
-slice_get-set_other [] k j r ne = refl
-slice_get-set_other (y ∷ rows) zero zero r ne = absurd (ne refl)
-slice_get-set_other (y ∷ rows) zero (suc j) r ne = refl
-slice_get-set_other (y ∷ rows) (suc k) zero r ne = refl
-slice_get-set_other (y ∷ rows) (suc k) (suc j) r ne = slice_get-set_other rows k j r (λ e. ne (ap suc e))
-
 -- a change of a row that is there puts another in its place
 pub change_row-there : {R : Type 0} (f : R → R) (n : ℕ) (rows : List R) (r : R) → row_at rows n ≡ Some r → change_row f n rows ≡ with_row n (f r) rows
 change_row-there f zero rows r e = refl
@@ -109,19 +96,6 @@ change_row-there f (suc n) rows r e = rw e refl
 pub change_row-absent : {R : Type 0} (f : R → R) (n : ℕ) (rows : List R) → row_at rows n ≡ None → change_row f n rows ≡ rows
 change_row-absent f zero rows e = refl
 change_row-absent f (suc n) rows e = rw e refl
-
-pub row_at-with_row_same : {R : Type 0} (n : ℕ) (rows : List R) (x r : R) → row_at rows n ≡ Some x → row_at (with_row n r rows) n ≡ Some r
-row_at-with_row_same zero rows x r e = cc
-row_at-with_row_same (suc n) rows x r e = rw e (slice_get-set_same rows n x r e)
-
-pub row_at-with_row_other : {R : Type 0} (n : ℕ) (rows : List R) (r : R) (m : ℕ) → (m ≡ n → ⊥) → row_at (with_row n r rows) m ≡ row_at rows m
-row_at-with_row_other zero rows r m ne = refl
-row_at-with_row_other (suc n) rows r zero ne = refl
-row_at-with_row_other {R = R} (suc n) rows r (suc m) ne =
-    elim (slice_get rows n) as (λ (o : Option R). slice_get (option_map_or (λ _. slice_set rows n r) o rows) m ≡ slice_get rows m) [
-      | None ↦ refl
-      | Some x ↦ slice_get-set_other rows n m r (λ e. ne (ap suc e))
-    ]
 
 -- a row that is pushed is behind all others
 pub row_at-push : {R : Type 0} (rows : List R) (r : R) (m : ℕ) → (row_at (rows ++ r ∷ []) m ≡ row_at rows m) ⊎ (row_at (rows ++ r ∷ []) m ≡ Some r)
@@ -278,25 +252,6 @@ IsIndex-pushed asks rows r f ok unasked = record {
     still : (m q : ℕ) (o : Option MemberRow) → row_at rows q ≡ o → Holds rows m q → Holds (rows ++ r ∷ []) m q
     still m q None e h = absurd (let g : false ≡ true = (rw e at h) in cc)
     still m q (Some x) e h = rw (row_at-push_there rows r x q e) (rw e at h)
-
--- rows that can count, and one among them that is replaced by another that can
-pub AllCanCount-with_row : (rows : List ActionRow) (a : ℕ) (r now : ActionRow) → AllCanCount rows → row_at rows a ≡ Some r → CanCount now → AllCanCount (with_row a now rows)
-AllCanCount-with_row rows a r now all there can n =
-    elim (cases_eq n a) [
-      | inl same ↦ subst (λ (k : ℕ). IfSome (row_at (with_row a now rows) k) CanCount) (sym same) (rw (row_at-with_row_same a rows r now there) can)
-      | inr apart ↦ rw (row_at-with_row_other a rows now n apart) (all n)
-    ]
-
-pub CanCount-status : (r : ActionRow) (status : ActionStatus) → CanCount r → CanCount (record r { status = status })
-CanCount-status r status can = record {
-  completing = can.completing;
-  compensating = can.compensating;
-  uncompleted = can.uncompleted;
-  uncompensated = can.uncompensated;
-  unended = can.unended;
-  uncancelled = can.uncancelled;
-  failed = can.failed;
-}
 
 -- ---- a member that changes
 

@@ -13,9 +13,10 @@ use Rattle.lra_laws.specs.Rows.{MemberRow}
 use Rattle.lra_auditor.specs.declared.verdict.FailedEnd.{FailedEnd}
 use Rattle.lra_laws.specs.Rows.{State, change_row}
 use Rattle.lra_laws.specs.Rows.{row_at}
-use Rattle.lra_auditor.specs.inner.Changes.{with_row}
+use Rattle.lra_states.specs.inner.Changes.{with_row}
 use Rattle.lra_auditor.specs.inner.Totals.{is_within_by, has_failed_here, number_of_first, least_failed_by, failed_ends_from}
-use Rattle.lra_auditor.proofs.Index.{change_row-there, change_row-absent, row_at-with_row_same, row_at-with_row_other}
+use Rattle.lra_states.proofs.Replacing.{row_at-with_row_same, row_at-with_row_other}
+use Rattle.lra_auditor.proofs.Index.{change_row-there, change_row-absent}
 
 -- a place with the member where the test holds and none is there yet
 abbrev pub marked : ℕ → Bool → Option ℕ → Option ℕ

@@ -1,6 +1,5 @@
 -- The words that private functions and proofs alone use: no public contract stands on them.
 pub mod Holders
-pub mod Changes
 pub mod Start
 pub mod Course
 pub mod Totals

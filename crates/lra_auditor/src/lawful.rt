@@ -10,51 +10,20 @@ ghost use Rattle.lra_model.specs.Rules as rules;
 ghost use Rattle.lra_journal.specs.Borrowed.{deed_seen};
 ghost use Rattle.lra_ids.specs.Addresses.{is_address};
 ghost use Rattle.lra_laws.specs.Rows.{State};
-ghost use Rattle.lra_laws.specs.inner.RowFacts.{action_by, member_by, facts_by, settled_by, right_end_by, is_standing};
+ghost use Rattle.lra_laws.specs.inner.RowFacts.{action_by, member_by, facts_by, is_standing};
 ghost use Rattle.lra_laws.specs.Rows.{row_at};
 
-use crate::rows::{ActionRow, Limit, MemberRow, Presence, Standing};
 use crate::state::Rows;
 use lra_ids::is_address_text;
 use lra_journal::{DeedRef, UrisRef};
 use lra_model::{ActionStatus, AskKind, Cause, Memory, Outcome, Version, suits};
+use lra_states::{ActionState, Limit, MemberState, Presence, is_settled, right_end};
 use std::alloc::Global;
 
 fn was_accepted(reply: Option<Outcome>) -> bool
     ensures { result ≡ tests.was_accepted reply }
 {
     matches!(reply, Some(Outcome::Accepted))
-}
-
-fn is_settled(row: &ActionRow) -> bool
-    ensures { result ≡ settled_by row.now }
-{
-    match row.status {
-        ActionStatus::Closing => row.completing == 0 && row.unended == 0,
-        ActionStatus::Cancelling => row.compensating == 0 && row.uncancelled == 0,
-        _ => false,
-    }
-}
-
-fn right_end(row: &ActionRow) -> ActionStatus
-    ensures { result ≡ right_end_by row.now }
-{
-    match row.status {
-        ActionStatus::Closing => {
-            if row.uncompleted == 0 && row.failed == 0 {
-                ActionStatus::Closed
-            } else {
-                ActionStatus::FailedToClose
-            }
-        }
-        _ => {
-            if row.uncompensated == 0 && row.failed == 0 {
-                ActionStatus::Cancelled
-            } else {
-                ActionStatus::FailedToCancel
-            }
-        }
-    }
 }
 
 /// Whether a number is the next one of its kind, after so many.
@@ -212,7 +181,7 @@ impl Rows {
         }
     }
 
-    fn parent_is_closing(&self, row: &ActionRow) -> bool
+    fn parent_is_closing(&self, row: &ActionState) -> bool
         ensures { result ≡ tests.parent_is words.is_closing (facts_by self.now) (action_by self.now row.now) }
     {
         match row.parent {
@@ -221,7 +190,7 @@ impl Rows {
         }
     }
 
-    fn parent_is_cancelling(&self, row: &ActionRow) -> bool
+    fn parent_is_cancelling(&self, row: &ActionState) -> bool
         ensures { result ≡ tests.parent_is words.is_cancelling (facts_by self.now) (action_by self.now row.now) }
     {
         match row.parent {
@@ -230,7 +199,7 @@ impl Rows {
         }
     }
 
-    fn parent_is_active(&self, row: &ActionRow) -> bool
+    fn parent_is_active(&self, row: &ActionState) -> bool
         ensures { result ≡ tests.parent_is words.is_active (facts_by self.now) (action_by self.now row.now) }
     {
         match row.parent {
@@ -253,7 +222,7 @@ impl Rows {
         }
     }
 
-    fn may_take_back(&self, version: Version, row: &ActionRow) -> bool
+    fn may_take_back(&self, version: Version, row: &ActionState) -> bool
         ensures { result ≡ tests.may_take_back version (facts_by self.now) (action_by self.now row.now) }
     {
         match version {
@@ -297,7 +266,7 @@ impl Rows {
         }
     }
 
-    fn top_has_ended(&self, row: &ActionRow) -> bool
+    fn top_has_ended(&self, row: &ActionState) -> bool
         ensures { result ≡ (action_by self.now row.now).top_has_ended }
     {
         match self.action(row.top) {
@@ -306,7 +275,7 @@ impl Rows {
         }
     }
 
-    fn is_time_for_forget(&self, row: &MemberRow) -> bool
+    fn is_time_for_forget(&self, row: &MemberState) -> bool
         ensures { result ≡ tests.is_time_for AskKind.Forget (facts_by self.now) (member_by self.now row.now) }
     {
         let Some(action) = self.action(row.action) else {
@@ -317,7 +286,7 @@ impl Rows {
             && !row.has_forgotten
     }
 
-    fn is_time_for_after(&self, row: &MemberRow) -> bool
+    fn is_time_for_after(&self, row: &MemberState) -> bool
         ensures { result ≡ tests.is_time_for AskKind.After (facts_by self.now) (member_by self.now row.now) }
     {
         let Some(action) = self.action(row.action) else {
@@ -326,7 +295,7 @@ impl Rows {
         self.top_has_ended(&action) && !row.was_told
     }
 
-    fn is_time_for(&self, kind: AskKind, row: &MemberRow) -> bool
+    fn is_time_for(&self, kind: AskKind, row: &MemberState) -> bool
         ensures { result ≡ tests.is_time_for kind (facts_by self.now) (member_by self.now row.now) }
     {
         match kind {
@@ -349,10 +318,10 @@ impl Rows {
         }
     }
 
-    fn is_asked(&self, row: &MemberRow) -> bool
+    fn is_asked(&self, row: &MemberState) -> bool
         ensures { result ≡ is_standing self.now.void row.now }
     {
-        match row.asked {
+        match row.asked.get() {
             Some(asked) => self.void < asked.number,
             None => false,
         }
@@ -379,7 +348,7 @@ impl Rows {
         let Some(row) = self.member_asked(ask) else {
             return false;
         };
-        match row.asked {
+        match row.asked.get() {
             Some(asked) => suits(asked.kind, outcome),
             None => false,
         }

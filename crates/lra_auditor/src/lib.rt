@@ -4,14 +4,12 @@
 mod advance;
 mod auditor;
 mod broken;
-mod changes;
 mod course;
 mod entries;
 mod lawful;
 mod laws;
 mod listing;
 mod reading;
-mod rows;
 mod state;
 mod summary;
 mod verdict;

@@ -5,8 +5,9 @@ ghost use Rattle.std.specs.Option.{option_and_then};
 ghost use Rattle.lra_laws.specs.Rows.{State, new_top};
 ghost use Rattle.lra_laws.specs.inner.RowFacts.{member_asked};
 ghost use Rattle.lra_laws.specs.Rows.{row_at};
+ghost use Rattle.lra_states.specs.inner.Changes.{with_row};
 
-use crate::rows::{ActionRow, MemberRow};
+use lra_states::{ActionState, MemberState};
 use std::alloc::Global;
 use std::collections::HashMap;
 use std::marker::Model;
@@ -22,8 +23,8 @@ pub(crate) struct Rows {
     pub(crate) asks: u64,
     /// Asks up to this number are void.
     pub(crate) void: u64,
-    pub(crate) actions: Vec<ActionRow>,
-    pub(crate) members: Vec<MemberRow>,
+    pub(crate) actions: Vec<ActionState>,
+    pub(crate) members: Vec<MemberState>,
     /// The member of each ask that its row still holds.
     pub(crate) holders: HashMap<u64, u64>,
 }
@@ -49,7 +50,7 @@ impl Model for Rows {
 }
 
 /// The action's row, if it is there.
-pub(crate) fn action_at(rows: &[ActionRow], number: u64) -> Option<ActionRow>
+pub(crate) fn action_at(rows: &[ActionState], number: u64) -> Option<ActionState>
     ensures { result ≡ row_at rows.now number }
 {
     let place = number.checked_sub(1)?;
@@ -57,11 +58,33 @@ pub(crate) fn action_at(rows: &[ActionRow], number: u64) -> Option<ActionRow>
 }
 
 /// The member's row, if it is there.
-pub(crate) fn member_at(rows: &[MemberRow], number: u64) -> Option<MemberRow>
+pub(crate) fn member_at(rows: &[MemberState], number: u64) -> Option<MemberState>
     ensures { result ≡ row_at rows.now number }
 {
     let place = number.checked_sub(1)?;
     rows.get(place as usize).copied()
+}
+
+/// Replaces an action's row, if there is one.
+pub(crate) fn set_action(rows: &mut Vec<ActionState>, number: u64, row: ActionState)
+    ensures { rows.new.items ≡ with_row number row rows.old.items }
+{
+    if let Some(place) = number.checked_sub(1)
+        && (place as usize) < rows.len()
+    {
+        rows[place as usize] = row;
+    }
+}
+
+/// Replaces a member's row, if there is one.
+pub(crate) fn set_member(rows: &mut Vec<MemberState>, number: u64, row: MemberState)
+    ensures { rows.new.items ≡ with_row number row rows.old.items }
+{
+    if let Some(place) = number.checked_sub(1)
+        && (place as usize) < rows.len()
+    {
+        rows[place as usize] = row;
+    }
 }
 
 impl Rows {
@@ -82,20 +105,20 @@ impl Rows {
         }
     }
 
-    pub(crate) fn action(&self, number: u64) -> Option<ActionRow>
+    pub(crate) fn action(&self, number: u64) -> Option<ActionState>
         ensures { result ≡ row_at self.now.actions number }
     {
         action_at(&self.actions, number)
     }
 
-    pub(crate) fn member(&self, number: u64) -> Option<MemberRow>
+    pub(crate) fn member(&self, number: u64) -> Option<MemberState>
         ensures { result ≡ row_at self.now.members number }
     {
         member_at(&self.members, number)
     }
 
     /// The member that an outstanding ask was made of.
-    pub(crate) fn member_asked(&self, ask: u64) -> Option<MemberRow>
+    pub(crate) fn member_asked(&self, ask: u64) -> Option<MemberState>
         ensures { result ≡ member_asked self.now ask }
     {
         if ask <= self.void {

@@ -8,20 +8,19 @@ ghost use Rattle.lra_laws.specs.Rows.{row_at};
 ghost use Rattle.lra_auditor.specs.inner.Totals.{has_failed_here, is_within_by, least_failed_by, failed_ends_from, summary_by};
 ghost use Rattle.lra_auditor.specs.Verdicts.{ended_cancelled};
 
-use crate::changes::stays;
-use crate::rows::{ActionRow, MemberRow};
 use crate::state::{Rows, action_at};
 use crate::verdict::{FailedEnd, FailedEnds, Summary};
 use lra_model::{ActionStatus, Memory};
+use lra_states::{ActionState, MemberState, stays};
 use std::alloc::Global;
 
-fn count_unended(actions: &[ActionRow]) -> u64
+fn count_unended(actions: &[ActionState]) -> u64
     ensures { result ≡ count_by (λ r. is_unended r.status) actions.now }
 {
     actions.iter().filter(|row| !row.status.has_ended()).count() as u64
 }
 
-fn count_closed(actions: &[ActionRow]) -> u64
+fn count_closed(actions: &[ActionState]) -> u64
     ensures { result ≡ count_by (λ r. words.is_closed r.status) actions.now }
 {
     actions
@@ -30,7 +29,7 @@ fn count_closed(actions: &[ActionRow]) -> u64
         .count() as u64
 }
 
-fn count_cancelled(actions: &[ActionRow]) -> u64
+fn count_cancelled(actions: &[ActionState]) -> u64
     ensures { result ≡ count_by (λ r. ended_cancelled r.status) actions.now }
 {
     actions
@@ -40,7 +39,7 @@ fn count_cancelled(actions: &[ActionRow]) -> u64
 }
 
 /// The parent of an action, if it is there and has one.
-fn parent_of(actions: &[ActionRow], number: u64) -> Option<u64>
+fn parent_of(actions: &[ActionState], number: u64) -> Option<u64>
     ensures { result ≡ option_map_or (λ r. r.parent) (row_at actions.now number) None }
 {
     match action_at(actions, number) {
@@ -50,7 +49,7 @@ fn parent_of(actions: &[ActionRow], number: u64) -> Option<u64>
 }
 
 /// Whether a member stays and has failed.
-fn has_failed_here(row: &MemberRow) -> bool
+fn has_failed_here(row: &MemberState) -> bool
     ensures { result ≡ has_failed_here row.now }
 {
     stays(row) && row.status.has_failed()
@@ -77,7 +76,7 @@ fn mark(least: &mut Vec<Option<u64>>, number: u64, member: u64)
 }
 
 /// Whether the parent of an action of that number has a lesser number, or there is none.
-fn parent_is_less(row: &ActionRow, number: u64) -> bool
+fn parent_is_less(row: &ActionState, number: u64) -> bool
     ensures { result ≡ option_map_or (λ b. nat_lt b number) row.now.parent true }
 {
     match row.parent {
@@ -87,7 +86,7 @@ fn parent_is_less(row: &ActionRow, number: u64) -> bool
 }
 
 /// Whether each parent's number is less than that of its action, as it is in the rows of a legal history.
-fn parents_are_less(actions: &[ActionRow]) -> bool
+fn parents_are_less(actions: &[ActionState]) -> bool
     ensures all { result ≡ true → (a b : ℕ) → option_map_or (λ r. r.parent) (row_at actions.now a) None ≡ Some b → b < a }
     ensures not_all { result ≡ false → (a : ℕ) × (b : ℕ) × (option_map_or (λ r. r.parent) (row_at actions.now a) None ≡ Some b) × (a ≤ b) }
 {
@@ -102,7 +101,7 @@ fn parents_are_less(actions: &[ActionRow]) -> bool
 /// Puts a member at its action and at each above it, where none is there yet. Where each parent's number is less, all above
 /// an action with a member have one too, so the walk stops there: all walks together visit each action once.
 fn mark_up(
-    actions: &[ActionRow],
+    actions: &[ActionState],
     are_less: bool,
     least: &mut Vec<Option<u64>>,
     action: u64,
@@ -146,7 +145,7 @@ fn least_failed(alloc: Global, rows: &Rows) -> Result<Vec<Option<u64>>, Memory>
 
 fn failed_ends(
     alloc: Global,
-    actions: &[ActionRow],
+    actions: &[ActionState],
     least: &[Option<u64>],
 ) -> Result<FailedEnds, Memory>
     ensures { IfOk result (λ ends. ends ≡ failed_ends_from (λ t. unwrap_or (row_at least.now t) None) 1 actions.now) }

@@ -18,7 +18,7 @@ use Rattle.lra_rows.specs.declared.nest.Listed.TheVariants as listed
 use Rattle.lra_rows.specs.inner.Nested.{Nested, nests_in, capacities_in, has_place, has_place_at, nest_with, with_number, nest_without, without_number}
 use Rattle.lra_rows.specs.inner.Room.{Keeps}
 use Rattle.lra_rows.specs.inner.Counts.{DeepTo}
-use Rattle.lra_rows.proofs.Numbered.{slice_get-set_same, slice_get-set_other}
+use Rattle.lra_states.proofs.Replacing.{slice_get-set_same, slice_get-set_other}
 
 -- ---- rows of which a part is read
 

@@ -20,8 +20,10 @@ use Rattle.lra_model.specs.Ends.{action_is}
 use Rattle.lra_model.specs.Rules.{is_legal}
 use Rattle.lra_laws.specs.Sheets.{Sheet, nest_of, contact_of, asks_made, sheet_of, StandsFor, Follows}
 use Rattle.lra_laws.specs.Rows.{ActionRow, state_of, void_asks, one, row_at, action_row, member_row, count_staying, count_children, is_left_to_complete, is_left_to_compensate, is_uncompleted, is_uncompensated, is_unended, is_uncancelled}
-use Rattle.lra_rows.specs.inner.Counts.{CountsTo, RepeatsTo, DeepTo, CanCount}
-use Rattle.lra_rows.specs.inner.Changes.{IsNext}
+use Rattle.lra_states.specs.Counts.{CountsTo}
+use Rattle.lra_states.specs.inner.Changes.{TakesNextNumber}
+use Rattle.lra_states.proofs.Counting.{CountsTo-more}
+use Rattle.lra_rows.specs.inner.Counts.{RepeatsTo, DeepTo, CanCount}
 use Rattle.lra_laws.proofs.Legal.{IsNumbered, numbered_among, actions_numbered, members_numbered, allowed}
 use Rattle.lra_laws.proofs.Told.{Told, told}
 use Rattle.lra_laws.proofs.RowLists.{count_cons, row_there, row_absent}
@@ -74,17 +76,6 @@ row_counts v t J l a = record {
         let h = count-le (λ c. is_parent a (parent J c) && action_is test J c) (actions J) in
         let k = actions-le J in omega arith
 
-CountsTo-more : (n k : ℕ) (r : ActionRow) → n ≤ k → CountsTo n r → CountsTo k r
-CountsTo-more n k r h c = record {
-  completing = omega (arith, c.completing);
-  compensating = omega (arith, c.compensating);
-  uncompleted = omega (arith, c.uncompleted);
-  uncompensated = omega (arith, c.uncompensated);
-  unended = omega (arith, c.unended);
-  uncancelled = omega (arith, c.uncancelled);
-  failed = omega (arith, c.failed);
-}
-
 -- nothing has happened
 pub sheet_empty : sheet_of [] ≡ record { entries = 0; state = record { moment = 0; clerks = 0; asks = 0; void = 0; actions = []; members = [] }; nests = []; contacts = []; asks = [] }
 unfolding steps clerks actions members asks last_moment void_asks asks_made
@@ -134,7 +125,7 @@ CanCount-from_StandsFor s J h few = subst CanCount (sym h.sheet) (of_history (le
     of_history : length J < 2 ^ 63 → CanCount (sheet_of J)
     of_history k = record {
       entries = k;
-      actions = rows_bounded (CountsTo (2 ^ 63)) (action_row J) (actions J) (actions_numbered v t J h.legal) (λ a g. CountsTo-more (length J) (2 ^ 63) (action_row J a) (omega arith) (row_counts v t J h.legal a));
+      actions = rows_bounded (CountsTo 18446744073709551614) (action_row J) (actions J) (actions_numbered v t J h.legal) (λ a g. CountsTo-more (length J) 18446744073709551614 (action_row J a) (omega arith) (row_counts v t J h.legal a));
       nests = rows_bounded (DeepTo (2 ^ 63)) (nest_of J) (actions J) (actions_numbered v t J h.legal) (λ a g. let d = depth-le v t J h.legal a g in omega arith);
       contacts = rows_bounded (RepeatsTo (2 ^ 63)) (contact_of J) (members J) (members_numbered v t J h.legal) (λ p g. record {
         completing = few_repeats p ask.Complete;
@@ -148,10 +139,10 @@ CanCount-from_StandsFor s J h few = subst CanCount (sym h.sheet) (of_history (le
         few_repeats p stage = let r = repeats-le J p stage in omega arith
 
 -- one that enrols or asks has the next number
-pub IsNext-from_Follows : (s : Sheet) (e : Entry) → Follows s e → IsNext s.state e.deed e.by
-IsNext-from_Follows s e h = subst (λ (x : Sheet). IsNext x.state e.deed e.by) (sym h.stands.sheet) (of_deed e.deed (told h.stands.version h.stands.is_address h.history e.by e.moment e.deed (allowed h.stands.version h.stands.is_address h.history e h.allowed)))
+pub TakesNextNumber-from_Follows : (s : Sheet) (e : Entry) → Follows s e → TakesNextNumber s.state e.deed e.by
+TakesNextNumber-from_Follows s e h = subst (λ (x : Sheet). TakesNextNumber x.state e.deed e.by) (sym h.stands.sheet) (of_deed e.deed (told h.stands.version h.stands.is_address h.history e.by e.moment e.deed (allowed h.stands.version h.stands.is_address h.history e h.allowed)))
   where
-    of_deed : (d : Deed) → Told h.history e.by d → IsNext (state_of h.history) d e.by
+    of_deed : (d : Deed) → Told h.history e.by d → TakesNextNumber (state_of h.history) d e.by
     of_deed Enrol x = x
     of_deed (Ask n p kind) x = x.number
     of_deed _ x = tt

@@ -3,4 +3,3 @@ pub mod Room
 pub mod Changes
 pub mod Counts
 pub mod Held
-pub mod Standings

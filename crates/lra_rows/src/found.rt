@@ -8,12 +8,11 @@ ghost use Rattle.lra_laws.specs.Rows.{stands_as};
 ghost use Rattle.lra_rows.specs.Found.{found_action, found_member, found_addresses, found_ask};
 ghost use Rattle.lra_rows.specs.inner.Held as held;
 
-use crate::changes::way_asked;
 use crate::contact::{Repeats, stage_of};
 use crate::lists::{at, lent};
 use crate::rows::Rows;
-use crate::state::MemberState;
 use lra_model::{ActionStatus, AskKind, Direction, MemberStatus, Outcome, Uris};
+use lra_states::{MemberState, way_asked};
 
 /// An action, as it is now.
 #[derive(Clone, Copy, Debug)]

@@ -4,7 +4,6 @@
 
 mod apply;
 mod carry;
-mod changes;
 mod contact;
 mod found;
 mod lists;
@@ -12,11 +11,9 @@ mod nest;
 mod room;
 mod rows;
 mod settles;
-mod state;
 mod step;
 mod take_back;
 mod wants;
-mod words;
 
 pub use apply::copy_joined;
 pub use found::{ActionRow, AskRow, MemberRow};

@@ -5,7 +5,7 @@ ghost use Rattle.std.specs.Option.{option_copied};
 ghost use Rattle.lra_laws.specs.Rows.{row_at};
 ghost use Rattle.lra_rows.specs.Rowed.{takes_one};
 ghost use Rattle.lra_rows.specs.Steps.{without_last, put_back};
-ghost use Rattle.lra_rows.specs.inner.Changes.{with_row};
+ghost use Rattle.lra_states.specs.inner.Changes.{with_row};
 
 use crate::step::Written;
 use lra_model::Memory;

@@ -6,7 +6,7 @@ ghost use Rattle.lra_laws.specs.Rows as laws;
 use crate::contact::{Asked, Contact};
 use crate::lists::at;
 use crate::nest::Nest;
-use crate::state::{ActionState, MemberState};
+use lra_states::{ActionState, MemberState};
 use std::alloc::Global;
 use std::marker::Model;
 

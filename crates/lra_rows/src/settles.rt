@@ -1,56 +1,13 @@
 //! What settles next.
 
-ghost use Rattle.std.specs.Prelude.{◌≡◌, ◌&&◌, ◌==◌, not};
+ghost use Rattle.std.specs.Prelude.{◌≡◌};
 ghost use Rattle.lra_model.specs.Words as words;
 ghost use Rattle.lra_model.specs.Tests as tests;
-ghost use Rattle.lra_laws.specs.inner.RowFacts.{settled_by, right_end_by};
 
 use crate::lists::at;
 use crate::rows::Rows;
-use crate::state::{ActionState, MemberState};
-use lra_model::{ActionStatus, Cause, Deed, MemberStatus};
-
-fn is_cancellable(status: ActionStatus) -> bool
-    ensures { result ≡ words.is_cancellable status }
-{
-    matches!(
-        status,
-        ActionStatus::Active | ActionStatus::Closed | ActionStatus::FailedToClose
-    )
-}
-
-/// Whether an action may end, by its counts.
-fn is_settled(row: &ActionState) -> bool
-    ensures { result ≡ settled_by row.now }
-{
-    match row.status {
-        ActionStatus::Closing => row.completing == 0 && row.unended == 0,
-        ActionStatus::Cancelling => row.compensating == 0 && row.uncancelled == 0,
-        _ => false,
-    }
-}
-
-/// The status that an action ends with, by its counts.
-fn right_end(row: &ActionState) -> ActionStatus
-    ensures { result ≡ right_end_by row.now }
-{
-    match row.status {
-        ActionStatus::Closing => {
-            if row.uncompleted == 0 && row.failed == 0 {
-                ActionStatus::Closed
-            } else {
-                ActionStatus::FailedToClose
-            }
-        }
-        _ => {
-            if row.uncompensated == 0 && row.failed == 0 {
-                ActionStatus::Cancelled
-            } else {
-                ActionStatus::FailedToCancel
-            }
-        }
-    }
-}
+use lra_model::{Cause, Deed};
+use lra_states::{ActionState, MemberState, is_settled, right_end};
 
 impl Rows {
     ghost use Rattle.std.specs.Prelude.{◌≡◌};
@@ -67,7 +24,7 @@ impl Rows {
         ensures { result ≡ tests.may_skip (facts_by self.now.sheet.state) (member_by self.now.sheet.state row.now) }
     {
         self.is_closing(row.action)
-            && matches!(row.status, MemberStatus::Active)
+            && row.status.is_untouched()
             && !row.addresses.complete
             && row.addresses.compensate
     }
@@ -93,7 +50,7 @@ impl Rows {
         ensures { result ≡ tests.may_close_with_parent (facts_by self.now.sheet.state) (action_by self.now.sheet.state row.now) }
     {
         match row.parent {
-            Some(parent) => matches!(row.status, ActionStatus::Active) && self.is_closing(parent),
+            Some(parent) => row.status.is_active() && self.is_closing(parent),
             None => false,
         }
     }
@@ -102,7 +59,7 @@ impl Rows {
         ensures { result ≡ tests.may_cancel_with_parent (facts_by self.now.sheet.state) (action_by self.now.sheet.state row.now) }
     {
         match row.parent {
-            Some(parent) => is_cancellable(row.status) && self.is_cancelling(parent),
+            Some(parent) => row.status.is_cancellable() && self.is_cancelling(parent),
             None => false,
         }
     }

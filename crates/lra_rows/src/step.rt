@@ -1,8 +1,8 @@
 //! What an entry wrote over and added.
 
 use crate::contact::Repeats;
-use crate::state::{ActionState, MemberState};
 use lra_model::AskKind;
+use lra_states::{ActionState, MemberState};
 use std::marker::Model;
 
 /// A row's number, and what stood there.

@@ -7,35 +7,13 @@ ghost use Rattle.lra_model.specs.Tests as tests;
 
 use crate::lists::at;
 use crate::rows::Rows;
-use crate::state::{ActionState, MemberState};
-use crate::words::{has_ended, has_gone, is_compensating, is_completing};
-use lra_model::{ActionStatus, AskKind, MemberStatus, Outcome};
+use lra_model::{AskKind, Outcome};
+use lra_states::{ActionState, MemberState};
 
 fn was_accepted(reply: Option<Outcome>) -> bool
     ensures { result ≡ tests.was_accepted reply }
 {
     matches!(reply, Some(Outcome::Accepted))
-}
-
-fn is_untouched(status: MemberStatus) -> bool
-    ensures { result ≡ words.is_untouched status }
-{
-    matches!(status, MemberStatus::Active)
-}
-
-fn is_completed(status: MemberStatus) -> bool
-    ensures { result ≡ words.is_completed status }
-{
-    matches!(status, MemberStatus::Completed)
-}
-
-fn member_has_failed(status: MemberStatus) -> bool
-    ensures { result ≡ words.member_has_failed status }
-{
-    matches!(
-        status,
-        MemberStatus::FailedToComplete | MemberStatus::FailedToCompensate
-    )
 }
 
 impl Rows {
@@ -50,7 +28,7 @@ impl Rows {
         ensures { result ≡ tests.status_is words.is_closing (facts_by self.now.sheet.state) action }
     {
         match at(&self.actions, action) {
-            Some(row) => matches!(row.status, ActionStatus::Closing),
+            Some(row) => row.status.is_closing(),
             None => false,
         }
     }
@@ -59,7 +37,7 @@ impl Rows {
         ensures { result ≡ tests.status_is words.is_cancelling (facts_by self.now.sheet.state) action }
     {
         match at(&self.actions, action) {
-            Some(row) => matches!(row.status, ActionStatus::Cancelling),
+            Some(row) => row.status.is_cancelling(),
             None => false,
         }
     }
@@ -68,7 +46,7 @@ impl Rows {
         ensures { result ≡ (action_by self.now.sheet.state row.now).top_has_ended }
     {
         match at(&self.actions, row.top) {
-            Some(top) => has_ended(top.status),
+            Some(top) => top.status.has_ended(),
             None => false,
         }
     }
@@ -77,7 +55,7 @@ impl Rows {
         ensures { result ≡ wants.wants_completion (facts_by self.now.sheet.state) (member_by self.now.sheet.state row.now) }
     {
         let is_time = self.is_closing(row.action)
-            && (is_untouched(row.status) || is_completing(row.status));
+            && (row.status.is_untouched() || row.status.is_completing());
         if !(is_time && row.addresses.complete) {
             return None;
         }
@@ -92,13 +70,13 @@ impl Rows {
         ensures { result ≡ wants.wants_compensation (facts_by self.now.sheet.state) (member_by self.now.sheet.state row.now) }
     {
         let is_time = self.is_cancelling(row.action)
-            && (is_untouched(row.status)
-                || is_completed(row.status)
-                || is_compensating(row.status));
+            && (row.status.is_untouched()
+                || row.status.is_completed()
+                || row.status.is_compensating());
         if !(is_time && row.addresses.compensate) {
             return None;
         }
-        if is_compensating(row.status) && was_accepted(row.compensation) && row.addresses.status {
+        if row.status.is_compensating() && was_accepted(row.compensation) && row.addresses.status {
             Some(AskKind::Status)
         } else {
             Some(AskKind::Compensate)
@@ -112,8 +90,8 @@ impl Rows {
             return false;
         };
         self.top_has_ended(&action)
-            && (member_has_failed(row.status)
-                || (is_completed(row.status) && action.parent.is_some()))
+            && (row.status.has_failed()
+                || (row.status.is_completed() && action.parent.is_some()))
             && !row.has_forgotten
     }
 
@@ -139,7 +117,7 @@ impl Rows {
     pub(crate) fn want(&self, row: &MemberState) -> Option<AskKind>
         ensures { result ≡ wants.wanted (facts_by self.now.sheet.state) (member_by self.now.sheet.state row.now) }
     {
-        if self.is_asked(row) || has_gone(row.status) {
+        if self.is_asked(row) || row.status.has_gone() {
             return None;
         }
         if let Some(kind) = self.wants_completion(row) {

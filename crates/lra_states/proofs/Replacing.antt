@@ -9,7 +9,7 @@ slice_get-set_same [] k x r e = cc
 slice_get-set_same (y ∷ rows) zero x r e = refl
 slice_get-set_same (y ∷ rows) (suc k) x r e = slice_get-set_same rows k x r e
 
-slice_get-set_other : {R : Type 0} (rows : List R) (k j : ℕ) (r : R) → (j ≡ k → ⊥) → slice_get (slice_set rows k r) j ≡ slice_get rows j
+pub slice_get-set_other : {R : Type 0} (rows : List R) (k j : ℕ) (r : R) → (j ≡ k → ⊥) → slice_get (slice_set rows k r) j ≡ slice_get rows j
 slice_get-set_other [] k j r ne = refl
 slice_get-set_other (y ∷ rows) zero zero r ne = absurd (ne refl)
 slice_get-set_other (y ∷ rows) zero (suc j) r ne = refl
