@@ -19,7 +19,7 @@ use Rattle.lra_model.specs.Actions.{parent, lineage_within, depth}
 use Rattle.lra_model.specs.Ends.{action_is}
 use Rattle.lra_model.specs.Rules.{is_legal}
 use Rattle.lra_laws.specs.Sheets.{Sheet, nest_of, contact_of, asks_made, sheet_of, StandsFor, Follows}
-use Rattle.lra_laws.specs.Rows.{ActionRow, state_of, void_asks, one, row_at, action_row, member_row, count_staying, count_children, is_left_to_complete, is_left_to_compensate, is_uncompleted, is_uncompensated, is_unended, is_uncancelled}
+use Rattle.lra_laws.specs.Rows.{state_of, void_asks, one, row_at, action_row, member_row, count_staying, count_children, is_left_to_complete, is_left_to_compensate, is_uncompleted, is_uncompensated, is_unended, is_uncancelled}
 use Rattle.lra_states.specs.Counts.{CountsTo}
 use Rattle.lra_states.specs.inner.Changes.{TakesNextNumber}
 use Rattle.lra_states.proofs.Counting.{CountsTo-more}

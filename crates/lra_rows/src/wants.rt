@@ -90,8 +90,7 @@ impl Rows {
             return false;
         };
         self.top_has_ended(&action)
-            && (row.status.has_failed()
-                || (row.status.is_completed() && action.parent.is_some()))
+            && (row.status.has_failed() || (row.status.is_completed() && action.parent.is_some()))
             && !row.has_forgotten
     }
 
