@@ -1,9 +1,5 @@
 //! What settles next.
 
-ghost use Rattle.std.specs.Prelude.{◌≡◌};
-ghost use Rattle.lra_model.specs.Words as words;
-ghost use Rattle.lra_model.specs.Tests as tests;
-
 use crate::lists::at;
 use crate::rows::Rows;
 use lra_model::{Cause, Deed};
@@ -11,7 +7,6 @@ use lra_states::{ActionState, MemberState, is_settled, right_end};
 
 impl Rows {
     ghost use Rattle.std.specs.Prelude.{◌≡◌};
-    ghost use Rattle.lra_model.specs.Words as words;
     ghost use Rattle.lra_model.specs.Tests as tests;
     ghost use Rattle.lra_model.specs.History.{History};
     ghost use Rattle.lra_model.specs.Settling.{may_be_skipped, by_parent};

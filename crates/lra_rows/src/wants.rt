@@ -1,8 +1,6 @@
 //! What a member wants to be asked next.
 
-ghost use Rattle.std.specs.Prelude.{◌≡◌, ◌&&◌, ◌||◌, not};
-ghost use Rattle.lra_model.specs.declared.asks.AskKind.TheVariants as ask;
-ghost use Rattle.lra_model.specs.Words as words;
+ghost use Rattle.std.specs.Prelude.{◌≡◌};
 ghost use Rattle.lra_model.specs.Tests as tests;
 
 use crate::lists::at;
