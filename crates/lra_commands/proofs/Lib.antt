@@ -1,3 +1,4 @@
+pub mod Grounds
 pub mod Keeps
 pub mod KeepsAddresses
 pub mod KeepsDepth
@@ -8,3 +9,4 @@ pub mod Rests
 pub mod Stopping
 pub mod Worked
 pub mod Tells
+pub mod Writers

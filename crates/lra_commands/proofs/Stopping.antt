@@ -1,68 +1,57 @@
--- The definitions never answer that the scribe has stopped: that is for whoever writes the journal to say.
-use Rattle.std.proofs.Common.{◌≡◌, ◌≢◌, ◌⊎◌, ℕ, Bool, true, false, List, [], ◌∷◌, ◌++◌, Option, Some, None, Ok, Err, inl, inr, refl, sym, ap, ◌∙◌}
-use Rattle.std.specs.Prelude.{if◌then◌else◌}
+-- The definitions never answer that the scribe has stopped, nor that no memory is left: those are for whoever writes the journal, or takes memory, to say.
+use Rattle.std.proofs.Common.{◌≡◌, ◌≢◌, ℕ, Bool, true, false, Option, Some, None, Ok, Err, inl, inr, refl, ap}
 use Rattle.std.specs.Option.{option_map_or}
 use Rattle.lra_model.specs.History.{History}
-use Rattle.lra_commands.specs.declared.command.Told.{Told}
 use Rattle.lra_commands.specs.declared.command.Command.TheVariants as command
 use Rattle.lra_commands.specs.declared.limits.Terms.{Terms}
 use Rattle.lra_commands.specs.declared.refusal.Refusal.{Refusal}
 use Rattle.lra_commands.specs.declared.refusal.Refusal.TheVariants as refusal
-use Rattle.lra_commands.specs.Calls.{Command, Call, moment_of}
-use Rattle.lra_commands.specs.Refusals.{Ground, command_grounds, full_grounds, grounds, first_ground, refused}
+use Rattle.lra_commands.specs.Calls.{Command, Call}
+use Rattle.lra_commands.specs.Refusals.{grounds, refused}
 use Rattle.lra_commands.specs.Answers.{told_of, answer}
 use Rattle.lra_commands.specs.Counters.{IsRefusedAt}
 use Rattle.lra_commands.specs.Shortages.{IsRefusal}
+use Rattle.lra_commands.proofs.Grounds.{names, other_first}
 
--- none of the grounds is that
-abbrev NoneStops : List Ground → Type 0
-NoneStops [] = Unit {0}
-NoneStops ((r, holds) ∷ rest) = (r ≢ refusal.Stopped) × NoneStops rest
+-- of these the definitions know nothing
+abbrev is_outside : Refusal → Bool
+is_outside refusal.Stopped = true
+is_outside refusal.Memory = true
+is_outside _ = false
 
-none_stops-append : (xs ys : List Ground) → NoneStops xs → NoneStops ys → NoneStops (xs ++ ys)
-none_stops-append [] ys h k = k
-none_stops-append ((r, holds) ∷ rest) ys h k = (h.0, none_stops-append rest ys h.1 k)
+never_named : (s : Terms) (J : History) (by m : ℕ) (o : Command) → names is_outside (grounds s J (record { by = by; moment = m; command = o })) ≡ false
+never_named s J by m command.Enrol = refl
+never_named s J by m (command.Start parent limit) = refl
+never_named s J by m (command.Join a uris) = refl
+never_named s J by m (command.Leave a p) = refl
+never_named s J by m (command.Close a) = refl
+never_named s J by m (command.Cancel a) = refl
+never_named s J by m command.Tick = refl
+never_named s J by m command.NextAsk = refl
+never_named s J by m (command.Record errand o) = refl
+never_named s J by m (command.Report p e) = refl
+never_named s J by m command.Restart = refl
+never_named s J by m (command.Renew a limit) = refl
+never_named s J by m (command.Status a) = refl
+never_named s J by m (command.MemberStatus p) = refl
 
-first_goes_on : (xs : List Ground) → NoneStops xs → first_ground xs ≢ Some refusal.Stopped
-first_goes_on [] h e = absurd cc
-first_goes_on ((r, true) ∷ rest) h e = h.0 (let k : r ≡ refusal.Stopped = cc in k)
-first_goes_on ((r, false) ∷ rest) h e = first_goes_on rest h.1 e
-
-command_goes_on : (s : Terms) (J : History) (m : ℕ) (c : Command) → NoneStops (command_grounds s J m c)
-command_goes_on s J m command.Enrol = tt
-command_goes_on s J m (command.Start parent limit) = ((λ e. absurd cc), ((λ e. absurd cc), ((λ e. absurd cc), ((λ e. absurd cc), tt))))
-command_goes_on s J m (command.Join a uris) = ((λ e. absurd cc), ((λ e. absurd cc), ((λ e. absurd cc), tt)))
-command_goes_on s J m (command.Leave a p) = ((λ e. absurd cc), ((λ e. absurd cc), ((λ e. absurd cc), ((λ e. absurd cc), ((λ e. absurd cc), tt)))))
-command_goes_on s J m (command.Close a) = ((λ e. absurd cc), ((λ e. absurd cc), tt))
-command_goes_on s J m (command.Cancel a) = ((λ e. absurd cc), ((λ e. absurd cc), tt))
-command_goes_on s J m command.Tick = tt
-command_goes_on s J m command.NextAsk = tt
-command_goes_on s J m (command.Record errand o) = ((λ e. absurd cc), tt)
-command_goes_on s J m (command.Report p x) = ((λ e. absurd cc), ((λ e. absurd cc), ((λ e. absurd cc), tt)))
-command_goes_on s J m command.Restart = tt
-command_goes_on s J m (command.Renew a limit) = ((λ e. absurd cc), ((λ e. absurd cc), ((λ e. absurd cc), ((λ e. absurd cc), tt))))
-command_goes_on s J m (command.Status a) = ((λ e. absurd cc), tt)
-command_goes_on s J m (command.MemberStatus p) = ((λ e. absurd cc), tt)
-
-call_goes_on : (s : Terms) (J : History) (c : Call) → NoneStops (grounds s J c)
-call_goes_on s J c = (
-  (λ e. absurd cc),
-  none_stops-append (command_grounds s J (moment_of J c) c.command) (full_grounds s J c) (command_goes_on s J (moment_of J c) c.command)
-      ((λ e. absurd cc), ((λ e. absurd cc), ((λ e. absurd cc), ((λ e. absurd cc), tt)))),
-)
-
-pub never_stopped : (s : Terms) (J : History) (c : Call) → answer s J c ≢ Err refusal.Stopped
-unfolding answer refused
-never_stopped s J c e = stopped (refused s J c) refl e
+refused_as : (s : Terms) (J : History) (c : Call) (r : Refusal) → answer s J c ≡ Err r → refused s J c ≡ Some r
+unfolding answer
+refused_as s J c r h = some (refused s J c) h
   where
-    stopped : (o : Option Refusal) → refused s J c ≡ o → option_map_or Err o (Ok (told_of s J c)) ≡ Err refusal.Stopped → ⊥
-    stopped None k h = absurd cc
-    stopped (Some r) k h = first_goes_on (grounds s J c) (call_goes_on s J c) (k ∙ ap (λ x. Some x) (let z : r ≡ refusal.Stopped = cc in z))
+    some : (o : Option Refusal) → option_map_or Err o (Ok (told_of s J c)) ≡ Err r → o ≡ Some r
+    some None e = absurd cc
+    some (Some x) e = let same : x ≡ r = cc in ap Some same
+
+never_answered : (s : Terms) (J : History) (c : Call) (r : Refusal) → is_outside r ≡ true → answer s J c ≢ Err r
+unfolding refused
+never_answered s J c r outside h = let bad = other_first is_outside (grounds s J c) (never_named s J c.by c.moment c.command) r (refused_as s J c r h) in absurd cc
 
 -- so a refusal of a coordinator is one of a counter
 pub refused_at : (s : Terms) (J : History) (c : Call) (r : Refusal) → IsRefusal s J c r → IsRefusedAt s J c r
-refused_at s J c refusal.Stopped (inl e) = absurd (never_stopped s J c e)
-refused_at s J c refusal.Stopped (inr m) = let k = m.0 in absurd cc
-refused_at s J c refusal.Memory h = tt
+refused_at s J c refusal.Stopped (inl e) = absurd (never_answered s J c refusal.Stopped refl e)
+refused_at s J c refusal.Stopped (inr m) = let bad = m.0 in absurd cc
+refused_at s J c refusal.Memory (inl e) = absurd (never_answered s J c refusal.Memory refl e)
+refused_at s J c refusal.Memory (inr m) = m.1
 refused_at s J c r (inl e) = e
-refused_at s J c r (inr m) = let k = m.0 in absurd cc
+refused_at s J c r (inr m) = let bad = m.0 in absurd cc

@@ -140,7 +140,7 @@ by_order s J by m (order.MemberStatus p) keepable lawful left = tt
 pub counters_tell : CountersTell
 counters_tell before after m o t keeps =
     let J : History = before.seen ++ keeps.seen.0 in
-    let given = keeps.seen.1 in
+    let given = keeps.seen.2 in
     let s : Terms = terms_of before.setting in
     let c : Call = call_of before.number m o in
     let P : History → Type 0 = λ K. IsLawful s K in

@@ -1,5 +1,7 @@
 -- What a counter is told and what its callers know of the history behind it.
-use Rattle.std.specs.Prelude.{◌≡◌, ◌≢◌, ℕ, ◌≤◌, ◌<◌, ◌^◌, List, [], ◌++◌, Result, Ok, Err, IsOk, ⊤}
+use Rattle.std.specs.Prelude.{◌≡◌, ◌≢◌, ◌==◌, ℕ, ◌≤◌, ◌<◌, ◌^◌, List, [], ◌++◌, filter, Result, Ok, Err, IsOk, ⊤}
+use mathlib.Core.List.{IsPrefix}
+use Rattle.lra_model.specs.declared.entry.Entry.{Entry}
 use Rattle.lra_model.specs.declared.version.Version.{Version}
 use Rattle.lra_model.specs.History.{History}
 use Rattle.lra_commands.specs.declared.command.Command.{Command}
@@ -17,7 +19,8 @@ use Rattle.lra_commands.specs.declared.limits.Terms.{Terms}
 use Rattle.lra_commands.specs.Terms.{AreKeepable}
 use Rattle.lra_commands.specs.Calls.{Call}
 use Rattle.lra_commands.specs.Blocks.{block}
-use Rattle.lra_commands.specs.Answers.{answer, after_call}
+use Rattle.lra_commands.specs.Answers.{answer, growth, after_call}
+use Rattle.lra_commands.specs.Shortages.{MayRunOut}
 use Rattle.lra_commands.specs.Runs.{IsLawful}
 
 -- what a coordinator is made with, and keeps
@@ -55,11 +58,11 @@ command_of (order.MemberStatus member) = command.MemberStatus member
 abbrev pub call_of : ℕ → ℕ → Order → Call
 call_of number moment o = record { by = number; moment = moment; command = command_of o }
 
--- why an order is refused at a history: the definitions refuse it; or what it would write can't be kept, or a growth was refused, of which they
--- know nothing
+-- why an order is refused at a history: the definitions refuse it; or what it would write can't be kept; or a growth was refused, where it takes
+-- memory and nothing that comes before that refuses it
 abbrev pub IsRefusedAt : Terms → History → Call → Refusal → Type 0
 IsRefusedAt s J c refusal.Stopped = IsOk (answer s J c) × (block s J c ≢ [])
-IsRefusedAt s J c refusal.Memory = ⊤
+IsRefusedAt s J c refusal.Memory = MayRunOut s J c
 IsRefusedAt s J c r = answer s J c ≡ Err r
 
 -- what is told of an order at a history, and the history after it: a reply of the definitions, or the order wasn't done
@@ -75,9 +78,14 @@ pub record IsGivenAt (s : Setting) (J : History) (c : Call) (reply : Result Told
   pub told : IsToldAt (terms_of s) J c reply K
   pub left : IsLawful (terms_of s) K
 
--- some history began with what was seen, since others may have written meanwhile, and the order was given at it
+-- the entries under a number, in their order
+abbrev pub entries_under : ℕ → History → History
+entries_under number J = filter (λ (e : Entry). e.by == number) J
+
+-- some history began with what was seen, since others may have written meanwhile, though nothing under the clerk's number, and the order was given
+-- at it
 abbrev pub IsGivenSince : Setting → History → Call → Result Told CounterFault → History → Type 0
-IsGivenSince s seen c reply K = (since : History) × IsGivenAt s (seen ++ since) c reply K
+IsGivenSince s seen c reply K = (since : History) × (entries_under c.by since ≡ []) × IsGivenAt s (seen ++ since) c reply K
 
 -- what is seen after an order: a counter that is worn tells nothing of the history
 abbrev pub IsSeenAfter : Setting → History → Call → Result Told CounterFault → History → Type 0
@@ -127,3 +135,19 @@ CanTell _ _ = ⊥
 -- whatever a counter tells of an order is what such an order can be told
 abbrev pub CountersTell : Type 0
 CountersTell = (before after : Sight) (moment : ℕ) (o : Order) (t : Told) → KeepsHistory before moment o (Ok t) after → CanTell o t
+
+-- what an order adds to the entries under its clerk's number: what it appends where it was done, and else nothing
+abbrev pub added_by : Terms → History → Call → Result Told CounterFault → History
+added_by s J c (Ok told) = growth s J c
+added_by s J c (Err fault) = []
+
+-- under the clerk's number stand the entries from before, and then what the order adds at a history that begins with all that was seen: once, and
+-- nothing else
+pub record WritesOnce (before : Sight) (moment : ℕ) (o : Order) (reply : Result Told CounterFault) (after : Sight) : Type 0 where
+  pub met : History
+  pub begins : IsPrefix before.seen met
+  pub written : entries_under before.number after.seen ≡ entries_under before.number before.seen ++ added_by (terms_of before.setting) met (call_of before.number moment o) reply
+
+-- whatever becomes of an order at a counter, it is written once at most
+abbrev pub CountersWriteOnce : Type 0
+CountersWriteOnce = (before after : Sight) (moment : ℕ) (o : Order) (reply : Result Told CounterFault) → KeepsHistory before moment o reply after → WritesOnce before moment o reply after

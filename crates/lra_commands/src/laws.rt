@@ -1,6 +1,6 @@
 //! Laws of coordinators: public functions that do nothing, whose contracts say what holds whatever commands are given.
 
-ghost use Rattle.lra_commands.specs.Counters.{CountersTell};
+ghost use Rattle.lra_commands.specs.Counters.{CountersTell, CountersWriteOnce};
 ghost use Rattle.lra_commands.specs.Runs.{CallsKeepHistories, CallsLeaveQuiet, CallsMakeHistories};
 
 /// Whatever commands are given to a coordinator, by any clerks, at any moments and in any order, refused ones among
@@ -24,4 +24,10 @@ pub fn calls_leave_quiet_histories()
 /// identifier can have.
 pub fn counters_tell()
     ensures { CountersTell }
+{}
+
+/// Each order is written once: under its clerk's number stand, after it, the entries from before and then what the definitions append
+/// for it at a history that begins with all that the counter had seen; and nothing where it wasn't done.
+pub fn counters_write_once()
+    ensures { CountersWriteOnce }
 {}

@@ -12,6 +12,7 @@ pub use command::{Command, Told};
 pub use counter::{Counter, CounterFault, Order};
 pub use laws::{
     calls_leave_quiet_histories, commands_keep_histories, commands_make_histories, counters_tell,
+    counters_write_once,
 };
 pub use limits::{Limits, Terms};
 pub use refusal::{Refusal, Resource};

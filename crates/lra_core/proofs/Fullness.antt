@@ -20,6 +20,7 @@ use Rattle.lra_commands.specs.Blocks.{block}
 use Rattle.lra_commands.specs.Refusals.{Ground, is_filled, passes, overfills, command_grounds, is_stranger, first_ground, refused}
 use Rattle.lra_commands.specs.Answers.{told_of, answer}
 use Rattle.lra_commands.specs.Shortages.{grounds_before_growth, has_addresses, MayRunOut}
+use Rattle.lra_commands.proofs.Grounds.{names, other_first}
 
 -- the first ground of two lists
 first_of_both : (gs hs : List Ground) → first_ground (gs ++ hs) ≡ option_or (first_ground gs) (first_ground hs)
@@ -31,21 +32,6 @@ first_of_both ((r, false) ∷ gs) hs = first_of_both gs hs
 abbrev is_of_entries : Refusal → Bool
 is_of_entries (refusal.Full resource.Entries) = true
 is_of_entries _ = false
-
--- whether a refusal that a test knows is among grounds
-abbrev pub names : (Refusal → Bool) → List Ground → Bool
-names test gs = list_any (λ (g : Ground). test g.0) gs
-
--- where no ground is such, the first that holds isn't
-pub other_first : (test : Refusal → Bool) (gs : List Ground) → names test gs ≡ false → (r : Refusal) → first_ground gs ≡ Some r → test r ≡ false
-other_first test [] h r e = absurd cc
-other_first test ((q, b) ∷ gs) h r e = one (test q) refl h b e (λ i. other_first test gs i r)
-  where
-    one : (x : Bool) → test q ≡ x → (x || names test gs) ≡ false → (b : Bool) → first_ground ((q, b) ∷ gs) ≡ Some r → (names test gs ≡ false → first_ground gs ≡ Some r → test r ≡ false)
-        → test r ≡ false
-    one true g i b e rest = absurd cc
-    one false g i true e rest = let same : q ≡ r = cc in ap test (sym same) ∙ g
-    one false g i false e rest = rest i e
 
 -- the grounds but for that of the entries
 abbrev most_grounds : Terms → History → Call → List Ground

@@ -5,4 +5,5 @@ mod Wishing
 mod Responding
 mod Streaming
 mod Transcribed
+mod InTurn
 mod Worked

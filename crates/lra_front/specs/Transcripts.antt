@@ -1,17 +1,21 @@
 -- What a whole stream comes to, as lists: the requests that its bytes spell, the moments, the answers, and the bytes of the replies.
-use Rattle.std.specs.Prelude.{◌≡◌, ◌⊎◌, ℕ, zero, suc, ◌<◌, Bool, true, false, List, [], ◌∷◌, ◌++◌, length, Some, Result, ⊤}
+use Rattle.std.specs.Prelude.{◌≡◌, ◌⊎◌, ℕ, zero, suc, ◌<◌, Bool, true, false, List, [], ◌∷◌, ◌++◌, length, Some, Result, Ok, Err, ⊤}
+use mathlib.Core.List.{IsPrefix}
+use Rattle.lra_model.specs.History.{History}
 use Rattle.std.specs.Option.{option_map_or}
 use Rattle.lra_wire.specs.declared.fault.WireFault.{WireFault}
 use Rattle.lra_wire.specs.Request.{Request, IsRequest, RefusesRequest}
 use Rattle.lra_commands.specs.declared.command.Told.{Told}
 use Rattle.lra_commands.specs.declared.counter.Order.{Order}
 use Rattle.lra_commands.specs.declared.counter.CounterFault.{CounterFault}
-use Rattle.lra_commands.specs.Counters.{Setting, Sight}
+use Rattle.lra_commands.specs.Counters.{Setting, Sight, terms_of, call_of, entries_under, added_by}
 use Rattle.lra_front.specs.declared.answer.Answer.{Answer}
+use Rattle.lra_front.specs.declared.denial.Denial.{Denial}
+use Rattle.lra_front.specs.declared.wish.Wish.{Wish}
 use Rattle.lra_front.specs.declared.stream.StreamEnd.{StreamEnd}
 use Rattle.lra_front.specs.declared.stream.StreamEnd.TheVariants.{Done, Refused, WriteFault}
 use Rattle.lra_front.specs.Replies.{reply_bytes}
-use Rattle.lra_front.specs.Serving.{Responds}
+use Rattle.lra_front.specs.Serving.{Gives, Does, Responds}
 use Rattle.lra_front.specs.Streams.{Standing, fault_answer, is_head, closes_after, ServesUpTo}
 
 -- a request, the moment at which it was answered, and its answer
@@ -93,3 +97,20 @@ module _ {K : Type 0} (gives : Sight → ℕ → Order → Result Told CounterFa
   abbrev pub AreTranscripts : Type 0
   AreTranscripts = (n : ℕ) (bytes old : List ℕ) (s t : Standing K) (end : StreamEnd) → s.bytes ≡ Some bytes → s.out ≡ Some old
       → ServesUpTo gives tells n s end t → Transcript n bytes old s end t
+
+  -- what a request adds to the entries under its clerk's number: what its one order adds, at a history that begins with all that was seen, and nothing
+  -- where it is denied
+  abbrev pub IsAdded : (v : Sight) (moment : ℕ) (w : Result Wish Denial) (u : Sight) (a : Answer) → Does gives v moment w u a → History → Type 0
+  IsAdded v moment (Ok wish) u a given added = (met : History) × IsPrefix v.seen met × (added ≡ added_by (terms_of v.setting) met (call_of v.number moment given.order) given.reply)
+  IsAdded v moment (Err denial) u a given added = added ≡ []
+
+  -- what turns add, one after another
+  abbrev pub AreAdded : (v : Sight) (k : K) (turns : List Turn) (w : Sight) (l : K) → Chain v k turns w l → History → Type 0
+  AreAdded v k [] w l chain added = added ≡ []
+  AreAdded v k (turn ∷ turns) w l chain added =
+      (first : History) × (more : History) × IsAdded v turn.moment chain.3.0 chain.0 turn.answer chain.3.2 first × AreAdded chain.0 chain.1 turns w l chain.4 more × (added ≡ first ++ more)
+
+  -- The entries under the clerk's number are those from before, and then what its orders add, in their order, each once.
+  abbrev pub AreWrittenInTurn : Type 0
+  AreWrittenInTurn = (v w : Sight) (k l : K) (turns : List Turn) (chain : Chain v k turns w l) → (added : History) × AreAdded v k turns w l chain added
+      × (entries_under v.number w.seen ≡ entries_under v.number v.seen ++ added)

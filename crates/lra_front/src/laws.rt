@@ -1,6 +1,6 @@
 //! Laws of streams: public functions that do nothing, whose contracts say what follows from the definitions.
 
-ghost use Rattle.lra_front.specs.Transcripts.{AreTranscripts};
+ghost use Rattle.lra_front.specs.Transcripts.{AreTranscripts, AreWrittenInTurn};
 
 use crate::stream::Clock;
 use lra_commands::Counter;
@@ -11,4 +11,10 @@ use lra_commands::Counter;
 /// fault in writing.
 pub fn streams_are_transcripts<C: Counter, K: Clock>()
     ensures { AreTranscripts C.gives K.tells }
+{}
+
+/// Of a stream's orders each is written once, in the order of their requests: under the clerk's number stand, after it, the entries
+/// from before, and then what each order adds at a history that begins with all that was seen before it.
+pub fn streams_write_in_turn<C: Counter, K: Clock>()
+    ensures { AreWrittenInTurn C.gives K.tells }
 {}

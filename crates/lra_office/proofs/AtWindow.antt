@@ -1,8 +1,11 @@
 -- A window keeps what a counter keeps.
-use Rattle.std.proofs.Common.{◌≡◌, ℕ, Ok, Err, inl, inr, Result, refl, sym, ap, subst}
+use Rattle.std.proofs.Common.{◌≡◌, ℕ, [], Ok, Err, inl, inr, Result, refl, sym, ap, ◌∙◌, subst}
+use Rattle.std.proofs.lemmas.List.{append_cancel_left, append-nil}
 use mathlib.Core.List.{IsPrefix}
 use Rattle.lra_model.specs.History.{History}
 use Rattle.lra_ticket.specs.declared.view.View.{View}
+use Rattle.lra_ticket.specs.History.{entries_by}
+use Rattle.lra_ticket.proofs.Histories.{entries_by-append}
 use Rattle.lra_commands.specs.declared.command.Told.{Told}
 use Rattle.lra_commands.specs.declared.counter.Order.{Order}
 use Rattle.lra_commands.specs.declared.counter.CounterFault.{CounterFault}
@@ -15,7 +18,7 @@ use Rattle.lra_commands.proofs.Stopping.{refused_at}
 use Rattle.lra_office.specs.declared.fault.OfficeRefusal.{OfficeRefusal}
 use Rattle.lra_office.specs.declared.fault.OfficeRefusal.TheVariants as office
 use Rattle.lra_office.specs.Serves.{IsHeldBack}
-use Rattle.lra_office.specs.Orders.{IsGrown, IsNotGiven}
+use Rattle.lra_office.specs.Orders.{IsMet, IsGrown, IsNotGiven}
 use Rattle.lra_office.specs.inner.Given.{fault_of}
 
 -- what holds a command back is a refusal of a counter
@@ -23,22 +26,30 @@ held_at : (s : Terms) (J : History) (c : Call) (r : Refusal) → IsHeldBack s J 
 held_at s J c r (inl h) = refused_at s J c r h
 held_at s J c r (inr h) = subst (λ (x : Refusal). IsRefusedAt s J c x) (sym h.0) (h.1.told, h.1.writes)
 
--- since what was seen, others may have written
-since : (g : Setting) (seen J : History) (c : Call) (reply : Result Told CounterFault) (K : History) → IsPrefix seen J → IsGivenAt g J c reply K → IsGivenSince g seen c reply K
-since g seen J c reply K p h = (p.0, subst (λ (L : History). IsGivenAt g L c reply K) (sym p.1) h)
+-- of what others wrote since, nothing is under the clerk's number
+none_since : (n : ℕ) (seen J : History) (p : IsPrefix seen J) → entries_by n J ≡ entries_by n seen → entries_by n p.0 ≡ []
+none_since n seen J p same =
+    append_cancel_left (entries_by n seen) (entries_by n p.0) [] (sym (entries_by-append n seen p.0) ∙ (ap (entries_by n) p.1 ∙ (same ∙ sym (append-nil (entries_by n seen)))))
 
-told_seen : {O : Type 0} (g : Setting) (v w : View O) (c : Call) (t : Told) (e : _) → IsGrown g v c t e w → IsGivenSince g v.seen c (Ok t) w.seen
-told_seen g v w c t e h =
+-- since what was seen, others may have written
+since : {O : Type 0} (g : Setting) (v : View O) (J : History) (c : Call) (reply : Result Told CounterFault) (K : History) → c.by ≡ v.number → IsMet g v J → IsGivenAt g J c reply K
+    → IsGivenSince g v.seen c reply K
+since g v J c reply K by met h =
+    let p = met.begins in
+    (p.0, subst (λ (n : ℕ). entries_by n p.0 ≡ []) (sym by) (none_since v.number v.seen J p (met.own ∙ sym met.seen_own)), subst (λ (L : History). IsGivenAt g L c reply K) (sym p.1) h)
+
+told_seen : {O : Type 0} (g : Setting) (v w : View O) (c : Call) (t : Told) (e : _) → c.by ≡ v.number → IsGrown g v c t e w → IsGivenSince g v.seen c (Ok t) w.seen
+told_seen g v w c t e by h =
     let seen = ap (λ (x : View _). x.seen) h.after in
     subst (λ (K : History). IsGivenSince g v.seen c (Ok t) K) (sym seen)
-    (since g v.seen h.history c (Ok t) _ h.met.begins (record { keepable = h.met.kept.limits; lawful = h.met.kept.lawful; told = (h.done.answered, h.done.grown); left = h.kept.lawful }))
+    (since g v h.history c (Ok t) _ by h.met (record { keepable = h.met.kept.limits; lawful = h.met.kept.lawful; told = (h.done.answered, h.done.grown); left = h.kept.lawful }))
 
-refused_seen : {O : Type 0} (g : Setting) (v w : View O) (c : Call) (r : OfficeRefusal) → IsNotGiven g v c r w → IsSeenAfter g v.seen c (Err (fault_of r)) w.seen
-refused_seen g v w c (office.Refused r) h =
+refused_seen : {O : Type 0} (g : Setting) (v w : View O) (c : Call) (r : OfficeRefusal) → c.by ≡ v.number → IsNotGiven g v c r w → IsSeenAfter g v.seen c (Err (fault_of r)) w.seen
+refused_seen g v w c (office.Refused r) by h =
     let seen = ap (λ (x : View _). x.seen) h.3 in
     subst (λ (K : History). IsGivenSince g v.seen c (Err (counter.Refused r)) K) (sym seen)
-    (since g v.seen h.0 c (Err (counter.Refused r)) h.0 h.1.begins (record { keepable = h.1.kept.limits; lawful = h.1.kept.lawful; told = (held_at (terms_of g) h.0 c r h.2, refl); left = h.1.kept.lawful }))
-refused_seen g v w c office.Worn h = ap (λ (x : View _). x.seen) h
+    (since g v h.0 c (Err (counter.Refused r)) h.0 by h.1 (record { keepable = h.1.kept.limits; lawful = h.1.kept.lawful; told = (held_at (terms_of g) h.0 c r h.2, refl); left = h.1.kept.lawful }))
+refused_seen g v w c office.Worn by h = ap (λ (x : View _). x.seen) h
 
 -- commands keep the origin
 told_origin : {O : Type 0} (g : Setting) (v w : View O) (c : Call) (t : Told) (e : _) → IsGrown g v c t e w → w.origin ≡ v.origin
@@ -51,16 +62,16 @@ refused_origin g v w c office.Worn h = ap (λ (x : View _). x.origin) h
 abbrev sight : Setting → ℕ → History → Sight
 sight g n seen = record { setting = g; number = n; seen = seen }
 
-pub window_told : {O : Type 0} (set : O → Setting) (v w : View O) (n k m : ℕ) (o : Order) (t : Told) (e : _) → k ≡ n → IsGrown (set v.origin) v (call_of n m o) t e w
+pub window_told : {O : Type 0} (set : O → Setting) (v w : View O) (n k m : ℕ) (o : Order) (t : Told) (e : _) → v.number ≡ n → k ≡ n → IsGrown (set v.origin) v (call_of n m o) t e w
     → KeepsHistory (sight (set v.origin) n v.seen) m o (Ok t) (sight (set w.origin) k w.seen)
-window_told set v w n k m o t e number h = record {
+window_told set v w n k m o t e own number h = record {
   same = record { setting = ap set (told_origin (set v.origin) v w (call_of n m o) t e h); number = number };
-  seen = told_seen (set v.origin) v w (call_of n m o) t e h;
+  seen = told_seen (set v.origin) v w (call_of n m o) t e (sym own) h;
 }
 
-pub window_refused : {O : Type 0} (set : O → Setting) (v w : View O) (n k m : ℕ) (o : Order) (r : OfficeRefusal) → k ≡ n → IsNotGiven (set v.origin) v (call_of n m o) r w
+pub window_refused : {O : Type 0} (set : O → Setting) (v w : View O) (n k m : ℕ) (o : Order) (r : OfficeRefusal) → v.number ≡ n → k ≡ n → IsNotGiven (set v.origin) v (call_of n m o) r w
     → KeepsHistory (sight (set v.origin) n v.seen) m o (Err (fault_of r)) (sight (set w.origin) k w.seen)
-window_refused set v w n k m o r number h = record {
+window_refused set v w n k m o r own number h = record {
   same = record { setting = ap set (refused_origin (set v.origin) v w (call_of n m o) r h); number = number };
-  seen = refused_seen (set v.origin) v w (call_of n m o) r h;
+  seen = refused_seen (set v.origin) v w (call_of n m o) r (sym own) h;
 }

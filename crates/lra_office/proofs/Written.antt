@@ -1,13 +1,9 @@
 -- Whose entries a call writes, and that the lock takes them.
-use Rattle.std.proofs.Common.{◌≡◌, ◌≢◌, ℕ, zero, suc, ◌+◌, Bool, List, [], ◌∷◌, ◌++◌, length, Option, Some, None, Result, Ok, Err, refl, sym, ap, ◌∙◌, subst, append-nil, cond, arith, ne_eqb}
-use Rattle.std.specs.Prelude.{is_some, option_map}
-use Rattle.std.specs.Option.{option_map_or}
-use Rattle.std.specs.List.{All, AllByRecursion}
+use Rattle.std.proofs.Common.{◌≡◌, ◌≢◌, ℕ, ◌+◌, Bool, List, [], ◌∷◌, ◌++◌, length, Result, Ok, Err, refl, sym, ap, ◌∙◌, subst, append-nil, cond, arith, ne_eqb}
+use Rattle.std.specs.List.{All}
 use Rattle.std.proofs.lemmas.List.Elements.{All-from_recursion, All-nil}
-use Rattle.lra_model.specs.declared.entry.Deed.{Deed}
 use Rattle.lra_model.specs.declared.entry.Entry.{Entry}
 use Rattle.lra_model.specs.History.{History, clerks}
-use Rattle.lra_model.specs.Settling.{next_settling, settling_within, most_settling, with_settling}
 use Rattle.lra_ids.specs.Addresses.{is_address}
 use Rattle.lra_laws.proofs.Clerks.{none_by_next}
 use Rattle.lra_ticket.specs.History.{entries_by, block_after, first_by, number_after, MayAdd}
@@ -15,46 +11,13 @@ use Rattle.lra_ticket.proofs.Histories.{block_after-append}
 use Rattle.lra_commands.specs.declared.command.Command.TheVariants as command
 use Rattle.lra_commands.specs.declared.limits.Terms.{Terms}
 use Rattle.lra_commands.specs.declared.refusal.Refusal.{Refusal}
-use Rattle.lra_commands.specs.Calls.{Command, Call, moment_of}
-use Rattle.lra_commands.specs.Deeds.{own_deed, writer_of, entry_of}
-use Rattle.lra_commands.specs.Blocks.{block}
-use Rattle.lra_commands.specs.Refusals.{refused}
+use Rattle.lra_commands.specs.Calls.{Command}
 use Rattle.lra_commands.specs.Answers.{growth}
 use Rattle.lra_commands.specs.Counters.{Setting, terms_of}
+use Rattle.lra_commands.proofs.Writers.{AreBy, growth_by}
 use Rattle.lra_core.specs.declared.block.Committed.{Committed}
 use Rattle.lra_office.specs.Serves.{IsServed, IsKeptBy}
 use Rattle.lra_office.specs.inner.Given.{IsNumberOf}
-
-abbrev AreBy : ℕ → List Entry → Type 0
-AreBy n es = AllByRecursion (λ (e : Entry). e.by ≡ n) es
-
--- what settles is by the number that it is written under
-settling_by : (n by m : ℕ) (J : History) → AreBy by (settling_within n by m J)
-settling_by zero by m J = tt
-settling_by (suc n) by m J = next (next_settling J) (λ K. settling_by n by m K)
-  where
-    next : (o : Option Deed) → ((K : History) → AreBy by (settling_within n by m K))
-        → AreBy by (option_map_or (λ (d : Deed). (let e : Entry = record { by = by; moment = m; deed = d } in e) ∷ settling_within n by m (J ++ (let e : Entry = record { by = by; moment = m; deed = d } in e) ∷ [])) o [])
-    next None rest = tt
-    next (Some d) rest = (refl, rest (J ++ (let e : Entry = record { by = by; moment = m; deed = d } in e) ∷ []))
-
--- a block is by its writer
-block_by : (s : Terms) (J : History) (c : Call) → AreBy (writer_of J c) (block s J c)
-unfolding block
-block_by s J c = own (own_deed s J (moment_of J c) c.command)
-  where
-    own : (o : Option Deed) → AreBy (writer_of J c) (option_map_or (with_settling J) (option_map (entry_of J c) o) [])
-    own None = tt
-    own (Some d) = (refl, settling_by (most_settling (J ++ entry_of J c d ∷ [])) (writer_of J c) (moment_of J c) (J ++ entry_of J c d ∷ []))
-
--- so is what a call appends
-growth_by : (s : Terms) (J : History) (c : Call) → AreBy (writer_of J c) (growth s J c)
-unfolding growth
-growth_by s J c = either (refused s J c)
-  where
-    either : (o : Option Refusal) → AreBy (writer_of J c) (cond (is_some o) [] (block s J c))
-    either None = block_by s J c
-    either (Some r) = tt
 
 -- ---- what the lock takes
 

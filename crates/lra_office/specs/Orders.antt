@@ -24,6 +24,7 @@ use Rattle.lra_office.specs.Serves.{IsHeldBack, IsDone, IsKeptBy}
 -- the history that a call met: it begins with all that was seen before, has nothing more under the number, and can be a coordinator's
 pub record IsMet {O : Type 0} (g : Setting) (v : View O) (J : History) : Type 0 where
   pub begins : IsPrefix v.seen J
+  pub seen_own : entries_by v.number v.seen ≡ v.mine
   pub own : entries_by v.number J ≡ v.mine
   pub kept : IsKeptBy g J
 

@@ -240,6 +240,7 @@ module _ {X O : Type 0} (origin : X → O) (history : X → List Entry) (lawful 
     lawful_now = h.lawful_now;
     same_origin = h.same_origin ∙ sym fit.same_origin;
     begins = subst (IsPrefix v.seen) (sym h.has_log) fit.begins;
+    seen_own = sym fit.own;
     own = ap (entries_by v.number) h.has_log ∙ (fit.all_seen ∙ sym fit.own);
     enrolled = fit.enrolled;
   }

@@ -54,6 +54,7 @@ pub record Suits {X O : Type 0} (origin : X → O) (history : X → List Entry) 
   -- all that was seen before stands at the front
   pub begins : IsPrefix v.seen (history x)
   -- and after it comes nothing under the view's number
+  pub seen_own : entries_by v.number v.seen ≡ v.mine
   pub own : entries_by v.number (history x) ≡ v.mine
   pub enrolled : v.number ≢ 0 → v.mine ≢ []
 

@@ -38,9 +38,9 @@ keeps_on u v w h k = record {
 
 -- an order's history begins with what was seen
 since_seen : (g : Setting) (seen : History) (c : Call) (reply : Result Told CounterFault) (K : History) → IsGivenSince g seen c reply K → IsPrefix seen K
-since_seen g seen c (Ok t) K (more, given) = (more ++ growth (terms_of g) (seen ++ more) c, sym (append_assoc seen more (growth (terms_of g) (seen ++ more) c)) ∙ sym given.told.1)
-since_seen g seen c (Err (Refused r)) K (more, given) = (more, sym given.told.1)
-since_seen g seen c (Err Worn) K (more, given) = (more, sym given.told)
+since_seen g seen c (Ok t) K (more, none, given) = (more ++ growth (terms_of g) (seen ++ more) c, sym (append_assoc seen more (growth (terms_of g) (seen ++ more) c)) ∙ sym given.told.1)
+since_seen g seen c (Err (Refused r)) K (more, none, given) = (more, sym given.told.1)
+since_seen g seen c (Err Worn) K (more, none, given) = (more, sym given.told)
 
 after_seen : (g : Setting) (seen : History) (c : Call) (reply : Result Told CounterFault) (K : History) → IsSeenAfter g seen c reply K → IsPrefix seen K
 after_seen g seen c (Ok t) K h = since_seen g seen c (Ok t) K h

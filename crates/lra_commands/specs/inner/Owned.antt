@@ -1,6 +1,6 @@
 -- A counter of its own keeps what each counter keeps: what others wrote meanwhile is nothing.
 use Rattle.std.specs.Prelude.{ℕ, [], Result, Ok, Err}
-use Rattle.std.proofs.Common.{append-nil, sym, subst}
+use Rattle.std.proofs.Common.{append-nil, refl, sym, subst}
 use Rattle.lra_model.specs.History.{History}
 use Rattle.lra_commands.specs.declared.command.Told.{Told}
 use Rattle.lra_commands.specs.declared.counter.Order.{Order}
@@ -11,7 +11,7 @@ use Rattle.lra_commands.specs.Counters.{Setting, Sight, call_of, IsGivenAt, IsGi
 
 pub given_since : (s : Setting) (J : History) (c : Call) (reply : Result Told CounterFault) (K : History)
     → IsGivenAt s J c reply K → IsGivenSince s J c reply K
-given_since s J c reply K h = ([], let P : History → Type 0 = λ L. IsGivenAt s L c reply K in subst P (sym (append-nil J)) h)
+given_since s J c reply K h = ([], refl, let P : History → Type 0 = λ L. IsGivenAt s L c reply K in subst P (sym (append-nil J)) h)
 
 pub seen_after : (s : Setting) (J : History) (c : Call) (reply : Result Told CounterFault) (K : History)
     → IsGivenAt s J c reply K → IsSeenAfter s J c reply K

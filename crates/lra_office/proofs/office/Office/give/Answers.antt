@@ -18,11 +18,11 @@ pub returns-in-Ok-served-clause-given : goal.returns-in-Ok-served-clause-given
 returns-in-Ok-served-clause-given g c =
     let suits = c.in-Ok.ensures.value in
     grown g.V.Serving.setting (pass_view c.args.pass) (held_view c.in-Ok.taken.0) (pass_view c.give-pass.result) _ _ _ _ c.in-Ok-served.committed suits.same_origin
-    (record { begins = suits.begins; own = suits.own; kept = g.met.V.Serving.tells c.in-Ok.taken.1 suits.lawful_now }) c.in-Ok.ensures.view c.in-Ok-served.ensures.served
+    (record { begins = suits.begins; seen_own = suits.seen_own; own = suits.own; kept = g.met.V.Serving.tells c.in-Ok.taken.1 suits.lawful_now }) c.in-Ok.ensures.view c.in-Ok-served.ensures.served
     (subst (λ o. IsKeptBy (g.V.Serving.setting o) (g.V.Kept.history c.serve-served.new.self)) c.serve-served.ensures.origin (g.met.V.Serving.tells c.serve-served.new.self c.serve-served.ensures.lawful)) c.give-pass.ensures.view
 
 pub returns-in-Err-served-clause-refused : goal.returns-in-Err-served-clause-refused
 returns-in-Err-served-clause-refused g c =
     let suits = c.in-Ok.ensures.value in
     not_grown g.V.Serving.setting (pass_view c.args.pass) (held_view c.in-Ok.taken.0) (pass_view c.give-pass.result) _ _ _ _ c.in-Err-served.refusal suits.same_origin
-    (record { begins = suits.begins; own = suits.own; kept = g.met.V.Serving.tells c.in-Ok.taken.1 suits.lawful_now }) c.in-Ok.ensures.view c.in-Err-served.ensures.served c.give-pass.ensures.view
+    (record { begins = suits.begins; seen_own = suits.seen_own; own = suits.own; kept = g.met.V.Serving.tells c.in-Ok.taken.1 suits.lawful_now }) c.in-Ok.ensures.view c.in-Err-served.ensures.served c.give-pass.ensures.view

@@ -12,13 +12,13 @@ returns-in-Ok g c =
     let old = c.args.self.now.clerk in
     let new = c.tell.new.clerk in
     let h = subst (λ (x : Command). IsGrown (g.V.Serving.setting (clerk_view old).origin) (clerk_view old) (record { by = old.number; moment = c.args.moment; command = x }) c.in-Ok.told c.in-Ok.ensures.told.0 (clerk_view new)) c.command.ensures c.in-Ok.ensures.told.1 in
-    window_told g.V.Serving.setting (clerk_view old) (clerk_view new) old.number new.number c.args.moment c.args.order.now c.in-Ok.told c.in-Ok.ensures.told.0 c.tell.ensures.number h
+    window_told g.V.Serving.setting (clerk_view old) (clerk_view new) old.number new.number c.args.moment c.args.order.now c.in-Ok.told c.in-Ok.ensures.told.0 c.args.self.now.there.number c.tell.ensures.number h
 
 pub returns-in-Err : goal.returns-in-Err
 returns-in-Err g c =
     let old = c.args.self.now.clerk in
     let new = c.tell.new.clerk in
     let h = subst (λ (x : Command). IsNotGiven (g.V.Serving.setting (clerk_view old).origin) (clerk_view old) (record { by = old.number; moment = c.args.moment; command = x }) c.in-Err.refusal (clerk_view new)) c.command.ensures c.in-Err.ensures.told in
-    let keeps = window_refused g.V.Serving.setting (clerk_view old) (clerk_view new) old.number new.number c.args.moment c.args.order.now c.in-Err.refusal c.tell.ensures.number h in
+    let keeps = window_refused g.V.Serving.setting (clerk_view old) (clerk_view new) old.number new.number c.args.moment c.args.order.now c.in-Err.refusal c.args.self.now.there.number c.tell.ensures.number h in
     subst (λ (f : CounterFault). KeepsHistory (record { setting = g.V.Serving.setting (clerk_view old).origin; number = old.number; seen = (clerk_view old).seen }) c.args.moment c.args.order.now (Err f)
     (record { setting = g.V.Serving.setting (clerk_view new).origin; number = new.number; seen = (clerk_view new).seen })) (sym c.fault_of.ensures) keeps
