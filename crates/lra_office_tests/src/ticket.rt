@@ -453,3 +453,13 @@ fn a_refused_growth_changes_nothing(rt: HostRuntime) -> Result<(), Fail> {
     assert!(rt; entries.len() == 9 && counts_up(&entries, 1, 8));
     Ok(())
 }
+
+#[test]
+fn faults_have_texts(rt: HostRuntime) -> Result<(), Fail> {
+    let told = format!(in rt.alloc(); "{Worn}, {}, {}", TryFault::Busy, TryFault::Worn)?;
+    assert_eq!(rt;
+        told.as_str(),
+        "the lock is worn, the lock is another's, the lock is worn"
+    );
+    Ok(())
+}

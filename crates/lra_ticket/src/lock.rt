@@ -8,6 +8,7 @@ use crate::rule::{Opening, Order};
 use crate::view::View;
 use atomic_table::{Seat, Table};
 use std::alloc::Global;
+use thiserror::Error;
 
 /// A lock that callers hold one after the other, in the order of the tickets that they drew, round a value.
 #[derive(Drop)]
@@ -57,14 +58,17 @@ pub struct Parts<V> {
 }
 
 /// No ticket is left: the next one would be 2^64 - 1.
-#[derive(Debug, Drop, Clone, Copy, PartialEq, Eq)]
+#[derive(Debug, Drop, Clone, Copy, PartialEq, Eq, Error)]
+#[error("the lock is worn")]
 pub struct Worn;
 
 /// Why the lock was not had without waiting.
-#[derive(Debug, Drop, Clone, Copy, PartialEq, Eq)]
+#[derive(Debug, Drop, Clone, Copy, PartialEq, Eq, Error)]
 pub enum TryFault {
     /// Another caller holds the lock, or waits for it.
+    #[error("the lock is another's")]
     Busy,
     /// No ticket is left: the next one would be 2^64 - 1.
+    #[error("the lock is worn")]
     Worn,
 }
