@@ -14,7 +14,7 @@ use http::StatusCode;
 use lra_commands::Refusal;
 use lra_ids::{Address, Instance, spell_action, spell_recovery};
 use lra_model::{ActionStatus, MemberStatus, Memory};
-use lra_wire::{ReplyWrite, WireFault, write_response};
+use lra_wire::{ReplyWrite, WireFault, write_response_in};
 use serde_json::{Value, json};
 use std::alloc::Global;
 use std::io::Write;
@@ -245,7 +245,7 @@ impl Answer {
             fields: fields.as_slice(),
             body: content(parts.text.as_str(), head),
         };
-        write_response(page, writer, &reply)
+        write_response_in(page, writer, &reply)
     }
 }
 

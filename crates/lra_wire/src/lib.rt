@@ -19,4 +19,4 @@ pub use fault::WireFault;
 pub use inbox::Inbox;
 pub use request::{RequestRead, one_reading, read_request};
 pub use response::{ResponseRead, read_response};
-pub use write::{ReplyWrite, RequestWrite, write_request, write_response};
+pub use write::{ReplyWrite, RequestWrite, write_request, write_response, write_response_in};

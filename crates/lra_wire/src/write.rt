@@ -57,9 +57,23 @@ fn request_text(alloc: Global, request: &RequestWrite<'_>) -> Result<Vec<u8>, Al
     Ok(text)
 }
 
+/// Writes a response of HTTP/1.1 (RFC 9112, section 4).
+pub fn write_response<W: Write>(
+    alloc: Global,
+    writer: &mut W,
+    reply: &ReplyWrite<'_>,
+) -> Result<(), WireFault>
+    ensures text { Sends (W.contents writer.old) (W.contents writer.new) (reply_text reply.now) result }
+
+    // No memory, and nothing went out.
+    ensures memory { result ≡ Err WireFault.Memory → Keeps (W.contents writer.old) (W.contents writer.new) }
+{
+    write_response_in(&mut Vec::new(alloc), writer, reply)
+}
+
 /// Writes a response of HTTP/1.1 (RFC 9112, section 4). Its text is made in the page, where it takes the place of what stood
 /// there before, so that a page which is kept needs no memory for a text that is no longer than one before it.
-pub fn write_response<W: Write>(
+pub fn write_response_in<W: Write>(
     page: &mut Vec<u8>,
     writer: &mut W,
     reply: &ReplyWrite<'_>,

@@ -1,6 +1,16 @@
 use crate::pieces::Sink;
-use lra_wire::{ReplyWrite, RequestWrite, write_request, write_response};
+use lra_wire::{ReplyWrite, RequestWrite, write_request, write_response, write_response_in};
+use std::alloc::Global;
 use std::test::Fail;
+
+/// A writer that takes three bytes at a time.
+fn sink(alloc: Global) -> Sink {
+    Sink {
+        taken: Vec::new(alloc),
+        size: 3,
+        room: 4096,
+    }
+}
 
 #[test]
 fn writes_a_request_or_a_front_of_it(rt: HostRuntime) -> Result<(), Fail> {
@@ -33,15 +43,13 @@ fn writes_a_response(rt: HostRuntime) -> Result<(), Fail> {
         fields: &[("Content-Length", "2")],
         body: b"no",
     };
-    let taken = Vec::new(rt.alloc());
-    let mut writer = Sink {
-        taken,
-        size: 3,
-        room: 4096,
-    };
-    let mut page = Vec::from_slice(rt.alloc(), b"what stood there before")?;
-    write_response(&mut page, &mut writer, &reply)?;
     let text: &[u8] = b"HTTP/1.1 404 Not Found\r\nContent-Length: 2\r\n\r\nno";
+    let mut writer = sink(rt.alloc());
+    write_response(rt.alloc(), &mut writer, &reply)?;
+    assert_eq!(rt; writer.taken.as_slice(), text);
+    let mut writer = sink(rt.alloc());
+    let mut page = Vec::from_slice(rt.alloc(), b"what stood there before")?;
+    write_response_in(&mut page, &mut writer, &reply)?;
     assert_eq!(rt; writer.taken.as_slice(), text);
     Ok(())
 }

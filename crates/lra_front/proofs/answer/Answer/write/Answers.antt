@@ -14,8 +14,8 @@ returns-in_default-fields-clause-text g c =
 pub returns-clause-text : goal.returns-clause-text
 returns-clause-text g c =
     let P : List ℕ → Type 0 =
-    λ text. Sends (g.W.Write.contents c.args.writer.now) (g.W.Write.contents c.write_response.new.writer) text c.write_response.result in
+    λ text. Sends (g.W.Write.contents c.args.writer.now) (g.W.Write.contents c.write_response_in.new.writer) text c.write_response_in.result in
     subst P
     (same_text c.args.instance c.args.base.now c.args.self c.args.head c.args.close _ _ _ _
     (search rules) (search rules) (search rules) (search rules))
-    c.write_response.ensures.text
+    c.write_response_in.ensures.text
