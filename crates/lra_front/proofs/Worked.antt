@@ -19,7 +19,7 @@ an_action : place_of (codes "/lra-coordinator/close") ≡ Some place.Action
 unfolding place_of matchit_on_literals
 an_action = refl
 
-close : place_of (codes "/lra-coordinator/x?y/close") ≡ Some place.Close
+close : place_of (codes "/lra-coordinator/x/close") ≡ Some place.Close
 unfolding place_of matchit_on_literals
 close = refl
 
@@ -35,7 +35,15 @@ query : place_of (codes "/lra-coordinator?x=1") ≡ None
 unfolding place_of matchit_on_literals
 query = refl
 
-id_of_close : id_in (codes "/lra-coordinator/x?y/close") ≡ codes "x?y"
+query_after_id : place_of (codes "/lra-recovery/x?") ≡ None
+unfolding place_of matchit_on_literals
+query_after_id = refl
+
+query_amid : place_of (codes "/lra-coordinator/x?y/close") ≡ None
+unfolding place_of matchit_on_literals
+query_amid = refl
+
+id_of_close : id_in (codes "/lra-coordinator/x-y/close") ≡ codes "x-y"
 unfolding id_in
 id_of_close = refl
 

@@ -1,6 +1,6 @@
 -- What the path and the method of a request ask for.
 use Rattle.std.specs.Prelude.{ℕ, List, [], ◌∷◌, ◌==◌, Bool, if◌then◌else◌, codes, bytes_eq, Option, Some, None, option_map, Result, Ok, Err}
-use Rattle.std.specs.List.{before_first, after_first}
+use Rattle.std.specs.List.{list_any, before_first, after_first}
 use Rattle.std.specs.Option.{option_map_or}
 use Rattle.matchit.specs.Rows.{RowsOf}
 use Rattle.matchit.specs.Route.{Scan, parse_route}
@@ -43,9 +43,13 @@ with_paths (p ∷ rest) rows = with_paths rest (with_path (parse_route p.0) p.1 
 abbrev pub path_rows : RowsOf (RouteOf Place)
 path_rows = with_paths paths []
 
--- what a target names: the path that `matchit` finds for it; nothing where it has a query, or is in absolute form
+-- whether a target has a query, which its first question mark begins (RFC 3986, section 3.4)
+abbrev pub has_query : List ℕ → Bool
+has_query target = list_any (λ b. b == 63) target
+
+-- what a target names: the path that `matchit` finds for it; nothing where it has a query, wherever that stands, or is in absolute form
 unfoldable pub place_of : List ℕ → Option Place
-place_of target = option_map (λ (r : RouteOf Place). r.value) (first path_rows target)
+place_of target = if has_query target then None else option_map (λ (r : RouteOf Place). r.value) (first path_rows target)
 
 -- a slash
 abbrev pub is_slash : ℕ → Bool

@@ -3,7 +3,7 @@
 ghost use Rattle.std.specs.Prelude.{◌≡◌, IfOk, OnOk};
 ghost use Rattle.std.specs.List.{before_first, after_first};
 ghost use Rattle.matchit.specs.Route.{parse_route};
-ghost use Rattle.lra_front.specs.Routes.{is_slash, with_path, path_rows, place_of, id_in, methods, route_by, allowed, route_of};
+ghost use Rattle.lra_front.specs.Routes.{is_slash, has_query, with_path, path_rows, place_of, id_in, methods, route_by, allowed, route_of};
 
 use crate::denial::Denial;
 use http::Method;
@@ -109,6 +109,13 @@ pub fn id_in(target: &str) -> &str
     before_slash(after_slash(after_slash(target)))
 }
 
+/// Whether a target has a query.
+fn has_query(target: &str) -> bool
+    ensures { result ≡ has_query target.now }
+{
+    target.as_bytes().contains(&b'?')
+}
+
 impl Place {
     /// What a method asks for here, if it is taken.
     fn route(self, method: &str) -> Option<Route>
@@ -151,11 +158,14 @@ impl Routes {
         }
     }
 
-    /// What a target names.
+    /// What a target names. One with a query names nothing.
     #[tactic(auto, unfolding(crate::specs::Routes::place_of))]
     fn place(&self, target: &str) -> Option<Place>
         ensures { result ≡ place_of target.now }
     {
+        if has_query(target) {
+            return None;
+        }
         match self.router.at(target) {
             Ok(found) => Some(*found.value),
             Err(_) => None,

@@ -20,6 +20,9 @@ GET /a HTTP/1.1~Host: h~Content-Length: +1~~x|400 Bad Request~21~Connection: clo
 GET /a HTTP/1.1~Host: h~Content-Length: 65537~~x|413 Payload Too Large~20~Connection: close~~{\"error\":\"TooLarge\"}|TooLarge|
 DELETE /lra-coordinator HTTP/1.1~Host: h~~|405 Method Not Allowed~21~Allow: POST~~{\"error\":\"BadMethod\"}|Done|
 POST /lra-coordinator?x=1 HTTP/1.1~Host: h~~|404 Not Found~22~~{\"error\":\"NoSuchPath\"}|Done|
+GET /lra-coordinator/00000000-0000-8007-8000-000000000001?x=1 HTTP/1.1~Host: h~~|404 Not Found~22~~{\"error\":\"NoSuchPath\"}|Done|
+PUT /lra-coordinator/x/close? HTTP/1.1~Host: h~Content-Length: 2~~[]|404 Not Found~22~~{\"error\":\"NoSuchPath\"}|Done|
+HEAD /lra-recovery/x?y/z HTTP/1.1~Host: h~~|404 Not Found~22~~|Done|
 POST /lra-coordinator HTTP/1.1~Host: h~Content-Length: 2~~[]|400 Bad Request~19~~{\"error\":\"BadBody\"}|Done|
 POST /lra-coordinator HTTP/1.1~Host: h~Content-Length: 12~~{\"limit\":-1}|400 Bad Request~19~~{\"error\":\"BadBody\"}|Done|
 HEAD /lra-coordinator/x HTTP/1.1~Host: h~Connection: x, CLOSE~~GET /a HTTP/1.1~Host: h~~|405 Method Not Allowed~21~Allow: GET, PUT~Connection: close~~|Done|
