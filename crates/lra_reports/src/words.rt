@@ -5,6 +5,8 @@ ghost use Rattle.lra_reports.specs.declared.words.Invocation.{Invocation};
 ghost use Rattle.lra_reports.specs.declared.words.Question.{Question};
 ghost use Rattle.lra_reports.specs.Words.{texts, IsInvocation, IsQuestion};
 
+use thiserror::Error;
+
 /// A run on an input.
 #[derive(Clone, Copy, Debug)]
 pub enum Invocation<'a> {
@@ -30,7 +32,8 @@ pub enum Question<'a> {
 }
 
 /// The words ask for nothing.
-#[derive(Clone, Copy, Debug, PartialEq, Eq)]
+#[derive(Clone, Copy, Debug, PartialEq, Eq, Error)]
+#[error("the words ask for nothing")]
 pub struct Usage;
 
 /// The run on a file that a verb names.

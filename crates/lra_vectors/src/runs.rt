@@ -257,5 +257,7 @@ fn words_are_tasks(rt: HostRuntime) -> Result<(), Fail> {
         )
     );
     assert!(rt; matches!(read_task(&one), Err(Usage)));
+    let told = format!(in rt.alloc(); "{Usage}")?;
+    assert_eq!(rt; told.as_str(), "the words ask for nothing");
     Ok(())
 }
