@@ -18,8 +18,8 @@ pub use laws::{
     asks_are_answered_once, blocks_fit_once, commands_make_sound_texts, errands_are_of_asks,
 };
 pub use lra_commands::{
-    Limits, Refusal, Resource, Told, calls_leave_quiet_histories, commands_keep_histories,
-    commands_make_histories,
+    Counter, CounterFault, Limits, Order, Refusal, Resource, Told, calls_leave_quiet_histories,
+    commands_keep_histories, commands_make_histories,
 };
 pub use lra_ids::{Address, Instance};
 pub use lra_model::{Memory, Rule, Version};
