@@ -56,15 +56,15 @@ impl<'a, S: Write + OpenStream, R: Clock> Write for Timed<'a, S, R> {
 /// limit.
 #[derive(Drop)]
 pub struct TcpCourier<R> {
-    alloc: Global,
     rt: R,
+    alloc: Global,
 }
 
 impl<R: Net + Clock> TcpCourier<R> {
-    pub fn new(alloc: Global, rt: R) -> TcpCourier<R>
+    pub fn new(rt: R, alloc: Global) -> TcpCourier<R>
         ensures { result.rt ≡ rt }
     {
-        TcpCourier { alloc, rt }
+        TcpCourier { rt, alloc }
     }
 
     /// Carries a callback out. Any fault of connecting, writing or reading, want of memory among them, is

@@ -67,7 +67,7 @@ impl<R: Wait + Clock + Net<Stream = TcpStream, Listener = TcpListener>> Shift<'_
     fn carry<V: Serving>(&self, office: &Office<V>, clerk: Clerk<V>)
         requires { IsAt V.setting office.now clerk }
     {
-        let courier = TcpCourier::new(self.alloc, self.rt);
+        let courier = TcpCourier::new(self.rt, self.alloc);
         run_worker(
             self.rt,
             office,

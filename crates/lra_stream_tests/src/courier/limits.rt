@@ -173,7 +173,7 @@ fn outcome(alloc: Global, world: &World, address: &str) -> Outcome {
         recovery_uri: "http://c.test/r",
         ended: None,
     };
-    TcpCourier::new(alloc, Handle { world }).call(&callback)
+    TcpCourier::new(Handle { world }, alloc).call(&callback)
 }
 
 #[test]

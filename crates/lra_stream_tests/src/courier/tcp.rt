@@ -44,7 +44,7 @@ fn a_reply_comes_over_a_socket(rt: HostRuntime) -> Result<(), Fail> {
     let (listener, addr) = listen(&rt)?;
     let port = addr.port();
     let address = format!(in rt.alloc(); "http://127.0.0.1:{port}/f")?;
-    let courier = TcpCourier::new(rt.alloc(), &rt);
+    let courier = TcpCourier::new(&rt, rt.alloc());
     for (response, outcome) in [
         ("HTTP/1.1 204 No Content\r\n\r\n", Outcome::Done),
         ("HTTP/1.1 500 Oops\r\n\r\n", Outcome::Silent),
@@ -108,7 +108,7 @@ fn answer_head(listener: &TcpListener) -> io::Result<()> {
 fn an_errand_is_carried_over_a_socket(rt: HostRuntime) -> Result<(), Fail> {
     let (listener, addr) = listen(&rt)?;
     let errand = complete_errand(rt.alloc(), addr.port())?;
-    let mut courier = TcpCourier::new(rt.alloc(), &rt);
+    let mut courier = TcpCourier::new(&rt, rt.alloc());
     let (found, _) = join(&rt, || courier.carry(&errand), || answer_head(&listener));
     errand.discard();
     assert_eq!(rt; found, Outcome::Done);
