@@ -141,7 +141,7 @@ fn ask_at<V: Serving, R: Wait>(rt: &R, office: &Office<V>, clerk: &mut Clerk<V>)
     }
     match office.record(rt, clerk, 0, errand, Outcome::Done) {
         Ok(_) => Some(()),
-        Err((errand, _)) => {
+        Err((_, errand)) => {
             errand.discard();
             None
         }

@@ -242,7 +242,7 @@ impl<V: Serving> Office<V> {
         moment: u64,
         errand: Errand,
         outcome: Outcome,
-    ) -> Result<Told, (Errand, OfficeRefusal)>
+    ) -> Result<Told, (OfficeRefusal, Errand)>
         requires clerk { IsClerkOf self.now.lock clerk.old }
         requires suits { outcome_suits errand.kind outcome ≡ true }
         ensures clerk { IsClerkOf self.now.lock clerk.new }
@@ -262,7 +262,7 @@ impl<V: Serving> Office<V> {
                 errand.discard();
                 Ok(told)
             }
-            Err(refusal) => Err((errand, refusal)),
+            Err(refusal) => Err((refusal, errand)),
         }
     }
 }

@@ -190,7 +190,7 @@ fn record<R: Wait>(
     }
     match office.record(rt, clerk, moment, errand, outcome) {
         Ok(_) => answers.note(b't'),
-        Err((errand, fault)) => {
+        Err((fault, errand)) => {
             errand.discard();
             answers.note(refusal_letter(fault));
         }

@@ -178,7 +178,7 @@ impl<V: Serving, R: Wait> Worker<'_, V, R> {
                 self.written.push(Own::Ask(ask)).ok()?;
                 note(&mut self.written, Some(Own::Reply(ask)), Ok(told))
             }
-            Err((errand, _)) => {
+            Err((_, errand)) => {
                 errand.discard();
                 None
             }

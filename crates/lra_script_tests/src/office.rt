@@ -216,7 +216,7 @@ impl<V: Serving, R: Wait> Player<'_, V, R> {
             .record(self.rt, &mut self.clerk, moment, errand, outcome)
         {
             Ok(told) => Ok(Ok(told)),
-            Err((errand, refusal)) => {
+            Err((refusal, errand)) => {
                 self.held.hold_again(errand)?;
                 Ok(Err(refusal))
             }

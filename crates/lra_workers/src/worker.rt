@@ -120,7 +120,7 @@ fn record<V: Serving, R: Wait, C: Courier, G: Gate, K: Clock>(
             gate.answered(ask);
             Ok(())
         }
-        Err((errand, refusal)) => {
+        Err((refusal, errand)) => {
             errand.discard();
             after_refusal(refusal)
         }
