@@ -20,7 +20,7 @@ use std::sync::Wait;
 pub enum ServeEnd {
     /// So many connections were answered as were asked for.
     Done,
-    /// No connection could be had.
+    /// A connection couldn't be accepted.
     Io,
 }
 

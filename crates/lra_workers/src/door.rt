@@ -3,7 +3,7 @@
 ghost use Rattle.std.specs.Io.{ReadsAtMost, WritesAtMost};
 
 use std::io::{self, Read, Write};
-use std::net::{TcpListener, TcpStream};
+use std::net::{Shutdown, TcpListener, TcpStream};
 use std::sync::{Mutex, Wait};
 
 /// One connection, which two halves read and write at once.
@@ -21,7 +21,7 @@ pub trait Line {
 pub trait Door {
     type Line: Line + Drop;
 
-    /// Waits for the next connection.
+    /// Waits for the next connection. It fails where none can be accepted.
     fn open<R: Wait>(&self, rt: &R) -> io::Result<Self::Line>;
 }
 
@@ -37,14 +37,17 @@ impl Line for TcpStream {
     }
 }
 
-/// One thread at a time waits for a connection. What is written to one is sent at once (RFC 9293, section 3.7.4).
+/// One thread at a time waits for a connection. What is written to one is sent at once (RFC 9293, section 3.7.4); where a socket
+/// can't be set up so, its connection is ended.
 impl Door for Mutex<TcpListener> {
     type Line = TcpStream;
 
     fn open<R: Wait>(&self, rt: &R) -> io::Result<TcpStream> {
         let listener = self.lock(rt);
         let (stream, _) = listener.accept()?;
-        stream.set_nodelay(true)?;
+        if stream.set_nodelay(true).is_err() {
+            let _ = stream.shutdown(Shutdown::Both);
+        }
         Ok(stream)
     }
 }
