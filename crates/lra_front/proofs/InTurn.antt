@@ -32,8 +32,7 @@ module _ (K : Type 0) (gives : Sight → ℕ → Order → Result Told CounterFa
       let u : Sight = chain.0 in
       let one = one_added v turn.moment chain.3.0 u turn.answer chain.3.2 in
       let rest = in_turn u w chain.1 l turns chain.4 in
-      let onwards = subst (λ (n : ℕ). entries_under n w.seen ≡ entries_under n u.seen ++ rest.0) one.2 rest.2 in
-      (
+      let onwards = subst (λ (n : ℕ). entries_under n w.seen ≡ entries_under n u.seen ++ rest.0) one.2 rest.2 in (
         one.0 ++ rest.0,
         (one.0, rest.0, one.1, rest.1, refl),
         onwards ∙ ap (λ (l : History). l ++ rest.0) one.3 ∙ append_assoc (entries_under v.number v.seen) one.0 rest.0,
