@@ -17,14 +17,8 @@ use crate::state::Rows;
 use lra_ids::is_address_text;
 use lra_journal::{DeedRef, UrisRef};
 use lra_model::{ActionStatus, AskKind, Cause, Memory, Outcome, Version, suits};
-use lra_states::{ActionState, Limit, MemberState, Presence, is_settled, right_end};
+use lra_states::{ActionState, Limit, MemberState, Presence, is_settled, right_end, was_accepted};
 use std::alloc::Global;
-
-fn was_accepted(reply: Option<Outcome>) -> bool
-    ensures { result ≡ tests.was_accepted reply }
-{
-    matches!(reply, Some(Outcome::Accepted))
-}
 
 /// Whether a number is the next one of its kind, after so many.
 pub(crate) fn is_next(number: u64, count: u64) -> bool

@@ -5,14 +5,8 @@ ghost use Rattle.lra_model.specs.Tests as tests;
 
 use crate::lists::at;
 use crate::rows::Rows;
-use lra_model::{AskKind, Outcome};
-use lra_states::{ActionState, MemberState};
-
-fn was_accepted(reply: Option<Outcome>) -> bool
-    ensures { result ≡ tests.was_accepted reply }
-{
-    matches!(reply, Some(Outcome::Accepted))
-}
+use lra_model::AskKind;
+use lra_states::{ActionState, MemberState, was_accepted};
 
 impl Rows {
     ghost use Rattle.std.specs.Prelude.{◌≡◌};

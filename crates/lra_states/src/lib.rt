@@ -10,4 +10,4 @@ pub use changes::{
     with_new_child, with_new_member, with_reply, with_report, with_skip, with_status,
 };
 pub use ends::{is_settled, right_end};
-pub use state::{ActionState, Awaited, Limit, MemberState, Presence, Standing};
+pub use state::{ActionState, Awaited, Limit, MemberState, Presence, Standing, was_accepted};

@@ -1,6 +1,7 @@
 //! What the rules read of a member and of an action.
 
 ghost use Rattle.std.specs.Prelude.{◌≡◌, Some, None};
+ghost use Rattle.lra_model.specs.Tests as tests;
 
 use lra_model::{ActionStatus, AskKind, Direction, MemberStatus, Outcome};
 use std::marker::Model;
@@ -173,6 +174,13 @@ impl Model for MemberState {
       has_forgotten = r.has_forgotten;
       was_told = r.was_told;
     } };
+}
+
+/// Whether a member's last reply in a direction was that it has only begun.
+pub fn was_accepted(reply: Option<Outcome>) -> bool
+    ensures { result ≡ tests.was_accepted reply }
+{
+    matches!(reply, Some(Outcome::Accepted))
 }
 
 /// An action, as the rules see it, with how many of its staying members and of the actions nested in it are in which status.
