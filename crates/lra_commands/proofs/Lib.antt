@@ -5,8 +5,10 @@ pub mod KeepsDepth
 pub mod KeepsGrounds
 pub mod KeepsLate
 pub mod KeepsOwn
+pub mod Asks
 pub mod Rests
 pub mod Stopping
 pub mod Worked
+pub mod WorkedQueries
 pub mod Tells
 pub mod Writers

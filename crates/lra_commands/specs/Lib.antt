@@ -6,6 +6,7 @@ pub mod Deeds
 pub mod Blocks
 pub mod Refusals
 pub mod Answers
+pub mod Queries
 pub mod Runs
 pub mod Names
 pub mod Counters

@@ -1,6 +1,7 @@
 //! Laws of coordinators: public functions that do nothing, whose contracts say what holds whatever commands are given.
 
 ghost use Rattle.lra_commands.specs.Counters.{CountersTell, CountersWriteOnce};
+ghost use Rattle.lra_commands.specs.Queries.{CommandsAsk, QueriesMiss, RowsHoldEnds};
 ghost use Rattle.lra_commands.specs.Runs.{CallsKeepHistories, CallsLeaveQuiet, CallsMakeHistories};
 
 /// Whatever commands are given to a coordinator, by any clerks, at any moments and in any order, refused ones among
@@ -30,4 +31,21 @@ pub fn counters_tell()
 /// for it at a history that begins with all that the counter had seen; and nothing where it wasn't done.
 pub fn counters_write_once()
     ensures { CountersWriteOnce }
+{}
+
+/// A command that only asks is answered what its query is told, and appends nothing.
+pub fn commands_ask()
+    ensures { CommandsAsk }
+{}
+
+/// A query is refused by `NoSuchAction` and `NoSuchMember` alone, whatever limits and memory there are, and whatever has become of the
+/// journal's writer.
+pub fn queries_miss()
+    ensures { QueriesMiss }
+{}
+
+/// What queries say an action waits for is what its end waits for: a Closing or Cancelling action may end exactly where none of
+/// its rows holds its end.
+pub fn rows_hold_ends()
+    ensures { RowsHoldEnds }
 {}

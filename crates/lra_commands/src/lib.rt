@@ -6,13 +6,15 @@ mod command;
 mod counter;
 mod laws;
 mod limits;
+mod query;
 mod refusal;
 
 pub use command::{Command, Told};
 pub use counter::{Counter, CounterFault, Order};
 pub use laws::{
-    calls_leave_quiet_histories, commands_keep_histories, commands_make_histories, counters_tell,
-    counters_write_once,
+    calls_leave_quiet_histories, commands_ask, commands_keep_histories, commands_make_histories,
+    counters_tell, counters_write_once, queries_miss, rows_hold_ends,
 };
 pub use limits::{Limits, Terms};
+pub use query::{Awaited, Known, Query};
 pub use refusal::{Refusal, Resource};

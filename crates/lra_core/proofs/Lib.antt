@@ -11,6 +11,6 @@ pub mod Made
 pub mod Numbers
 pub mod Opened
 pub mod Performing
+pub mod Questions
 pub mod Reopening
 pub mod Replying
-pub mod Statuses

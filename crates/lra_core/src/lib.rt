@@ -9,6 +9,7 @@ mod errand;
 mod laws;
 mod making;
 mod opening;
+mod queries;
 
 pub use bench::Bench;
 pub use block::{Block, Committed, Prepared};
@@ -18,8 +19,8 @@ pub use laws::{
     asks_are_answered_once, blocks_fit_once, commands_make_sound_texts, errands_are_of_asks,
 };
 pub use lra_commands::{
-    Counter, CounterFault, Limits, Order, Refusal, Resource, Told, calls_leave_quiet_histories,
-    commands_keep_histories, commands_make_histories,
+    Awaited, Counter, CounterFault, Known, Limits, Order, Query, Refusal, Resource, Told,
+    calls_leave_quiet_histories, commands_keep_histories, commands_make_histories,
 };
 pub use lra_ids::{Address, Instance};
 pub use lra_model::{Memory, Rule, Version};

@@ -1,5 +1,5 @@
 -- What is decided on every command.
-use Rattle.std.proofs.Common.{◌≡◌, ℕ, subst, sym, max}
+use Rattle.std.proofs.Common.{◌≡◌, ℕ, refl, subst, sym, max}
 use Rattle.lra_model.specs.History.{History, last_moment}
 use Rattle.lra_commands.specs.declared.command.Command.TheVariants as command
 use Rattle.lra_commands.specs.declared.limits.Terms.{Terms}
@@ -9,10 +9,11 @@ use Rattle.lra_commands.specs.Runs.{IsLawful}
 use Rattle.lra_judge.specs.declared.beside.Beside.{Beside}
 use Rattle.lra_judge.specs.Decisions.{IsDecided, IsBeside}
 use Rattle.lra_judge.specs.inner.Judged.{Judged, IsJudged}
+use Rattle.lra_judge.proofs.Asking.{ask_decides}
 use Rattle.lra_judge.proofs.Passing.{call}
 use Rattle.lra_judge.proofs.OnStart.{enrol_decides, start_decides}
-use Rattle.lra_judge.proofs.OnActions.{close_decides, cancel_decides, tick_decides, renew_decides, status_decides}
-use Rattle.lra_judge.proofs.OnMembers.{join_decides, leave_decides, report_decides, member_status_decides}
+use Rattle.lra_judge.proofs.OnActions.{close_decides, cancel_decides, tick_decides, renew_decides}
+use Rattle.lra_judge.proofs.OnMembers.{join_decides, leave_decides, report_decides}
 use Rattle.lra_judge.proofs.OnAsks.{next_ask_decides, record_decides, restart_decides}
 
 -- what holds of what was judged holds of the result
@@ -33,5 +34,5 @@ decides s J by h x (command.Record errand o) r l k f b is = moved s J by h (comm
 decides s J by h x (command.Report p e) r l k f b is = moved s J by h (command.Report p e) r _ is (report_decides s J by h p e k f.moment)
 decides s J by h x command.Restart r l k f b is = moved s J by h command.Restart r _ is (restart_decides s J by h k f.moment)
 decides s J by h x (command.Renew a limit) r l k f b is = moved s J by h (command.Renew a limit) r _ is (renew_decides s J by h a limit k f.moment)
-decides s J by h x (command.Status a) r l k f b is = moved s J by h (command.Status a) r _ is (status_decides s J by h a k)
-decides s J by h x (command.MemberStatus p) r l k f b is = moved s J by h (command.MemberStatus p) r _ is (member_status_decides s J by h p)
+decides s J by h x (command.Status a) r l k f b is = moved s J by h (command.Status a) r _ is (ask_decides s J by h (command.Status a) _ refl)
+decides s J by h x (command.MemberStatus p) r l k f b is = moved s J by h (command.MemberStatus p) r _ is (ask_decides s J by h (command.MemberStatus p) _ refl)

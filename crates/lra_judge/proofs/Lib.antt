@@ -1,4 +1,6 @@
 pub mod AfterBlocks
+pub mod Asking
+pub mod Awaits
 pub mod Counts
 pub mod EachCommand
 pub mod ForCallers

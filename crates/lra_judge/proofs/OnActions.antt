@@ -192,14 +192,3 @@ renew_decides s J by h a limit k f = past_clerk s J c _ refl (λ here known. by_
         (λ near.
         let u : Unheld s J m c.command = (new, (ap not there, (active open_now there, (ap not near, tt)))) in
         written_own s J c d (record { free = free_from s J c known u; own = refl }) (renew_allowed s J by m a limit (may s J by h k f here) u) (few_of_same s.limits J _ k.within (adds_none _ refl refl refl))))
-
--- ---- Status
-
-pub status_decides : (s : Terms) (J : History) (by h a : ℕ) → IsLawful s J → IsDecided s J (call by h (command.Status a)) (judged.status J by a)
-status_decides s J by h a k =
-    past_clerk s J c _ refl (λ here known.
-    past_action s J c a (λ r. judged.told_so (told.ActionIs r.status)) (λ gone. first_decides s J c 0 refusal.NoSuchAction known (ap not gone, refl))
-    (λ there. only_told s J c (told.ActionIs (status_at J a)) (free_from s J c known (ap not there, tt)) refl refl))
-  where
-    c : Call
-    c = call by h (command.Status a)

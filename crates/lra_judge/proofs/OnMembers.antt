@@ -109,17 +109,6 @@ awaited_is J p ending.FailedToComplete = refl
 awaited_is J p ending.Compensated = refl
 awaited_is J p ending.FailedToCompensate = refl
 
--- ---- MemberStatus
-
-pub member_status_decides : (s : Terms) (J : History) (by h p : ℕ) → IsDecided s J (call by h (command.MemberStatus p)) (judged.member_status J by p)
-member_status_decides s J by h p =
-    past_clerk s J c _ refl (λ here known.
-    past_member s J c p (λ x. judged.told_so (told.MemberIs x.status)) (λ gone. first_decides s J c 0 refusal.NoSuchMember known (ap not gone, refl))
-    (λ there. only_told s J c (told.MemberIs (member_status J p)) (free_from s J c known (ap not there, tt)) refl refl))
-  where
-    c : Call
-    c = call by h (command.MemberStatus p)
-
 -- ---- Report
 
 pub report_decides : (s : Terms) (J : History) (by h p : ℕ) (e : Ending) → IsLawful s J → h < 2 ^ 64 → IsDecided s J (call by h (command.Report p e)) (judged.report J by (max h (last_moment J)) p e)

@@ -1,4 +1,5 @@
 -- Words that private functions and proofs alone use.
+pub mod Awaited
 pub mod Judged
 pub mod Stored
 pub mod Telling

@@ -178,13 +178,4 @@ impl Judge<'_> {
         self.require_near(limit)?;
         Ok(self.write(Deed::Renew { action, limit }))
     }
-
-    /// The status of an action.
-    pub(crate) fn status(&self, action: u64) -> Result<Decision, Refusal>
-        ensures { (J : History) → StandsFor self.now.tables.now.sheet J → result ≡ judged.status J self.now.by action }
-    {
-        self.require_clerk()?;
-        let row = self.action(action)?;
-        Ok(Decision::Told(Told::ActionIs(row.status)))
-    }
 }

@@ -14,7 +14,7 @@ use crate::beside::Beside;
 use crate::decision::Decision;
 use crate::errand::Carries;
 use crate::judge::Judge;
-use lra_commands::{Command, Refusal, Terms};
+use lra_commands::{Command, Query, Refusal, Terms};
 use lra_tables::Tables;
 use std::alloc::Global;
 
@@ -47,8 +47,8 @@ fn judge<E: Carries>(
         Command::Report { member, ending } => judge.report(*member, *ending),
         Command::Restart => judge.restart(),
         Command::Renew { action, limit } => judge.renew(*action, *limit),
-        Command::Status { action } => judge.status(*action),
-        Command::MemberStatus { member } => judge.member_status(*member),
+        Command::Status { action } => judge.ask(Query::ActionStatus { action: *action }),
+        Command::MemberStatus { member } => judge.ask(Query::MemberStatus { member: *member }),
     }
 }
 

@@ -3,6 +3,7 @@
 
 mod actions;
 mod asks;
+mod awaited;
 mod beside;
 mod clerks;
 mod deciding;
@@ -10,6 +11,7 @@ mod decision;
 mod errand;
 mod judge;
 mod members;
+mod queries;
 mod stored;
 mod telling;
 
@@ -17,4 +19,5 @@ pub use beside::Beside;
 pub use deciding::decide;
 pub use decision::Decision;
 pub use errand::{Carried, Carries};
+pub use queries::tell;
 pub use telling::told;

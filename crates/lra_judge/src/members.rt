@@ -158,15 +158,6 @@ impl Judge<'_> {
             outcome: outcome_told(ending),
         }))
     }
-
-    /// The status of a member.
-    pub(crate) fn member_status(&self, member: u64) -> Result<Decision, Refusal>
-        ensures { (J : History) → StandsFor self.now.tables.now.sheet J → result ≡ judged.member_status J self.now.by member }
-    {
-        self.require_clerk()?;
-        let found = self.member(member)?;
-        Ok(Decision::Told(Told::MemberIs(found.status)))
-    }
 }
 
 /// That a member is the action's.

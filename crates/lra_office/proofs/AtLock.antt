@@ -10,16 +10,19 @@ use Rattle.lra_ticket.specs.History.{block_after, number_after, MayAdd}
 use Rattle.lra_ticket.specs.Views.{view, taking, given}
 use Rattle.lra_ticket.specs.Locks.{HasTaken}
 use Rattle.lra_ticket.proofs.Histories.{block_after-append}
+use Rattle.lra_commands.specs.declared.query.Query.{Query}
+use Rattle.lra_commands.specs.declared.query.Known.{Known}
 use Rattle.lra_commands.specs.declared.refusal.Refusal.{Refusal}
 use Rattle.lra_commands.specs.Calls.{Command, Call}
 use Rattle.lra_commands.specs.Answers.{growth}
 use Rattle.lra_commands.specs.Counters.{Setting, terms_of}
+use Rattle.lra_commands.specs.Queries.{tell}
 use Rattle.lra_core.specs.declared.block.Committed.{Committed}
 use Rattle.lra_office.specs.declared.fault.OfficeRefusal.TheVariants.{Refused}
 use Rattle.lra_office.specs.Serves.{IsServed, IsDone, IsKeptBy}
 use Rattle.lra_office.specs.inner.Given.{IsNumberOf}
-use Rattle.lra_office.specs.Orders.{IsMet, grown_view, met_view, IsGrown, IsNotGiven}
-use Rattle.lra_office.proofs.Written.{add_served}
+use Rattle.lra_office.specs.Orders.{IsMet, grown_view, met_view, IsGrown, IsAnswered, IsNotGiven}
+use Rattle.lra_office.proofs.Written.{add_nothing, add_served}
 
 -- a call only adds to the history
 growing : (g : Setting) (J K : History) (c : Call) (r : Result Committed Refusal) → IsServed g J c r K → IsPrefix J K
@@ -67,3 +70,17 @@ pub not_grown : {O : Type 0} (set : O → Setting) (v w u : View O) (o : O) (J K
     → IsServed (set o) J c (Err r) K → u ≡ given w K → IsNotGiven (set v.origin) v c (Refused r) u
 not_grown set v w u o J K c r same met h s e = subst (λ x. IsNotGiven (set x) v c (Refused r) u) same
     (J, met, s.0, given_after v w u J K [] h e (s.1 ∙ sym (append-nil J)) ∙ nothing_added v J)
+
+-- ---- a query under the lock
+
+pub extends_same : {O : Type 0} (v w : View O) (J : History) → HasTaken v J w → IsPrefix w.seen J
+extends_same v w J h = ([], append-nil w.seen ∙ ap (λ (u : View _). u.seen) h.2)
+
+pub may_add_nothing : {O : Type 0} (v w : View O) (J : History) → HasTaken v J w → MayAdd w.number w.seen (block_after w.seen J)
+may_add_nothing v w J h = subst (λ (u : View _). MayAdd u.number u.seen (block_after u.seen J)) (sym h.2) (add_nothing v.number J)
+
+-- it was answered
+pub answered : {O : Type 0} (set : O → Setting) (v w u : View O) (o : O) (J : History) (q : Query) (r : Result Known Refusal) → o ≡ v.origin → IsMet (set o) v J → HasTaken v J w → r ≡ tell J q → u ≡ given w J
+    → IsAnswered (set v.origin) v q r u
+answered set v w u o J q r same met h s e =
+    subst (λ x. IsAnswered (set x) v q r u) same (record { history = J; met = met; told = s; after = given_after v w u J J [] h e (sym (append-nil J)) ∙ nothing_added v J })

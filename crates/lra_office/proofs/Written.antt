@@ -35,6 +35,10 @@ add_own n J B h all =
 add_none : (n : ℕ) (J : List Entry) → MayAdd n J []
 add_none n J = record { own = All-nil (λ (e : Entry). e.by ≡ number_after n []); numbered = λ f. absurd (f refl); fresh = λ _ f. absurd (f refl) }
 
+-- a history as it was handed over has nothing added
+pub add_nothing : (n : ℕ) (J : List Entry) → MayAdd n J (block_after J J)
+add_nothing n J = subst (λ (B : List Entry). MayAdd n J B) (sym (ap (block_after J) (sym (append-nil J)) ∙ block_after-append J [])) (add_none n J)
+
 -- one without a number may add what is by a new one
 add_new : (k : ℕ) (J B : List Entry) → k ≢ 0 → AreBy k B → entries_by k J ≡ [] → MayAdd 0 J B
 add_new k J [] h all none = add_none 0 J

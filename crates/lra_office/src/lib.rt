@@ -10,6 +10,7 @@ mod laws;
 mod office;
 mod opening;
 mod passing;
+mod queries;
 mod reopening;
 mod serving;
 mod shutting;

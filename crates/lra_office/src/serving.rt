@@ -2,14 +2,15 @@
 
 ghost use Rattle.std.specs.Prelude.{◌≡◌, true};
 
-use lra_commands::Refusal;
+use lra_commands::{Known, Query, Refusal};
 use lra_core::{Command, Committed};
 use lra_ticket::Kept;
 
-/// A kept value at which the commands of clerks are done.
+/// A kept value at which the commands of clerks are done, and queries are told.
 pub trait Serving: Kept {
     ghost use Rattle.lra_core.specs.Prepares.{is_suited};
     ghost use Rattle.lra_commands.specs.Counters.{Setting};
+    ghost use Rattle.lra_commands.specs.Queries.{tell};
     ghost use Rattle.lra_office.specs.Serves.{IsServed, IsKeptBy};
 
     // What the coordinator behind an origin was made with.
@@ -22,6 +23,10 @@ pub trait Serving: Kept {
         ensures lawful { Self.lawful self.new }
         ensures origin { Self.origin self.new ≡ Self.origin self.old }
         ensures served { IsServed (setting (Self.origin self.old)) (Self.history self.old) (record { by = by; moment = moment; command = command.now }) result (Self.history self.new) };
+
+    /// What a query is told of its history.
+    fn query(&self, query: Query) -> Result<Known, Refusal>
+        ensures { result ≡ tell (Self.history self.now) query };
 
     // What its laws say of its history.
     ghost tells: { (x : Self) → Self.Kept.lawful x → IsKeptBy (setting (Self.Kept.origin x)) (Self.Kept.history x) };

@@ -4,6 +4,7 @@ ghost use Rattle.std.specs.Prelude.{◌≡◌, []};
 ghost use Rattle.lra_commands.specs.Counters.{Setting};
 ghost use Rattle.lra_ticket.specs.Locks.{lock_id};
 ghost use Rattle.lra_office.specs.Clerks.{clerk_view, IsClerkOf};
+ghost use Rattle.lra_office.specs.Orders.{IsQueried};
 ghost use Rattle.lra_office.specs.Windows.{IsOfficeOf};
 ghost use Rattle.lra_office.specs.inner.Given.{fault_of};
 
@@ -11,7 +12,7 @@ use crate::clerk::Clerk;
 use crate::fault::OfficeRefusal;
 use crate::office::Office;
 use crate::serving::Serving;
-use lra_commands::{Counter, CounterFault, Order, Told};
+use lra_commands::{Counter, CounterFault, Known, Order, Query, Told};
 use lra_ids::{Address, Instance};
 use std::marker::{Brand, PhantomData};
 use std::sync::Wait;
@@ -69,6 +70,16 @@ impl<'a, V: Serving, R, L: WhichLock> Window<'a, V, R, L> {
             of: _,
         } = self;
         clerk
+    }
+}
+
+impl<V: Serving, R: Wait, L: WhichLock> Window<'_, V, R, L> {
+    /// Tells its clerk what that asks, as `Office::query` does.
+    pub fn query(&mut self, query: Query) -> Result<Known, OfficeRefusal>
+        ensures number { self.new.clerk.number ≡ self.old.clerk.number }
+        ensures known { IsQueried (V.setting (clerk_view self.old.clerk).origin) (clerk_view self.old.clerk) query result (clerk_view self.new.clerk) }
+    {
+        self.office.query(self.rt, &mut self.clerk, query)
     }
 }
 

@@ -32,7 +32,10 @@ use Rattle.lra_commands.specs.declared.refusal.Refusal.TheVariants as refusal
 use Rattle.lra_commands.specs.Deeds.{outcome_told}
 use Rattle.lra_commands.specs.declared.command.Command.TheVariants as command
 use Rattle.lra_commands.specs.declared.limits.Terms.{Terms}
+use Rattle.lra_commands.specs.declared.query.Query.{Query}
+use Rattle.lra_commands.specs.declared.query.Query.TheVariants as query
 use Rattle.lra_commands.specs.Calls.{Command}
+use Rattle.lra_commands.specs.Queries.{told_as, tell}
 use Rattle.lra_judge.specs.declared.beside.Beside.{Beside}
 use Rattle.lra_judge.specs.declared.errand.Carried.{Carried}
 use Rattle.lra_judge.specs.declared.decision.Decision.{Decision}
@@ -187,13 +190,6 @@ renew v J by m a limit = do
   _ ← near m limit
   Ok (written by m (deed.Renew a limit))
 
--- a reading of an action's status
-abbrev pub status : History → ℕ → ℕ → Judged
-status J by a = do
-  _ ← known_clerk J by
-  r ← known_action J a
-  told_so (told.ActionIs r.status)
-
 -- ---- members
 
 -- the number of a new member
@@ -274,13 +270,6 @@ report J by m p e = do
   _ ← here x.status
   report_at by m p e x
 
--- a reading of a member's status
-abbrev pub member_status : History → ℕ → ℕ → Judged
-member_status J by p = do
-  _ ← known_clerk J by
-  x ← known_member J p
-  told_so (told.MemberIs x.status)
-
 -- ---- asks
 
 -- the number of a new ask
@@ -323,6 +312,15 @@ restart J by m = do
   _ ← known_clerk J by
   Ok (written by m deed.Restart)
 
+-- ---- queries
+
+-- a command that only asks
+abbrev pub ask : History → ℕ → Query → Judged
+ask J by q = do
+  _ ← known_clerk J by
+  k ← tell J q
+  told_so (told_as k)
+
 -- ---- every command
 
 -- what is decided on a command
@@ -339,5 +337,5 @@ IsJudged s J by m x (command.Record errand o) result = result ≡ reply J by m (
 IsJudged s J by m x (command.Report p e) result = result ≡ report J by m p e
 IsJudged s J by m x command.Restart result = result ≡ restart J by m
 IsJudged s J by m x (command.Renew a limit) result = result ≡ renew s.version J by m a limit
-IsJudged s J by m x (command.Status a) result = result ≡ status J by a
-IsJudged s J by m x (command.MemberStatus p) result = result ≡ member_status J by p
+IsJudged s J by m x (command.Status a) result = result ≡ ask J by (query.ActionStatus a)
+IsJudged s J by m x (command.MemberStatus p) result = result ≡ ask J by (query.MemberStatus p)

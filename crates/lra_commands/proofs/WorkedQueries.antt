@@ -1,0 +1,56 @@
+-- What queries are told of small histories, worked out by hand.
+use Rattle.std.proofs.Common.{◌≡◌, List, [], ◌∷◌, ◌++◌, Some, None, Ok, Err, refl, map}
+use Rattle.std.specs.Prelude.{Result}
+use Rattle.lra_model.specs.declared.status.ActionStatus.TheVariants as action
+use Rattle.lra_model.specs.declared.status.MemberStatus.TheVariants as member
+use Rattle.lra_model.specs.declared.asks.AskKind.TheVariants as ask
+use Rattle.lra_model.specs.declared.asks.Outcome.TheVariants as outcome
+use Rattle.lra_model.specs.declared.asks.Cause.TheVariants as cause
+use Rattle.lra_model.specs.declared.entry.Deed.TheVariants.{Enrol, Start, Join, Leave, Close, Cancel, Ask, Reply, Restart}
+use Rattle.lra_model.specs.History.{History, steps, actions, members}
+use Rattle.lra_model.specs.Actions.{action_status, children, members_of}
+use Rattle.lra_model.specs.Members.{addresses_of, has_left, stays, was_asked, ask_of, decided, member_status, is_outstanding, outstanding_ask}
+use Rattle.lra_laws.proofs.Worked.{at, u, c, uris, nest}
+use Rattle.lra_commands.specs.declared.query.Query.{Query}
+use Rattle.lra_commands.specs.declared.query.Query.TheVariants.{ActionStatus, MemberStatus, Awaited}
+use Rattle.lra_commands.specs.declared.query.Awaited.TheVariants.{Member, Action}
+use Rattle.lra_commands.specs.declared.query.Known.{Known}
+use Rattle.lra_commands.specs.declared.query.Known.TheVariants.{ActionIs, MemberIs, Awaits, AwaitsNothing}
+use Rattle.lra_commands.specs.declared.refusal.Refusal.{Refusal}
+use Rattle.lra_commands.specs.declared.refusal.Refusal.TheVariants.{NoSuchAction, NoSuchMember}
+use Rattle.lra_commands.specs.Queries.{rows_of, awaited_from, tell}
+
+-- what queries are told, in their order
+abbrev told : History → List Query → List (Result Known Refusal)
+told J qs = map (tell J) qs
+
+-- an action that closes waits for the one nested in it, and that for its member
+pub nested_waits : told (nest ++ at 3 (Close 1 cause.Client) ∷ at 3 (Close 2 cause.Parent) ∷ at 4 (Ask 1 1 ask.Complete) ∷ [])
+    (ActionStatus 1 ∷ MemberStatus 1 ∷ Awaited 1 0 ∷ Awaited 1 1 ∷ Awaited 2 0 ∷ Awaited 2 1 ∷ ActionStatus 3 ∷ MemberStatus 2 ∷ Awaited 3 0 ∷ [])
+    ≡ (
+    Ok (ActionIs action.Closing) ∷ Ok (MemberIs member.Completing) ∷ Ok (Awaits 0 (Action 2)) ∷ Ok AwaitsNothing ∷ Ok (Awaits 0 (Member 1 (Some 1))) ∷ Ok AwaitsNothing
+    ∷ Err NoSuchAction ∷ Err NoSuchMember ∷ Err NoSuchAction ∷ []
+    )
+unfolding steps actions members action_status children members_of addresses_of has_left stays was_asked ask_of decided member_status is_outstanding outstanding_ask rows_of awaited_from tell
+nested_waits = refl
+
+-- an action with four members: one that only listens, one that has left, one that has completed, and one whose ask a restart made void
+abbrev four_members : History
+four_members =
+    at 0 Enrol ∷ at 0 (Start 1 None 0) ∷ at 1 (Join 1 1 (uris None None None None u)) ∷ at 1 (Join 2 1 (uris u c None None None)) ∷ at 2 (Leave 2) ∷ at 2 (Join 3 1 (uris u c None None None))
+    ∷ at 2 (Join 4 1 (uris u c None None None)) ∷ at 3 (Close 1 cause.Client) ∷ at 4 (Ask 1 3 ask.Complete) ∷ at 5 (Ask 2 4 ask.Complete) ∷ at 6 (Reply 1 outcome.Done) ∷ []
+
+-- it waits for the last alone
+pub passes_over : told four_members (Awaited 1 0 ∷ Awaited 1 3 ∷ Awaited 1 4 ∷ []) ≡ (Ok (Awaits 3 (Member 4 (Some 2))) ∷ Ok (Awaits 3 (Member 4 (Some 2))) ∷ Ok AwaitsNothing ∷ [])
+unfolding steps actions members action_status children members_of addresses_of has_left stays was_asked ask_of decided member_status is_outstanding outstanding_ask rows_of awaited_from tell
+passes_over = refl
+
+-- no ask of it is outstanding after a restart
+pub forgets_void_asks : told (four_members ++ at 7 Restart ∷ []) (Awaited 1 0 ∷ []) ≡ (Ok (Awaits 3 (Member 4 None)) ∷ [])
+unfolding steps actions members action_status children members_of addresses_of has_left stays was_asked ask_of decided member_status is_outstanding outstanding_ask rows_of awaited_from tell
+forgets_void_asks = refl
+
+-- an action that is Active waits for nothing, and one that is Cancelling for its member
+pub cancels : told (nest ++ at 3 (Cancel 2 cause.Client) ∷ []) (Awaited 1 0 ∷ Awaited 2 0 ∷ []) ≡ (Ok AwaitsNothing ∷ Ok (Awaits 0 (Member 1 None)) ∷ [])
+unfolding steps actions members action_status children members_of addresses_of has_left stays was_asked ask_of decided member_status is_outstanding outstanding_ask rows_of awaited_from tell
+cancels = refl

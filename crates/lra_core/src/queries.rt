@@ -1,0 +1,41 @@
+//! What is asked of a coordinator and writes nothing.
+
+ghost use Rattle.std.specs.Prelude.{◌≡◌, Some};
+ghost use Rattle.lra_commands.specs.Calls.{Call};
+ghost use Rattle.lra_commands.specs.Answers.{answer};
+ghost use Rattle.lra_commands.specs.Queries.{asks, answer_as, tell};
+ghost use Rattle.lra_commands.specs.Counters.{terms_of};
+
+use crate::coordinator::Coordinator;
+use lra_commands::{Known, Query, Refusal, Told};
+use lra_judge::tell;
+
+impl Coordinator {
+    /// What a query is told of the history, whoever asks and whenever. This changes nothing and takes no memory, and neither limits
+    /// nor a journal that can't be written refuse it: `NoSuchAction` and `NoSuchMember` alone do.
+    pub fn query(&self, query: Query) -> Result<Known, Refusal>
+        ensures { result ≡ tell self.now.history query }
+    {
+        tell(&self.tables, query)
+    }
+
+    /// What a clerk's command is told that only asks.
+    pub(crate) fn ask(&self, by: u32, query: Query) -> Result<Told, Refusal>
+        ensures { (c : Call) → c.by ≡ by → asks c.command ≡ Some query → result ≡ answer (terms_of self.now.setting) self.now.history c }
+    {
+        if !self.tables.is_clerk(by) {
+            return Err(Refusal::NoSuchClerk);
+        }
+        answer_as(self.query(query))
+    }
+}
+
+/// What a query is told, as a command is answered it.
+fn answer_as(known: Result<Known, Refusal>) -> Result<Told, Refusal>
+    ensures { result ≡ answer_as known }
+{
+    match known {
+        Ok(known) => Ok(known.told()),
+        Err(refusal) => Err(refusal),
+    }
+}

@@ -1,0 +1,14 @@
+use Rattle.std.proofs.Common.{◌∙◌, ap, sym}
+use Rattle.lra_commands.specs.declared.query.Query.{Query}
+use Rattle.lra_commands.specs.Queries.{tell}
+use Rattle.lra_judge.proofs.Asking.{tell_status, tell_member, tell_awaited}
+use Rattle.lra_judge.proofs.queries.tell.Goals as goal
+
+pub returns-in-ActionStatus : goal.returns-in-ActionStatus
+returns-in-ActionStatus c = λ J k. c.action_is.ensures J k ∙ sym (tell_status J c.in-ActionStatus.action) ∙ ap (λ (q : Query). tell J q) (sym c.in-ActionStatus.is)
+
+pub returns-in-MemberStatus : goal.returns-in-MemberStatus
+returns-in-MemberStatus c = λ J k. c.member_is.ensures J k ∙ sym (tell_member J c.in-MemberStatus.member) ∙ ap (λ (q : Query). tell J q) (sym c.in-MemberStatus.is)
+
+pub returns-in-Awaited : goal.returns-in-Awaited
+returns-in-Awaited c = λ J k. c.awaited.ensures J k ∙ sym (tell_awaited J c.in-Awaited.action c.in-Awaited.place) ∙ ap (λ (q : Query). tell J q) (sym c.in-Awaited.is)

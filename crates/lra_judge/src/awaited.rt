@@ -1,0 +1,213 @@
+//! What an action waits for.
+
+ghost use Rattle.std.specs.Prelude.{◌≡◌, ◌≤◌, ◌+◌, min, max, length, slice_get};
+ghost use Rattle.lra_model.specs.Words as words;
+ghost use Rattle.lra_model.specs.History.{History};
+ghost use Rattle.lra_laws.specs.Sheets.{StandsFor};
+ghost use Rattle.lra_commands.specs.declared.query.Known.{Known as Told};
+ghost use Rattle.lra_commands.specs.Refusals.{status_at};
+ghost use Rattle.lra_commands.specs.Queries as queries;
+ghost use Rattle.lra_judge.specs.inner.Awaited as awaits;
+
+use lra_commands::{Awaited, Known};
+use lra_model::{ActionStatus, MemberStatus};
+use lra_tables::{MemberRow, Tables};
+
+/// How many rows one query looks at.
+const MOST_ROWS: u64 = 256;
+
+/// Whether a Closing action needn't wait for a member.
+fn is_done_completing(status: MemberStatus) -> bool
+    ensures { result ≡ words.is_done_completing status }
+{
+    matches!(
+        status,
+        MemberStatus::Completed | MemberStatus::FailedToComplete
+    )
+}
+
+/// Whether a Cancelling action needn't wait for a member.
+fn is_done_compensating(status: MemberStatus) -> bool
+    ensures { result ≡ words.is_done_compensating status }
+{
+    matches!(
+        status,
+        MemberStatus::Compensated
+            | MemberStatus::FailedToCompensate
+            | MemberStatus::FailedToComplete
+    )
+}
+
+/// Whether an action has ended after it was cancelled.
+fn has_finished_cancelling(status: ActionStatus) -> bool
+    ensures { result ≡ words.has_finished_cancelling status }
+{
+    matches!(
+        status,
+        ActionStatus::Cancelled | ActionStatus::FailedToCancel
+    )
+}
+
+/// Whether an action with this status waits for a member with that one.
+fn waits_for_member(status: ActionStatus, member: MemberStatus) -> bool
+    ensures { result ≡ awaits.waits_for_member status member }
+{
+    match status {
+        ActionStatus::Closing => !is_done_completing(member),
+        ActionStatus::Cancelling => !is_done_compensating(member),
+        _ => false,
+    }
+}
+
+/// Whether an action with this status waits for a nested one with that one.
+fn waits_for_action(status: ActionStatus, nested: ActionStatus) -> bool
+    ensures { result ≡ awaits.waits_for_action status nested }
+{
+    match status {
+        ActionStatus::Closing => !nested.has_ended(),
+        ActionStatus::Cancelling => !has_finished_cancelling(nested),
+        _ => false,
+    }
+}
+
+/// Whether a member can be compensated.
+fn can_compensate(tables: &Tables, member: u64) -> bool
+    ensures { (J : History) → StandsFor tables.now.sheet J → result ≡ awaits.can_compensate J member }
+{
+    match tables.addresses(member) {
+        Some(uris) => uris.compensate.is_some(),
+        None => false,
+    }
+}
+
+/// Whether an action with this status waits for a member: it hasn't left.
+fn waits_for_row(status: ActionStatus, row: &MemberRow) -> bool
+    ensures { result ≡ awaits.waits_for_row status row.now }
+{
+    !row.status.has_gone() && waits_for_member(status, row.status)
+}
+
+/// The same of a member by its number.
+fn waits_for(tables: &Tables, status: ActionStatus, member: u64) -> bool
+    ensures { (J : History) → StandsFor tables.now.sheet J → result ≡ awaits.waits_for_found status J member }
+{
+    match tables.member(member) {
+        Some(row) => waits_for_row(status, &row),
+        None => false,
+    }
+}
+
+/// The status of an action.
+fn status_of(tables: &Tables, action: u64) -> ActionStatus
+    ensures { (J : History) → StandsFor tables.now.sheet J → result ≡ awaits.found_status J action }
+{
+    match tables.action(action) {
+        Some(row) => row.status,
+        None => ActionStatus::Active,
+    }
+}
+
+/// Whether a row holds the end of an action with this status.
+fn holds(tables: &Tables, status: ActionStatus, row: Awaited) -> bool
+    ensures { (J : History) → StandsFor tables.now.sheet J → result ≡ awaits.held status J row }
+{
+    match row {
+        Awaited::Member { member, .. } => {
+            can_compensate(tables, member) && waits_for(tables, status, member)
+        }
+        Awaited::Action { action } => waits_for_action(status, status_of(tables, action)),
+    }
+}
+
+/// The ask of a member that is outstanding.
+fn ask_of(tables: &Tables, member: u64) -> Option<u64>
+    ensures { (J : History) → StandsFor tables.now.sheet J → result ≡ awaits.found_ask J member }
+{
+    match tables.member(member) {
+        Some(row) => row.outstanding,
+        None => None,
+    }
+}
+
+/// The row of a member.
+fn member_row(tables: &Tables, member: u64) -> Awaited
+    ensures { (J : History) → StandsFor tables.now.sheet J → result ≡ awaits.member_row J member }
+{
+    Awaited::Member {
+        member,
+        ask: ask_of(tables, member),
+    }
+}
+
+/// The row of an action at a place: its members come first, and then the actions nested directly in it.
+fn row_at(tables: &Tables, action: u64, place: u64) -> Option<Awaited>
+    ensures { (J : History) → StandsFor tables.now.sheet J → result ≡ slice_get (awaits.found_rows J action) place }
+{
+    let members = tables.members(action);
+    let place = place as usize;
+    if place < members.len() {
+        return Some(member_row(tables, members[place]));
+    }
+    let nested = tables.children(action).get(place - members.len())?;
+    Some(Awaited::Action { action: *nested })
+}
+
+/// How many rows an action has.
+fn count_rows(tables: &Tables, action: u64) -> u64
+    ensures { (J : History) → StandsFor tables.now.sheet J → result ≡ length (awaits.found_rows J action) }
+{
+    (tables.members(action).len() + tables.children(action).len()) as u64
+}
+
+/// How many rows are looked at from a place on, of so many.
+fn count_looked(rows: u64, place: u64) -> u64
+    ensures most { result ≤ queries.most_rows }
+    ensures within { place + result ≤ max place rows }
+    ensures all { min (place + queries.most_rows) rows ≤ place + result }
+{
+    if place < rows {
+        MOST_ROWS.min(rows - place)
+    } else {
+        0
+    }
+}
+
+/// The first of the rows looked at that holds the end of an action with this status, and its place.
+fn first_held(
+    tables: &Tables,
+    action: u64,
+    status: ActionStatus,
+    place: u64,
+) -> Option<(u64, Awaited)>
+    ensures { (J : History) (none : Told) → StandsFor tables.now.sheet J
+        → awaits.told_of result none ≡ awaits.seen_from (awaits.held status J) none (awaits.found_rows J action) place queries.most_rows }
+{
+    let rows = count_rows(tables, action);
+    for n in 0..count_looked(rows, place) {
+        let row = row_at(tables, action, place + n)?;
+        if holds(tables, status, row) {
+            return Some((place + n, row));
+        }
+    }
+    None
+}
+
+/// Where to go on, by how many rows there are.
+fn further(rows: u64, place: u64) -> Known
+    ensures { result ≡ awaits.further rows place }
+{
+    match place.checked_add(MOST_ROWS) {
+        Some(next) if next < rows => Known::Further(next),
+        _ => Known::AwaitsNothing,
+    }
+}
+
+/// What an action with this status waits for, from a place on.
+pub(crate) fn awaited_from(tables: &Tables, action: u64, status: ActionStatus, place: u64) -> Known
+    ensures { (J : History) → StandsFor tables.now.sheet J → status ≡ status_at J action → result ≡ queries.awaited_from J action place }
+{
+    match first_held(tables, action, status, place) {
+        Some((place, awaited)) => Known::Awaits { place, awaited },
+        None => further(count_rows(tables, action), place),
+    }
+}
