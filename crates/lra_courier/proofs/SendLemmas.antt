@@ -1,5 +1,5 @@
 -- The request that is written is the callback's.
-use Rattle.std.proofs.Common.{◌≡◌, ℕ, false, List, [], ◌∷◌, ◌++◌, map, codes, bytes_eq, Ok, Err, refl, sym, ap, ◌∙◌}
+use Rattle.std.proofs.Common.{◌≡◌, ℕ, true, false, List, [], ◌∷◌, ◌++◌, map, codes, bytes_eq, Ok, Err, refl, sym, ap, ◌∙◌}
 use Rattle.std.specs.Borrow.{Bor}
 use Rattle.std.specs.List.{flat_map}
 use Rattle.lra_ids.specs.declared.fault.UriFault.{UriFault}
@@ -17,6 +17,11 @@ refused_is_none text fault e = ap (is_own text) e
 pub other_is_none : (text own shown : List ℕ) → address_of text ≡ Ok own → shown ≡ own → bytes_eq shown text ≡ false → is_address text ≡ false
 unfolding is_address
 other_is_none text own shown e f h = ap (is_own text) e ∙ ap (λ bytes. bytes_eq bytes text) (sym f) ∙ h
+
+-- one that stands for itself is an address
+pub own_is_one : (text own shown : List ℕ) → address_of text ≡ Ok own → shown ≡ own → bytes_eq shown text ≡ true → is_address text ≡ true
+unfolding is_address
+own_is_one text own shown e f h = ap (is_own text) e ∙ ap (λ bytes. bytes_eq bytes text) (sym f) ∙ h
 
 -- where the texts of fields lie says nothing of their lines
 lines_seen : (fields : List (Bor (List ℕ) × Bor (List ℕ)))

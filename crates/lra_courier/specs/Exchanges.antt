@@ -1,13 +1,16 @@
 -- What a callback does to the streams that it goes over.
 use Rattle.std.specs.Prelude.{◌≡◌, ◌≢◌, ℕ, false, List, ◌++◌, Option, IfSome, Result, Ok, Err}
+use Rattle.std.specs.Result.{result_unwrap_or}
 use Rattle.std.specs.Io.KnownBytes.{Appends, Keeps}
 use Rattle.lra_model.specs.declared.asks.Outcome.{Outcome}
 use Rattle.lra_model.specs.declared.asks.Outcome.TheVariants.{Silent}
 use Rattle.lra_ids.specs.Addresses.{is_address}
-use Rattle.lra_wire.specs.Response.{IsResponse}
+use Rattle.lra_wire.specs.Response.{IsResponse, RefusesResponse}
 use Rattle.lra_wire.specs.Writing.{AppendsFront}
 use Rattle.lra_courier.specs.declared.fault.SendFault.{SendFault}
 use Rattle.lra_courier.specs.declared.fault.SendFault.TheVariants.{BadAddress, Io, Memory}
+use Rattle.lra_courier.specs.declared.fault.CallFault.{CallFault}
+use Rattle.lra_courier.specs.declared.fault.CallFault.TheVariants.{Unreached, Send, Reply}
 use Rattle.lra_courier.specs.Replies.{classify}
 use Rattle.lra_courier.specs.Callbacks.{Calling, request_bytes}
 
@@ -34,3 +37,21 @@ pub record Exchanges (old new stream : Option (List ℕ)) (c : Calling) (outcome
   pub front : AppendsSome old new (request_bytes c)
   pub whole : outcome ≢ Silent → Appends old new (request_bytes c)
   pub answer : outcome ≢ Silent → IfSome stream (λ bytes. (rest : List ℕ) × IsAnswer c bytes rest outcome)
+
+-- what the bytes behind a request come to: the outcome of the response that they begin with, or why they are no response
+abbrev pub Answers : Option (List ℕ) → Calling → Result Outcome CallFault → Type 0
+Answers stream c (Ok outcome) = IfSome stream (λ bytes. (rest : List ℕ) × IsAnswer c bytes rest outcome)
+Answers stream c (Err (Reply fault)) = IfSome stream (λ bytes. RefusesResponse bytes fault)
+Answers stream c (Err (Send fault)) = ⊥
+Answers stream c (Err Unreached) = ⊥
+
+-- What a request and its response came to, over streams that may be known: why the request wasn't sent, or once all of it went out, what the bytes behind it come to.
+abbrev pub Converses : Option (List ℕ) → Option (List ℕ) → Option (List ℕ) → Calling → Result Outcome CallFault → Type 0
+Converses old new stream c (Ok outcome) = Appends old new (request_bytes c) × Answers stream c (Ok outcome)
+Converses old new stream c (Err (Reply fault)) = Appends old new (request_bytes c) × Answers stream c (Err (Reply fault))
+Converses old new stream c (Err (Send fault)) = Posts old new c (Err fault)
+Converses old new stream c (Err Unreached) = ⊥
+
+-- the outcome is the one that was told, and silence stands for each fault (this project's choice)
+abbrev pub ComesOf : (Result Outcome CallFault → Type 0) → Outcome → Type 0
+ComesOf Told outcome = (told : Result Outcome CallFault) × Told told × (outcome ≡ result_unwrap_or told Silent)

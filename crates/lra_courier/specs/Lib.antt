@@ -2,4 +2,5 @@ pub mod Replies
 pub mod Callbacks
 pub mod Exchanges
 pub mod Sockets
+pub mod Calls
 pub mod inner

@@ -1,14 +1,14 @@
 //! A whole callback over one connection.
 
-ghost use Rattle.std.specs.Prelude.{◌≡◌, ◌⊎◌, IsTrue};
+ghost use Rattle.std.specs.Prelude.{◌≡◌, ◌⊎◌, IfOk, IsTrue};
 ghost use Rattle.lra_model.specs.Words.{outcome_suits};
 ghost use Rattle.lra_wire.specs.Inbox.{stream_of};
 ghost use Rattle.lra_wire.specs.Streams.{IfBothKnown};
 ghost use Rattle.lra_courier.specs.Callbacks.{calling_of};
-ghost use Rattle.lra_courier.specs.Exchanges.{Posts, IsAnswer, Exchanges};
+ghost use Rattle.lra_courier.specs.Exchanges.{Posts, IsAnswer, Exchanges, Converses, ComesOf};
 
 use crate::callback::Callback;
-use crate::fault::SendFault;
+use crate::fault::{CallFault, SendFault};
 use lra_core::Errand;
 use lra_model::Outcome;
 use lra_wire::Inbox;
@@ -16,6 +16,26 @@ use std::alloc::Global;
 use std::io::{Read, Write};
 
 impl<'a> Callback<'a> {
+    /// Writes the request, reads the response, and tells what it comes to. Where memory for the response is refused,
+    /// nothing is written.
+    pub fn try_exchange<R: Read + Drop, W: Write>(
+        &self,
+        alloc: Global,
+        reader: R,
+        writer: &mut W,
+    ) -> Result<Outcome, CallFault>
+        ensures converses { Converses (W.contents writer.old) (W.contents writer.new) (R.remaining reader) self.now result }
+        ensures suits { IfOk result (λ outcome. IsTrue (outcome_suits self.now.kind outcome)) }
+    {
+        let Ok(mut inbox) = Inbox::new(alloc, reader) else {
+            return Err(CallFault::Send(SendFault::Memory));
+        };
+        match self.send(alloc, writer) {
+            Ok(()) => self.answer(alloc, &mut inbox),
+            Err(fault) => Err(CallFault::Send(fault)),
+        }
+    }
+
     /// Writes the request, reads the response, and says what it comes to: any fault is [`Outcome::Silent`].
     pub fn exchange<R: Read + Drop, W: Write>(
         &self,
@@ -24,15 +44,10 @@ impl<'a> Callback<'a> {
         writer: &mut W,
     ) -> Outcome
         ensures exchanges { Exchanges (W.contents writer.old) (W.contents writer.new) (R.remaining reader) self.now result }
+        ensures told { ComesOf (Converses (W.contents writer.old) (W.contents writer.new) (R.remaining reader) self.now) result }
         ensures suits { IsTrue (outcome_suits self.now.kind result) }
     {
-        let Ok(mut inbox) = Inbox::new(alloc, reader) else {
-            return Outcome::Silent;
-        };
-        let Ok(()) = self.send(alloc, writer) else {
-            return Outcome::Silent;
-        };
-        match self.receive(alloc, &mut inbox) {
+        match self.try_exchange(alloc, reader, writer) {
             Ok(outcome) => outcome,
             Err(_) => Outcome::Silent,
         }
@@ -66,6 +81,7 @@ pub fn exchange<R: Read + Drop, W: Write>(
     errand: &Errand,
 ) -> Outcome
     ensures exchanges { Exchanges (W.contents writer.old) (W.contents writer.new) (R.remaining reader) (calling_of errand.now) result }
+    ensures told { ComesOf (Converses (W.contents writer.old) (W.contents writer.new) (R.remaining reader) (calling_of errand.now)) result }
     ensures suits { IsTrue (outcome_suits errand.now.kind result) }
 {
     Callback::of(errand).exchange(alloc, reader, writer)

@@ -1,5 +1,6 @@
-//! Why a request wasn't sent.
+//! Why a callback came to nothing.
 
+use lra_wire::WireFault;
 use thiserror::Error;
 
 /// Why a request wasn't sent, or not all of it.
@@ -14,4 +15,18 @@ pub enum SendFault {
     /// A growth was refused; nothing was written.
     #[error("out of memory")]
     Memory,
+}
+
+/// Why a callback came to nothing.
+#[derive(Clone, Copy, Debug, PartialEq, Eq, Error)]
+pub enum CallFault {
+    /// No connection was had.
+    #[error("no connection")]
+    Unreached,
+    /// The request wasn't sent, or not all of it.
+    #[error("no request: {0}")]
+    Send(SendFault),
+    /// All of the request was sent, and what came is no response.
+    #[error("no response: {0}")]
+    Reply(WireFault),
 }

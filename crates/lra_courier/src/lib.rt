@@ -2,9 +2,12 @@
 #![tactic(auto)]
 
 mod callback;
+mod calling;
 mod carrying;
+mod conversing;
 mod courier;
 mod deadline;
+mod dialler;
 mod fault;
 mod reading;
 mod reply;
@@ -13,10 +16,12 @@ mod tcp;
 mod writing;
 
 pub use callback::Callback;
+pub use calling::DiallingCourier;
 pub use carrying::{exchange, receive, send};
 pub use courier::Courier;
 pub use deadline::{seconds_on, time_until};
-pub use fault::SendFault;
+pub use dialler::Dialler;
+pub use fault::{CallFault, SendFault};
 pub use reply::classify;
 pub use socket::socket_text;
-pub use tcp::TcpCourier;
+pub use tcp::{Sockets, TcpCourier};

@@ -1,16 +1,10 @@
-//! Errands over TCP.
+//! The system's sockets.
 
-ghost use Rattle.std.specs.Prelude.{◌≡◌, IfSome, IsTrue};
-ghost use Rattle.lra_model.specs.Words.{outcome_suits};
+ghost use Rattle.std.specs.Prelude.{◌≡◌};
 
-use crate::callback::Callback;
-use crate::courier::Courier;
+use crate::calling::DiallingCourier;
 use crate::deadline::{seconds_on, time_until};
-use crate::socket::socket_text;
-use lra_core::Errand;
-use lra_ids::address;
-use lra_model::Outcome;
-use lra_wire::Inbox;
+use crate::dialler::Dialler;
 use std::alloc::Global;
 use std::io;
 use std::io::{Read, Write};
@@ -25,23 +19,23 @@ const REPLY_SECS: u64 = 30;
 
 /// A stream that is read and written until a moment, and fails from then on.
 #[derive(Drop)]
-struct Timed<'a, S, R> {
+pub struct Timed<S, R> {
     stream: S,
-    clock: &'a R,
+    clock: R,
     end: Instant,
 }
 
-impl<'a, S: Read + OpenStream, R: Clock> Read for Timed<'a, S, R> {
+impl<S: Read + OpenStream, R: Clock> Read for Timed<S, R> {
     fn read(&mut self, buf: &mut [u8]) -> io::Result<usize> {
-        let left = time_until(self.clock, self.end)?;
+        let left = time_until(&self.clock, self.end)?;
         self.stream.set_read_timeout(Some(left))?;
         self.stream.read(buf)
     }
 }
 
-impl<'a, S: Write + OpenStream, R: Clock> Write for Timed<'a, S, R> {
+impl<S: Write + OpenStream, R: Clock> Write for Timed<S, R> {
     fn write(&mut self, buf: &[u8]) -> io::Result<usize> {
-        let left = time_until(self.clock, self.end)?;
+        let left = time_until(&self.clock, self.end)?;
         self.stream.set_write_timeout(Some(left))?;
         self.stream.write(buf)
     }
@@ -51,54 +45,18 @@ impl<'a, S: Write + OpenStream, R: Clock> Write for Timed<'a, S, R> {
     }
 }
 
-/// Carries errands over TCP, a connection each. A member has 5 s to take the connection, and 30 s in all until its whole
-/// reply has come; then the outcome is [`Outcome::Silent`]. The look-up of a host's name is the system's, and has no such
-/// limit.
-#[derive(Drop)]
-pub struct TcpCourier<R> {
+/// Opens connections over the system's sockets. A peer has 5 s to take one, and 30 s in all until its whole reply has come:
+/// from then on the stream fails. The look-up of a host's name is the system's, and has no such limit.
+#[derive(Clone, Copy)]
+pub struct Sockets<R> {
     rt: R,
-    alloc: Global,
 }
 
-impl<R: Net + Clock> TcpCourier<R> {
-    pub fn new(rt: R, alloc: Global) -> TcpCourier<R>
-        ensures { result.rt ≡ rt }
-    {
-        TcpCourier { rt, alloc }
-    }
-
-    /// Carries a callback out. Any fault of connecting, writing or reading, want of memory among them, is
-    /// [`Outcome::Silent`].
-    pub fn call(&self, callback: &Callback<'_>) -> Outcome
-        ensures { IsTrue (outcome_suits callback.now.kind result) }
-    {
-        match self.reply(callback) {
-            Some(outcome) => outcome,
-            None => Outcome::Silent,
-        }
-    }
-
-    fn reply(&self, callback: &Callback<'_>) -> Option<Outcome>
-        ensures { IfSome result (λ outcome. IsTrue (outcome_suits callback.now.kind outcome)) }
-    {
-        let end = seconds_on(&self.rt, REPLY_SECS).ok()?;
-        let stream = self.connect(callback.address)?;
-        let mut stream = Timed {
-            stream,
-            clock: &self.rt,
-            end,
-        };
-        callback.send(self.alloc, &mut stream).ok()?;
-        let mut inbox = Inbox::new(self.alloc, stream).ok()?;
-        callback.receive(self.alloc, &mut inbox).ok()
-    }
-
-    /// A connection to the host of an address.
-    fn connect(&self, to: &str) -> Option<R::Stream> {
+impl<R: Net + Clock> Sockets<R> {
+    /// A connection to the first address of a socket that takes one.
+    fn connect(&self, socket: &str) -> Option<R::Stream> {
         let end = seconds_on(&self.rt, CONNECT_SECS).ok()?;
-        let to = address(self.alloc, to).ok()?;
-        let socket = socket_text(self.alloc, &to).ok()?;
-        for addr in socket.as_str().to_socket_addrs(&self.rt).ok()? {
+        for addr in socket.to_socket_addrs(&self.rt).ok()? {
             if let Some(stream) = self.open(&addr, end) {
                 return Some(stream);
             }
@@ -114,15 +72,34 @@ impl<R: Net + Clock> TcpCourier<R> {
     }
 }
 
-impl<R: Net + Clock> Courier for TcpCourier<R> {
-    ghost use Rattle.lra_model.specs.Words.{outcome_suits};
-    ghost use Rattle.std.specs.Prelude.{IsTrue};
+impl<R: Net + Clock + Copy> Dialler for Sockets<R> {
+    ghost use Rattle.std.specs.Prelude.{⊤};
 
-    ghost gives = { λ ask kind outcome. IsTrue (outcome_suits kind outcome) };
+    type Stream = Timed<R::Stream, R>;
 
-    fn carry(&mut self, errand: &Errand) -> Outcome {
-        self.call(&Callback::of(errand))
+    // Of the network nothing is known.
+    ghost gives = { λ _ _ _. ⊤ };
+
+    fn dial(&self, socket: &str) -> Option<Timed<R::Stream, R>> {
+        let end = seconds_on(&self.rt, REPLY_SECS).ok()?;
+        let stream = self.connect(socket)?;
+        Some(Timed {
+            stream,
+            clock: self.rt,
+            end,
+        })
     }
+}
 
-    ghost suits = { λ ask kind outcome h. h };
+/// Carries errands over TCP, a connection each. A member has 5 s to take the connection, and 30 s in all until its whole
+/// reply has come; then the outcome is [`Outcome::Silent`](lra_model::Outcome::Silent).
+pub type TcpCourier<R> = DiallingCourier<Sockets<R>>;
+
+impl<R: Net + Clock + Copy> DiallingCourier<Sockets<R>> {
+    /// A courier over the system's sockets.
+    pub fn new(rt: R, alloc: Global) -> TcpCourier<R>
+        ensures { result.dialler.rt ≡ rt }
+    {
+        DiallingCourier::over(Sockets { rt }, alloc)
+    }
 }

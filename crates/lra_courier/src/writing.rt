@@ -1,6 +1,6 @@
 //! The half that writes.
 
-ghost use Rattle.std.specs.Prelude.{◌≡◌, ◌≢◌, IfOk, IfErr, Err, false};
+ghost use Rattle.std.specs.Prelude.{◌≡◌, ◌≢◌, IfOk, IfErr, OnOk, Err, true, false};
 ghost use Rattle.lra_ids.specs.Addresses.{is_address};
 ghost use Rattle.lra_courier.specs.Exchanges.{Posts};
 
@@ -12,8 +12,9 @@ use std::alloc::Global;
 use std::io::Write;
 
 // The address that the text is as it stands.
-fn own_address(alloc: Global, text: &str) -> Result<Address, SendFault>
+pub(crate) fn own_address(alloc: Global, text: &str) -> Result<Address, SendFault>
     ensures ok { IfOk result (λ own. own ≡ text.now) }
+    ensures address { OnOk result (is_address text.now ≡ true) }
     ensures io { IfErr result (λ fault. fault ≢ SendFault.Io) }
     ensures err { result ≡ Err SendFault.BadAddress → is_address text.now ≡ false }
 {

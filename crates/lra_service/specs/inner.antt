@@ -1,3 +1,2 @@
 -- Words that private functions and proofs alone use.
-pub mod Faults
 pub mod Opened

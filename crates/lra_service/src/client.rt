@@ -1,18 +1,16 @@
 //! A client's stream, with its time-outs.
 
-ghost use Rattle.std.specs.Prelude.{IfOk};
+ghost use Rattle.std.specs.Prelude.{ℕ, IfOk};
 ghost use Rattle.std.specs.Io.{ReadsAtMost, WritesAtMost};
-ghost use Rattle.lra_durable.specs.Leaves.{IsKnown, MayLeave};
-ghost use Rattle.lra_durable.specs.declared.progress.Leave.{Leave};
+ghost use Rattle.lra_durable.specs.Leaves.{MayLeave};
 
 use lra_courier::{seconds_on, time_until};
-use lra_durable::{Disk, Standing, Tally, send};
+use lra_durable::{Disk, Progress, Tally, send};
 use std::cell::Cell;
-use std::io;
-use std::io::{Read, Write};
+use std::io::{self, Error, ErrorKind, Read, Write};
 use std::net::TcpStream;
 use std::sync::Wait;
-use std::time::{Clock, Instant};
+use std::time::{Clock, Duration, Instant};
 
 /// How many seconds a client has between requests, until the first byte of the next.
 const IDLE_SECS: u64 = 30;
@@ -22,6 +20,9 @@ const REQUEST_SECS: u64 = 10;
 
 /// How many seconds a client has in all to take a reply.
 const REPLY_SECS: u64 = 10;
+
+/// How many milliseconds one who waits for a client's bytes, or for room for its own, waits before it looks whether the disk has failed.
+const LOOK: u64 = 250;
 
 /// Whose turn it is, and until when.
 #[derive(Clone, Copy)]
@@ -59,36 +60,75 @@ impl<'a, R: Wait + Clock> Client<'a, R> {
         matches!(self.turn.get(), Turn::Asks(_))
     }
 
+    /// How long one call of the stream may wait, of which the last has to end by a moment. There is none once the disk has failed.
+    fn wait_until<D: Disk>(&self, progress: &Progress<D>, end: Instant) -> io::Result<Duration> {
+        if progress.has_failed(self.rt) {
+            return Err(Error::from(ErrorKind::Other));
+        }
+        let left = time_until(self.rt, end)?;
+        Ok(left.min(Duration::from_millis(LOOK)))
+    }
+
     /// Reads what came of a request.
-    pub(crate) fn read(&self, buffer: &mut [u8]) -> io::Result<usize>
+    pub(crate) fn read<D: Disk>(
+        &self,
+        progress: &Progress<D>,
+        buffer: &mut [u8],
+    ) -> io::Result<usize>
         ensures { ReadsAtMost result buffer.new }
     {
         let (Turn::Begins(end) | Turn::Asks(end) | Turn::Takes(end)) = self.turn.get();
-        let left = time_until(self.rt, end)?;
-        self.stream.set_read_timeout(Some(left))?;
-        let mut stream = &self.stream;
-        let count = stream.read(buffer)?;
-        if !self.has_begun() {
-            self.turn
-                .set(Turn::Asks(seconds_on(self.rt, REQUEST_SECS)?));
+        for _ in self.rt.forever() {
+            let wait = self.wait_until(progress, end)?;
+            self.stream.set_read_timeout(Some(wait))?;
+            let mut stream = &self.stream;
+            match stream.read(buffer) {
+                Err(error) if error.kind() == ErrorKind::WouldBlock => {}
+                Err(error) => return Err(error),
+                Ok(count) => {
+                    self.begin_request()?;
+                    return Ok(count);
+                }
+            }
         }
+        unreachable!()
+    }
+
+    /// The first bytes of a request have come, or more of them.
+    fn begin_request(&self) -> io::Result<()> {
+        if !self.has_begun() {
+            let end = seconds_on(self.rt, REQUEST_SECS)?;
+            self.turn.set(Turn::Asks(end));
+        }
+        Ok(())
+    }
+
+    /// Writes some first bytes of a reply, once all that the tally counts is kept.
+    pub(crate) fn write<D: Disk>(
+        &self,
+        progress: &Progress<D>,
+        tally: Tally<'_, D>,
+        bytes: &[u8],
+    ) -> io::Result<usize>
+        ensures count { WritesAtMost result bytes.now }
+        ensures leave { IfOk result (λ _. (kept : ℕ) × MayLeave D.keeps tally.entry kept) }
+    {
+        let mut mouth = Mouth {
+            client: self,
+            progress,
+        };
+        let (count, _) = send(self.rt, tally, &mut mouth, bytes)?;
         Ok(count)
     }
 
-    /// Writes some first bytes of a reply, once all that the tally counts is kept, or at once where the disk had failed before.
-    pub(crate) fn write<D: Disk>(
-        &self,
-        tally: Tally<'_, D>,
-        standing: Standing,
-        bytes: &[u8],
-    ) -> io::Result<usize>
-        requires { IsKnown D.failed standing }
-        ensures count { WritesAtMost result bytes.now }
-        ensures leave { IfOk result (λ _. (leave : Leave) × MayLeave D.keeps D.failed standing tally.entry leave) }
-    {
-        let mut mouth = Mouth { client: self };
-        let (count, _) = send(self.rt, tally, standing, &mut mouth, bytes)?;
-        Ok(count)
+    /// Bytes of a reply have gone out, and so many are left of those that were to.
+    fn has_written(&self, left: usize, end: Instant) -> io::Result<()> {
+        self.turn.set(if left > 0 {
+            Turn::Takes(end)
+        } else {
+            Turn::Begins(seconds_on(self.rt, IDLE_SECS)?)
+        });
+        Ok(())
     }
 
     /// Until when the client has to take what goes out of a reply.
@@ -102,27 +142,40 @@ impl<'a, R: Wait + Clock> Client<'a, R> {
 
 /// What gives a client bytes at once.
 #[derive(Drop)]
-struct Mouth<'a, 'b, R> {
+struct Mouth<'a, 'b, R, D: Disk> {
     client: &'a Client<'b, R>,
+    progress: &'a Progress<D>,
 }
 
-impl<R: Wait + Clock> Write for Mouth<'_, '_, R> {
+impl<R: Wait + Clock, D: Disk> Write for Mouth<'_, '_, R, D> {
     fn write(&mut self, bytes: &[u8]) -> io::Result<usize> {
         let client = self.client;
         let end = client.reply_end()?;
-        let left = time_until(client.rt, end)?;
-        client.stream.set_write_timeout(Some(left))?;
-        let mut stream = &client.stream;
-        let count = stream.write(bytes)?;
-        client.turn.set(if count < bytes.len() {
-            Turn::Takes(end)
-        } else {
-            Turn::Begins(seconds_on(client.rt, IDLE_SECS)?)
-        });
-        Ok(count)
+        for _ in client.rt.forever() {
+            let wait = client.wait_until(self.progress, end)?;
+            client.stream.set_write_timeout(Some(wait))?;
+            let mut stream = &client.stream;
+            match stream.write(bytes) {
+                Err(error) if error.kind() == ErrorKind::WouldBlock => {}
+                Err(error) => return Err(error),
+                Ok(count) => {
+                    client.has_written(bytes.len() - count, end)?;
+                    return Ok(count);
+                }
+            }
+        }
+        unreachable!()
     }
 
     fn flush(&mut self) -> io::Result<()> {
+        Ok(())
+    }
+
+    /// It fails where the client takes a part of them at once.
+    fn write_all(&mut self, bytes: &[u8]) -> io::Result<()> {
+        if self.write(bytes)? < bytes.len() {
+            return Err(Error::from(ErrorKind::WriteZero));
+        }
         Ok(())
     }
 }

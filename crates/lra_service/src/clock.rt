@@ -1,6 +1,6 @@
 //! The system's clock.
 
-ghost use Rattle.std.specs.Prelude.{◌≡◌};
+ghost use Rattle.std.specs.Prelude.{◌≡◌, max, unwrap_or};
 
 use lra_front::Clock;
 use std::time;
@@ -12,7 +12,17 @@ pub(crate) fn milliseconds<R: time::Clock>(rt: &R) -> Option<u64> {
     u64::try_from(since.as_millis()).ok()
 }
 
-/// The system's clock, in milliseconds since 1970. Where it can't be read it stands still.
+/// The moment to tell after another: the one that was read, but none that is earlier.
+fn later(last: u64, read: Option<u64>) -> u64
+    ensures { result ≡ max last (unwrap_or read last) }
+{
+    match read {
+        Some(moment) if last < moment => moment,
+        _ => last,
+    }
+}
+
+/// The system's clock, in milliseconds since 1970. Where it can't be read, or was set back, it stands still.
 #[derive(Drop)]
 pub struct SystemClock<'a, R> {
     rt: &'a R,
@@ -29,13 +39,12 @@ impl<'a, R: time::Clock> SystemClock<'a, R> {
 }
 
 impl<R: time::Clock> Clock for SystemClock<'_, R> {
-    ghost use Rattle.std.specs.Prelude.{◌≡◌};
+    ghost use Rattle.std.specs.Prelude.{◌≡◌, ◌≤◌};
 
-    ghost tells = { λ _ moment after. after.last ≡ moment };
+    ghost tells = { λ before moment after. (before.last ≤ moment) × (after.last ≡ moment) };
 
     fn now(&mut self) -> u64 {
-        let moment = milliseconds(self.rt).unwrap_or(self.last);
-        self.last = moment;
-        moment
+        self.last = later(self.last, milliseconds(self.rt));
+        self.last
     }
 }

@@ -1,10 +1,11 @@
 //! The office of a service, and its first clerk.
 
-ghost use Rattle.std.specs.Prelude.{◌≡◌, [], true, IfOk, IfErr};
+ghost use Rattle.std.specs.Prelude.{◌≡◌, true, IfOk, IfErr};
+ghost use Rattle.lra_commands.specs.Terms.{usual};
 ghost use Rattle.lra_ids.specs.Addresses.{is_base};
-ghost use Rattle.lra_office.specs.Wholes.{whole_lines};
-ghost use Rattle.lra_service.specs.inner.Faults.{IsOfNoScript};
-ghost use Rattle.lra_service.specs.inner.Opened.{GoesOn};
+ghost use Rattle.lra_office.specs.Made.{new_origin};
+ghost use Rattle.lra_service.specs.Faults.{IsOfNoScript};
+ghost use Rattle.lra_service.specs.Opened.{IsBegun, GoesOn};
 
 use crate::fault::ServeFault;
 use crate::post::enrol_fault;
@@ -46,7 +47,7 @@ fn begin<W: Write + Drop, R: Wait>(
     moment: u64,
 ) -> Result<(Office<Desk<W>>, Clerk<Desk<W>>), ServeFault>
     requires { is_base base ≡ true }
-    ensures opened { IfOk result (λ opened. GoesOn base [] opened.0 opened.1) }
+    ensures opened { IfOk result (λ opened. IsBegun (new_origin moment base usual (W.contents writer)) moment opened.0 opened.1) }
     ensures fault { IfErr result IsOfNoScript }
 {
     let Some(instance) = Instance::new(moment) else {
@@ -62,7 +63,7 @@ fn begin<W: Write + Drop, R: Wait>(
 }
 
 /// An office that goes on from a journal, or begins one where there is none.
-pub(crate) fn open_office<W: Write + Drop, R: Wait>(
+pub fn open_office<W: Write + Drop, R: Wait>(
     rt: &R,
     alloc: Global,
     base: Address,
@@ -71,7 +72,7 @@ pub(crate) fn open_office<W: Write + Drop, R: Wait>(
     moment: u64,
 ) -> Result<(Office<Desk<W>>, Clerk<Desk<W>>), ServeFault>
     requires { is_base base ≡ true }
-    ensures opened { IfOk result (λ opened. GoesOn base (whole_lines journal.items) opened.0 opened.1) }
+    ensures opened { IfOk result (λ opened. GoesOn base journal.items moment (W.contents writer) opened.0 opened.1) }
     ensures fault { IfErr result IsOfNoScript }
 {
     if journal.is_empty() {

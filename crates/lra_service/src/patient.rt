@@ -4,7 +4,7 @@ ghost use Rattle.std.specs.Prelude.{◌≡◌};
 
 use lra_core::Errand;
 use lra_courier::Courier;
-use lra_durable::{Disk, Progress, Standing};
+use lra_durable::{Disk, Progress};
 use lra_model::Outcome;
 use std::sync::Wait;
 
@@ -33,15 +33,13 @@ impl<R: Wait, D: Disk, C: Courier + Drop> Courier for Patient<'_, R, D, C> {
     ghost use Rattle.std.specs.Prelude.{◌≡◌, ◌⊎◌};
     ghost use Rattle.std.proofs.Common.{inl, inr};
     ghost use Rattle.lra_model.specs.declared.asks.Outcome.TheVariants.{Silent};
-    ghost use Rattle.lra_durable.specs.declared.progress.Standing.TheVariants.{Sound};
     ghost use Rattle.lra_durable.specs.Leaves.{HasLeave};
     ghost use Rattle.lra_service.specs.Outcomes.{silence_suits};
 
-    ghost gives = { λ ask kind outcome. (HasLeave D.keeps D.failed Sound × C.gives ask kind outcome) ⊎ (outcome ≡ Silent) };
+    ghost gives = { λ ask kind outcome. (HasLeave D.took D.keeps × C.gives ask kind outcome) ⊎ (outcome ≡ Silent) };
 
     fn carry(&mut self, errand: &Errand) -> Outcome {
-        let tally = self.progress.tally(self.rt);
-        match tally.settle(self.rt, Standing::Sound) {
+        match self.progress.tally(self.rt).settle(self.rt) {
             Ok(_) => self.courier.carry(errand),
             Err(_) => Outcome::Silent,
         }

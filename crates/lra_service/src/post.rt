@@ -2,7 +2,7 @@
 
 ghost use Rattle.std.specs.Prelude.{All, IfOk, IfErr};
 ghost use Rattle.lra_office.specs.Clerks.{IsClerkOf};
-ghost use Rattle.lra_service.specs.inner.Faults.{IsOfNoScript};
+ghost use Rattle.lra_service.specs.Faults.{IsOfNoScript};
 ghost use Rattle.lra_service.specs.inner.Opened.{IsAt};
 
 use crate::fault::ServeFault;

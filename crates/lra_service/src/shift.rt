@@ -38,6 +38,14 @@ pub(crate) struct Shift<'a, R> {
 }
 
 impl<R: Wait + Clock + Net<Stream = TcpStream, Listener = TcpListener>> Shift<'_, R> {
+    /// Syncs for all that wait for the disk. Once it has failed all end.
+    fn sync(&self) {
+        if self.progress.run_syncer(self.rt).is_err() {
+            self.has_ended.store(true, Ordering::SeqCst);
+            self.door.wake();
+        }
+    }
+
     /// Takes down that one who answered connections has ended: with the last one all end.
     fn leave(&self) {
         if self.answering.fetch_sub(1, Ordering::SeqCst) <= 1 {
@@ -114,7 +122,7 @@ pub(crate) fn work<
 {
     let (_, worked) = join(
         shift.rt,
-        move || shift.progress.run_syncer(shift.rt),
+        move || shift.sync(),
         move || -> Result<(), AllocError>
             requires { All (λ job. IsAt V.setting office.now job.1) jobs.items }
         { work_all(shift, office, jobs) },

@@ -1,5 +1,5 @@
 -- Calls that a worker gives, one after another.
-use Rattle.std.proofs.Common.{◌≡◌, ℕ, suc, refl, sym, ◌∙◌, ap, subst, inl, inr, Option, Some, None}
+use Rattle.std.proofs.Common.{◌≡◌, ◌≢◌, ℕ, suc, false, refl, sym, ◌∙◌, ap, subst, inl, inr, Option, Some, None}
 use Rattle.std.specs.Prelude.{Result, Ok, Err, IfOk, IfSome, MatchResult}
 use Rattle.lra_model.specs.declared.asks.AskKind.{AskKind}
 use Rattle.lra_model.specs.declared.asks.Outcome.{Outcome}
@@ -20,6 +20,7 @@ use Rattle.lra_office.specs.declared.fault.OfficeRefusal.TheVariants as office
 use Rattle.lra_office.specs.Orders.{IsGrown, IsNotGiven, IsErrand}
 use Rattle.lra_workers.specs.declared.worker.WorkerEnd.{WorkerEnd}
 use Rattle.lra_workers.specs.declared.worker.WorkerEnd.TheVariants as worker
+use Rattle.lra_workers.proofs.Refusing.{unasked, ends, never_late}
 use Rattle.lra_workers.specs.Work.{Post, post, IsWorkersCommand, Fails, Does, WorksIn, Works, WorksUpTo, EndsWork}
 
 -- an errand that was given is of an ask in what is seen then
@@ -81,9 +82,9 @@ module _ {O K : Type 0} (setting : O → Setting) (gives : ℕ → AskKind → O
 
   -- an errand was asked for
   pub asked : (s : Post O K) (v w : View O) (k l : K) (c : Call) (r : Result (Option Asking) OfficeRefusal) → IsErrand (setting v.origin) v c r w → Works setting gives tells s (post v k) → c.by ≡ v.number → IsWorkersCommand gives v.seen c.command
-      → tells k c.moment l → MatchResult r (λ _. Works setting gives tells s (post w l)) (λ x. WorksUpTo setting gives tells s x (post w l))
-  asked s v w k l c (Ok e) h before by own clocked = works_on s (post v k) (post w l) before (does v w k l c h.0 e by own clocked h.1)
-  asked s v w k l c (Err x) h before by own clocked = (post v k, before, fails v w k l c x by own clocked h)
+      → ((J : History) → unasked J c.command ≡ false) → tells k c.moment l → MatchResult r (λ _. Works setting gives tells s (post w l)) (λ x. WorksUpTo setting gives tells s x (post w l))
+  asked s v w k l c (Ok e) h before by own never clocked = works_on s (post v k) (post w l) before (does v w k l c h.0 e by own clocked h.1)
+  asked s v w k l c (Err x) h before by own never clocked = (post v k, before, fails v w k l c x by own clocked h, never_late gives (setting v.origin) v w c x h by own never)
 
   -- what came of an errand was recorded
   pub records : (v w : View O) (k l : K) (c : Call) (number at : ℕ) (a : Asking) (o : Outcome) (t : Told) (e : Option Asking) → RecordsAs c number at a o → v.number ≡ number → IsOfAsk v.seen a → gives a.ask a.kind o → tells k at l
@@ -99,6 +100,6 @@ module _ {O K : Type 0} (setting : O → Setting) (gives : ℕ → AskKind → O
 
   -- a record that is refused is passed over, or ends the work
   pub passed : (s u t : Post O K) (x : OfficeRefusal) (r : Result (Unit {0}) WorkerEnd) → Works setting gives tells s u → Fails setting gives tells u x t
-      → MatchResult r (λ _. x ≡ office.Refused NotAsked) (λ end. end ≡ worker.Refused x) → MatchResult r (λ _. Works setting gives tells s t) (λ end. EndsWork setting gives tells s end t)
+      → MatchResult r (λ _. x ≡ office.Refused NotAsked) (λ end. (x ≢ office.Refused NotAsked) × (end ≡ worker.Refused x)) → MatchResult r (λ _. Works setting gives tells s t) (λ end. EndsWork setting gives tells s end t)
   passed s u t x (Ok _) before f h = works_late s u t before (subst (λ (y : OfficeRefusal). Fails setting gives tells u y t) h f)
-  passed s u t x (Err e) before f h = subst (λ (end : WorkerEnd). EndsWork setting gives tells s end t) (sym h) (u, before, f)
+  passed s u t x (Err e) before f h = subst (λ (end : WorkerEnd). EndsWork setting gives tells s end t) (sym h.1) (u, before, f, ends gives (setting u.view.origin) u.view t.view f.call x f.given f.own.by f.own.command h.0)

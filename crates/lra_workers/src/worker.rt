@@ -1,6 +1,6 @@
 //! A worker's turns.
 
-ghost use Rattle.std.specs.Prelude.{◌≡◌, true, ℕ, IfOk, IfSome, IfErr, MatchResult};
+ghost use Rattle.std.specs.Prelude.{◌≡◌, ◌≢◌, true, ℕ, IfOk, IfSome, IfErr, MatchResult};
 ghost use Rattle.lra_model.specs.declared.asks.AskKind.{AskKind};
 ghost use Rattle.lra_model.specs.declared.asks.Outcome.{Outcome as OutcomeValue};
 ghost use Rattle.lra_commands.specs.Given.{IsOfAsk};
@@ -68,11 +68,12 @@ fn is_let_go<G: Gate>(gate: &mut G, ask: u64) -> bool {
 
 /// How a worker goes on whose record is refused: an ask that isn't outstanding any more is passed over.
 fn after_refusal(refusal: OfficeRefusal) -> Result<(), WorkerEnd>
-    ensures { MatchResult result (λ _. refusal ≡ office.Refused NotAsked) (λ end. end ≡ worker.Refused refusal) }
+    ensures { MatchResult result (λ _. refusal ≡ office.Refused NotAsked) (λ end. (refusal ≢ office.Refused NotAsked) × (end ≡ worker.Refused refusal)) }
 {
-    match refusal {
-        OfficeRefusal::Refused(Refusal::NotAsked) => Ok(()),
-        refusal => Err(WorkerEnd::Refused(refusal)),
+    if refusal == OfficeRefusal::Refused(Refusal::NotAsked) {
+        Ok(())
+    } else {
+        Err(WorkerEnd::Refused(refusal))
     }
 }
 

@@ -1,5 +1,5 @@
 use Rattle.std.proofs.Common.{sym}
-use Rattle.lra_courier.proofs.SendLemmas.{refused_is_none, other_is_none}
+use Rattle.lra_courier.proofs.SendLemmas.{refused_is_none, other_is_none, own_is_one}
 use Rattle.lra_courier.proofs.writing.own_address.Goals as goal
 
 pub returns-else-eq-clause-err : goal.returns-else-eq-clause-err
@@ -13,3 +13,6 @@ returns-in-Err-NotHttp-clause-err c _ = refused_is_none _ _ (c.in-Err-NotHttp.en
 
 pub returns-in-Err-TooLong-clause-err : goal.returns-in-Err-TooLong-clause-err
 returns-in-Err-TooLong-clause-err c _ = refused_is_none _ _ (c.in-Err-TooLong.ensures.fault (λ e. cc))
+
+pub returns-then-eq-clause-address : goal.returns-then-eq-clause-address
+returns-then-eq-clause-address c = own_is_one _ _ _ c.in-Ok.ensures.ok c.as_str.ensures.value (sym c.if-eq.ensures)

@@ -1,0 +1,84 @@
+//! Errands over the connections that a dialler opens.
+
+ghost use Rattle.std.specs.Prelude.{◌≡◌, IfOk, IfErr, IsTrue};
+ghost use Rattle.lra_model.specs.Words.{outcome_suits};
+ghost use Rattle.lra_courier.specs.Exchanges.{ComesOf};
+ghost use Rattle.lra_courier.specs.Calls.{Reaches, Lacks, Calls};
+
+use crate::callback::Callback;
+use crate::courier::Courier;
+use crate::dialler::Dialler;
+use crate::fault::{CallFault, SendFault};
+use crate::socket::socket_text;
+use crate::writing::own_address;
+use lra_core::Errand;
+use lra_model::Outcome;
+use std::alloc::Global;
+
+/// Carries errands over the connections that a dialler opens, one each.
+#[derive(Drop)]
+pub struct DiallingCourier<D> {
+    pub(crate) dialler: D,
+    pub(crate) alloc: Global,
+}
+
+impl<D: Dialler> DiallingCourier<D> {
+    /// A courier over the connections of this dialler.
+    pub fn over(dialler: D, alloc: Global) -> DiallingCourier<D>
+        ensures { result.dialler ≡ dialler }
+    {
+        DiallingCourier { dialler, alloc }
+    }
+
+    /// Carries a callback out, over a connection to the socket of its address, and tells what came of it.
+    pub fn try_call(&self, callback: &Callback<'_>) -> Result<Outcome, CallFault>
+        ensures calls { Calls D.gives D.Stream.contents D.Stream.remaining self.now.dialler callback.now result }
+        ensures suits { IfOk result (λ outcome. IsTrue (outcome_suits callback.now.kind outcome)) }
+    {
+        match self.reach(callback.address) {
+            Ok(stream) => callback.converse(self.alloc, stream),
+            Err(fault) => Err(fault),
+        }
+    }
+
+    /// The same, where any fault is [`Outcome::Silent`].
+    pub fn call(&self, callback: &Callback<'_>) -> Outcome
+        ensures calls { ComesOf (Calls D.gives D.Stream.contents D.Stream.remaining self.now.dialler callback.now) result }
+        ensures suits { IsTrue (outcome_suits callback.now.kind result) }
+    {
+        match self.try_call(callback) {
+            Ok(outcome) => outcome,
+            Err(_) => Outcome::Silent,
+        }
+    }
+
+    /// A connection to the socket of an address.
+    fn reach(&self, address: &str) -> Result<D::Stream, CallFault>
+        ensures ok { IfOk result (λ stream. Reaches D.gives self.now.dialler address.now stream) }
+        ensures err { IfErr result (λ fault. Lacks D.gives self.now.dialler address.now fault) }
+    {
+        let to = match own_address(self.alloc, address) {
+            Ok(to) => to,
+            Err(fault) => return Err(CallFault::Send(fault)),
+        };
+        let Ok(socket) = socket_text(self.alloc, &to) else {
+            return Err(CallFault::Send(SendFault::Memory));
+        };
+        match self.dialler.dial(socket.as_str()) {
+            Some(stream) => Ok(stream),
+            None => Err(CallFault::Unreached),
+        }
+    }
+}
+
+impl<D: Dialler> Courier for DiallingCourier<D> {
+    ghost use Rattle.lra_courier.specs.Calls.{Carries};
+
+    ghost gives = { λ ask kind outcome. Carries D.gives D.Stream.contents D.Stream.remaining ask kind outcome };
+
+    fn carry(&mut self, errand: &Errand) -> Outcome {
+        self.call(&Callback::of(errand))
+    }
+
+    ghost suits = { λ ask kind outcome h. h.suits };
+}
