@@ -52,5 +52,5 @@ pub taken : (u : Sheet) (J : History) (e : Entry) (ps : List Entry) → StandsFo
 taken u J e ps h planned = rw (← planned) h
 
 -- such tables are those of a history that has a block whose entries these are
-pub adopted : (t : Sheet) (J K : History) (e : Entry) (es : List Entry) → StandsFor t (J ++ with_settling J e) → es ≡ with_settling J e → K ≡ J ++ es → t ≡ sheet_of K
-adopted t J K e es h block grown = h.sheet ∙ ap sheet_of (ap (λ (ds : List Entry). J ++ ds) (sym block) ∙ sym grown)
+pub adopted : (t : Sheet) (J : History) (e : Entry) (es : List Entry) → StandsFor t (J ++ with_settling J e) → es ≡ with_settling J e → t ≡ sheet_of (J ++ es)
+adopted t J e es h block = h.sheet ∙ ap sheet_of (ap (λ (ds : List Entry). J ++ ds) (sym block))

@@ -5,15 +5,16 @@
 //! many entries take a little more than ten times as long, since their numbers have more digits. From the smallest flat
 //! journal to the next it is less, since the same 400 members join in both, and their addresses take longest.
 
-ghost use Rattle.std.specs.Prelude.{◌≡◌};
+ghost use Rattle.std.specs.Prelude.{◌≡◌, ◌+◌, ◌<◌, ◌^◌, length};
 
 use crate::journals::{Journal, Kind};
 use crate::memory::kilobytes;
-use anyhow::{Result, bail, ensure};
+use crate::stopwatch::Stopwatch;
+use anyhow::{Context, Result, bail, ensure};
 use lra_auditor::{Auditor, Verdict};
 use std::alloc::AllocError;
 use std::num::nearest_u64_to_f64;
-use std::time::{Duration, Instant};
+use std::time::Duration;
 
 /// How many entries, in how many runs: the shortest counts, since what else the machine does only makes a run longer.
 const SIZES: [(u64, u32); 4] = [(10_000, 50), (100_000, 20), (1_000_000, 5), (10_000_000, 3)];
@@ -28,6 +29,18 @@ struct Cost {
     time: Duration,
 }
 
+/// Feeds a piece, and tells how long it took.
+fn feed_piece(rt: &HostRuntime, piece: &[u8], auditor: &mut Auditor) -> Result<Duration>
+    requires { auditor.old.fed + length piece.now < 2 ^ 63 }
+    ensures { auditor.new.fed ≡ auditor.old.fed + length piece.now }
+{
+    let watch = Stopwatch::start(rt);
+    let fed = auditor.feed(piece);
+    let time = watch.elapsed(rt);
+    fed.map_err(|_| AllocError)?;
+    time.context("the clock can't be read")
+}
+
 /// Feeds a journal to its end.
 fn feed_all(rt: &HostRuntime, journal: &mut Journal, auditor: &mut Auditor) -> Result<Cost>
     requires { auditor.old.fed ≡ 0 }
@@ -39,22 +52,16 @@ fn feed_all(rt: &HostRuntime, journal: &mut Journal, auditor: &mut Auditor) -> R
         if piece.is_empty() {
             break;
         }
-        let start = Instant::now(rt)?;
-        auditor.feed(&piece).map_err(|_| AllocError)?;
-        time = time.saturating_add(start.elapsed(rt)?);
         bytes = bytes.saturating_add(piece.len() as u64);
+        let fed = feed_piece(rt, piece.as_slice(), auditor);
+        drop(piece);
+        time = time.saturating_add(fed?);
     }
     Ok(Cost { bytes, time })
 }
 
-/// Audits a journal of so many entries, which has to be sound.
-fn audit(rt: &HostRuntime, kind: Kind, entries: u64) -> Result<Cost> {
-    let mut journal = Journal::new(rt.alloc(), kind, entries)?;
-    let mut auditor = Auditor::new(rt.alloc());
-    let fed = feed_all(rt, &mut journal, &mut auditor)?;
-    let start = Instant::now(rt)?;
-    let verdict = auditor.finish().map_err(|_| AllocError)?;
-    let time = fed.time.saturating_add(start.elapsed(rt)?);
+/// A verdict on a journal of so many entries has to find it sound.
+fn check(verdict: &Verdict, entries: u64) -> Result<()> {
     match verdict {
         Verdict::Sound(summary) => {
             let counted = summary.entries;
@@ -62,13 +69,47 @@ fn audit(rt: &HostRuntime, kind: Kind, entries: u64) -> Result<Cost> {
                 counted == entries,
                 "{counted} entries were read of {entries}"
             );
+            Ok(())
         }
         Verdict::Unsound { line, rule } => {
             let rule = rule.name();
             bail!("the journal is unsound at line {line}: {rule}");
         }
     }
-    Ok(Cost { time, ..fed })
+}
+
+/// Ends the audit of a journal of so many entries, and tells how long that took.
+fn finish(rt: &HostRuntime, auditor: Auditor, entries: u64) -> Result<Duration> {
+    let watch = Stopwatch::start(rt);
+    let verdict = auditor.finish().map_err(|_| AllocError)?;
+    let time = watch.elapsed(rt);
+    let checked = check(&verdict, entries);
+    drop(verdict);
+    checked?;
+    time.context("the clock can't be read")
+}
+
+/// Audits a journal of so many entries, which has to be sound.
+fn audit_journal(rt: &HostRuntime, journal: &mut Journal, entries: u64) -> Result<Cost> {
+    let mut auditor = Auditor::new(rt.alloc());
+    match feed_all(rt, journal, &mut auditor) {
+        Ok(fed) => {
+            let time = fed.time.saturating_add(finish(rt, auditor, entries)?);
+            Ok(Cost { time, ..fed })
+        }
+        Err(error) => {
+            drop(auditor);
+            Err(error)
+        }
+    }
+}
+
+/// Audits a new journal of so many entries.
+fn audit(rt: &HostRuntime, kind: Kind, entries: u64) -> Result<Cost> {
+    let mut journal = Journal::new(rt.alloc(), kind, entries)?;
+    let cost = audit_journal(rt, &mut journal, entries);
+    drop(journal);
+    cost
 }
 
 /// The shortest audit of some.

@@ -2,14 +2,16 @@
 ghost use Rattle.std.specs.Prelude.{◌≡◌, All, IfOk};
 ghost use Rattle.lra_ticket.specs.Locks.{lock_id, pass_id};
 
+use crate::stopwatch::Stopwatch;
+use anyhow::{Context, Result};
 use lra_model::{Entry, Memory};
 use lra_ticket::example::{EntryLock, EntryPass};
 use std::alloc::Global;
 use std::io::Print;
 use std::sync::{Mutex, Wait};
+use std::thread;
 use std::thread::Threads;
-use std::time::{Clock, Duration, Instant};
-use std::{io, thread};
+use std::time::{Clock, Duration};
 
 /// The handovers of one measurement, by all threads together.
 const HANDOVERS: u64 = 1_000_000;
@@ -50,6 +52,7 @@ fn passes(
         pass = kept;
         all.push(other)?;
     }
+    drop(pass);
     Ok(all)
 }
 
@@ -79,40 +82,52 @@ fn time_tickets<R: Threads + Wait + Clock + Sync>(
     lock: &EntryLock,
     pass: EntryPass,
     threads: u64,
-) -> io::Result<Duration>
+) -> Result<Duration>
     requires { pass_id pass ≡ lock_id lock.now }
 {
     let jobs = passes(alloc, lock, pass, threads)?;
-    let start = Instant::now(rt);
+    let watch = Stopwatch::start(rt);
     hand_over_all(rt, lock, jobs, HANDOVERS / threads.max(1))?;
-    start?.elapsed(rt)
+    watch.elapsed(rt).context("the clock can't be read")
 }
 
 fn through_tickets<R: Threads + Wait + Clock + Sync>(
     rt: &R,
     alloc: Global,
     threads: u64,
-) -> io::Result<Duration> {
+) -> Result<Duration> {
     let (lock, pass) = EntryLock::new(alloc, Vec::new(alloc))?;
-    time_tickets(rt, alloc, &lock, pass, threads)
+    let time = time_tickets(rt, alloc, &lock, pass, threads);
+    drop(lock);
+    time
+}
+
+fn time_mutex<R: Threads + Wait + Clock + Sync>(
+    rt: &R,
+    alloc: Global,
+    lock: &Mutex<Vec<Entry>>,
+    threads: u64,
+) -> Result<Duration> {
+    let times = HANDOVERS / threads.max(1);
+    let watch = Stopwatch::start(rt);
+    thread::map_indices(
+        rt,
+        alloc,
+        threads as usize,
+        &|_| lock_and_unlock(rt, lock, times),
+    )?;
+    watch.elapsed(rt).context("the clock can't be read")
 }
 
 fn through_a_mutex<R: Threads + Wait + Clock + Sync>(
     rt: &R,
     alloc: Global,
     threads: u64,
-) -> io::Result<Duration> {
+) -> Result<Duration> {
     let lock = Mutex::new(Vec::new(alloc));
-    let shared = &lock;
-    let times = HANDOVERS / threads.max(1);
-    let start = Instant::now(rt)?;
-    thread::map_indices(
-        rt,
-        alloc,
-        threads as usize,
-        &|_| lock_and_unlock(rt, shared, times),
-    )?;
-    start.elapsed(rt)
+    let time = time_mutex(rt, alloc, &lock, threads);
+    drop(lock);
+    time
 }
 
 /// How many there are a second, where so many took a time.
@@ -122,7 +137,7 @@ pub fn a_second(count: u64, time: Duration) -> u64 {
 }
 
 /// Prints a line for 1, 2, 4 and 8 threads: handovers a second through the ticket lock and through the Mutex, and the first as hundredths of the second.
-pub fn run<R: Threads + Wait + Clock + Print + Sync>(rt: &R, alloc: Global) -> io::Result<()> {
+pub fn run<R: Threads + Wait + Clock + Print + Sync>(rt: &R, alloc: Global) -> Result<()> {
     for threads in [1u64, 2, 4, 8] {
         let ours = a_second(HANDOVERS, through_tickets(rt, alloc, threads)?);
         let theirs = a_second(HANDOVERS, through_a_mutex(rt, alloc, threads)?);

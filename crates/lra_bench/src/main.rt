@@ -12,7 +12,6 @@ mod memory;
 mod office;
 mod pieces;
 mod requests;
-mod serve;
 mod setting;
 mod stopwatch;
 mod tables;
@@ -31,7 +30,6 @@ ids       address texts tested a second, short and long
 lock      handovers of the ticket lock, beside a Mutex
 office    commands a second through an office by several threads, beside a Mutex and one thread alone
 requests  HTTP requests answered a second, beside reading them and beside their commands
-serve     requests a second over loopback by 1, 4 and 16 connections, beside a server with one reply and one without a lock, and commands a sync of a journal's file
 tables    what commands cost the tables, as their members grow from 1,000 to 400,000
 timers    the calls of an agenda, as its pairs grow from 1,000 to 400,000
 wire      requests read a second, whole and in small pieces";
@@ -64,19 +62,26 @@ fn status(rt: &HostRuntime, name: &str) -> anyhow::Result<ExitCode> {
     Ok(ExitCode::from(UNKNOWN))
 }
 
-fn main(rt: HostRuntime) -> anyhow::Result<ExitCode> {
-    let mut args = env::args(&rt)?;
+/// The name that the program is given, where it is given one.
+fn given_name(rt: &HostRuntime) -> anyhow::Result<Option<String>> {
+    let mut args = env::args(rt)?;
     let _program = args.next();
-    let Some(name) = args.next() else {
+    let name = args.next();
+    drop(args);
+    Ok(name)
+}
+
+fn main(rt: HostRuntime) -> anyhow::Result<ExitCode> {
+    let Some(name) = given_name(&rt)? else {
         println!(rt; "{USAGE}")?;
         return Ok(ExitCode::SUCCESS);
     };
     // Only here may the runtime start threads.
-    match name.as_str() {
-        "lock" => lock::run(&rt, rt.alloc())?,
-        "office" => office::run(&rt, rt.alloc())?,
-        "serve" => serve::run(&rt, rt.alloc())?,
-        name => return status(&rt, name),
-    }
-    Ok(ExitCode::SUCCESS)
+    let ended = match name.as_str() {
+        "lock" => lock::run(&rt, rt.alloc()).map(|_| ExitCode::SUCCESS),
+        "office" => office::run(&rt, rt.alloc()).map(|_| ExitCode::SUCCESS),
+        name => status(&rt, name),
+    };
+    drop(name);
+    ended
 }

@@ -9,6 +9,7 @@ ghost use Rattle.lra_ticket.specs.Locks.{lock_id, pass_id, pass_view};
 use crate::coordinator::desk::{Desk as Alone, limits};
 use crate::lock::a_second;
 use crate::setting::{base, instance};
+use crate::stopwatch::Stopwatch;
 use anyhow::{Context, Result, bail, ensure};
 use lra_core::{Command, Committed, Told};
 use lra_model::{Outcome, Uris, suits};
@@ -19,7 +20,7 @@ use std::io::{Print, Write};
 use std::marker::Send;
 use std::sync::{Mutex, Wait};
 use std::thread::{self, Threads};
-use std::time::{Clock, Duration, Instant};
+use std::time::{Clock, Duration};
 
 /// The rounds of one measurement, by all threads together.
 const ROUNDS: u64 = 40_000;
@@ -148,7 +149,25 @@ fn ask_at<V: Serving, R: Wait>(rt: &R, office: &Office<V>, clerk: &mut Clerk<V>)
     }
 }
 
-/// So many rounds by a clerk that is enrolled for them; false where one of them fails.
+/// So many rounds by a clerk; false where one of them fails.
+fn does_rounds_of<V: Serving, R: Wait>(
+    rt: &R,
+    office: &Office<V>,
+    clerk: &mut Clerk<V>,
+    uris: &Uris,
+    rounds: u64,
+) -> bool
+    requires { IsClerkOf office.now.lock clerk.old }
+{
+    for _ in 0..rounds {
+        if round_at(rt, office, clerk, uris).is_none() {
+            return false;
+        }
+    }
+    true
+}
+
+/// The same by a clerk that is enrolled for them.
 fn does_rounds_at<V: Serving, R: Wait>(
     rt: &R,
     office: &Office<V>,
@@ -162,12 +181,9 @@ fn does_rounds_at<V: Serving, R: Wait>(
     let Ok(mut clerk) = office.clerk(rt, pass, 0) else {
         return false;
     };
-    for _ in 0..rounds {
-        if round_at(rt, office, &mut clerk, uris).is_none() {
-            return false;
-        }
-    }
-    true
+    let are_done = does_rounds_of(rt, office, &mut clerk, uris, rounds);
+    drop(clerk);
+    are_done
 }
 
 /// As many passes as there are threads.
@@ -186,6 +202,7 @@ fn passes<V: Serving>(
         clerk = kept;
         all.push(pass)?;
     }
+    drop(clerk);
     Ok(all)
 }
 
@@ -196,16 +213,24 @@ fn do_all<V: Serving + Send, R: Threads + Wait + Sync>(
     jobs: Vec<Pass<V>>,
     uris: &Uris,
     rounds: u64,
-) -> Result<Vec<bool>, AllocError>
+) -> Result<bool, AllocError>
     requires { All (λ p. (pass_id p ≡ lock_id office.now.lock) × ((pass_view p).number ≡ 0)) jobs.items }
 {
-    thread::map_vec(
+    let done = thread::map_vec(
         rt,
         jobs,
         &|pass: Pass<V>| -> bool
             requires { (pass_id pass ≡ lock_id office.now.lock) × ((pass_view pass).number ≡ 0) }
         { does_rounds_at(rt, office, pass, uris, rounds) },
-    )
+    )?;
+    Ok(!done.contains(&false))
+}
+
+/// The time of a watch, where all was done.
+fn time_of<R: Clock>(rt: &R, watch: Stopwatch, are_done: bool) -> Result<Duration> {
+    let time = watch.elapsed(rt).context("the clock can't be read")?;
+    ensure!(are_done, "a command isn't done");
+    Ok(time)
 }
 
 /// How long so many rounds take by so many threads together, each with a clerk of its own.
@@ -218,11 +243,9 @@ fn time_rounds<V: Serving + Send, R: Threads + Wait + Clock + Sync>(
 ) -> Result<Duration>
     requires { All (λ p. (pass_id p ≡ lock_id office.now.lock) × ((pass_view p).number ≡ 0)) jobs.items }
 {
-    let start = Instant::now(rt);
-    let done = do_all(rt, office, jobs, uris, rounds)?;
-    let time = start?.elapsed(rt)?;
-    ensure!(!done.contains(&false), "a command isn't done");
-    Ok(time)
+    let watch = Stopwatch::start(rt);
+    let are_done = do_all(rt, office, jobs, uris, rounds)?;
+    time_of(rt, watch, are_done)
 }
 
 /// The addresses of whoever joins an action.
@@ -267,7 +290,27 @@ fn time_office<W: Write + Drop + Send, R: Threads + Wait + Clock + Sync>(
     else {
         bail!("no office is made");
     };
-    time_clerks(rt, alloc, &office, pass, uris, threads)
+    let time = time_clerks(rt, alloc, &office, pass, uris, threads);
+    drop(office);
+    time
+}
+
+/// So many rounds by each of so many threads at a coordinator that they share, and whether all of them were done.
+fn do_all_shared<R: Threads + Wait + Sync>(
+    rt: &R,
+    alloc: Global,
+    desk: &Mutex<Alone>,
+    uris: &Uris,
+    threads: u64,
+    rounds: u64,
+) -> Result<bool, AllocError> {
+    let done = thread::map_indices(
+        rt,
+        alloc,
+        threads as usize,
+        &|_| does_rounds(&mut Shared { rt, desk }, uris, rounds),
+    )?;
+    Ok(!done.contains(&false))
 }
 
 /// How long the rounds take at a coordinator that threads share.
@@ -278,23 +321,18 @@ fn time_shared<R: Threads + Wait + Clock + Sync>(
     uris: &Uris,
     threads: u64,
 ) -> Result<Duration> {
-    let rounds = ROUNDS / threads.max(1);
-    let start = Instant::now(rt)?;
-    let done = thread::map_indices(
-        rt,
-        alloc,
-        threads as usize,
-        &|_| does_rounds(&mut Shared { rt, desk }, uris, rounds),
-    )?;
-    let time = start.elapsed(rt)?;
-    ensure!(!done.contains(&false), "a command isn't done");
-    Ok(time)
+    let watch = Stopwatch::start(rt);
+    let are_done = do_all_shared(rt, alloc, desk, uris, threads, ROUNDS / threads.max(1))?;
+    time_of(rt, watch, are_done)
 }
 
 /// A coordinator with its clerk.
 fn with_clerk(alloc: Global) -> Result<Alone> {
     let mut alone = Alone::new(alloc)?;
-    alone.fill(0)?;
+    if let Err(error) = alone.fill(0) {
+        drop(alone);
+        return Err(error);
+    }
     Ok(alone)
 }
 
@@ -305,35 +343,50 @@ fn time_mutex<R: Threads + Wait + Clock + Sync>(
     threads: u64,
 ) -> Result<Duration> {
     let desk = Mutex::new(with_clerk(alloc)?);
-    time_shared(rt, alloc, &desk, uris, threads)
+    let time = time_shared(rt, alloc, &desk, uris, threads);
+    drop(desk);
+    time
 }
 
 /// How long the rounds take at a coordinator that one thread has to itself.
 fn time_with<R: Clock>(rt: &R, desk: &mut Alone, uris: &Uris) -> Result<Duration> {
-    let start = Instant::now(rt)?;
-    let done = does_rounds(desk, uris, ROUNDS);
-    let time = start.elapsed(rt)?;
-    ensure!(done, "a command isn't done");
-    Ok(time)
+    let watch = Stopwatch::start(rt);
+    let are_done = does_rounds(desk, uris, ROUNDS);
+    time_of(rt, watch, are_done)
 }
 
 fn time_alone<R: Clock>(rt: &R, alloc: Global, uris: &Uris) -> Result<Duration> {
     let mut desk = with_clerk(alloc)?;
-    time_with(rt, &mut desk, uris)
+    let time = time_with(rt, &mut desk, uris);
+    drop(desk);
+    time
 }
 
-/// Prints a line for 1, 2, 4 and 8 threads: commands a second through the office, through the Mutex, and by one thread alone,
-/// and the first as hundredths of each of the others.
-pub fn run<R: Threads + Wait + Clock + Print + Sync>(rt: &R, alloc: Global) -> Result<()> {
-    let uris = uris(alloc)?;
+/// The least times of so many threads: through the office, through the Mutex, and by one thread alone.
+fn least<R: Threads + Wait + Clock + Sync>(
+    rt: &R,
+    alloc: Global,
+    uris: &Uris,
+    threads: u64,
+) -> Result<[Duration; 3]> {
+    let mut least = [Duration::MAX; 3];
+    for _ in 0..TIMES {
+        least[0] = least[0].min(time_office(rt, alloc, Vec::new(alloc), uris, threads)?);
+        least[1] = least[1].min(time_mutex(rt, alloc, uris, threads)?);
+        least[2] = least[2].min(time_alone(rt, alloc, uris)?);
+    }
+    Ok(least)
+}
+
+/// Prints a line for each number of threads.
+fn print_all<R: Threads + Wait + Clock + Print + Sync>(
+    rt: &R,
+    alloc: Global,
+    uris: &Uris,
+) -> Result<()> {
     for threads in [1u64, 2, 4, 8] {
-        let mut least = [Duration::MAX; 3];
-        for _ in 0..TIMES {
-            least[0] = least[0].min(time_office(rt, alloc, Vec::new(alloc), &uris, threads)?);
-            least[1] = least[1].min(time_mutex(rt, alloc, &uris, threads)?);
-            least[2] = least[2].min(time_alone(rt, alloc, &uris)?);
-        }
-        let [ours, theirs, alone] = least.map(|time| a_second(ROUNDS * COMMANDS, time));
+        let times = least(rt, alloc, uris, threads)?;
+        let [ours, theirs, alone] = times.map(|time| a_second(ROUNDS * COMMANDS, time));
         let percent = ours.saturating_mul(100) / theirs.max(1);
         let of_one = ours.saturating_mul(100) / alone.max(1);
         println!(rt;
@@ -341,4 +394,13 @@ pub fn run<R: Threads + Wait + Clock + Print + Sync>(rt: &R, alloc: Global) -> R
         )?;
     }
     Ok(())
+}
+
+/// Prints a line for 1, 2, 4 and 8 threads: commands a second through the office, through the Mutex, and by one thread alone,
+/// and the first as hundredths of each of the others.
+pub fn run<R: Threads + Wait + Clock + Print + Sync>(rt: &R, alloc: Global) -> Result<()> {
+    let uris = uris(alloc)?;
+    let printed = print_all(rt, alloc, &uris);
+    drop(uris);
+    printed
 }

@@ -51,24 +51,46 @@ impl Write for Tally {
     }
 }
 
+/// Appends a request.
+fn push(text: &mut String, request: String) -> Result<()> {
+    let pushed = text.push_str(request.as_str());
+    drop(request);
+    pushed?;
+    Ok(())
+}
+
+/// A member's request to join, with this body.
+fn push_join(alloc: Global, text: &mut String, path: &str, body: &str) -> Result<()> {
+    let len = body.len();
+    let join = format!(in alloc;
+        "PUT {path} HTTP/1.1\r\nHost: 127.0.0.1:8080\r\nContent-Length: {len}\r\n\r\n{body}"
+    )?;
+    push(text, join)
+}
+
 /// The requests for one action: it is started, has a member, is looked at and is closed.
 fn push_action(alloc: Global, text: &mut String, path: &str) -> Result<()> {
     let start =
         "POST /lra-coordinator HTTP/1.1\r\nHost: 127.0.0.1:8080\r\nContent-Length: 15\r\n\r\n{\"limit\":60000}";
+    text.push_str(start)?;
     let body = format!(in alloc;
         "{{\"compensate\":\"{COMPENSATE}\",\"complete\":\"{COMPLETE}\"}}"
     )?;
-    let len = body.len();
-    text.push_str(start)?;
-    let join = format!(in alloc;
-        "PUT {path} HTTP/1.1\r\nHost: 127.0.0.1:8080\r\nContent-Length: {len}\r\n\r\n{body}"
-    )?;
-    text.push_str(join.as_str())?;
+    let joined = push_join(alloc, text, path, body.as_str());
+    drop(body);
+    joined?;
     let status = format!(in alloc; "GET {path} HTTP/1.1\r\nHost: 127.0.0.1:8080\r\n\r\n")?;
-    text.push_str(status.as_str())?;
+    push(text, status)?;
     let close = format!(in alloc; "PUT {path}/close HTTP/1.1\r\nHost: 127.0.0.1:8080\r\n\r\n")?;
-    text.push_str(close.as_str())?;
-    Ok(())
+    push(text, close)
+}
+
+/// The same, for the action with this URI.
+fn push_action_at(alloc: Global, text: &mut String, uri: &str) -> Result<()> {
+    let Some(path) = uri.strip_prefix("http://127.0.0.1:8080") else {
+        bail!("no path");
+    };
+    push_action(alloc, text, path)
 }
 
 /// The requests of the stream with that place, to a coordinator of this instance and base.
@@ -79,10 +101,9 @@ fn stream(alloc: Global, instance: Instance, base: &Address, place: u64) -> Resu
     let mut text = String::new(alloc);
     for n in 1..=ACTIONS {
         let uri = spell_action(alloc, instance, place * ACTIONS + n, base)?;
-        let Some(path) = uri.strip_prefix("http://127.0.0.1:8080") else {
-            bail!("no path");
-        };
-        push_action(alloc, &mut text, path)?;
+        let pushed = push_action_at(alloc, &mut text, uri.as_str());
+        drop(uri);
+        pushed?;
     }
     Ok(text)
 }
@@ -164,7 +185,9 @@ fn give_each(counter: &mut Bench, uris: &Uris) -> Result<()> {
 
 fn give_all(alloc: Global, counter: &mut Bench) -> Result<()> {
     let uris = addresses(alloc)?;
-    give_each(counter, &uris)
+    let given = give_each(counter, &uris);
+    drop(uris);
+    given
 }
 
 /// Does the work at a counter, of which reading makes no use.
@@ -179,7 +202,9 @@ fn work_at(alloc: Global, counter: &mut Bench, streams: &[String], work: Work) -
 /// Does the work at the counter of a new coordinator.
 fn work_anew(alloc: Global, streams: &[String], work: Work) -> Result<()> {
     let mut counter = counter(alloc)?;
-    work_at(alloc, &mut counter, streams, work)
+    let done = work_at(alloc, &mut counter, streams, work);
+    drop(counter);
+    done
 }
 
 /// Seconds that it takes, the least of some runs.
@@ -219,5 +244,7 @@ fn print_all(rt: &HostRuntime, streams: &[String]) -> Result<()> {
 /// Prints what it takes to answer requests.
 pub fn run(rt: &HostRuntime) -> Result<()> {
     let streams = streams(rt.alloc())?;
-    print_all(rt, streams.as_slice())
+    let printed = print_all(rt, streams.as_slice());
+    drop(streams);
+    printed
 }

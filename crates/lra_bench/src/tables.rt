@@ -37,5 +37,7 @@ fn print_all(rt: &HostRuntime, beside: &mut Beside) -> Result<()> {
 /// Prints all figures.
 pub fn run(rt: &HostRuntime) -> Result<()> {
     let mut beside = Beside::new(rt.alloc())?;
-    print_all(rt, &mut beside)
+    let printed = print_all(rt, &mut beside);
+    drop(beside);
+    printed
 }

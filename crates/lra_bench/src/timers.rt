@@ -53,11 +53,20 @@ struct Load {
     shortest: Duration,
 }
 
+/// Sets so many pairs.
+fn fill(agenda: &mut Agenda, order: Order, size: u64) -> Result<(), Memory> {
+    for n in 0..size {
+        agenda.set_retry(scrambled(n), order.moment(n))?;
+    }
+    Ok(())
+}
+
 impl Load {
     fn new(alloc: Global, order: Order, size: u64) -> Result<Self, Memory> {
         let mut agenda = Agenda::new(alloc);
-        for n in 0..size {
-            agenda.set_retry(scrambled(n), order.moment(n))?;
+        if let Err(memory) = fill(&mut agenda, order, size) {
+            drop(agenda);
+            return Err(memory);
         }
         Ok(Load {
             agenda,
@@ -112,7 +121,9 @@ fn time_load(rt: &HostRuntime, load: &mut Load) -> anyhow::Result<f64> {
 /// The nanoseconds per call of an agenda of its own.
 fn time_anew(rt: &HostRuntime, order: Order, size: u64) -> anyhow::Result<f64> {
     let mut load = Load::new(rt.alloc(), order, size)?;
-    time_load(rt, &mut load)
+    let time = time_load(rt, &mut load);
+    drop(load);
+    time
 }
 
 /// Prints a line for each size.

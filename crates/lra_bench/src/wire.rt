@@ -35,7 +35,10 @@ fn stream(alloc: Global, count: usize, len: usize) -> Result<Vec<u8>> {
 
 fn read_to_end(alloc: Global, inbox: &mut Inbox<Pieces<'_>>) -> Result<()> {
     for _ in 0..u64::MAX {
-        if read_request(alloc, inbox)?.is_none() {
+        let request = read_request(alloc, inbox)?;
+        let is_end = request.is_none();
+        drop(request);
+        if is_end {
             break;
         }
     }
@@ -45,7 +48,9 @@ fn read_to_end(alloc: Global, inbox: &mut Inbox<Pieces<'_>>) -> Result<()> {
 /// Reads all requests of a stream that comes in pieces of this size.
 pub fn read_stream(alloc: Global, bytes: &[u8], size: usize) -> Result<()> {
     let mut inbox = Inbox::new(alloc, Pieces { rest: bytes, size })?;
-    read_to_end(alloc, &mut inbox)
+    let read = read_to_end(alloc, &mut inbox);
+    drop(inbox);
+    read
 }
 
 /// Seconds to read all requests of the bytes, the least of some runs.
@@ -59,20 +64,38 @@ fn time(rt: &HostRuntime, bytes: &[u8], size: usize) -> Result<f64> {
     Ok(least)
 }
 
-/// Prints the ratios.
-pub fn run(rt: &HostRuntime) -> Result<()> {
-    let bytes = stream(rt.alloc(), REQUESTS, 300)?;
-    let whole = time(rt, bytes.as_slice(), 4096)?;
+/// Prints a line for each size of the pieces.
+fn print_pieces(rt: &HostRuntime, bytes: &[u8]) -> Result<()> {
+    let whole = time(rt, bytes, 4096)?;
     let rate = 10_000.0 / whole;
     println!(rt; "{rate:9.0} requests a second, in pieces of 4096 bytes")?;
     for size in [1024, 256, 64, 16, 4, 1] {
-        let ratio = time(rt, bytes.as_slice(), size)? / whole;
+        let ratio = time(rt, bytes, size)? / whole;
         println!(rt; "in pieces of {size:>4} bytes: ratio {ratio:.2}")?;
     }
-    // As many bytes in all: heads of some 470 bytes, and heads of some 7,500.
-    let short = stream(rt.alloc(), 1600, 350)?;
-    let long = stream(rt.alloc(), 100, LONG)?;
-    let ratio = time(rt, long.as_slice(), 1)? / time(rt, short.as_slice(), 1)?;
+    Ok(())
+}
+
+/// Seconds to read, byte by byte, a stream of so many requests, each with a field of so long a value.
+fn time_bytes(rt: &HostRuntime, count: usize, len: usize) -> Result<f64> {
+    let bytes = stream(rt.alloc(), count, len)?;
+    let seconds = time(rt, bytes.as_slice(), 1);
+    drop(bytes);
+    seconds
+}
+
+/// Prints a line for long heads beside short ones, with as many bytes in all: some 7,500 bytes each, and some 470.
+fn print_heads(rt: &HostRuntime) -> Result<()> {
+    let ratio = time_bytes(rt, 100, LONG)? / time_bytes(rt, 1600, 350)?;
     println!(rt; "heads 16 times as long, byte by byte: ratio {ratio:.2}")?;
     Ok(())
+}
+
+/// Prints the ratios.
+pub fn run(rt: &HostRuntime) -> Result<()> {
+    let bytes = stream(rt.alloc(), REQUESTS, 300)?;
+    let printed = print_pieces(rt, bytes.as_slice());
+    drop(bytes);
+    printed?;
+    print_heads(rt)
 }

@@ -23,17 +23,25 @@ const ENTRY: usize = size_of::<Entry>();
 /// The most pieces that a journal may have.
 const MOST_PIECES: u64 = 1 << 40;
 
-/// A journal as a whole.
-fn journal(alloc: Global) -> Result<Vec<u8>> {
-    let mut journal = Journal::new(alloc, Kind::Wide, ENTRIES)?;
-    let mut text = Vec::new(alloc);
+/// Appends a journal to its end.
+fn append_all(text: &mut Vec<u8>, journal: &mut Journal) -> Result<()> {
     for _ in 0..MOST_PIECES {
         let piece = journal.next_piece()?;
         if piece.is_empty() {
             break;
         }
-        text.extend_from_slice(&piece)?;
+        text.extend_from_slice(piece.as_slice())?;
     }
+    Ok(())
+}
+
+/// A journal as a whole.
+fn journal(alloc: Global) -> Result<Vec<u8>> {
+    let mut text = Vec::new(alloc);
+    let mut journal = Journal::new(alloc, Kind::Wide, ENTRIES)?;
+    let appended = append_all(&mut text, &mut journal);
+    drop(journal);
+    appended?;
     Ok(text)
 }
 
@@ -64,20 +72,28 @@ fn time_opening(rt: &HostRuntime, text: &[u8]) -> Result<Duration> {
     let (version, _, entries) = read_journal(alloc, text)?;
     let watch = Stopwatch::start(rt);
     let coordinator = Coordinator::from_journal(alloc, version, instance, base, limits(), entries)?;
-    time_read(rt, watch, &coordinator)
+    let time = time_read(rt, watch, &coordinator);
+    drop(coordinator);
+    time
 }
 
-/// Prints the times, and the most memory that the program had: the text, its entries, and what is kept beside them.
-pub fn run(rt: &HostRuntime) -> Result<()> {
-    let text = journal(rt.alloc())?;
+fn print_all(rt: &HostRuntime, text: &[u8]) -> Result<()> {
     let megabytes = text.len() / 1_000_000;
     println!(rt; "{ENTRIES} entries of {ENTRY} bytes, {megabytes} MB of text")?;
-    let audit = time_audit(rt, &text)?.as_secs_f64();
+    let audit = time_audit(rt, text)?.as_secs_f64();
     let audited = kilobytes(rt, "VmHWM:")?;
-    let opening = time_opening(rt, &text)?.as_secs_f64();
+    let opening = time_opening(rt, text)?.as_secs_f64();
     let ratio = opening / audit;
     let opened = kilobytes(rt, "VmHWM:")?;
     println!(rt; "audit          {audit:6.2} s, peak {audited:>7} kB")?;
     println!(rt; "from_journal   {opening:6.2} s, peak {opened:>7} kB, ratio {ratio:.2}")?;
     Ok(())
+}
+
+/// Prints the times, and the most memory that the program had: the text, its entries, and what is kept beside them.
+pub fn run(rt: &HostRuntime) -> Result<()> {
+    let text = journal(rt.alloc())?;
+    let printed = print_all(rt, text.as_slice());
+    drop(text);
+    printed
 }

@@ -84,21 +84,36 @@ fn write_all(entries: &[Entry], text: &mut Vec<u8>) -> Result<(), Memory>
     Ok(())
 }
 
-/// How long it takes to write the same lines to memory without any check.
-fn time_writing(rt: &HostRuntime, lines: &[u8]) -> Result<Duration> {
-    let alloc = rt.alloc();
-    let mut journal = Vec::new(alloc);
-    write_header(Version::Two, instance()?, &mut journal)?;
-    journal.extend_from_slice(lines)?;
-    let (_, _, entries) = read_journal(alloc, &journal)?;
+/// How long it takes to write entries to memory, in place of what stands there.
+fn time_entries(rt: &HostRuntime, entries: &[Entry], text: &mut Vec<u8>) -> Result<Duration>
+    requires { All (λ e. HasAddressWords e.deed) entries.now }
+{
     let mut least = Duration::MAX;
     for _ in 0..WRITINGS {
-        journal.clear();
+        text.clear();
         let start = Instant::now(rt)?;
-        write_all(&entries, &mut journal)?;
+        write_all(entries, text)?;
         least = least.min(start.elapsed(rt)?);
     }
     Ok(least)
+}
+
+/// The same of the entries that lines stand for, in a text that is empty.
+fn time_lines(rt: &HostRuntime, lines: &[u8], text: &mut Vec<u8>) -> Result<Duration> {
+    write_header(Version::Two, instance()?, text)?;
+    text.extend_from_slice(lines)?;
+    let (_, _, entries) = read_journal(rt.alloc(), text.as_slice())?;
+    let time = time_entries(rt, entries.as_slice(), text);
+    drop(entries);
+    time
+}
+
+/// How long it takes to write the same lines to memory without any check.
+fn time_writing(rt: &HostRuntime, lines: &[u8]) -> Result<Duration> {
+    let mut text = Vec::new(rt.alloc());
+    let time = time_lines(rt, lines, &mut text);
+    drop(text);
+    time
 }
 
 /// What is timed.
@@ -117,6 +132,14 @@ struct Ground {
     uris: Vec<Uris>,
 }
 
+/// The addresses of those who join.
+fn push_uris(desk: &mut Desk, uris: &mut Vec<Uris>) -> Result<()> {
+    for _ in 0..ACTIONS * JOINING {
+        uris.push(desk.next_uris()?)?;
+    }
+    Ok(())
+}
+
 impl Ground {
     /// Starts the actions.
     fn new(alloc: Global, desk: &mut Desk, limit: u64) -> Result<Ground> {
@@ -125,9 +148,7 @@ impl Ground {
             desk.start(limit)?;
         }
         let mut uris = Vec::new(alloc);
-        for _ in 0..ACTIONS * JOINING {
-            uris.push(desk.next_uris()?)?;
-        }
+        push_uris(desk, &mut uris)?;
         Ok(Ground { first, uris })
     }
 
@@ -173,17 +194,37 @@ impl Ground {
             writing: time_writing(rt, desk.text())?,
         })
     }
+
+    /// The costs of joining, of closing, and of asking.
+    fn time_closing(&self, rt: &HostRuntime, desk: &mut Desk) -> Result<[Cost; 3]> {
+        let join = self.time(rt, desk, Work::Join)?;
+        let close = self.time(rt, desk, Work::Close)?;
+        let ask = self.time(rt, desk, Work::Ask)?;
+        Ok([join, close, ask])
+    }
+}
+
+/// What it takes members to join actions, to be asked to complete, and to be told of the end.
+fn time_closing(rt: &HostRuntime, desk: &mut Desk) -> Result<[Cost; 3]> {
+    let ground = Ground::new(rt.alloc(), desk, 0)?;
+    let costs = ground.time_closing(rt, desk);
+    drop(ground);
+    costs
+}
+
+/// What it takes actions to be cancelled by their limits.
+fn time_late(rt: &HostRuntime, desk: &mut Desk) -> Result<Cost> {
+    let late = Ground::new(rt.alloc(), desk, 1)?;
+    desk.wait();
+    let cost = late.time(rt, desk, Work::Tick);
+    drop(late);
+    cost
 }
 
 /// One sample: members join actions and are asked to complete, and told of the end; other actions are cancelled by their limits.
 fn take_sample(rt: &HostRuntime, desk: &mut Desk) -> Result<Sample> {
-    let ground = Ground::new(rt.alloc(), desk, 0)?;
-    let join = ground.time(rt, desk, Work::Join)?;
-    let close = ground.time(rt, desk, Work::Close)?;
-    let ask = ground.time(rt, desk, Work::Ask)?;
-    let late = Ground::new(rt.alloc(), desk, 1)?;
-    desk.wait();
-    let tick = late.time(rt, desk, Work::Tick)?;
+    let [join, close, ask] = time_closing(rt, desk)?;
+    let tick = time_late(rt, desk)?;
     Ok(Sample {
         join,
         close,
@@ -205,7 +246,9 @@ fn shortest_on(rt: &HostRuntime, desk: &mut Desk, members: u64) -> Result<Sample
 /// The shortest of some samples on a coordinator of their own.
 fn shortest_anew(rt: &HostRuntime, members: u64) -> Result<Sample> {
     let mut desk = Desk::new(rt.alloc())?;
-    shortest_on(rt, &mut desk, members)
+    let sample = shortest_on(rt, &mut desk, members);
+    drop(desk);
+    sample
 }
 
 /// The shortest of so many runs, each on a coordinator of its own with so many members.

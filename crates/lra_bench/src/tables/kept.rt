@@ -51,7 +51,10 @@ fn kilobytes_of(rt: &HostRuntime, entries: &[Entry]) -> Result<u64>
 {
     let mut first = Tables::empty(rt.alloc());
     let mut second = Tables::empty(rt.alloc());
-    kilobytes_between(rt, &mut first, &mut second, entries)
+    let kilobytes = kilobytes_between(rt, &mut first, &mut second, entries);
+    drop(second);
+    drop(first);
+    kilobytes
 }
 
 /// How many more kilobytes the program has with the second tables than with the first alone.

@@ -120,7 +120,9 @@ fn print_ratio(
 /// By plain rows of their own.
 fn by_new_walks(rt: &HostRuntime) -> Result<Times> {
     let mut plain = Plain::new(rt.alloc());
-    by_walks(rt, &mut plain)
+    let times = by_walks(rt, &mut plain);
+    drop(plain);
+    times
 }
 
 /// Prints a line for joins, one for a close, and one for replies.
