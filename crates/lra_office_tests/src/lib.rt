@@ -1,4 +1,4 @@
-//! Tests of offices, of the lock and the disks that they stand on, and of the workers at them: over the public surface of these crates alone.
+//! Tests of offices, of the lock that they stand on, and of the workers at them: over the public surface of these crates alone.
 #![tactic(auto)]
 
 #[cfg(test)]
@@ -6,15 +6,11 @@ mod clerks;
 #[cfg(test)]
 mod connections;
 #[cfg(test)]
-mod keeping;
-#[cfg(test)]
 mod making;
 #[cfg(test)]
 mod scribe;
 #[cfg(test)]
 mod stopping;
-#[cfg(test)]
-mod syncing;
 #[cfg(test)]
 mod threads;
 #[cfg(test)]

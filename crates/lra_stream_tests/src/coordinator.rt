@@ -1,7 +1,8 @@
-//! A coordinator in memory.
+//! A coordinator in memory, and what is done with one. A function that owns a coordinator lends it, and lets it go at one exit.
 
-use lra_core::{Coordinator, Instance, Limits};
+use lra_core::{Coordinator, Errand, Instance, Limits};
 use lra_ids::address;
+use lra_model::{Outcome, suits};
 use std::alloc::Global;
 
 /// A coordinator without clerks.
@@ -9,7 +10,28 @@ pub fn coordinator(alloc: Global) -> Option<Coordinator> {
     let instance = Instance::new(7)?;
     let base = address(alloc, "http://127.0.0.1:8080/").ok()?;
     if !base.is_base() {
+        drop(base);
         return None;
     }
     Some(Coordinator::new(alloc, instance, base, Limits::usual()))
+}
+
+/// Records what came of an errand, where it can be: whether it was.
+pub fn record(
+    coordinator: &mut Coordinator,
+    moment: u64,
+    errand: Errand,
+    outcome: Outcome,
+) -> bool {
+    if !suits(errand.kind(), outcome) {
+        errand.discard();
+        return false;
+    }
+    match coordinator.record(1, moment, errand, outcome) {
+        Ok(_) => true,
+        Err((_, errand)) => {
+            errand.discard();
+            false
+        }
+    }
 }

@@ -1,6 +1,23 @@
 //! Callbacks: what is written, what replies come to, and streams that fail.
+mod dialling;
 mod errands;
 mod limits;
 mod replies;
 mod streams;
 mod tcp;
+
+use lra_courier::Callback;
+use lra_model::{AskKind, Direction};
+
+/// A callback to forget at this address.
+fn forget(address: &str) -> Callback<'_> {
+    Callback {
+        kind: AskKind::Forget,
+        direction: Direction::Neither,
+        address,
+        action_uri: "http://c.test/a",
+        parent_uri: None,
+        recovery_uri: "http://c.test/r",
+        ended: None,
+    }
+}

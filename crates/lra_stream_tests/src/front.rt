@@ -6,7 +6,7 @@ mod memory;
 use crate::pieces::{Pieces, Sink};
 use counter::{Still, Worn};
 use lra_commands::Counter;
-use lra_front::{StreamEnd, serve_stream};
+use lra_front::{Clock, StreamEnd, serve_stream};
 use lra_ids::{Instance, address};
 use lra_wire::WireFault;
 use std::alloc::Global;
@@ -38,14 +38,20 @@ fn worn(alloc: Global) -> Result<Worn, Fail> {
     Ok(Worn::new(instance, base).ok_or("no base")?)
 }
 
-/// What is written for a stream that comes in pieces of this size, and how it ends.
-fn served(alloc: Global, stream: &str, size: usize) -> Result<(Vec<u8>, StreamEnd), Fail> {
-    let mut counter = worn(alloc)?;
-    Ok(served_by(alloc, &mut counter, 5, stream, size))
+/// What a counter's stream writes, and how it ends.
+fn serve<C: Counter, K: Clock>(
+    alloc: Global,
+    counter: &mut C,
+    clock: &mut K,
+    reader: Pieces<'_>,
+    mut sink: Sink,
+) -> (Vec<u8>, StreamEnd) {
+    let end = serve_stream(alloc, reader, &mut sink, counter, clock);
+    (sink.taken, end)
 }
 
-/// What a counter's stream writes, in and out in pieces of that size, and how it ends.
-fn served_by<C: Counter>(
+/// The same for a stream that comes, and goes, in pieces of this size.
+fn serve_by<C: Counter>(
     alloc: Global,
     counter: &mut C,
     moment: u64,
@@ -57,32 +63,28 @@ fn served_by<C: Counter>(
         size,
         fails: false,
     };
-    let mut sink = Sink {
-        taken: Vec::new(alloc),
-        size,
-        room: usize::MAX,
-    };
-    let end = serve_stream(alloc, reader, &mut sink, counter, &mut Still { moment });
-    (sink.taken, end)
+    let sink = Sink::new(alloc, size, usize::MAX);
+    serve(alloc, counter, &mut Still { moment }, reader, sink)
 }
 
-/// What a row of the table writes out: its heads have a type, a length and `HTTP/1.1`.
-fn spelled(alloc: Global, reply: &str) -> Result<String, Fail> {
-    let Some((code, rest)) = reply.split_once('~') else {
+/// The same at a counter at which nothing can be given.
+fn served(alloc: Global, stream: &str, size: usize) -> Result<(Vec<u8>, StreamEnd), Fail> {
+    let mut counter = worn(alloc)?;
+    Ok(serve_by(alloc, &mut counter, 5, stream, size))
+}
+
+/// A reply from its status, its length, its own fields and its body, as the table has them: its head has a type, a length and
+/// `HTTP/1.1`.
+fn reply_text(alloc: Global, reply: &str) -> Result<String, Fail> {
+    let Some((status, rest)) = reply.split_once('~') else {
         return Ok(String::new(alloc));
     };
     let text = format!(in alloc;
-        "HTTP/1.1 {code}~Content-Type: application/json~Content-Length: {rest}"
+        "HTTP/1.1 {status}~Content-Type: application/json~Content-Length: {rest}"
     )?;
-    Ok(text.replace(alloc, '~', "\r\n")?)
-}
-
-/// A reply with its status, its own fields and its body, of which `~` ends a line.
-fn reply_text(alloc: Global, status: &str, fields: &str, body: &str) -> Result<String, Fail> {
-    let len = body.len();
-    Ok(format!(in alloc;
-        "HTTP/1.1 {status}~Content-Type: application/json~Content-Length: {len}~{fields}~{body}"
-    )?)
+    let spelled = text.replace(alloc, '~', "\r\n");
+    drop(text);
+    Ok(spelled?)
 }
 
 /// The word for how a stream ended.
@@ -100,67 +102,69 @@ fn end_word(end: StreamEnd) -> &'static str {
     }
 }
 
+/// Whether a stream that comes in pieces of this size has this reply, and ends so.
+fn is_answered(
+    alloc: Global,
+    stream: &str,
+    size: usize,
+    reply: &str,
+    end: &str,
+) -> Result<bool, Fail> {
+    let (taken, ended) = served(alloc, stream, size)?;
+    Ok(taken.as_slice() == reply.as_bytes() && end_word(ended) == end)
+}
+
+/// Whether the stream of a row is answered as the row says, in pieces of this size.
+fn row_is_answered(alloc: Global, row: &str, size: usize) -> Result<bool, Fail> {
+    let (stream, row) = row.split_once('|').ok_or("no stream")?;
+    let (reply, row) = row.split_once('|').ok_or("no reply")?;
+    let (end, _) = row.split_once('|').ok_or("no end")?;
+    let stream = stream.replace(alloc, '~', "\r\n")?;
+    let reply = reply_text(alloc, reply)?;
+    is_answered(alloc, stream.as_str(), size, reply.as_str(), end)
+}
+
 #[test]
 fn answers_streams_whole_and_byte_by_byte(rt: HostRuntime) -> Result<(), Fail> {
     for row in STREAMS.lines() {
-        let (stream, row) = row.split_once('|').ok_or("no stream")?;
-        let (reply, row) = row.split_once('|').ok_or("no reply")?;
-        let (end, _) = row.split_once('|').ok_or("no end")?;
-        let stream = stream.replace(rt.alloc(), '~', "\r\n")?;
-        let want = spelled(rt.alloc(), reply)?;
         for size in [1, 4096] {
-            let (taken, ended) = served(rt.alloc(), stream.as_str(), size)?;
-            assert!(rt; taken.as_slice() == want.as_bytes(), "{row} by {size}");
-            assert_eq!(rt; end_word(ended), end, "{row} by {size}");
+            assert!(rt; row_is_answered(rt.alloc(), row, size)?, "{row} by {size}");
         }
     }
     Ok(())
 }
 
+/// Whether so many replies, of which the last says that the stream is closed, are all that is written for more requests.
+fn takes(alloc: Global, count: usize, stream: &str) -> Result<bool, Fail> {
+    let plain = reply_text(alloc, "404 Not Found~22~~{\"error\":\"NoSuchPath\"}")?;
+    let last = reply_text(
+        alloc,
+        "404 Not Found~22~Connection: close~~{\"error\":\"NoSuchPath\"}",
+    )?;
+    let replies = plain.repeat(alloc, count.saturating_sub(1))?;
+    let replies = format!(in alloc; "{replies}{last}")?;
+    is_answered(alloc, stream, 4096, replies.as_str(), "Done")
+}
+
 // Of 1,001 requests the last isn't answered, and the reply to the one before it says that the stream is closed.
 #[test]
 fn takes_a_thousand_requests(rt: HostRuntime) -> Result<(), Fail> {
-    let one = "GET /a HTTP/1.1\r\nHost: h\r\n\r\n";
-    let mut stream = String::new(rt.alloc());
-    for _ in 0..1001 {
-        stream.push_str(one)?;
-    }
-    let (taken, end) = served(rt.alloc(), stream.as_str(), 4096)?;
-    let plain = spelled(rt.alloc(), "404 Not Found~22~~{\"error\":\"NoSuchPath\"}")?;
-    let last = spelled(
-        rt.alloc(),
-        "404 Not Found~22~Connection: close~~{\"error\":\"NoSuchPath\"}",
-    )?;
-    let len = plain.len().saturating_mul(999).saturating_add(last.len());
-    assert_eq!(rt; taken.len(), len);
-    assert!(rt; taken.as_slice().ends_with(last.as_bytes()));
-    assert_eq!(rt; end_word(end), "Done");
+    let stream = "GET /a HTTP/1.1\r\nHost: h\r\n\r\n".repeat(rt.alloc(), 1001)?;
+    assert!(rt; takes(rt.alloc(), 1000, stream.as_str())?);
     Ok(())
 }
 
-/// How a stream with a start ends that is cut after so many bytes, or whose reader fails there, and what it writes.
-fn cut_at(
-    alloc: Global,
-    stream: &str,
-    len: usize,
-    fails: bool,
-) -> Result<(usize, StreamEnd), Fail> {
-    let (front, _) = stream.as_bytes().split_at(len.min(stream.len()));
-    let mut counter = worn(alloc)?;
+/// Whether a stream has no reply that comes up to here, and then ends or fails.
+fn is_cut(alloc: Global, front: &[u8], fails: bool) -> Result<bool, Fail> {
     let reader = Pieces {
         rest: front,
         size: 4096,
         fails,
     };
-    let mut taken = Vec::new(alloc);
-    let end = serve_stream(
-        alloc,
-        reader,
-        &mut taken,
-        &mut counter,
-        &mut Still { moment: 5 },
-    );
-    Ok((taken.len(), end))
+    let sink = Sink::new(alloc, 4096, usize::MAX);
+    let mut counter = worn(alloc)?;
+    let (taken, end) = serve(alloc, &mut counter, &mut Still { moment: 5 }, reader, sink);
+    Ok(taken.is_empty() && end_word(end) == if fails { "Io" } else { "Cut" })
 }
 
 // A stream that is cut inside a request, or fails there, gets no reply.
@@ -168,28 +172,32 @@ fn cut_at(
 fn a_cut_request_has_no_reply(rt: HostRuntime) -> Result<(), Fail> {
     let stream = "POST /lra-coordinator HTTP/1.1\r\nHost: h\r\nContent-Length: 2\r\n\r\n{}";
     for len in 1..stream.len() {
-        for (fails, want) in [(false, "Cut"), (true, "Io")] {
-            let (written, end) = cut_at(rt.alloc(), stream, len, fails)?;
-            assert_eq!(rt; written, 0, "at {len}");
-            assert_eq!(rt; end_word(end), want, "at {len}");
+        for fails in [false, true] {
+            let front = &stream.as_bytes()[..len];
+            assert!(rt; is_cut(rt.alloc(), front, fails)?, "at {len}");
         }
     }
     Ok(())
 }
 
-#[test]
-fn sixty_five_fields_are_too_many(rt: HostRuntime) -> Result<(), Fail> {
-    let mut stream = String::from_str(rt.alloc(), "GET /a HTTP/1.1\r\nHost: h\r\n")?;
-    for _ in 0..64 {
-        stream.push_str("X: y\r\n")?;
-    }
-    stream.push_str("\r\n")?;
-    let (taken, end) = served(rt.alloc(), stream.as_str(), 4096)?;
-    let want = spelled(
-        rt.alloc(),
+/// A request with a host and so many other fields.
+fn with_fields(alloc: Global, count: usize) -> Result<String, Fail> {
+    let others = "X: y\r\n".repeat(alloc, count)?;
+    Ok(format!(in alloc; "GET /a HTTP/1.1\r\nHost: h\r\n{others}\r\n")?)
+}
+
+/// Whether a stream is refused for its head.
+fn has_bad_head(alloc: Global, stream: &str) -> Result<bool, Fail> {
+    let reply = reply_text(
+        alloc,
         "400 Bad Request~19~Connection: close~~{\"error\":\"BadHead\"}",
     )?;
-    assert_eq!(rt; taken.as_slice(), want.as_bytes());
-    assert_eq!(rt; end_word(end), "BadHead");
+    is_answered(alloc, stream, 4096, reply.as_str(), "BadHead")
+}
+
+#[test]
+fn sixty_five_fields_are_too_many(rt: HostRuntime) -> Result<(), Fail> {
+    let stream = with_fields(rt.alloc(), 64)?;
+    assert!(rt; has_bad_head(rt.alloc(), stream.as_str())?);
     Ok(())
 }

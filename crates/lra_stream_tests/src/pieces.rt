@@ -43,6 +43,17 @@ pub struct Sink {
     pub room: usize,
 }
 
+impl Sink {
+    /// A writer that has taken nothing.
+    pub fn new(alloc: Global, size: usize, room: usize) -> Sink {
+        Sink {
+            taken: Vec::new(alloc),
+            size,
+            room,
+        }
+    }
+}
+
 impl Write for Sink {
     fn write(&mut self, buf: &[u8]) -> io::Result<usize> {
         let left = self.room.saturating_sub(self.taken.len());

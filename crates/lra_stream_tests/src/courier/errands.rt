@@ -1,10 +1,11 @@
 //! Errands of a coordinator, carried over streams in memory until the member has answered.
 
-use crate::coordinator::coordinator;
+use crate::coordinator::{coordinator, record};
 use lra_core::{Coordinator, Errand, Refusal};
 use lra_courier::exchange;
-use lra_model::{Outcome, Uris, suits};
+use lra_model::{Outcome, Uris};
 use std::alloc::{AllocError, Global};
+use std::io::Write;
 use std::str::from_utf8;
 use std::test::Fail;
 
@@ -54,7 +55,7 @@ fn member(alloc: Global) -> Result<Uris, AllocError> {
 }
 
 /// Has a member join an action, which is closed.
-pub fn close(coordinator: &mut Coordinator, member: &Uris) -> Result<(), Fail> {
+fn close(coordinator: &mut Coordinator, member: &Uris) -> Result<(), Refusal> {
     coordinator.enrol(0)?;
     coordinator.start(1, 0, None, 0)?;
     coordinator.join(1, 0, 1, member)?;
@@ -62,63 +63,81 @@ pub fn close(coordinator: &mut Coordinator, member: &Uris) -> Result<(), Fail> {
     Ok(())
 }
 
-/// Records what came of an errand.
-fn record(coordinator: &mut Coordinator, moment: u64, errand: Errand, outcome: Outcome) -> bool {
-    if !suits(errand.kind(), outcome) {
-        errand.discard();
-        return false;
-    }
-    match coordinator.record(1, moment, errand, outcome) {
-        Ok(_) => true,
-        Err((_, errand)) => {
-            errand.discard();
-            false
-        }
+/// Carries the next errand of a coordinator, where this response comes: its number, and what came of it.
+fn carry(
+    alloc: Global,
+    coordinator: &mut Coordinator,
+    moment: u64,
+    response: &[u8],
+    text: &mut Vec<u8>,
+) -> Option<(u64, Outcome)> {
+    let Ok(Some(errand)) = coordinator.next_ask(1, moment) else {
+        return None;
+    };
+    let ask = errand.ask();
+    let outcome = exchange(alloc, response, text, &errand);
+    if record(coordinator, moment, errand, outcome) {
+        Some((ask, outcome))
+    } else {
+        None
     }
 }
 
-/// Carries the next errand of a coordinator, where this response comes, and takes down the request and what came of it.
-fn carry(
+/// The same where `~` ends a line of the response, and takes down the request and what came of it.
+fn take_down(
     alloc: Global,
     coordinator: &mut Coordinator,
     moment: u64,
     response: &str,
     text: &mut Vec<u8>,
 ) -> Result<(), Fail> {
-    let Some(errand) = coordinator.next_ask(1, moment)? else {
-        return Err("no one is to be asked")?;
-    };
-    let ask = errand.ask();
-    let outcome = exchange(alloc, response.as_bytes(), text, &errand);
-    if !record(coordinator, moment, errand, outcome) {
-        return Err("the outcome isn't recorded")?;
-    }
+    let response = response.replace(alloc, '~', "\r\n")?;
+    let carried = carry(alloc, coordinator, moment, response.as_bytes(), text);
+    drop(response);
+    let (ask, outcome) = carried.ok_or("nothing is carried")?;
     let name = outcome.name();
-    text.extend_from_slice(format!(in alloc; "{ask} {name}\r\n")?.as_bytes())?;
+    write!(text, "{ask} {name}\r\n")?;
     Ok(())
 }
 
-/// What goes out for each ask of a coordinator, where these responses come, and what came of it.
+/// Closes an action, and takes down what goes out for each ask, where these responses come, and what came of it.
 fn carry_all(
     alloc: Global,
     coordinator: &mut Coordinator,
+    member: &Uris,
     responses: &str,
-) -> Result<Vec<u8>, Fail> {
-    close(coordinator, &member(alloc)?)?;
-    let mut text = Vec::new(alloc);
+    text: &mut Vec<u8>,
+) -> Result<(), Fail> {
+    close(coordinator, member)?;
     let mut moment = 0u64;
     for response in responses.split('|') {
-        let response = response.replace(alloc, '~', "\r\n")?;
         moment = moment.saturating_add(PAUSE);
-        carry(alloc, coordinator, moment, response.as_str(), &mut text)?;
+        take_down(alloc, coordinator, moment, response, text)?;
     }
-    Ok(text)
+    Ok(())
 }
 
 /// The same for a coordinator of its own.
-fn carried(alloc: Global, responses: &str) -> Result<Vec<u8>, Fail> {
+fn carry_anew(
+    alloc: Global,
+    member: &Uris,
+    responses: &str,
+    text: &mut Vec<u8>,
+) -> Result<(), Fail> {
     let mut coordinator = coordinator(alloc).ok_or("no coordinator")?;
-    carry_all(alloc, &mut coordinator, responses)
+    let done = carry_all(alloc, &mut coordinator, member, responses, text);
+    drop(coordinator);
+    done
+}
+
+/// What is taken down of it.
+fn carried(alloc: Global, responses: &str) -> Result<Vec<u8>, Fail> {
+    let member = member(alloc)?;
+    let mut text = Vec::new(alloc);
+    let done = carry_anew(alloc, &member, responses, &mut text);
+    drop(member);
+    done?;
+    Ok(text)
 }
 
 #[test]
@@ -136,35 +155,46 @@ const BODIES: &str = "\
 b Compensated silent
 2 ok done";
 
+// Whether the body of a row comes to its outcome.
+fn body_comes_to_outcome(alloc: Global, row: &str) -> Result<bool, Fail> {
+    let (len, row) = row.split_once(' ').ok_or("no length")?;
+    let (body, outcome) = row.split_once(' ').ok_or("no body")?;
+    let response = format!(in alloc;
+        "HTTP/1.1 200 OK~Transfer-Encoding: chunked~~{len}~{body}~0~~"
+    )?;
+    let text = carried(alloc, response.as_str())?;
+    let wanted = format!(in alloc; "\r\n\r\n1 {outcome}\r\n")?;
+    Ok(text.as_slice().ends_with(wanted.as_bytes()))
+}
+
 #[test]
 fn chunked_bodies_come_to_outcomes(rt: HostRuntime) -> Result<(), Fail> {
     for row in BODIES.lines() {
-        let (len, row) = row.split_once(' ').ok_or("no length")?;
-        let (body, outcome) = row.split_once(' ').ok_or("no body")?;
-        let response = format!(in rt.alloc();
-            "HTTP/1.1 200 OK~Transfer-Encoding: chunked~~{len}~{body}~0~~"
-        )?;
-        let text = carried(rt.alloc(), response.as_str())?;
-        let wanted = format!(in rt.alloc(); "\r\n\r\n1 {outcome}\r\n")?;
-        assert!(rt; text.as_slice().ends_with(wanted.as_bytes()), "{row}");
+        assert!(rt; body_comes_to_outcome(rt.alloc(), row)?, "{row}");
     }
     Ok(())
 }
 
 /// The first errand of a coordinator, whose one action is closed.
 fn asked(coordinator: &mut Coordinator, member: &Uris) -> Result<Option<Errand>, Refusal> {
-    coordinator.enrol(0)?;
-    coordinator.start(1, 0, None, 0)?;
-    coordinator.join(1, 0, 1, member)?;
-    coordinator.close(1, 0, 1)?;
+    close(coordinator, member)?;
     coordinator.next_ask(1, PAUSE)
 }
 
 /// The same of a coordinator of its own. Nothing, where memory is refused.
-fn first_errand(alloc: Global) -> Option<Errand> {
-    let member = member(alloc).ok()?;
+pub(super) fn first_errand(alloc: Global, member: &Uris) -> Option<Errand> {
     let mut coordinator = coordinator(alloc)?;
-    asked(&mut coordinator, &member).ok()?
+    let asked = asked(&mut coordinator, member);
+    drop(coordinator);
+    asked.ok()?
+}
+
+/// An errand to a member of its own. Nothing, where memory is refused.
+fn errand(alloc: Global) -> Option<Errand> {
+    let member = member(alloc).ok()?;
+    let errand = first_errand(alloc, &member);
+    drop(member);
+    errand
 }
 
 /// What goes out for an errand that the member has done, and what comes of it. Nothing, where there is no memory for that text.
@@ -210,7 +240,7 @@ fn is_refused(exchanged: &Option<(Vec<u8>, Outcome)>) -> bool {
 // Run with one growth refused in turn: the outcome is then Silent, and the same errand is carried well again.
 #[test]
 fn a_refused_growth_is_silent(rt: HostRuntime) {
-    if let Some(errand) = first_errand(rt.alloc()) {
+    if let Some(errand) = errand(rt.alloc()) {
         let first = exchanged(rt.alloc(), &errand);
         let second = exchanged(rt.alloc(), &errand);
         errand.discard();

@@ -1,6 +1,7 @@
 //! A courier over a network and a clock of our own.
-use lra_courier::{Callback, TcpCourier};
-use lra_model::{AskKind, Direction, Outcome};
+use super::forget;
+use lra_courier::TcpCourier;
+use lra_model::Outcome;
 use std::alloc::Global;
 use std::cell::Cell;
 use std::io;
@@ -42,7 +43,7 @@ impl World {
 }
 
 /// The network and the clock of a world.
-#[derive(Drop)]
+#[derive(Clone, Copy)]
 struct Handle<'a> {
     world: &'a World,
 }
@@ -164,66 +165,71 @@ impl<'a> Net for Handle<'a> {
 }
 
 fn outcome(alloc: Global, world: &World, address: &str) -> Outcome {
-    let callback = Callback {
-        kind: AskKind::Forget,
-        direction: Direction::Neither,
-        address,
-        action_uri: "http://c.test/a",
-        parent_uri: None,
-        recovery_uri: "http://c.test/r",
-        ended: None,
-    };
-    TcpCourier::new(Handle { world }, alloc).call(&callback)
+    TcpCourier::new(Handle { world }, alloc).call(&forget(address))
+}
+
+// The port of the connection over which a call to this address is answered.
+fn answered_at(alloc: Global, address: &str) -> Option<u16> {
+    let world = World::new(0, 0, 0);
+    match outcome(alloc, &world, address) {
+        Outcome::Done => Some(world.port.get()),
+        _ => None,
+    }
 }
 
 #[test]
 fn the_port_is_the_address_s_or_80(rt: HostRuntime) {
     for (address, port) in [
-        ("http://127.0.0.1/f", 80u16),
+        ("http://127.0.0.1/f", 80),
         ("http://127.0.0.1:9000/f", 9000),
         ("http://[::1]/f", 80),
         ("http://[::1]:81/f", 81),
         ("http://p.test/f", 80),
         ("http://p.test:8081/f", 8081),
     ] {
-        let world = World::new(0, 0, 0);
-        assert_eq!(rt;
-            outcome(rt.alloc(), &world, address),
-            Outcome::Done,
-            "{address}"
-        );
-        assert_eq!(rt; world.port.get(), port, "{address}");
+        assert!(rt; answered_at(rt.alloc(), address) == Some(port), "{address}");
     }
+}
+
+// What comes of a call where the connection and each read take so many seconds.
+fn outcome_after(alloc: Global, connect_secs: u64, read_secs: u64) -> Outcome {
+    let world = World::new(0, connect_secs, read_secs);
+    outcome(alloc, &world, "http://127.0.0.1:9000/f")
 }
 
 // The response comes in 18 reads: the last begins once 17 of them are over.
 #[test]
 fn the_limit_of_30_s_is_one_over_all_reads(rt: HostRuntime) {
-    for (connect_secs, read_secs, expected) in [
-        (0, 1, Outcome::Done),
-        (12, 1, Outcome::Done),
-        (13, 1, Outcome::Silent),
-        (0, 2, Outcome::Silent),
-        (0, 40, Outcome::Silent),
-    ] {
-        let world = World::new(0, connect_secs, read_secs);
-        let found = outcome(rt.alloc(), &world, "http://127.0.0.1:9000/f");
-        assert_eq!(rt; found, expected, "{connect_secs} and {read_secs}");
+    for connect_secs in [0, 12] {
+        let found = outcome_after(rt.alloc(), connect_secs, 1);
+        assert!(rt; found == Outcome::Done, "{connect_secs}");
     }
+    for (connect_secs, read_secs) in [(13, 1), (0, 2), (0, 40)] {
+        let found = outcome_after(rt.alloc(), connect_secs, read_secs);
+        assert!(rt; found == Outcome::Silent, "{connect_secs} and {read_secs}");
+    }
+}
+
+// How many connections a call to a name asks for, of which so many fail, and what comes of it.
+fn connects(alloc: Global, failing: u64, connect_secs: u64) -> (u64, Outcome) {
+    let world = World::new(failing, connect_secs, 0);
+    let found = outcome(alloc, &world, "http://p.test/f");
+    (world.connects.get(), found)
 }
 
 // A name has two addresses, and 5 s are for both.
 #[test]
 fn the_limit_of_5_s_is_one_over_all_addresses(rt: HostRuntime) {
-    for (failing, connect_secs, connects, expected) in [
-        (0, 4, 1u64, Outcome::Done),
+    for (failing, connect_secs, count, expected) in [
+        (0, 4, 1, Outcome::Done),
         (1, 4, 2, Outcome::Done),
         (1, 5, 1, Outcome::Silent),
         (2, 1, 2, Outcome::Silent),
     ] {
-        let world = World::new(failing, connect_secs, 0);
-        let found = outcome(rt.alloc(), &world, "http://p.test/f");
-        assert_eq!(rt; found, expected);
-        assert_eq!(rt; world.connects.get(), connects);
+        let (asked, found) = connects(rt.alloc(), failing, connect_secs);
+        assert!(rt;
+            asked == count && found == expected,
+            "{failing} and {connect_secs}"
+        );
     }
 }

@@ -1,6 +1,5 @@
 use lra_courier::classify;
 use lra_model::{AskKind, Direction};
-use std::test::Fail;
 
 // Kind, direction, code, the body between brackets, and the outcome.
 const REPLIES: &str = "complete completion 200 [Completing] -> accepted
@@ -77,13 +76,19 @@ fn outcome_in(row: &str) -> Option<&'static str> {
     Some(classify(kind, direction, code, body.as_bytes()).name())
 }
 
-#[test]
-fn replies_come_to_outcomes(rt: HostRuntime) -> Result<(), Fail> {
-    for line in REPLIES.lines() {
-        let (row, outcome) = line.split_once(" -> ").ok_or("no row")?;
-        assert_eq!(rt; outcome_in(row).ok_or("no reply")?, outcome, "{row}");
+// Whether a line's reply comes to its outcome.
+fn line_holds(line: &str) -> bool {
+    match line.split_once(" -> ") {
+        Some((row, outcome)) => outcome_in(row) == Some(outcome),
+        None => false,
     }
-    Ok(())
+}
+
+#[test]
+fn replies_come_to_outcomes(rt: HostRuntime) {
+    for line in REPLIES.lines() {
+        assert!(rt; line_holds(line), "{line}");
+    }
 }
 
 #[test]

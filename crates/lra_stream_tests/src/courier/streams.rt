@@ -1,7 +1,7 @@
 use crate::pieces::{Pieces, Sink};
 use lra_courier::{Callback, SendFault};
 use lra_model::{ActionStatus, AskKind, Direction, Outcome};
-use std::alloc::{AllocError, Global};
+use std::alloc::Global;
 use std::test::Fail;
 
 const ACTION: &str = "http://127.0.0.1:8080/lra-coordinator/00000000-0000-8007-8000-000000000001";
@@ -78,44 +78,51 @@ fn callback(kind: AskKind, address: &str) -> Callback<'_> {
 
 // What a writer with room for that many bytes takes of a callback's request, and how it goes.
 fn sent(alloc: Global, callback: &Callback<'_>, room: usize) -> (Vec<u8>, Result<(), SendFault>) {
-    let mut sink = Sink {
-        taken: Vec::new(alloc),
-        size: 7,
-        room,
-    };
+    let mut sink = Sink::new(alloc, 7, room);
     let result = callback.send(alloc, &mut sink);
-    let Sink {
-        taken,
-        size: _,
-        room: _,
-    } = sink;
-    (taken, result)
+    (sink.taken, result)
+}
+
+// Whether the request of a row is written for its kind and its address.
+fn is_written(alloc: Global, row: &str) -> Result<bool, Fail> {
+    let (head, request) = row.split_once('\n').ok_or("no request")?;
+    let (kind, address) = head.split_once(' ').ok_or("no address")?;
+    let kind = AskKind::from_name(kind.as_bytes()).ok_or("no kind")?;
+    let request = request.replace(alloc, "\n", "\r\n")?;
+    let (taken, result) = sent(alloc, &callback(kind, address), 4096);
+    Ok(result.is_ok() && taken.as_slice() == request.as_bytes())
 }
 
 #[test]
 fn requests_are_these_bytes(rt: HostRuntime) -> Result<(), Fail> {
     for row in REQUESTS.split('|') {
-        let (head, request) = row.split_once('\n').ok_or("no request")?;
-        let (kind, address) = head.split_once(' ').ok_or("no address")?;
-        let kind = AskKind::from_name(kind.as_bytes()).ok_or("no kind")?;
-        let request = request.replace(rt.alloc(), "\n", "\r\n")?;
-        let (taken, result) = sent(rt.alloc(), &callback(kind, address), 4096);
-        assert!(rt; matches!(&result, Ok(())), "{head}");
-        assert_eq!(rt; taken.as_slice(), request.as_bytes(), "{head}");
+        assert!(rt; is_written(rt.alloc(), row)?, "{row}");
     }
     Ok(())
 }
 
+// Whether a writer with room for that many bytes fails, and has a front of the request.
+fn has_front(alloc: Global, callback: &Callback<'_>, whole: &[u8], room: usize) -> bool {
+    let (taken, result) = sent(alloc, callback, room);
+    result == Err(SendFault::Io) && taken.len() == room && whole.starts_with(taken.as_slice())
+}
+
 #[test]
-fn a_writer_that_fails_has_a_front_of_the_request(rt: HostRuntime) -> Result<(), Fail> {
+fn a_writer_that_fails_has_a_front_of_the_request(rt: HostRuntime) {
     let callback = callback(AskKind::Complete, "http://p.test:9000/c");
     let (whole, _) = sent(rt.alloc(), &callback, 4096);
     for room in 0..whole.len() {
-        let (taken, result) = sent(rt.alloc(), &callback, room);
-        assert!(rt; matches!(&result, Err(SendFault::Io)));
-        assert_eq!(rt; taken.as_slice(), &whole.as_slice()[..room]);
+        assert!(rt;
+            has_front(rt.alloc(), &callback, whole.as_slice(), room),
+            "{room}"
+        );
     }
-    Ok(())
+}
+
+// Whether nothing is written to this address.
+fn is_kept_back(alloc: Global, address: &str) -> bool {
+    let (taken, result) = sent(alloc, &callback(AskKind::Complete, address), 4096);
+    result == Err(SendFault::BadAddress) && taken.is_empty()
 }
 
 #[test]
@@ -126,25 +133,23 @@ fn nothing_goes_to_what_is_no_address_as_it_stands(rt: HostRuntime) {
         "https://p.test/",
         "p.test",
     ] {
-        let (taken, result) = sent(rt.alloc(), &callback(AskKind::Complete, address), 4096);
-        assert!(rt; matches!(&result, Err(SendFault::BadAddress)), "{address}");
-        assert!(rt; taken.is_empty());
+        assert!(rt; is_kept_back(rt.alloc(), address), "{address}");
     }
 }
 
-// What comes of a callback to complete where these bytes come, in pieces of that size. Then they end, or the reader fails.
-fn outcome(alloc: Global, bytes: &[u8], size: usize, fails: bool) -> Outcome {
-    let reader = Pieces {
-        rest: bytes,
-        size,
-        fails,
-    };
-    let mut writer = Sink {
-        taken: Vec::new(alloc),
-        size: 4096,
-        room: 4096,
-    };
-    callback(AskKind::Complete, "http://p.test:9000/c").exchange(alloc, reader, &mut writer)
+// What comes of a callback to complete where a reader gives a response, and how much of the request a writer takes that has
+// room for so many bytes.
+fn exchanged(alloc: Global, reader: Pieces<'_>, room: usize) -> (Outcome, usize) {
+    let mut writer = Sink::new(alloc, 10, room);
+    let callback = callback(AskKind::Complete, "http://p.test:9000/c");
+    let found = callback.exchange(alloc, reader, &mut writer);
+    (found, writer.taken.len())
+}
+
+// What comes of one where these bytes come, in pieces of that size. Then they end, or the reader fails.
+fn outcome(alloc: Global, rest: &[u8], size: usize, fails: bool) -> Outcome {
+    let (found, _) = exchanged(alloc, Pieces { rest, size, fails }, 4096);
+    found
 }
 
 #[test]
@@ -198,35 +203,36 @@ fn a_response_that_is_cut_is_silent(rt: HostRuntime) {
     }
 }
 
+// What comes of a response to which so many interim heads lead.
+fn outcome_after(alloc: Global, count: usize) -> Result<Outcome, Fail> {
+    let mut bytes = b"HTTP/1.1 103 Early\r\n\r\n".repeat(alloc, count)?;
+    bytes.extend_from_slice(DONE)?;
+    Ok(outcome(alloc, bytes.as_slice(), 4096, false))
+}
+
 #[test]
 fn eight_interim_heads_are_skipped_and_nine_are_silent(rt: HostRuntime) -> Result<(), Fail> {
-    let mut bytes = DONE.to_vec(rt.alloc())?;
     for count in 0..10 {
-        let found = outcome(rt.alloc(), bytes.as_slice(), 4096, false);
-        assert_eq!(rt; found == Outcome::Done, count < 9);
-        let mut more = b"HTTP/1.1 103 Early\r\n\r\n".to_vec(rt.alloc())?;
-        more.extend_from_slice(bytes.as_slice())?;
-        bytes = more;
+        let found = outcome_after(rt.alloc(), count)?;
+        assert!(rt; (found == Outcome::Done) == (count < 9), "{count}");
     }
     Ok(())
 }
 
+// What comes of a callback whose writer has room for so many bytes, and how many it takes.
+fn outcome_with_room(alloc: Global, room: usize) -> (Outcome, usize) {
+    let reader = Pieces {
+        rest: DONE,
+        size: 4096,
+        fails: false,
+    };
+    exchanged(alloc, reader, room)
+}
+
 #[test]
 fn a_callback_whose_writer_fails_is_silent(rt: HostRuntime) {
-    let callback = callback(AskKind::Complete, "http://p.test:9000/c");
     for room in [0, 1, 100] {
-        let reader = Pieces {
-            rest: DONE,
-            size: 4096,
-            fails: false,
-        };
-        let mut writer = Sink {
-            taken: Vec::new(rt.alloc()),
-            size: 10,
-            room,
-        };
-        let found = callback.exchange(rt.alloc(), reader, &mut writer);
-        assert_eq!(rt; found, Outcome::Silent);
-        assert_eq!(rt; writer.taken.len(), room);
+        let (found, taken) = outcome_with_room(rt.alloc(), room);
+        assert!(rt; found == Outcome::Silent && taken == room, "{room}");
     }
 }

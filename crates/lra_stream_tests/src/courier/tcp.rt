@@ -1,8 +1,8 @@
-use super::errands::close;
-use crate::coordinator::coordinator;
-use lra_core::{Coordinator, Errand};
-use lra_courier::{Callback, Courier, TcpCourier};
-use lra_model::{AskKind, Direction, Outcome, Uris};
+use super::errands::first_errand;
+use super::forget;
+use lra_core::Errand;
+use lra_courier::{Courier, TcpCourier};
+use lra_model::{Outcome, Uris};
 use std::alloc::{AllocError, Global};
 use std::io;
 use std::io::{Read, Write};
@@ -25,18 +25,6 @@ fn answer_once(listener: &TcpListener, response: &[u8]) -> io::Result<()> {
     let mut piece = [0u8; 4096];
     let _ = stream.read(&mut piece)?;
     stream.write_all(response)
-}
-
-fn forget(address: &str) -> Callback<'_> {
-    Callback {
-        kind: AskKind::Forget,
-        direction: Direction::Neither,
-        address,
-        action_uri: "http://c.test/a",
-        parent_uri: None,
-        recovery_uri: "http://c.test/r",
-        ended: None,
-    }
 }
 
 #[test]
@@ -74,20 +62,15 @@ fn member(alloc: Global, port: u16) -> Result<Uris, AllocError> {
     })
 }
 
-/// The first errand of a coordinator whose action has a member, and is closed.
-fn asked(coordinator: &mut Coordinator, member: &Uris) -> Result<Errand, Fail> {
-    close(coordinator, member)?;
-    match coordinator.next_ask(1, 1)? {
+/// An errand to have that member complete.
+fn complete_errand(alloc: Global, port: u16) -> Result<Errand, Fail> {
+    let member = member(alloc, port)?;
+    let errand = first_errand(alloc, &member);
+    drop(member);
+    match errand {
         Some(errand) => Ok(errand),
         None => Err("no one is to be asked")?,
     }
-}
-
-/// The same of a coordinator of its own.
-fn complete_errand(alloc: Global, port: u16) -> Result<Errand, Fail> {
-    let member = member(alloc, port)?;
-    let mut coordinator = coordinator(alloc).ok_or("no coordinator")?;
-    asked(&mut coordinator, &member)
 }
 
 // Takes a connection, and answers it once the head of a request came.

@@ -1,12 +1,12 @@
 //! The HTTP interface over a coordinator of its own.
 
 use super::counter::Still;
-use super::{end_word, reply_text, served_by};
-use crate::coordinator::coordinator;
+use super::{end_word, reply_text, serve, serve_by};
+use crate::coordinator::{coordinator, record};
 use crate::pieces::{Pieces, Sink};
 use lra_core::{Bench, Coordinator};
-use lra_front::{StreamEnd, serve_stream};
-use lra_model::{Outcome, suits};
+use lra_front::StreamEnd;
+use lra_model::Outcome;
 use std::alloc::Global;
 use std::process::Abort;
 use std::test::Fail;
@@ -122,39 +122,36 @@ const SCRIPTS: &str = r#"!0 enrol
 !190 tick
 191|PUT /lra-coordinator/@1/renew|{"limit":5}|412 Precondition Failed||{"error":"NotActive","status":"Cancelled"}"#;
 
-/// Asks what is due, and takes down what came of it a moment later.
+/// Asks what is due, and records what came of it a moment later.
 fn ask(coordinator: &mut Coordinator, moment: u64, outcome: Option<Outcome>) {
     let Ok(Some(errand)) = coordinator.next_ask(1, moment) else {
         return;
     };
     match outcome {
-        Some(outcome) if suits(errand.kind(), outcome) => {
-            let recorded = coordinator.record(1, moment.saturating_add(1), errand, outcome);
-            if let Err((_, errand)) = recorded {
-                errand.discard();
-            }
+        Some(outcome) => {
+            record(coordinator, moment.saturating_add(1), errand, outcome);
         }
-        _ => errand.discard(),
+        None => errand.discard(),
     }
 }
 
-/// Does what a line after `!` says.
-fn act(coordinator: &mut Coordinator, line: &str) -> Result<(), Fail> {
-    let (moment, deed) = line.split_once(' ').ok_or("no deed")?;
-    let moment: u64 = moment.parse()?;
+/// Does at that moment what a word says: whether it isn't refused.
+fn deed_is_done(coordinator: &mut Coordinator, moment: u64, deed: &str) -> bool {
     match deed {
-        "enrol" => {
-            coordinator.enrol(moment)?;
+        "enrol" => coordinator.enrol(moment).is_ok(),
+        "tick" => coordinator.tick(1, moment).is_ok(),
+        "restart" => coordinator.restart(1, moment).is_ok(),
+        _ => {
+            ask(coordinator, moment, Outcome::from_name(deed.as_bytes()));
+            true
         }
-        "tick" => {
-            coordinator.tick(1, moment)?;
-        }
-        "restart" => {
-            coordinator.restart(1, moment)?;
-        }
-        _ => ask(coordinator, moment, Outcome::from_name(deed.as_bytes())),
     }
-    Ok(())
+}
+
+/// Does what a line after `!` says: whether it isn't refused.
+fn act(coordinator: &mut Coordinator, line: &str) -> Result<bool, Fail> {
+    let (moment, deed) = line.split_once(' ').ok_or("no deed")?;
+    Ok(deed_is_done(coordinator, moment.parse()?, deed))
 }
 
 /// A text of the scripts, written out.
@@ -165,25 +162,35 @@ fn spelled(alloc: Global, text: &str) -> Result<String, Fail> {
     Ok(text.replace(alloc, '~', "\r\n")?)
 }
 
+/// The stream of a request with this line and body.
+fn request_text(alloc: Global, line: &str, body: &str) -> Result<String, Fail> {
+    let body = spelled(alloc, body)?;
+    let len = body.len();
+    let stream = format!(in alloc; "{line} HTTP/1.1~Host: h~Content-Length: {len}~~{body}")?;
+    spelled(alloc, stream.as_str())
+}
+
+/// The reply with this status, these fields and this body.
+fn reply_with(alloc: Global, status: &str, fields: &str, body: &str) -> Result<String, Fail> {
+    let fields = spelled(alloc, fields)?;
+    let body = spelled(alloc, body)?;
+    let len = body.len();
+    let reply = format!(in alloc; "{status}~{len}~{fields}~{body}")?;
+    reply_text(alloc, reply.as_str())
+}
+
 /// The stream of a line, and the reply to it.
 fn exchange(alloc: Global, columns: &str) -> Result<(String, String), Fail> {
     let (line, columns) = columns.split_once('|').ok_or("no line")?;
     let (body, columns) = columns.split_once('|').ok_or("no body")?;
     let (status, columns) = columns.split_once('|').ok_or("no status")?;
     let (fields, reply) = columns.split_once('|').ok_or("no fields")?;
-    let body = spelled(alloc, body)?;
-    let len = body.len();
-    let stream = format!(in alloc; "{line} HTTP/1.1~Host: h~Content-Length: {len}~~{body}")?;
-    let reply = spelled(alloc, reply)?;
-    let reply = reply_text(alloc, status, fields, reply.as_str())?;
-    Ok((
-        spelled(alloc, stream.as_str())?,
-        spelled(alloc, reply.as_str())?,
-    ))
+    let stream = request_text(alloc, line, body)?;
+    Ok((stream, reply_with(alloc, status, fields, reply)?))
 }
 
 /// What is written for a stream that comes in pieces of that size, and how it ends. The coordinator is put back.
-fn serve(
+fn serve_at(
     alloc: Global,
     place: &mut Option<Coordinator>,
     moment: u64,
@@ -191,29 +198,38 @@ fn serve(
     size: usize,
 ) -> Option<(Vec<u8>, StreamEnd)> {
     let mut bench = Bench::new(place.take()?, 1);
-    let served = served_by(alloc, &mut bench, moment, stream, size);
-    *place = Some(bench.into_coordinator());
+    let served = serve_by(alloc, &mut bench, moment, stream, size);
+    drop(place.replace(bench.into_coordinator()));
     Some(served)
 }
 
-/// Plays a line of a script.
-fn play_line(
-    rt: &impl Abort,
+/// Whether the stream of a line has the reply of that line, in pieces of that size.
+fn is_replied(
+    alloc: Global,
+    place: &mut Option<Coordinator>,
+    moment: u64,
+    columns: &str,
+    size: usize,
+) -> Result<bool, Fail> {
+    let (stream, reply) = exchange(alloc, columns)?;
+    match serve_at(alloc, place, moment, stream.as_str(), size) {
+        Some((taken, end)) => Ok(taken.as_slice() == reply.as_bytes() && end_word(end) == "Done"),
+        None => Ok(false),
+    }
+}
+
+/// Plays a line of a script: whether what comes of it is what the line says.
+fn line_holds(
     alloc: Global,
     place: &mut Option<Coordinator>,
     line: &str,
     size: usize,
-) -> Result<(), Fail> {
+) -> Result<bool, Fail> {
     if let Some(deed) = line.strip_prefix("!") {
         return act(place.as_mut().ok_or("no coordinator")?, deed);
     }
     let (moment, columns) = line.split_once('|').ok_or("no moment")?;
-    let (stream, reply) = exchange(alloc, columns)?;
-    let moment: u64 = moment.parse()?;
-    let (taken, end) = serve(alloc, place, moment, stream.as_str(), size).ok_or("no coordinator")?;
-    assert!(rt; taken.as_slice() == reply.as_bytes(), "{line} by {size}");
-    assert_eq!(rt; end_word(end), "Done", "{line} by {size}");
-    Ok(())
+    is_replied(alloc, place, moment.parse()?, columns, size)
 }
 
 /// Plays a script, whose streams come in pieces of that size.
@@ -225,16 +241,24 @@ fn play(
     size: usize,
 ) -> Result<(), Fail> {
     for line in script.lines() {
-        play_line(rt, alloc, place, line, size)?;
+        assert!(rt; line_holds(alloc, place, line, size)?, "{line} by {size}");
     }
     Ok(())
+}
+
+/// The same at a coordinator of its own.
+fn play_anew(rt: &impl Abort, alloc: Global, script: &str, size: usize) -> Result<(), Fail> {
+    let mut place = coordinator(alloc);
+    let played = play(rt, alloc, &mut place, script, size);
+    drop(place);
+    played
 }
 
 #[test]
 fn commands_with_a_route_are_answered_whole_and_byte_by_byte(rt: HostRuntime) -> Result<(), Fail> {
     for script in SCRIPTS.split("\n\n") {
         for size in [1, 4096] {
-            play(&rt, rt.alloc(), &mut coordinator(rt.alloc()), script, size)?;
+            play_anew(&rt, rt.alloc(), script, size)?;
         }
     }
     Ok(())
@@ -243,8 +267,19 @@ fn commands_with_a_route_are_answered_whole_and_byte_by_byte(rt: HostRuntime) ->
 /// A bench whose clerk is enrolled.
 pub(super) fn enrolled(alloc: Global) -> Option<Bench> {
     let mut coordinator = coordinator(alloc)?;
-    coordinator.enrol(0).ok()?;
+    if coordinator.enrol(0).is_err() {
+        drop(coordinator);
+        return None;
+    }
     Some(Bench::new(coordinator, 1))
+}
+
+/// How many entries a bench has that is let go of.
+pub(super) fn entries_of(bench: Bench) -> usize {
+    let coordinator = bench.into_coordinator();
+    let count = coordinator.entries().len();
+    drop(coordinator);
+    count
 }
 
 const START: &str = "POST /lra-coordinator HTTP/1.1\r\nHost: 127.0.0.1:8080\r\n\r\n";
@@ -258,33 +293,32 @@ Long-Running-Action: http://127.0.0.1:8080/lra-coordinator/00000000-0000-8007-80
 \r
 {\"lra\":\"http://127.0.0.1:8080/lra-coordinator/00000000-0000-8007-8000-000000000001\"}";
 
-/// What a writer takes that has room for so many bytes and then fails; how the stream ended; and whether the action stands.
-fn started_with_room(alloc: Global, room: usize) -> Option<(Vec<u8>, StreamEnd, bool)> {
+/// Whether a start stands whose writer has room for so many bytes of the reply, has taken them, and then fails.
+fn stands_with_room(alloc: Global, room: usize) -> Option<bool> {
     let mut bench = enrolled(alloc)?;
-    let mut sink = Sink {
-        taken: Vec::new(alloc),
-        size: 7,
-        room,
+    let reader = Pieces {
+        rest: START.as_bytes(),
+        size: 4096,
+        fails: false,
     };
-    let end = serve_stream(
-        alloc,
-        START.as_bytes(),
-        &mut sink,
-        &mut bench,
-        &mut Still { moment: 0 },
-    );
-    let coordinator = bench.into_coordinator();
-    Some((sink.taken, end, coordinator.entries().len() == 2))
+    let sink = Sink::new(alloc, 7, room);
+    let (taken, end) = serve(alloc, &mut bench, &mut Still { moment: 0 }, reader, sink);
+    let stands = entries_of(bench) == 2;
+    let whole = room == STARTED.len();
+    Some(
+        stands
+            && taken.len() == room
+            && STARTED.as_bytes().starts_with(taken.as_slice())
+            && end_word(end) == if whole { "Done" } else { "WriteFault" },
+    )
 }
 
 #[test]
-fn a_start_stands_whatever_the_writer_takes_of_its_reply(rt: HostRuntime) -> Result<(), Fail> {
+fn a_start_stands_whatever_the_writer_takes_of_its_reply(rt: HostRuntime) {
     for room in 0..STARTED.len() + 1 {
-        let (taken, end, stands) = started_with_room(rt.alloc(), room).ok_or("no bench")?;
-        assert_eq!(rt; taken.as_slice(), &STARTED.as_bytes()[..room]);
-        let whole = room == STARTED.len();
-        assert_eq!(rt; end_word(end), if whole { "Done" } else { "WriteFault" });
-        assert!(rt; stands);
+        assert!(rt;
+            matches!(stands_with_room(rt.alloc(), room), Some(true)),
+            "{room}"
+        );
     }
-    Ok(())
 }

@@ -1,8 +1,9 @@
 //! What a stream comes to where a growth is refused: run with one allocation failing in turn.
 
-use super::bench::{STARTED, enrolled};
+use super::bench::{STARTED, enrolled, entries_of};
+use super::serve;
 use crate::pieces::{Pieces, Sink};
-use lra_front::{Clock, StreamEnd, serve_stream};
+use lra_front::{Clock, StreamEnd};
 use std::alloc::Global;
 use std::fmt::Write;
 use std::test::Fail;
@@ -94,19 +95,18 @@ fn serve_once(alloc: Global) -> Option<Come> {
         size: 4096,
         fails: false,
     };
-    let mut sink = Sink {
+    let sink = Sink {
         taken: Vec::with_capacity(alloc, 4096).ok()?,
         size: 4096,
         room: 4096,
     };
     let mut bench = enrolled(alloc)?;
     let mut clock = Asked { requests: 0 };
-    let end = serve_stream(alloc, reader, &mut sink, &mut bench, &mut clock);
-    let entries = bench.into_coordinator().entries().len();
+    let (taken, end) = serve(alloc, &mut bench, &mut clock, reader, sink);
     Some(Come {
-        taken: sink.taken,
+        taken,
         requests: clock.requests,
-        entries,
+        entries: entries_of(bench),
         end,
     })
 }

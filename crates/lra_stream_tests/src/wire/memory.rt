@@ -1,64 +1,67 @@
 //! What each call answers where a growth is refused: run with one allocation failing in turn.
 use crate::pieces::{Sink, in_pieces};
 use lra_wire::{RequestWrite, WireFault, read_request, read_response, write_request};
-use std::test::Fail;
+use std::alloc::Global;
 
-#[test]
-fn a_refused_growth_is_memory_at_a_request(rt: HostRuntime) -> Result<(), Fail> {
+// Whether a request is read, or memory refused.
+fn request_is_read(alloc: Global) -> bool {
     let bytes: &[u8] = b"PUT /a HTTP/1.0\r\nContent-Length: 2\r\n\r\nok";
-    let Ok(mut inbox) = in_pieces(rt.alloc(), bytes, 30, false) else {
-        return Ok(());
+    let Ok(mut inbox) = in_pieces(alloc, bytes, 30, false) else {
+        return true;
     };
-    let put = read_request(rt.alloc(), &mut inbox);
-    match &put {
-        Ok(Some(put)) => assert_eq!(rt; put.body.as_slice(), b"ok".as_slice()),
-        Ok(None) => panic!(rt; "nothing"),
-        Err(fault) => assert_eq!(rt; *fault, WireFault::Memory),
+    match &read_request(alloc, &mut inbox) {
+        Ok(Some(put)) => put.body.as_slice() == b"ok".as_slice(),
+        Ok(None) => false,
+        Err(fault) => *fault == WireFault::Memory,
     }
-    Ok(())
 }
 
 #[test]
-fn a_refused_growth_is_memory_at_a_response(rt: HostRuntime) -> Result<(), Fail> {
+fn a_refused_growth_is_memory_at_a_request(rt: HostRuntime) {
+    assert!(rt; request_is_read(rt.alloc()));
+}
+
+// Whether a response is read, or memory refused.
+fn response_is_read(alloc: Global) -> bool {
     let bytes: &[u8] =
         b"HTTP/1.1 200 OK\r\nTransfer-Encoding: chunked\r\n\r\n9\r\nCompleted\r\n0\r\n\r\n";
-    let Ok(mut inbox) = in_pieces(rt.alloc(), bytes, 30, false) else {
-        return Ok(());
+    let Ok(mut inbox) = in_pieces(alloc, bytes, 30, false) else {
+        return true;
     };
-    let response = read_response(rt.alloc(), &mut inbox);
-    match &response {
-        Ok(response) => assert_eq!(rt; response.body.as_slice(), b"Completed".as_slice()),
-        Err(fault) => assert_eq!(rt; *fault, WireFault::Memory),
+    match &read_response(alloc, &mut inbox) {
+        Ok(response) => response.body.as_slice() == b"Completed".as_slice(),
+        Err(fault) => *fault == WireFault::Memory,
     }
-    Ok(())
 }
 
 #[test]
-fn a_refused_growth_writes_nothing(rt: HostRuntime) -> Result<(), Fail> {
-    let Ok(taken) = Vec::with_capacity(rt.alloc(), 64) else {
-        return Ok(());
-    };
-    let mut writer = Sink {
-        taken,
-        size: 100,
-        room: 64,
-    };
+fn a_refused_growth_is_memory_at_a_response(rt: HostRuntime) {
+    assert!(rt; response_is_read(rt.alloc()));
+}
+
+// Whether a request is written, or nothing of it, and memory refused.
+fn request_is_written(alloc: Global, writer: &mut Sink) -> bool {
     let request = RequestWrite {
         method: "PUT",
         target: "/a",
         fields: &[("Host", "x")],
         body: b"ok",
     };
-    let written = write_request(rt.alloc(), &mut writer, &request);
-    match &written {
-        Ok(()) => assert_eq!(rt;
-            writer.taken.as_slice(),
-            b"PUT /a HTTP/1.1\r\nHost: x\r\n\r\nok".as_slice()
-        ),
-        Err(fault) => {
-            assert_eq!(rt; *fault, WireFault::Memory);
-            assert!(rt; writer.taken.is_empty());
-        }
+    match write_request(alloc, writer, &request) {
+        Ok(()) => writer.taken.as_slice() == b"PUT /a HTTP/1.1\r\nHost: x\r\n\r\nok".as_slice(),
+        Err(fault) => fault == WireFault::Memory && writer.taken.is_empty(),
     }
-    Ok(())
+}
+
+#[test]
+fn a_refused_growth_writes_nothing(rt: HostRuntime) {
+    let Ok(taken) = Vec::with_capacity(rt.alloc(), 64) else {
+        return;
+    };
+    let mut writer = Sink {
+        taken,
+        size: 100,
+        room: 64,
+    };
+    assert!(rt; request_is_written(rt.alloc(), &mut writer));
 }

@@ -1,70 +1,100 @@
-use crate::pieces::in_pieces;
-use lra_wire::{WireFault, read_request};
+use crate::pieces::{Pieces, in_pieces};
+use lra_wire::{Inbox, RequestRead, WireFault, read_request};
+use std::alloc::{AllocError, Global};
+use std::fmt::Write;
+use std::str::from_utf8;
 use std::test::Fail;
+
+// Takes down what was read: the method, the target, the minor version, whether the stream is to be closed, and the body.
+fn put(read: &Result<Option<RequestRead>, WireFault>, text: &mut String) -> Result<(), AllocError> {
+    match read {
+        Ok(Some(read)) => {
+            let (method, target) = (read.method.as_str(), read.target.as_str());
+            let (minor, close) = (read.minor, read.close);
+            let body = from_utf8(read.body.as_slice()).unwrap_or("no text");
+            writeln!(text, "{method} {target} {minor} {close} {body}")
+        }
+        Ok(None) => writeln!(text, "nothing"),
+        Err(fault) => writeln!(text, "{fault}"),
+    }
+}
+
+// Takes down what an inbox reads next.
+fn put_next(
+    alloc: Global,
+    inbox: &mut Inbox<Pieces<'_>>,
+    text: &mut String,
+) -> Result<(), AllocError> {
+    let read = read_request(alloc, inbox);
+    let done = put(&read, text);
+    drop(read);
+    done
+}
+
+// What so many calls read of a stream that comes in pieces of this size, and then ends or fails: a line each.
+fn told(
+    alloc: Global,
+    stream: &[u8],
+    size: usize,
+    fails: bool,
+    calls: usize,
+) -> Result<String, Fail> {
+    let mut inbox = in_pieces(alloc, stream, size, fails)?;
+    let mut text = String::new(alloc);
+    for _ in 0..calls {
+        put_next(alloc, &mut inbox, &mut text)?;
+    }
+    Ok(text)
+}
 
 const TWO: &[u8] =
     b"\r\nPOST /lra-coordinator HTTP/1.1\r\nhost: x\r\nContent-Length: 2\r\n\r\n{}\nGET /a HTTP/1.0\n\n";
+
+const TWO_TOLD: &str = "\
+POST /lra-coordinator 1 false {}
+GET /a 0 true\x20
+input or output failed
+";
 
 // Nothing is asked of the reader where a whole message has come, or it would fail.
 #[test]
 fn reads_requests_in_pieces_of_any_size_and_no_further(rt: HostRuntime) -> Result<(), Fail> {
     for size in 1..TWO.len() + 1 {
-        let mut inbox = in_pieces(rt.alloc(), TWO, size, true)?;
-        let post = read_request(rt.alloc(), &mut inbox)?.ok_or("no POST")?;
-        assert_eq!(rt;
-            post.target.as_str(),
-            "/lra-coordinator",
-            "in pieces of {size}"
-        );
-        assert_eq!(rt; post.body.as_slice(), b"{}".as_slice());
-        assert!(rt; !post.close);
-        let get = read_request(rt.alloc(), &mut inbox)?.ok_or("no GET")?;
-        assert_eq!(rt; get.method.as_str(), "GET");
-        assert_eq!(rt; get.minor, 0);
-        assert!(rt; get.close);
-        let end = read_request(rt.alloc(), &mut inbox);
-        assert!(rt; matches!(&end, Err(WireFault::Io)));
+        let told = told(rt.alloc(), TWO, size, true, 3)?;
+        assert_eq!(rt; told.as_str(), TWO_TOLD, "in pieces of {size}");
     }
     Ok(())
 }
 
 #[test]
 fn a_stream_ends_between_requests(rt: HostRuntime) -> Result<(), Fail> {
-    let mut inbox = in_pieces(rt.alloc(), b"GET / HTTP/1.0\r\n\r\n", 5, false)?;
-    assert!(rt; read_request(rt.alloc(), &mut inbox)?.is_some());
-    assert!(rt; read_request(rt.alloc(), &mut inbox)?.is_none());
+    let told = told(rt.alloc(), b"GET / HTTP/1.0\r\n\r\n", 5, false, 2)?;
+    assert_eq!(rt; told.as_str(), "GET / 0 true \nnothing\n");
     Ok(())
 }
 
-// Each is refused whole and byte by byte, and then the inbox answers `Cut`.
+// The words for a fault, and what is refused so, whole and byte by byte. A line's end is `~`.
+const REFUSED: &str = "\
+bad head: GET / HTTP/1.2~
+bad head: GET / HTTP/1.1~~
+coding not served: GET / HTTP/1.0~Expect: x~~
+bad length: GET / HTTP/1.0~Content-Length: +1~~1
+body too large: GET / HTTP/1.0~Content-Length: 65537~~
+message cut short: GET / HTTP/1.0~Content-Length: 2~~1";
+
+// Whether a row's request is refused so in pieces of this size, after which the inbox answers `Cut`.
+fn is_refused(alloc: Global, row: &str, size: usize) -> Result<bool, Fail> {
+    let (want, request) = row.split_once(": ").ok_or("no request")?;
+    let request = request.replace(alloc, '~', "\r\n")?;
+    let told = told(alloc, request.as_bytes(), size, false, 2)?;
+    Ok(told.as_str().strip_suffix("\nmessage cut short\n") == Some(want))
+}
+
 #[test]
 fn refuses_requests(rt: HostRuntime) -> Result<(), Fail> {
-    let rows: [(&str, WireFault); 6] = [
-        ("GET / HTTP/1.2\r\n", WireFault::BadHead),
-        ("GET / HTTP/1.1\r\n\r\n", WireFault::BadHead),
-        ("GET / HTTP/1.0\r\nExpect: x\r\n\r\n", WireFault::Chunked),
-        (
-            "GET / HTTP/1.0\r\nContent-Length: +1\r\n\r\n1",
-            WireFault::BadLength,
-        ),
-        (
-            "GET / HTTP/1.0\r\nContent-Length: 65537\r\n\r\n",
-            WireFault::TooLarge,
-        ),
-        (
-            "GET / HTTP/1.0\r\nContent-Length: 2\r\n\r\n1",
-            WireFault::Cut,
-        ),
-    ];
-    for (text, fault) in rows {
+    for row in REFUSED.lines() {
         for size in [1, 4096] {
-            let mut inbox = in_pieces(rt.alloc(), text.as_bytes(), size, false)?;
-            let Err(found) = read_request(rt.alloc(), &mut inbox) else {
-                panic!(rt; "accepted {text}");
-            };
-            assert_eq!(rt; found, fault);
-            let spent = read_request(rt.alloc(), &mut inbox);
-            assert!(rt; matches!(&spent, Err(WireFault::Cut)));
+            assert!(rt; is_refused(rt.alloc(), row, size)?, "{row} by {size}");
         }
     }
     Ok(())

@@ -3,53 +3,56 @@ use lra_wire::{ReplyWrite, RequestWrite, write_request, write_response, write_re
 use std::alloc::Global;
 use std::test::Fail;
 
-/// A writer that takes three bytes at a time.
-fn sink(alloc: Global) -> Sink {
-    Sink {
-        taken: Vec::new(alloc),
-        size: 3,
-        room: 4096,
-    }
-}
+const REQUEST: &[u8] = b"PUT /c?x=1 HTTP/1.1\r\nHost: p.test:9000\r\nContent-Length: 2\r\n\r\nok";
 
-#[test]
-fn writes_a_request_or_a_front_of_it(rt: HostRuntime) -> Result<(), Fail> {
+// Whether a writer with room for so many bytes has a front of the request, and is refused where that isn't all.
+fn has_front(alloc: Global, room: usize) -> bool {
     let request = RequestWrite {
         method: "PUT",
         target: "/c?x=1",
         fields: &[("Host", "p.test:9000"), ("Content-Length", "2")],
         body: b"ok",
     };
-    let text: &[u8] = b"PUT /c?x=1 HTTP/1.1\r\nHost: p.test:9000\r\nContent-Length: 2\r\n\r\nok";
-    for room in 0..text.len() + 1 {
-        let taken = Vec::new(rt.alloc());
-        let mut writer = Sink {
-            taken,
-            size: 5,
-            room,
-        };
-        let written = write_request(rt.alloc(), &mut writer, &request);
-        assert_eq!(rt; written.is_ok(), room == text.len());
-        assert_eq!(rt; writer.taken.as_slice(), &text[..room]);
+    let mut writer = Sink::new(alloc, 5, room);
+    let written = write_request(alloc, &mut writer, &request).is_ok();
+    written == (room == REQUEST.len())
+        && writer.taken.len() == room
+        && REQUEST.starts_with(writer.taken.as_slice())
+}
+
+#[test]
+fn writes_a_request_or_a_front_of_it(rt: HostRuntime) {
+    for room in 0..REQUEST.len() + 1 {
+        assert!(rt; has_front(rt.alloc(), room), "{room}");
     }
-    Ok(())
+}
+
+const REPLY: ReplyWrite<'static> = ReplyWrite {
+    code: 404,
+    phrase: "Not Found",
+    fields: &[("Content-Length", "2")],
+    body: b"no",
+};
+
+// What is written of the reply to a writer that takes three bytes at a time.
+fn written(alloc: Global) -> Result<Vec<u8>, Fail> {
+    let mut writer = Sink::new(alloc, 3, 4096);
+    write_response(alloc, &mut writer, &REPLY)?;
+    Ok(writer.taken)
+}
+
+// The same with a page on which something stood before.
+fn written_in(alloc: Global) -> Result<Vec<u8>, Fail> {
+    let mut writer = Sink::new(alloc, 3, 4096);
+    let mut page = Vec::from_slice(alloc, b"what stood there before")?;
+    write_response_in(&mut page, &mut writer, &REPLY)?;
+    Ok(writer.taken)
 }
 
 #[test]
 fn writes_a_response(rt: HostRuntime) -> Result<(), Fail> {
-    let reply = ReplyWrite {
-        code: 404,
-        phrase: "Not Found",
-        fields: &[("Content-Length", "2")],
-        body: b"no",
-    };
     let text: &[u8] = b"HTTP/1.1 404 Not Found\r\nContent-Length: 2\r\n\r\nno";
-    let mut writer = sink(rt.alloc());
-    write_response(rt.alloc(), &mut writer, &reply)?;
-    assert_eq!(rt; writer.taken.as_slice(), text);
-    let mut writer = sink(rt.alloc());
-    let mut page = Vec::from_slice(rt.alloc(), b"what stood there before")?;
-    write_response_in(&mut page, &mut writer, &reply)?;
-    assert_eq!(rt; writer.taken.as_slice(), text);
+    assert!(rt; written(rt.alloc())?.as_slice() == text);
+    assert!(rt; written_in(rt.alloc())?.as_slice() == text);
     Ok(())
 }
