@@ -11,6 +11,7 @@ mod version;
 
 pub use asks::{AskKind, Cause, Direction, Outcome, suits};
 pub use entry::{Deed, Entry, Uris};
+pub use naming::{Named, find_by_name};
 pub use rule::Rule;
 pub use status::{ActionStatus, Ending, MemberStatus};
 pub use std::alloc::AllocError as Memory;

@@ -3,7 +3,7 @@
 ghost use Rattle.std.specs.Prelude.{◌≡◌, List, ℕ, find, bytes_eq, IfSome, Some};
 
 /// What has a name.
-pub(crate) trait Named: Copy {
+pub trait Named: Copy {
     // Its name, as bytes.
     ghost name_of: { Self → List ℕ };
 
@@ -13,7 +13,7 @@ pub(crate) trait Named: Copy {
 }
 
 /// The first of these values of which the text is the name.
-pub(crate) fn find_by_name<T: Named>(values: &[T], text: &[u8]) -> Option<T>
+pub fn find_by_name<T: Named>(values: &[T], text: &[u8]) -> Option<T>
     ensures found { IfSome result (λ value. text.now ≡ T.name_of value) }
     // A value that is the first of its name is found by it.
     ensures only { (value : T) → find (λ other. bytes_eq (T.name_of value) (T.name_of other)) values.now ≡ Some value
