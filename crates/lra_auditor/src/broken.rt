@@ -1,6 +1,6 @@
 //! The first rule that an entry breaks.
 
-ghost use Rattle.std.specs.Prelude.{◌≡◌, ℕ, length, IfOk};
+ghost use Rattle.std.specs.Prelude.{◌≡◌, ℕ, ◌∷◌, [], length, IfOk};
 ghost use Rattle.lra_model.specs.declared.version.Version.{Version};
 ghost use Rattle.lra_model.specs.declared.entry.Deed.TheVariants as deeds;
 ghost use Rattle.lra_model.specs.Rules as rules;
@@ -81,6 +81,27 @@ impl Rows {
         }
     }
 
+    /// The first rule that isn't kept where a member does something: it is there, hasn't left, and that rule.
+    fn broken_by_member(&self, member: u64, rule: Rule, kept: bool) -> Option<Rule>
+        ensures { result ≡ rules.first_broken ((Rule.Member, rules.is_member (facts_by self.now) member) ∷ (Rule.Left, rules.is_here (facts_by self.now) member) ∷ (rule, kept) ∷ []) }
+    {
+        first_broken(&[
+            (Rule::Member, self.is_member(member)),
+            (Rule::Left, self.is_here(member)),
+            (rule, kept),
+        ])
+    }
+
+    /// The first rule that isn't kept where an action is closed or cancelled: it is there, and may be so.
+    fn broken_by_decision(&self, action: u64, allowed: bool) -> Option<Rule>
+        ensures { result ≡ rules.first_broken ((Rule.Action, rules.is_action (facts_by self.now) action) ∷ (Rule.Cause, allowed) ∷ []) }
+    {
+        first_broken(&[
+            (Rule::Action, self.is_action(action)),
+            (Rule::Cause, allowed),
+        ])
+    }
+
     fn broken_by_deed(
         &self,
         alloc: Global,
@@ -91,7 +112,7 @@ impl Rows {
         ensures { IfOk result (λ broken. broken ≡ rules.first_broken (rules.deed_rules version is_address (facts_by self.now) moment (deed_seen deed.now))) }
     {
         Ok(match deed {
-            DeedRef::Enrol => None,
+            DeedRef::Enrol | DeedRef::Restart => None,
             DeedRef::Start {
                 action,
                 parent,
@@ -102,27 +123,19 @@ impl Rows {
                 action,
                 uris,
             } => self.broken_by_join(alloc, *member, *action, uris)?,
-            DeedRef::Leave { member } => first_broken(&[
-                (Rule::Member, self.is_member(*member)),
-                (Rule::Left, self.is_here(*member)),
-                (Rule::Active, self.is_in_active_action(*member)),
-            ]),
-            DeedRef::Close { action, cause } => first_broken(&[
-                (Rule::Action, self.is_action(*action)),
-                (Rule::Cause, self.may_close(*action, *cause)),
-            ]),
-            DeedRef::Cancel { action, cause } => first_broken(&[
-                (Rule::Action, self.is_action(*action)),
-                (
-                    Rule::Cause,
-                    self.may_cancel(version, moment, *action, *cause),
-                ),
-            ]),
-            DeedRef::Skip { member } => first_broken(&[
-                (Rule::Member, self.is_member(*member)),
-                (Rule::Left, self.is_here(*member)),
-                (Rule::Skip, self.may_skip(*member)),
-            ]),
+            DeedRef::Leave { member } => {
+                self.broken_by_member(*member, Rule::Active, self.is_in_active_action(*member))
+            }
+            DeedRef::Close { action, cause } => {
+                self.broken_by_decision(*action, self.may_close(*action, *cause))
+            }
+            DeedRef::Cancel { action, cause } => self.broken_by_decision(
+                *action,
+                self.may_cancel(version, moment, *action, *cause),
+            ),
+            DeedRef::Skip { member } => {
+                self.broken_by_member(*member, Rule::Skip, self.may_skip(*member))
+            }
             DeedRef::Ask { ask, member, kind } => first_broken(&[
                 (Rule::Number, is_next(*ask, self.asks)),
                 (Rule::Member, self.is_member(*member)),
@@ -132,17 +145,14 @@ impl Rows {
             DeedRef::Reply { ask, outcome } => {
                 first_broken(&[(Rule::Reply, self.may_reply(*ask, *outcome))])
             }
-            DeedRef::Report { member, outcome } => first_broken(&[
-                (Rule::Member, self.is_member(*member)),
-                (Rule::Left, self.is_here(*member)),
-                (Rule::Report, self.may_report(*member, *outcome)),
-            ]),
+            DeedRef::Report { member, outcome } => {
+                self.broken_by_member(*member, Rule::Report, self.may_report(*member, *outcome))
+            }
             DeedRef::End { action, status } => first_broken(&[
                 (Rule::Action, self.is_action(*action)),
                 (Rule::Unsettled, self.is_settled(*action)),
                 (Rule::Ending, self.ends_as(*action, *status)),
             ]),
-            DeedRef::Restart => None,
             DeedRef::Renew { action, limit } => first_broken(&[
                 (Rule::Action, self.is_action(*action)),
                 (Rule::Active, self.is_active_action(*action)),
