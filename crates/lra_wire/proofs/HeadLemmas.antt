@@ -23,7 +23,6 @@ use Rattle.lra_wire.specs.inner.Steps.{FindsNewResponse, EndsResponse, ReadsHead
 use Rattle.lra_wire.proofs.InboxLemmas.{Grows_refl, Grows_trans, asks_more}
 use Rattle.lra_wire.proofs.RequestsLemmas.{example, example_is}
 use Rattle.lra_wire.proofs.SearchLemmas.{EndsLine, ends_behind, section_ends, ends_before, no_feed, ends_some}
-use Rattle.lra_wire.proofs.StreamLemmas.{behind_in}
 
 -- ---- up to a line feed
 
@@ -117,17 +116,16 @@ no_response_yet = (
   up_to_all MayBecomeResponse [] (print_response reply, reply, (reply_is, sym (append-nil (print_response reply)))),
 )
 
-pub response_open : (start : ℕ) (bytes kept : List ℕ) (found : Option Head) → bytes ≡ kept → found ≡ None → FindsNewResponse (slice_range bytes start (length bytes)) (Ok found)
-    → IsOpenResponse (drop start kept)
-response_open start bytes kept found same is finds =
-    subst IsOpenResponse (behind_in start same) (subst (λ (o : Option Head). FindsNewResponse (slice_range bytes start (length bytes)) (Ok o)) is finds).0
+pub response_open : (bytes behind : List ℕ) (found : Option Head) → bytes ≡ behind → found ≡ None → FindsNewResponse bytes (Ok found) → IsOpenResponse behind
+response_open bytes behind found same is finds =
+    subst IsOpenResponse same (subst (λ (o : Option Head). FindsNewResponse bytes (Ok o)) is finds).0
 
 -- what the stream ends in
 pub response_ended : {R : Type 0} (remaining : R → Option (List ℕ)) (start : ℕ) (old mid new : Inbox R) (bytes : List ℕ) (found : Result Head WireFault) → Grows remaining old mid → Fills remaining mid new (Ok false)
-    → bytes ≡ kept_bytes new → EndsResponse (slice_range bytes start (length bytes)) found → ReadsHeadAt remaining start old new found
+    → bytes ≡ drop start (kept_bytes new) → EndsResponse bytes found → ReadsHeadAt remaining start old new found
 response_ended remaining start old mid new bytes (Ok head) grows ended same h =
-    (Grows_trans grows ended.0, subst (λ (bs : List ℕ). IsHeadOf bs head) (behind_in start same) h)
+    (Grows_trans grows ended.0, subst (λ (bs : List ℕ). IsHeadOf bs head) same h)
 response_ended remaining start old mid new bytes (Err fault) grows ended same (inl (bad, never)) =
-    inr (Grows_trans grows ended.0, inl (bad, subst NeverShort (behind_in start same) never))
+    inr (Grows_trans grows ended.0, inl (bad, subst NeverShort same never))
 response_ended remaining start old mid new bytes (Err fault) grows ended same (inr (cut, none, lawful)) =
-    inr (Grows_trans grows ended.0, inr (cut, ended.1, subst HasNoResponse (behind_in start same) none, subst MayBecomeResponse (behind_in start same) lawful))
+    inr (Grows_trans grows ended.0, inr (cut, ended.1, subst HasNoResponse same none, subst MayBecomeResponse same lawful))

@@ -82,38 +82,38 @@ no_line_yet line rest reads = ends_some (print_chunk_line line) rest (line_ends 
 pub no_section_yet : HasNoSection []
 no_section_yet fields last rest reads = ends_some (print_section fields last) rest (section_ends fields last) reads.1
 
-pub line_awaits : (start : ℕ) (bytes kept : List ℕ) (found : Option (ℕ × ℕ)) → bytes ≡ kept → found ≡ None → FindsNewLine (slice_range bytes start (length bytes)) (Ok found) → HasNoChunkLine (drop start kept)
-line_awaits start bytes kept found same is finds =
-    subst HasNoChunkLine (behind_in start same) (subst (λ (o : Option (ℕ × ℕ)). FindsNewLine (slice_range bytes start (length bytes)) (Ok o)) is finds)
+pub line_awaits : (bytes behind : List ℕ) (found : Option (ℕ × ℕ)) → bytes ≡ behind → found ≡ None → FindsNewLine bytes (Ok found) → HasNoChunkLine behind
+line_awaits bytes behind found same is finds =
+    subst HasNoChunkLine same (subst (λ (o : Option (ℕ × ℕ)). FindsNewLine bytes (Ok o)) is finds)
 
-pub trailer_awaits : (start : ℕ) (bytes kept : List ℕ) (found : Option ℕ) → bytes ≡ kept → found ≡ None → FindsNewTrailer (slice_range bytes start (length bytes)) (Ok found) → HasNoSection (drop start kept)
-trailer_awaits start bytes kept found same is finds =
-    subst HasNoSection (behind_in start same) (subst (λ (o : Option ℕ). FindsNewTrailer (slice_range bytes start (length bytes)) (Ok o)) is finds)
+pub trailer_awaits : (bytes behind : List ℕ) (found : Option ℕ) → bytes ≡ behind → found ≡ None → FindsNewTrailer bytes (Ok found) → HasNoSection behind
+trailer_awaits bytes behind found same is finds =
+    subst HasNoSection same (subst (λ (o : Option ℕ). FindsNewTrailer bytes (Ok o)) is finds)
 
 -- what the stream ends in is no line
 pub line_bad : {R : Type 0} (remaining : R → Option (List ℕ)) (start : ℕ) (old mid new : Inbox R) (bytes : List ℕ) (fault : WireFault) → Grows remaining old mid → Fills remaining mid new (Ok false)
-    → bytes ≡ kept_bytes new → FindsLine (slice_range bytes start (length bytes)) (Err fault) → ReadsLineAt remaining start old new (Err fault)
+    → bytes ≡ drop start (kept_bytes new) → FindsLine bytes (Err fault) → ReadsLineAt remaining start old new (Err fault)
 line_bad remaining start old mid new bytes fault grows ended same finds =
-    inr (Grows_trans grows ended.0, inl (finds.0, subst NeverHasChunkLine (behind_in start same) finds.1))
+    inr (Grows_trans grows ended.0, inl (finds.0, subst NeverHasChunkLine same finds.1))
 
 pub line_cut : {R : Type 0} (remaining : R → Option (List ℕ)) (start : ℕ) (old mid new : Inbox R) (bytes : List ℕ) (found : Option (ℕ × ℕ)) → Grows remaining old mid → Fills remaining mid new (Ok false)
-    → bytes ≡ kept_bytes new → found ≡ None → FindsLine (slice_range bytes start (length bytes)) (Ok found) → ReadsLineAt remaining start old new (Err Cut)
+    → bytes ≡ drop start (kept_bytes new) → found ≡ None → FindsLine bytes (Ok found) → ReadsLineAt remaining start old new (Err Cut)
 line_cut remaining start old mid new bytes found grows ended same is finds =
-    let none = subst (λ (o : Option (ℕ × ℕ)). FindsLine (slice_range bytes start (length bytes)) (Ok o)) is finds in
-    let here = subst (λ (bs : List ℕ). HasNoChunkLine bs × MayBecomeChunkLine bs) (behind_in start same) none in
+    let none = subst (λ (o : Option (ℕ × ℕ)). FindsLine bytes (Ok o)) is finds in
+    let here = subst (λ (bs : List ℕ). HasNoChunkLine bs × MayBecomeChunkLine bs) same none in
     inr (Grows_trans grows ended.0, inr (inr (refl, ended.1, here.0, here.1)))
 
 -- nor a trailer
 pub trailer_bad : {R : Type 0} (remaining : R → Option (List ℕ)) (start : ℕ) (old mid new : Inbox R) (bytes : List ℕ) (fault : WireFault) → Grows remaining old mid → Fills remaining mid new (Ok false)
-    → bytes ≡ kept_bytes new → FindsTrailer (slice_range bytes start (length bytes)) (Err fault) → ReadsTrailerAt remaining start old new (Err fault)
+    → bytes ≡ drop start (kept_bytes new) → FindsTrailer bytes (Err fault) → ReadsTrailerAt remaining start old new (Err fault)
 trailer_bad remaining start old mid new bytes fault grows ended same finds =
-    inr (Grows_trans grows ended.0, inl (finds.0, subst (SectionOverflows 64) (behind_in start same) finds.1))
+    inr (Grows_trans grows ended.0, inl (finds.0, subst (SectionOverflows 64) same finds.1))
 
 pub trailer_cut : {R : Type 0} (remaining : R → Option (List ℕ)) (start : ℕ) (old mid new : Inbox R) (bytes : List ℕ) (found : Option ℕ) → Grows remaining old mid → Fills remaining mid new (Ok false)
-    → bytes ≡ kept_bytes new → found ≡ None → FindsTrailer (slice_range bytes start (length bytes)) (Ok found) → ReadsTrailerAt remaining start old new (Err Cut)
+    → bytes ≡ drop start (kept_bytes new) → found ≡ None → FindsTrailer bytes (Ok found) → ReadsTrailerAt remaining start old new (Err Cut)
 trailer_cut remaining start old mid new bytes found grows ended same is finds =
-    let none = subst (λ (o : Option ℕ). FindsTrailer (slice_range bytes start (length bytes)) (Ok o)) is finds in
-    let here = subst (λ (bs : List ℕ). HasNoSection bs × MayBecomeSection bs) (behind_in start same) none in
+    let none = subst (λ (o : Option ℕ). FindsTrailer bytes (Ok o)) is finds in
+    let here = subst (λ (bs : List ℕ). HasNoSection bs × MayBecomeSection bs) same none in
     inr (Grows_trans grows ended.0, inr (inr (refl, ended.1, here.0, here.1)))
 
 -- ---- what a search keeps

@@ -121,7 +121,7 @@ fn next_line<R: Read + Drop>(inbox: &mut Inbox<R>, start: usize) -> Result<(usiz
 {
     let mut searched = 0;
     loop {
-        let bytes = &inbox.bytes()[start..];
+        let bytes = inbox.bytes_behind(start);
         if let Some(line) = new_line(bytes, searched)? {
             return Ok(line);
         }
@@ -130,7 +130,7 @@ fn next_line<R: Read + Drop>(inbox: &mut Inbox<R>, start: usize) -> Result<(usiz
             return Err(WireFault::TooLarge);
         }
         if !inbox.fill()? {
-            return match line_at(&inbox.bytes()[start..])? {
+            return match line_at(inbox.bytes_behind(start))? {
                 Some(line) => Ok(line),
                 None => Err(WireFault::Cut),
             };
@@ -169,7 +169,7 @@ fn next_trailer<R: Read + Drop>(inbox: &mut Inbox<R>, start: usize) -> Result<us
 {
     let mut searched = 0;
     loop {
-        let bytes = &inbox.bytes()[start..];
+        let bytes = inbox.bytes_behind(start);
         if let Some(length) = new_trailer(bytes, searched)? {
             return Ok(length);
         }
@@ -178,7 +178,7 @@ fn next_trailer<R: Read + Drop>(inbox: &mut Inbox<R>, start: usize) -> Result<us
             return Err(WireFault::TooLarge);
         }
         if !inbox.fill()? {
-            return match trailer_at(&inbox.bytes()[start..])? {
+            return match trailer_at(inbox.bytes_behind(start))? {
                 Some(length) => Ok(length),
                 None => Err(WireFault::Cut),
             };

@@ -72,6 +72,14 @@ impl<R: Read + Drop> Inbox<R> {
         &self.kept.as_slice()[self.taken..]
     }
 
+    /// Those of these bytes that stand from a place on.
+    pub(crate) fn bytes_behind(&self, start: usize) -> &[u8]
+        requires { start ≤ length (kept_bytes self.now) }
+        ensures { result.now ≡ drop start (kept_bytes self.now) }
+    {
+        &self.bytes()[start..]
+    }
+
     /// Reads once, and answers whether bytes came: none come at the end of the stream alone.
     /// Nothing else asks the reader.
     pub(crate) fn fill(&mut self) -> Result<bool, WireFault>

@@ -107,13 +107,13 @@ fn next_head<R: Read + Drop>(inbox: &mut Inbox<R>, start: usize) -> Result<Head,
 {
     let mut searched = 0;
     loop {
-        let bytes = &inbox.bytes()[start..];
+        let bytes = inbox.bytes_behind(start);
         if let Some(head) = new_head(bytes, searched)? {
             return Ok(head);
         }
         searched = bytes.len();
         if !inbox.fill()? {
-            return last_head(&inbox.bytes()[start..]);
+            return last_head(inbox.bytes_behind(start));
         }
     }
 }
@@ -216,7 +216,7 @@ fn next_rest<R: Read + Drop>(
     ensures asks { AsksBehind (AwaitsBody Framing.ToTheEnd) start inbox.old inbox.new }
 {
     let end = fill_to_the_end(inbox, start)?;
-    let body = Vec::from_slice(alloc, &inbox.bytes()[start..end])?;
+    let body = Vec::from_slice(alloc, inbox.bytes_behind(start))?;
     Ok((body, end))
 }
 
