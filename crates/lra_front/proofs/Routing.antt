@@ -15,8 +15,9 @@ inserted (Ok scan) p old new (Err e) h = tt
 inserted (Err error) p old new (Err e) h = tt
 
 -- seven paths, one after another
-pub seven : (a b c d e f g : List ℕ × Place) (r0 r1 r2 r3 r4 r5 r6 r7 : RowsOf (RouteOf Place))
-    → r0 ≡ [] → r1 ≡ with_path (parse_route a.0) a.1 r0 → r2 ≡ with_path (parse_route b.0) b.1 r1 → r3 ≡ with_path (parse_route c.0) c.1 r2
+pub seven : (a b c d e f g : List ℕ × Place) (r0 r1 r2 r3 r4 r5 r6 r7 : RowsOf (RouteOf Place)) (r : Result (Unit {0}) InsertError)
+    → r1 ≡ with_path (parse_route a.0) a.1 r0 → r2 ≡ with_path (parse_route b.0) b.1 r1 → r3 ≡ with_path (parse_route c.0) c.1 r2
     → r4 ≡ with_path (parse_route d.0) d.1 r3 → r5 ≡ with_path (parse_route e.0) e.1 r4 → r6 ≡ with_path (parse_route f.0) f.1 r5
-    → r7 ≡ with_path (parse_route g.0) g.1 r6 → r7 ≡ with_paths (a ∷ b ∷ c ∷ d ∷ e ∷ f ∷ g ∷ []) []
-seven a b c d e f g r0 r1 r2 r3 r4 r5 r6 r7 h0 h1 h2 h3 h4 h5 h6 h7 = rw (h7, h6, h5, h4, h3, h2, h1, h0) refl
+    → OnOk r (r7 ≡ with_path (parse_route g.0) g.1 r6) → OnOk r (r7 ≡ with_paths (a ∷ b ∷ c ∷ d ∷ e ∷ f ∷ g ∷ []) r0)
+seven a b c d e f g r0 r1 r2 r3 r4 r5 r6 r7 (Ok u) h1 h2 h3 h4 h5 h6 h7 = rw (h7, h6, h5, h4, h3, h2, h1) refl
+seven a b c d e f g r0 r1 r2 r3 r4 r5 r6 r7 (Err error) h1 h2 h3 h4 h5 h6 h7 = tt

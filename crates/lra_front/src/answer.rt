@@ -1,6 +1,9 @@
 //! What a request is answered, and the reply that tells it.
 
 ghost use Rattle.std.specs.Prelude.{◌≡◌, if◌then◌else◌, ℕ, List, [], map, length, decimal, IfOk, IsTrue, string_bytes, Err};
+ghost use Rattle.std.specs.Ordering.{nat_cmp};
+ghost use Rattle.std.specs.declared.cmp.Ordering.TheVariants.{Greater};
+ghost use Rattle.std.specs.Cmp.Lexicographic.{slice_cmp};
 ghost use Rattle.std.specs.Io.KnownBytes.{Keeps};
 ghost use Rattle.serde_json.specs.View.{view};
 ghost use Rattle.serde_json.specs.Written.{compact_text};
@@ -63,16 +66,31 @@ fn refusal_status(refusal: Refusal) -> StatusCode
     }
 }
 
+/// A body of one text.
+fn one_text(alloc: Global, key: &str, text: &str) -> Result<Value, Memory>
+    ensures { IfOk result (λ body. view body ≡ spec.one_text key.now text.now) }
+{
+    json!(in alloc; {key: text})
+}
+
+/// A body of two texts, whose keys come in the order of their bytes.
+fn two_texts(alloc: Global, key: &str, text: &str, other: &str, more: &str) -> Result<Value, Memory>
+    requires order { slice_cmp nat_cmp other.now key.now ≡ Greater }
+    ensures { IfOk result (λ body. view body ≡ spec.two_texts key.now text.now other.now more.now) }
+{
+    json!(in alloc; {key: text, other: more})
+}
+
 /// The body of a refusal.
 fn refusal_body(alloc: Global, refusal: Refusal) -> Result<Value, Memory>
     ensures { IfOk result (λ body. view body ≡ spec.refusal_body refusal) }
 {
     match refusal {
         Refusal::NotActive(status) => {
-            json!(in alloc; {"error": "NotActive", "status": status.name()})
+            two_texts(alloc, "error", "NotActive", "status", status.name())
         }
-        Refusal::Full(resource) => json!(in alloc; {"error": "Full", "which": resource.name()}),
-        _ => json!(in alloc; {"error": refusal.name()}),
+        Refusal::Full(resource) => two_texts(alloc, "error", "Full", "which", resource.name()),
+        _ => one_text(alloc, "error", refusal.name()),
     }
 }
 
@@ -114,7 +132,7 @@ impl Denial {
     {
         match self {
             Denial::Refused(refusal) => refusal_body(alloc, refusal),
-            _ => json!(in alloc; {"error": self.name()}),
+            _ => one_text(alloc, "error", self.name()),
         }
     }
 }
@@ -153,15 +171,15 @@ impl Answer {
         ensures { IfOk result (λ body. view body ≡ spec.body_of uri.now self) }
     {
         match self {
-            Answer::Started(_) => json!(in alloc; {"lra": uri}),
+            Answer::Started(_) => one_text(alloc, "lra", uri),
             Answer::Found { status, .. } => {
-                json!(in alloc; {"lra": uri, "status": status.name()})
+                two_texts(alloc, "lra", uri, "status", status.name())
             }
-            Answer::Joined(_) => json!(in alloc; {"recovery": uri}),
-            Answer::Turned(status) => json!(in alloc; {"status": status.name()}),
-            Answer::Left => json!(in alloc; {"status": "Left"}),
-            Answer::Renewed => json!(in alloc; {"status": "Active"}),
-            Answer::Member(status) => json!(in alloc; {"status": status.name()}),
+            Answer::Joined(_) => one_text(alloc, "recovery", uri),
+            Answer::Turned(status) => one_text(alloc, "status", status.name()),
+            Answer::Left => one_text(alloc, "status", "Left"),
+            Answer::Renewed => one_text(alloc, "status", "Active"),
+            Answer::Member(status) => one_text(alloc, "status", status.name()),
             Answer::Denied(denial) => denial.body(alloc),
         }
     }

@@ -3,7 +3,7 @@
 ghost use Rattle.std.specs.Prelude.{◌≡◌, IfOk, OnOk};
 ghost use Rattle.std.specs.List.{before_first, after_first};
 ghost use Rattle.matchit.specs.Route.{parse_route};
-ghost use Rattle.lra_front.specs.Routes.{is_slash, has_query, with_path, path_rows, place_of, id_in, methods, route_by, allowed, route_of};
+ghost use Rattle.lra_front.specs.Routes.{is_slash, has_query, paths, with_path, with_paths, path_rows, place_of, id_in, methods, route_by, allowed, route_of};
 
 use crate::denial::Denial;
 use http::Method;
@@ -67,17 +67,24 @@ fn serve(router: &mut Router<Place>, path: &str, place: Place) -> Result<(), Ins
     router.insert(path, place)
 }
 
+/// Serves all paths.
+fn serve_all(router: &mut Router<Place>) -> Result<(), InsertError>
+    ensures { OnOk result (router.new ≡ with_paths paths router.old) }
+{
+    serve(router, "/lra-coordinator", Place::Actions)?;
+    serve(router, "/lra-coordinator/{id}", Place::Action)?;
+    serve(router, "/lra-coordinator/{id}/close", Place::Close)?;
+    serve(router, "/lra-coordinator/{id}/cancel", Place::Cancel)?;
+    serve(router, "/lra-coordinator/{id}/remove", Place::Remove)?;
+    serve(router, "/lra-coordinator/{id}/renew", Place::Renew)?;
+    serve(router, "/lra-recovery/{id}", Place::Member)
+}
+
 fn router(alloc: Global) -> Result<Router<Place>, InsertError>
     ensures { IfOk result (λ router. router ≡ path_rows) }
 {
     let mut router = Router::new(alloc);
-    serve(&mut router, "/lra-coordinator", Place::Actions)?;
-    serve(&mut router, "/lra-coordinator/{id}", Place::Action)?;
-    serve(&mut router, "/lra-coordinator/{id}/close", Place::Close)?;
-    serve(&mut router, "/lra-coordinator/{id}/cancel", Place::Cancel)?;
-    serve(&mut router, "/lra-coordinator/{id}/remove", Place::Remove)?;
-    serve(&mut router, "/lra-coordinator/{id}/renew", Place::Renew)?;
-    serve(&mut router, "/lra-recovery/{id}", Place::Member)?;
+    serve_all(&mut router)?;
     Ok(router)
 }
 
