@@ -3,7 +3,7 @@ use Rattle.std.proofs.KnownBytes.{Consumes-trans, Consumes-whole}
 use Rattle.std.proofs.lemmas.List.{append-nil, length-append, take_at}
 use Rattle.lra_auditor.specs.Feeding.{StandsFor}
 use Rattle.lra_reports.proofs.Feeding.{consumed_long}
-use Rattle.lra_reports.proofs.input.feed_input.Goals as goal
+use Rattle.lra_reports.proofs.input.feed_pieces.Goals as goal
 
 pub returns-then-count-eq0-clause-fed : goal.returns-then-count-eq0-clause-fed
 returns-then-count-eq0-clause-fed g c =
