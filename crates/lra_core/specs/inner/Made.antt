@@ -1,10 +1,13 @@
 -- How a block is made.
-use Rattle.std.specs.Prelude.{◌≡◌, ℕ, List, Option, Some, None, option_map, Result, MatchResult}
+use Rattle.std.specs.Prelude.{◌≡◌, ◌+◌, ◌≤◌, ℕ, List, length, Option, Some, None, option_map, Result, MatchResult}
+use Rattle.std.specs.List.{flat_map}
 use Rattle.lra_model.specs.declared.entry.Deed.{Deed}
 use Rattle.lra_model.specs.declared.entry.Deed.TheVariants as deed
 use Rattle.lra_model.specs.declared.entry.Entry.{Entry}
 use Rattle.lra_model.specs.History.{History}
 use Rattle.lra_model.specs.Members.{ask_direction}
+use Rattle.lra_journal.specs.Line.{line}
+use Rattle.lra_tables.specs.Plans.{Planned}
 use Rattle.lra_commands.specs.declared.command.Told.{Told}
 use Rattle.lra_commands.specs.declared.limits.Terms.{Terms}
 use Rattle.lra_commands.specs.declared.refusal.Refusal.{Refusal}
@@ -13,6 +16,7 @@ use Rattle.lra_commands.specs.Counters.{Setting, terms_of}
 use Rattle.lra_commands.specs.Errands.{Asking, asking_of}
 use Rattle.lra_commands.specs.Shortages.{IsRefusal}
 use Rattle.lra_core.specs.declared.making.Ask.{Ask}
+use Rattle.lra_core.specs.declared.making.Parts.{Parts}
 use Rattle.lra_core.specs.Shape.{Shape}
 use Rattle.lra_core.specs.Prepares.{Written, IsBlockOf, HasRoom}
 use Rattle.lra_judge.specs.Decisions.{IsWritten}
@@ -48,6 +52,15 @@ pub record IsReady (c : Shape) (k : Call) (b : Written) : Type 0 where
 -- a block is made, or the call that is to write it is refused
 abbrev pub IsMade : Shape → Call → Result Written Refusal → Type 0
 IsMade c k result = MatchResult result (IsReady c k) (IsRefusal (terms_of c.setting) c.history k)
+
+-- what a block has beside its plan is copied and spelled from that and from the ask that it makes, at the coordinator's history, which has room for it
+pub record ArePartsOf (c : Shape) (plan : Planned) (a : Option Ask) (p : Parts) : Type 0 where
+  pub members : p.members.items ≡ plan.members
+  pub actions : p.actions.items ≡ plan.actions
+  pub text : p.text.items ≡ flat_map line plan.entries
+  pub errand : p.request ≡ option_map (asking_at c.setting c.history) a
+  pub entries : length plan.entries ≤ c.room.entries
+  pub moments : length plan.members + length plan.actions ≤ c.room.moments
 
 -- a block is assembled of what is told, its entries and the ask that it makes, at the coordinator's history, which has room for it
 pub record IsAssembled (c : Shape) (t : Told) (es : List Entry) (a : Option Ask) (b : Written) : Type 0 where
