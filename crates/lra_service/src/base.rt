@@ -12,6 +12,19 @@ use lra_reports::RunFault;
 use std::alloc::Global;
 use std::net::{Net, TcpListener};
 
+/// A text as a base of identifiers, where it is one as it stands.
+fn base_in(alloc: Global, text: &str) -> Result<Address, ServeFault>
+    ensures text { IfOk result (λ base. base ≡ text.now) }
+    ensures base { IfOk result (λ base. is_base base ≡ true) }
+    ensures fault { IfErr result IsOfAddress }
+{
+    match address(alloc, text) {
+        Ok(base) if base.as_str() == text && base.is_base() => Ok(base),
+        Err(UriFault::Memory) => Err(ServeFault::Run(RunFault::Memory)),
+        _ => Err(ServeFault::Address),
+    }
+}
+
 /// The base of the identifiers that are served at an address: `http://`, the address and `/`, where that text is a base as it stands.
 pub(crate) fn base_of(alloc: Global, to: &str) -> Result<Address, ServeFault>
     ensures text { IfOk result (λ base. base ≡ base_text to.now) }
@@ -21,16 +34,7 @@ pub(crate) fn base_of(alloc: Global, to: &str) -> Result<Address, ServeFault>
     let Ok(text) = format!(in alloc; "http://{to}/") else {
         return Err(ServeFault::Run(RunFault::Memory));
     };
-    let base = match address(alloc, &text) {
-        Ok(base) => base,
-        Err(UriFault::Memory) => return Err(ServeFault::Run(RunFault::Memory)),
-        Err(_) => return Err(ServeFault::Address),
-    };
-    if base.as_str() == text.as_str() && base.is_base() {
-        Ok(base)
-    } else {
-        Err(ServeFault::Address)
-    }
+    base_in(alloc, &text)
 }
 
 /// A listener at a base's host and port.

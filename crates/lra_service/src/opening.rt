@@ -56,9 +56,16 @@ fn begin<W: Write + Drop, R: Wait>(
     match Office::create(alloc, instance, base, Limits::usual(), writer) {
         Ok((office, pass)) => match office.clerk(rt, pass, moment) {
             Ok(clerk) => Ok((office, clerk)),
-            Err((_, refusal)) => Err(enrol_fault(refusal)),
+            Err((pass, refusal)) => {
+                drop(pass);
+                drop(office);
+                Err(enrol_fault(refusal))
+            }
         },
-        Err((fault, _)) => Err(start_fault(fault)),
+        Err((fault, writer)) => {
+            drop(writer);
+            Err(start_fault(fault))
+        }
     }
 }
 

@@ -1,6 +1,6 @@
 //! The clerks of a service.
 
-ghost use Rattle.std.specs.Prelude.{All, IfOk, IfErr};
+ghost use Rattle.std.specs.Prelude.{◌≡◌, [], All, IfOk, IfErr, OnOk};
 ghost use Rattle.lra_office.specs.Clerks.{IsClerkOf};
 ghost use Rattle.lra_service.specs.Faults.{IsOfNoScript};
 ghost use Rattle.lra_service.specs.inner.Opened.{IsAt};
@@ -51,6 +51,34 @@ fn hire<V: Serving, R: Wait>(
     }
 }
 
+/// Adds the clerks of a service, of which one is there already.
+fn add_all<V: Serving, R: Wait>(
+    rt: &R,
+    office: &Office<V>,
+    first: Clerk<V>,
+    moment: u64,
+    workers: u32,
+    jobs: &mut Vec<(Duty, Clerk<V>)>,
+) -> Result<(), ServeFault>
+    requires first { IsAt V.setting office.now first }
+    requires none { jobs.old.items ≡ [] }
+    ensures hired { OnOk result (All (λ job. IsAt V.setting office.now job.1) jobs.new.items) }
+    ensures fault { IfErr result IsOfNoScript }
+{
+    let mut next = first;
+    for _ in 1..workers {
+        let (carrying, other) = hire(rt, office, next, moment)?;
+        let (answering, other) = hire(rt, office, other, moment)?;
+        jobs.push((Duty::Carry, carrying))?;
+        jobs.push((Duty::Answer, answering))?;
+        next = other;
+    }
+    let (carrying, answering) = hire(rt, office, next, moment)?;
+    jobs.push((Duty::Carry, carrying))?;
+    jobs.push((Duty::Answer, answering))?;
+    Ok(())
+}
+
 /// The clerks of a service, of which one is there already: so many to answer and as many to carry errands.
 pub(crate) fn hire_all<V: Serving, R: Wait>(
     rt: &R,
@@ -65,16 +93,6 @@ pub(crate) fn hire_all<V: Serving, R: Wait>(
     ensures fault { IfErr result IsOfNoScript }
 {
     let mut jobs = Vec::new(alloc);
-    let mut next = first;
-    for _ in 1..workers {
-        let (carrying, other) = hire(rt, office, next, moment)?;
-        let (answering, other) = hire(rt, office, other, moment)?;
-        jobs.push((Duty::Carry, carrying))?;
-        jobs.push((Duty::Answer, answering))?;
-        next = other;
-    }
-    let (carrying, answering) = hire(rt, office, next, moment)?;
-    jobs.push((Duty::Carry, carrying))?;
-    jobs.push((Duty::Answer, answering))?;
+    add_all(rt, office, first, moment, workers, &mut jobs)?;
     Ok(jobs)
 }

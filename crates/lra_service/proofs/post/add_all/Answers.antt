@@ -3,7 +3,7 @@ use Rattle.std.proofs.lemmas.List.Elements.{All-push}
 use Rattle.lra_office.specs.declared.clerk.Clerk.{Clerk}
 use Rattle.lra_service.specs.declared.post.Duty.{Duty}
 use Rattle.lra_service.specs.inner.Opened.{IsAt}
-use Rattle.lra_service.proofs.post.hire_all.Goals as goal
+use Rattle.lra_service.proofs.post.add_all.Goals as goal
 
 -- what holds of all of a list and of two more holds of all once they were pushed
 all_pushed : {X : Type 0} (P : X → Type 0) (xs ys zs : List X) (x y : X) → ys ≡ xs ++ x ∷ [] → zs ≡ ys ++ y ∷ [] → All P xs → P x → P y → All P zs

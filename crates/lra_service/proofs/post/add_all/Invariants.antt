@@ -1,6 +1,6 @@
 use Rattle.std.proofs.Common.{All}
 use Rattle.lra_service.specs.inner.Opened.{IsAt}
-use Rattle.lra_service.proofs.post.hire_all.Given as goal
+use Rattle.lra_service.proofs.post.add_all.Given as goal
 
 abbrev pub invariant-loop : goal.invariant-loop
 invariant-loop g l = record {
