@@ -50,7 +50,9 @@ fn played_at(
     script: &str,
 ) -> Result<(Version, Vec<u8>), Fail> {
     let version = coordinator.version();
-    played(alloc, &mut coordinator, script).map(|text| (version, text))
+    let text = played(alloc, &mut coordinator, script);
+    drop(coordinator);
+    Ok((version, text?))
 }
 
 #[test]
@@ -151,10 +153,10 @@ fn a_nest_is_cancelled_at_once(rt: HostRuntime) -> Result<(), Fail> {
 
 /// A coordinator that goes on from a journal, with so many entries at most.
 fn open_once(alloc: Global, journal: &str, entries: u32) -> Result<Coordinator, OpenFault> {
-    let Ok((version, instance, read)) = read_journal(alloc, journal.as_bytes()) else {
+    let Some(base) = base(alloc) else {
         return Err(OpenFault::Memory);
     };
-    let Some(base) = base(alloc) else {
+    let Ok((version, instance, read)) = read_journal(alloc, journal.as_bytes()) else {
         return Err(OpenFault::Memory);
     };
     let limits = Limits {
@@ -166,10 +168,12 @@ fn open_once(alloc: Global, journal: &str, entries: u32) -> Result<Coordinator, 
 
 /// The same, once more where memory was refused.
 fn open(alloc: Global, journal: &str, entries: u32) -> Result<Coordinator, OpenFault> {
-    match open_once(alloc, journal, entries) {
-        Err(OpenFault::Memory) => open_once(alloc, journal, entries),
-        opened => opened,
+    let opened = open_once(alloc, journal, entries);
+    if matches!(opened, Err(OpenFault::Memory)) {
+        drop(opened);
+        return open_once(alloc, journal, entries);
     }
+    opened
 }
 
 #[test]
@@ -178,13 +182,13 @@ fn journals_are_opened(rt: HostRuntime) -> Result<(), Fail> {
     for row in OPENED.split('|') {
         let (line, journal) = row.split_once('\n').ok_or("no journal")?;
         let (entries, wanted) = line.split_once(' ').ok_or("no fault")?;
-        match open(alloc, journal, entries.parse()?) {
-            Ok(_) => panic!(rt; "{line}"),
-            Err(OpenFault::Unsound { line, rule }) => {
+        match open(alloc, journal, entries.parse()?).err() {
+            None => panic!(rt; "{line}"),
+            Some(OpenFault::Unsound { line, rule }) => {
                 let (number, code) = wanted.split_once(' ').ok_or("no rule")?;
                 assert_eq!(rt; (line, rule.name()), (number.parse()?, code));
             }
-            Err(fault) => {
+            Some(fault) => {
                 assert_eq!(rt; fault, OpenFault::Full);
                 assert_eq!(rt; wanted, "Full");
             }
@@ -212,14 +216,16 @@ fn close(
     match coordinator.prepare(1, 5, &Command::Close { action: 1 })? {
         Prepared::Told(_) => Ok(None),
         Prepared::Block(block) => {
-            let text = block.text().to_vec(alloc)?;
+            let text = block.text().to_vec(alloc);
             if commits {
                 let Committed { told: _, errand } = coordinator.commit(block);
                 if let Some(errand) = errand {
                     errand.discard();
                 }
+            } else {
+                drop(block);
             }
-            Ok(Some(text))
+            Ok(Some(text?))
         }
     }
 }
@@ -252,7 +258,9 @@ fn close_once(alloc: Global, coordinator: &mut Coordinator) -> Result<[bool; 4],
 /// The same at a new coordinator.
 fn close_anew(alloc: Global) -> Result<[bool; 4], Fail> {
     let mut coordinator = coordinator(alloc, Limits::usual())?;
-    close_once(alloc, &mut coordinator)
+    let done = close_once(alloc, &mut coordinator);
+    drop(coordinator);
+    done
 }
 
 #[test]

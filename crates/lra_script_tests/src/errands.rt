@@ -40,6 +40,18 @@ impl Held {
         }
         Ok(())
     }
+
+    /// Takes down what it has beside what was told of it when it was asked.
+    fn show(&self, text: &mut Vec<u8>) -> Result<(), Fail> {
+        if let Some(errand) = &self.errand {
+            let (action, direction) = (errand.action(), errand.direction().name());
+            let (uri, parent) = (errand.action_uri(), errand.parent_uri());
+            write!(text, "{action} {direction} {uri} {parent:?} ")?;
+            let (recovery, ended) = (errand.recovery_uri(), errand.ended());
+            writeln!(text, "{recovery} {ended:?}")?;
+        }
+        Ok(())
+    }
 }
 
 /// All that are held.
@@ -94,16 +106,8 @@ impl Errands {
     /// Takes down what an errand has beside what was told of it when it was asked.
     pub fn show(&self, ask: u64, text: &mut Vec<u8>) -> Result<(), Fail> {
         for held in &self.held {
-            if let Some(errand) = &held.errand
-                && held.ask == ask
-            {
-                let (action, direction) = (errand.action(), errand.direction().name());
-                let (uri, parent) = (errand.action_uri(), errand.parent_uri());
-                let (recovery, ended) = (errand.recovery_uri(), errand.ended());
-                writeln!(
-                    text,
-                    "{action} {direction} {uri} {parent:?} {recovery} {ended:?}"
-                )?;
+            if held.ask == ask {
+                held.show(text)?;
             }
         }
         Ok(())

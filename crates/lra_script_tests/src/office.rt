@@ -12,7 +12,7 @@ use crate::errands::Errands;
 use crate::rows::{REOPENED, SCRIPTS};
 use crate::spelling::spell_journal;
 use crate::words::Words;
-use lra_commands::Order;
+use lra_commands::{Order, Query};
 use lra_core::{Errand, Instance, Limits, Refusal, Told};
 use lra_journal::whole;
 use lra_model::{Outcome, suits};
@@ -20,6 +20,7 @@ use lra_office::{Clerk, Desk, Office, OfficeRefusal, ReopenFault, Serving};
 use lra_ticket::Pass;
 use std::alloc::{AllocError, Global};
 use std::io::{self, Write};
+use std::process::Abort;
 use std::str::from_utf8;
 use std::sync::{Mutex, Wait};
 use std::test::Fail;
@@ -90,8 +91,12 @@ impl<V: Serving, R: Wait> Player<'_, V, R> {
 
     fn give(&mut self, line: &str) -> Result<(), Fail> {
         let mut words = Words { left: line };
-        if words.next() == "discard" {
+        let first = words.next();
+        if first == "discard" {
             return self.discard(words.number()?);
+        }
+        if first == "awaited" {
+            return self.query(words.query()?);
         }
         let moment = words.number()?;
         let verb = words.next();
@@ -144,13 +149,13 @@ impl<V: Serving, R: Wait> Player<'_, V, R> {
             Ok(uris) => uris,
             Err(_) => (Words { left: addresses }).uris(self.alloc)?,
         };
-        self.order(
-            moment,
-            &Order::Join {
-                action,
-                uris: &uris,
-            },
-        )
+        let order = Order::Join {
+            action,
+            uris: &uris,
+        };
+        let done = self.order(moment, &order);
+        drop(uris);
+        done
     }
 
     /// Gives an order, twice where memory was refused.
@@ -164,16 +169,32 @@ impl<V: Serving, R: Wait> Player<'_, V, R> {
         self.put(answer)
     }
 
+    /// Asks what writes nothing, and takes down what is told.
+    fn query(&mut self, query: Query) -> Result<(), Fail> {
+        match self.office.query(self.rt, &mut self.clerk, query) {
+            Ok(known) => {
+                writeln!(self.text, "{known:?}")?;
+                Ok(())
+            }
+            Err(refusal) => self.put(Err(refusal)),
+        }
+    }
+
     /// Asks, and holds the errand. Twice where memory was refused.
     fn ask(&mut self, moment: u64) -> Result<(), Fail> {
         let seen = self.seen();
-        let asked = match self.office.next_ask(self.rt, &mut self.clerk, moment) {
+        match self.office.next_ask(self.rt, &mut self.clerk, moment) {
             Err(NO_MEMORY) => {
                 self.require_seen(seen)?;
-                self.office.next_ask(self.rt, &mut self.clerk, moment)
+                let asked = self.office.next_ask(self.rt, &mut self.clerk, moment);
+                self.hold(asked)
             }
-            other => other,
-        };
+            asked => self.hold(asked),
+        }
+    }
+
+    /// Takes down what was asked, and holds the errand.
+    fn hold(&mut self, asked: Result<Option<Errand>, OfficeRefusal>) -> Result<(), Fail> {
         match asked {
             Err(refusal) => self.put(Err(refusal)),
             Ok(None) => self.put(Ok(Told::Idle)),
@@ -250,9 +271,9 @@ fn named<V: Serving, R: Wait>(
     }
 }
 
-/// Whether a line of a script is a command that the clerk gives, or discards an errand.
+/// Whether a line of a script is a command that the clerk gives, discards an errand, or only asks.
 fn is_given(line: &str) -> bool {
-    line.starts_with("1 ") || line.starts_with("discard ")
+    line.starts_with("1 ") || line.starts_with("discard ") || line.starts_with("awaited ")
 }
 
 /// What is to come of a script: the commands that are given, with their answers; and the journal, which is the lines that they
@@ -300,7 +321,31 @@ fn enrolled<V: Serving, R: Wait>(
     }
 }
 
-/// An office and its clerk after a script, and the answers to its commands.
+/// An office and its clerk after a script that the clerk gives, and the answers to its commands.
+fn given<V: Serving, R: Wait>(
+    mut player: Player<'_, V, R>,
+    script: &str,
+) -> Result<(Office<V>, Clerk<V>, Vec<u8>), Fail>
+    ensures { IfOk result (λ r. IsClerkOf r.0.lock r.1) }
+{
+    if let Err(fail) = player.play(script) {
+        drop(player);
+        return Err(fail);
+    }
+    let Player {
+        rt: _,
+        alloc: _,
+        office,
+        clerk,
+        journal: _,
+        held,
+        text,
+    } = player;
+    drop(held);
+    Ok((office, clerk, text))
+}
+
+/// The same by a clerk that is enrolled first, at this moment.
 fn played_at<V: Serving, R: Wait>(
     rt: &R,
     alloc: Global,
@@ -308,85 +353,106 @@ fn played_at<V: Serving, R: Wait>(
     pass: Pass<V>,
     journal: &Mutex<Vec<u8>>,
     script: &str,
+    moment: u64,
 ) -> Result<(Office<V>, Clerk<V>, Vec<u8>), Fail>
     requires lock { pass_id pass ≡ lock_id office.lock }
     requires newcomer { (pass_view pass).number ≡ 0 }
     ensures { IfOk result (λ r. IsClerkOf r.0.lock r.1) }
 {
-    let moment = enrolment(script)?;
-    let Some(clerk) = enrolled(rt, &office, pass, moment) else {
-        return Err("a clerk can be enrolled")?;
-    };
-    let mut player = Player {
-        rt,
-        alloc,
-        office,
-        clerk,
-        journal,
-        held: Errands::new(alloc),
-        text: Vec::new(alloc),
-    };
-    player.play(script)?;
-    let Player {
-        office,
-        clerk,
-        text,
-        ..
-    } = player;
-    Ok((office, clerk, text))
-}
-
-/// The journal by the coordinator of an office, which is shut. It takes no memory where there is room.
-fn shut<W: Write + Drop>(
-    office: Office<Desk<W>>,
-    clerk: Clerk<Desk<W>>,
-    mut room: Vec<u8>,
-) -> Result<Vec<u8>, Fail>
-    requires { IsClerkOf office.lock clerk }
-{
-    match office.shut(clerk) {
-        Ok((coordinator, _)) => {
-            spell_journal(&coordinator, &mut room)?;
-            Ok(room)
+    match enrolled(rt, &office, pass, moment) {
+        Some(clerk) => {
+            let player = Player {
+                rt,
+                alloc,
+                office,
+                clerk,
+                journal,
+                held: Errands::new(alloc),
+                text: Vec::new(alloc),
+            };
+            given(player, script)
         }
-        Err(_) => Err("the lock is free")?,
+        None => {
+            drop(office);
+            Err("a clerk can be enrolled")?
+        }
     }
 }
 
-/// What comes of a script at a new office: the answers to its commands, and the journal by the office's coordinator. Nothing, where no
+/// Adds the journal by the coordinator of an office, which is shut. It takes no memory where there is room.
+fn shut<W: Write + Drop>(
+    office: Office<Desk<W>>,
+    clerk: Clerk<Desk<W>>,
+    kept: &mut Vec<u8>,
+) -> Result<(), Fail>
+    requires { IsClerkOf office.lock clerk }
+{
+    match office.shut(clerk) {
+        Ok((coordinator, scribe)) => {
+            let spelled = spell_journal(&coordinator, kept);
+            drop(coordinator);
+            drop(scribe);
+            Ok(spelled?)
+        }
+        Err((office, clerk)) => {
+            drop(office);
+            drop(clerk);
+            Err("the lock is free")?
+        }
+    }
+}
+
+/// The answers to the commands of a script at a new office, whose coordinator's journal is added to `kept`. Nothing, where no
 /// office could be made.
 fn played_once<R: Wait>(
     rt: &R,
     alloc: Global,
     script: &str,
     taken: &Mutex<Vec<u8>>,
-) -> Result<Option<(Vec<u8>, Vec<u8>)>, Fail> {
-    let kept = room(alloc)?;
-    let (Some(instance), Some(base)) = (Instance::new(7), base(alloc)) else {
+    kept: &mut Vec<u8>,
+) -> Result<Option<Vec<u8>>, Fail> {
+    let moment = enrolment(script)?;
+    let instance = Instance::new(7).ok_or("no instance")?;
+    let Some(base) = base(alloc) else {
         return Ok(None);
     };
     let writer = Shared { rt, taken };
     match Office::create(alloc, instance, base, Limits::usual(), writer) {
         Ok((office, pass)) => {
-            let (office, clerk, text) = played_at(rt, alloc, office, pass, taken, script)?;
-            Ok(Some((text, shut(office, clerk, kept)?)))
+            let (office, clerk, text) = played_at(rt, alloc, office, pass, taken, script, moment)?;
+            shut(office, clerk, kept)?;
+            Ok(Some(text))
         }
-        Err(_) => Ok(None),
+        Err((_, writer)) => {
+            drop(writer);
+            Ok(None)
+        }
     }
 }
 
-/// The same, with memory for the office the second time, and what its writer took.
+/// The same, with memory for the office the second time.
+fn played_twice<R: Wait>(
+    rt: &R,
+    alloc: Global,
+    script: &str,
+    taken: &Mutex<Vec<u8>>,
+    kept: &mut Vec<u8>,
+) -> Result<Vec<u8>, Fail> {
+    if let Some(text) = played_once(rt, alloc, script, taken, kept)? {
+        return Ok(text);
+    }
+    taken.lock(rt).clear();
+    let text = played_once(rt, alloc, script, taken, kept)?.ok_or("an office can be made")?;
+    Ok(text)
+}
+
+/// What comes of a script: the answers to its commands, what the office's writer took, and the journal by the office's
+/// coordinator.
 fn played<R: Wait>(rt: &R, alloc: Global, script: &str) -> Result<[Vec<u8>; 3], Fail> {
+    let mut kept = room(alloc)?;
     let taken = Mutex::new(room(alloc)?);
-    let mut played = played_once(rt, alloc, script, &taken)?;
-    if played.is_none() {
-        taken.lock(rt).clear();
-        played = played_once(rt, alloc, script, &taken)?;
-    }
-    match played {
-        Some((text, kept)) => Ok([text, taken.into_inner(), kept]),
-        None => Err("an office can be made")?,
-    }
+    let text = played_twice(rt, alloc, script, &taken, &mut kept)?;
+    Ok([text, taken.into_inner(), kept])
 }
 
 /// The moment of a script's first line, which enrols its clerk.
@@ -396,18 +462,31 @@ fn enrolment(script: &str) -> Result<u64, Fail> {
     words.number()
 }
 
+/// What came of a script is what it says.
+fn assert_played<R: Abort>(
+    rt: &R,
+    came: &[Vec<u8>; 3],
+    answers: &[u8],
+    lines: &[u8],
+) -> Result<(), Fail> {
+    let [text, taken, kept] = came;
+    assert_eq!(rt; from_utf8(text)?, from_utf8(answers)?);
+    let lines = from_utf8(lines)?;
+    assert_eq!(rt; from_utf8(taken)?, lines);
+    assert_eq!(rt; from_utf8(kept)?, lines);
+    Ok(())
+}
+
 #[test]
 fn scripts_come_to_what_they_say(rt: HostRuntime) -> Result<(), Fail> {
     let alloc = rt.alloc();
     for script in SCRIPTS.split("\n\n") {
-        let [text, taken, kept] = played(&rt, alloc, script)?;
+        let came = played(&rt, alloc, script)?;
         let (answers, lines) = match wanted(alloc, script) {
             Ok(wanted) => wanted,
             Err(_) => wanted(alloc, script)?,
         };
-        assert_eq!(rt; from_utf8(&text)?, from_utf8(&answers)?);
-        assert_eq!(rt; from_utf8(&taken)?, from_utf8(&lines)?);
-        assert_eq!(rt; from_utf8(&kept)?, from_utf8(&lines)?);
+        assert_played(&rt, &came, &answers, &lines)?;
     }
     Ok(())
 }
@@ -420,54 +499,81 @@ struct Reopening<'a> {
     written: &'a str,
 }
 
-/// What a renewal is refused by at the office of a journal, and the journal by its coordinator. Nothing, where memory was refused.
+/// What a renewal is refused by at the office of a journal, whose coordinator's journal is added to `kept`. Nothing, where memory was
+/// refused.
 fn goes_on<R: Wait>(
     rt: &R,
     alloc: Global,
     row: Reopening<'_>,
     taken: &Mutex<Vec<u8>>,
-) -> Result<Option<(Refusal, Vec<u8>)>, Fail> {
-    let kept = room(alloc)?;
-    let (Ok(journal), Some(base)) = (Vec::from_slice(alloc, row.journal.as_bytes()), base(alloc))
-    else {
+    kept: &mut Vec<u8>,
+) -> Result<Option<Refusal>, Fail> {
+    let Ok(journal) = Vec::from_slice(alloc, row.journal.as_bytes()) else {
+        return Ok(None);
+    };
+    let Some(base) = base(alloc) else {
+        drop(journal);
         return Ok(None);
     };
     let writer = Shared { rt, taken };
     match Office::reopen(alloc, journal, base, Limits::usual(), writer, row.moment) {
         Ok((office, mut clerk)) => {
             let renewed = office.renew(rt, &mut clerk, row.moment, 1, 5);
-            let kept = shut(office, clerk, kept)?;
+            shut(office, clerk, kept)?;
             let Err(OfficeRefusal::Refused(refusal)) = renewed else {
                 return Err("a renewal is refused")?;
             };
-            Ok(Some((refusal, kept)))
+            Ok(Some(refusal))
         }
-        Err((ReopenFault::Memory, None)) => Ok(None),
-        Err(_) => Err("the journal is sound")?,
+        Err((fault, writer)) => {
+            let is_starved = fault == ReopenFault::Memory && writer.is_none();
+            drop(writer);
+            if is_starved {
+                return Ok(None);
+            }
+            Err("the journal is sound")?
+        }
     }
 }
 
-/// The same with what was written, once more where memory was refused. Then nothing had been written, or all.
+/// Takes back what was written where memory was refused: nothing, or all.
+fn take_back<R: Wait>(rt: &R, taken: &Mutex<Vec<u8>>, written: &str) -> Result<(), Fail> {
+    let mut before = taken.lock(rt);
+    let is_part = !before.is_empty() && before.as_slice() != written.as_bytes();
+    before.clear();
+    drop(before);
+    if is_part {
+        return Err("a part was written")?;
+    }
+    Ok(())
+}
+
+/// What a renewal is refused by, once more where memory was refused. Then nothing had been written, or all.
+fn goes_on_twice<R: Wait>(
+    rt: &R,
+    alloc: Global,
+    row: Reopening<'_>,
+    taken: &Mutex<Vec<u8>>,
+    kept: &mut Vec<u8>,
+) -> Result<Refusal, Fail> {
+    if let Some(refusal) = goes_on(rt, alloc, row, taken, kept)? {
+        return Ok(refusal);
+    }
+    take_back(rt, taken, row.written)?;
+    let refusal = goes_on(rt, alloc, row, taken, kept)?.ok_or("memory is refused once")?;
+    Ok(refusal)
+}
+
+/// The same, with the journal by the coordinator, and what was written.
 fn gone_on<R: Wait>(
     rt: &R,
     alloc: Global,
     row: Reopening<'_>,
 ) -> Result<(Refusal, Vec<u8>, Vec<u8>), Fail> {
+    let mut kept = room(alloc)?;
     let taken = Mutex::new(room(alloc)?);
-    let mut gone_on = goes_on(rt, alloc, row, &taken)?;
-    if gone_on.is_none() {
-        let mut before = taken.lock(rt);
-        if !before.is_empty() && before.as_slice() != row.written.as_bytes() {
-            return Err("a part was written")?;
-        }
-        before.clear();
-        drop(before);
-        gone_on = goes_on(rt, alloc, row, &taken)?;
-    }
-    match gone_on {
-        Some((refusal, kept)) => Ok((refusal, kept, taken.into_inner())),
-        None => Err("memory is refused once")?,
-    }
+    let refusal = goes_on_twice(rt, alloc, row, &taken, &mut kept)?;
+    Ok((refusal, kept, taken.into_inner()))
 }
 
 #[test]

@@ -22,19 +22,27 @@ audit 2 -> sound 4 entries 1 actions 0 unended 1 closed 0 cancelled
 + 1 11 join 1 1 http://p.test/u http://p.test/c http://p.test/s * *
 1 12 join 1 http://q.test/u http://q.test/c * * * -> Member(2)
 + 1 12 join 2 1 http://q.test/u http://q.test/c * * *
+awaited 1 0 -> AwaitsNothing
 1 20 close 1 -> Now(Closing)
 + 1 20 close 1 client
 1 21 ask -> ask 1 1 complete http://p.test/c
 + 1 21 ask 1 1 complete
+awaited 1 0 -> Awaits { place: 0, awaited: Member { member: 1, ask: Some(1) } }
+awaited 1 1 -> Awaits { place: 1, awaited: Member { member: 2, ask: None } }
 1 22 ask -> ask 2 2 complete http://q.test/c
 + 1 22 ask 2 2 complete
+awaited 1 1 -> Awaits { place: 1, awaited: Member { member: 2, ask: Some(2) } }
 1 23 reply 2 done -> Recorded
 + 1 23 reply 2 done
+awaited 1 1 -> AwaitsNothing
 1 24 reply 1 accepted -> Recorded
 + 1 24 reply 1 accepted
+awaited 1 0 -> Awaits { place: 0, awaited: Member { member: 1, ask: None } }
 1 30 report 1 Completed -> MemberNow(Completed)
 + 1 30 report 1 done
 + 1 30 end 1 Closed
+awaited 1 0 -> AwaitsNothing
+awaited 2 0 -> refused NoSuchAction
 
 0 0 enrol -> Clerk(1)
 + 1 0 enrol
@@ -118,6 +126,8 @@ errand 1 -> 2 completion http://127.0.0.1:8080/lra-coordinator/00000000-0000-800
 + 1 6 cancel 2 parent
 1 7 ask -> ask 2 1 compensate http://n.test/u
 + 1 7 ask 2 1 compensate
+awaited 1 0 -> Awaits { place: 0, awaited: Action { action: 2 } }
+awaited 2 0 -> Awaits { place: 0, awaited: Member { member: 1, ask: Some(2) } }
 1 8 reply 2 done -> Recorded
 + 1 8 reply 2 done
 + 1 8 end 2 Cancelled

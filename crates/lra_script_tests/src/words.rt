@@ -1,6 +1,6 @@
 //! The words of a script's line.
 
-use lra_commands::Order;
+use lra_commands::{Order, Query};
 use lra_model::{Ending, Uris};
 use std::alloc::{AllocError, Global};
 use std::mem;
@@ -49,13 +49,34 @@ impl<'a> Words<'a> {
     }
 
     pub fn uris(mut self, alloc: Global) -> Result<Uris, AllocError> {
-        Ok(Uris {
-            compensate: self.address(alloc)?,
-            complete: self.address(alloc)?,
-            status: self.address(alloc)?,
-            forget: self.address(alloc)?,
-            after: self.address(alloc)?,
-        })
+        let mut uris = Uris {
+            compensate: None,
+            complete: None,
+            status: None,
+            forget: None,
+            after: None,
+        };
+        if let Err(fault) = self.fill(alloc, &mut uris) {
+            drop(uris);
+            return Err(fault);
+        }
+        Ok(uris)
+    }
+
+    fn fill(&mut self, alloc: Global, uris: &mut Uris) -> Result<(), AllocError> {
+        uris.compensate = self.address(alloc)?;
+        uris.complete = self.address(alloc)?;
+        uris.status = self.address(alloc)?;
+        uris.forget = self.address(alloc)?;
+        uris.after = self.address(alloc)?;
+        Ok(())
+    }
+
+    /// A query of what an action waits for, from a place on.
+    pub fn query(&mut self) -> Result<Query, Fail> {
+        let action = self.number()?;
+        let place = self.number()?;
+        Ok(Query::Awaited { action, place })
     }
 
     /// An order of any kind but that to join.

@@ -7,7 +7,7 @@ use crate::errands::Errands;
 use crate::spelling::spell_entries;
 use crate::words::Words;
 use lra_auditor::{Summary, Verdict, check};
-use lra_commands::Order;
+use lra_commands::{Order, Query};
 use lra_core::{Command, Coordinator, Errand, Prepared, Refusal, Told, Version};
 use lra_model::{Outcome, suits};
 use std::alloc::{AllocError, Global};
@@ -51,11 +51,22 @@ pub fn played(alloc: Global, coordinator: &mut Coordinator, script: &str) -> Res
         spelled: Vec::new(alloc),
         has_changed: false,
     };
-    desk.play(script)?;
-    Ok(desk.text)
+    let done = desk.play(script);
+    let text = desk.into_text();
+    if let Err(fail) = done {
+        drop(text);
+        return Err(fail);
+    }
+    Ok(text)
 }
 
 impl Desk<'_> {
+    /// What came of the commands.
+    fn into_text(self) -> Vec<u8> {
+        let Desk { text, .. } = self;
+        text
+    }
+
     /// Makes room for what comes of a script, so that taking it down takes no memory.
     fn make_room(&mut self) -> Result<(), AllocError> {
         self.held.make_room()?;
@@ -102,6 +113,9 @@ impl Desk<'_> {
         }
         if first == "discard" {
             return self.discard(words.number()?);
+        }
+        if first == "awaited" {
+            return self.query(words.query()?);
         }
         self.give_by(first.parse()?, words)
     }
@@ -184,23 +198,32 @@ impl Desk<'_> {
         Ok(())
     }
 
-    /// Takes down the lines that a command would append, and drops its block.
+    /// Takes down the lines that a command would append, twice where memory was refused.
     fn look(&mut self, by: u32, moment: u64, command: &Command<'_>)
         requires { is_suited command.now ≡ true }
     {
         self.lines.clear();
         let kept = self.kept();
-        let prepared = match self.coordinator.prepare(by, moment, command) {
-            Err(Refusal::Memory) => {
-                self.look_back(kept);
-                self.coordinator.prepare(by, moment, command)
+        if self.is_starved(by, moment, command) {
+            self.look_back(kept);
+            self.is_starved(by, moment, command);
+        }
+    }
+
+    /// Takes down the lines that a command would append, and drops its block. Whether memory was refused.
+    fn is_starved(&mut self, by: u32, moment: u64, command: &Command<'_>) -> bool
+        requires { is_suited command.now ≡ true }
+    {
+        match self.coordinator.prepare(by, moment, command) {
+            Ok(Prepared::Block(block)) => {
+                if self.lines.extend_from_slice(block.text()).is_err() {
+                    self.lines.clear();
+                }
+                drop(block);
+                false
             }
-            other => other,
-        };
-        if let Ok(Prepared::Block(block)) = prepared
-            && self.lines.extend_from_slice(block.text()).is_err()
-        {
-            self.lines.clear();
+            Ok(Prepared::Told(_)) => false,
+            Err(refusal) => refusal == Refusal::Memory,
         }
     }
 
@@ -222,14 +245,13 @@ impl Desk<'_> {
             Ok(uris) => uris,
             Err(_) => (Words { left: addresses }).uris(self.alloc)?,
         };
-        self.order(
-            by,
-            moment,
-            &Order::Join {
-                action,
-                uris: &uris,
-            },
-        )
+        let order = Order::Join {
+            action,
+            uris: &uris,
+        };
+        let done = self.order(by, moment, &order);
+        drop(uris);
+        done
     }
 
     /// Gives an order, twice where memory was refused.
@@ -245,23 +267,37 @@ impl Desk<'_> {
         self.put_lines()
     }
 
+    /// Asks what writes nothing, and takes down what is told.
+    fn query(&mut self, query: Query) -> Result<(), Fail> {
+        match self.coordinator.query(query) {
+            Ok(known) => writeln!(self.text, "{known:?}")?,
+            Err(refusal) => self.put_refusal(refusal)?,
+        }
+        Ok(())
+    }
+
     /// Asks, holds the errand, and takes down what it is.
     fn ask(&mut self, by: u32, moment: u64) -> Result<(), Fail> {
         self.look(by, moment, &Command::NextAsk);
         let kept = self.kept();
-        let asked = match self.coordinator.next_ask(by, moment) {
+        match self.coordinator.next_ask(by, moment) {
             Err(Refusal::Memory) => {
                 self.look_back(kept);
-                self.coordinator.next_ask(by, moment)
+                let asked = self.coordinator.next_ask(by, moment);
+                self.hold(asked)?;
             }
-            other => other,
-        };
-        match asked {
-            Err(refusal) => self.put_refusal(refusal)?,
-            Ok(None) => self.put_told(Told::Idle)?,
-            Ok(Some(errand)) => self.held.hold(errand, &mut self.text)?,
+            asked => self.hold(asked)?,
         }
         self.put_lines()
+    }
+
+    /// Takes down what was asked, and holds the errand.
+    fn hold(&mut self, asked: Result<Option<Errand>, Refusal>) -> Result<(), Fail> {
+        match asked {
+            Err(refusal) => self.put_refusal(refusal),
+            Ok(None) => self.put_told(Told::Idle),
+            Ok(Some(errand)) => self.held.hold(errand, &mut self.text),
+        }
     }
 
     fn discard(&mut self, ask: u64) -> Result<(), Fail> {
@@ -270,28 +306,33 @@ impl Desk<'_> {
         Ok(())
     }
 
-    /// Records what came of an ask. An errand that is handed back stays held.
+    /// Records what came of an ask, twice where memory was refused.
     fn record(&mut self, by: u32, moment: u64, ask: u64, outcome: Outcome) -> Result<(), Fail> {
         let Some(errand) = self.held.take(ask) else {
             return Err("no errand is held")?;
         };
         self.look_at_record(by, moment, &errand, outcome);
         let kept = self.kept();
-        let answer = match recorded(self.coordinator, by, moment, errand, outcome) {
+        match recorded(self.coordinator, by, moment, errand, outcome) {
             Err((Refusal::Memory, errand)) => {
                 self.look_back(kept);
-                recorded(self.coordinator, by, moment, errand, outcome)
+                let answer = recorded(self.coordinator, by, moment, errand, outcome);
+                self.put_record(answer)?;
             }
-            other => other,
-        };
-        match answer {
-            Ok(told) => self.put_told(told)?,
-            Err((refusal, errand)) => {
-                self.held.hold_again(errand)?;
-                self.put_refusal(refusal)?;
-            }
+            answer => self.put_record(answer)?,
         }
         self.put_lines()
+    }
+
+    /// Takes down the answer to a record. An errand that is handed back stays held.
+    fn put_record(&mut self, answer: Result<Told, (Refusal, Errand)>) -> Result<(), Fail> {
+        match answer {
+            Ok(told) => self.put_told(told),
+            Err((refusal, errand)) => {
+                self.held.hold_again(errand)?;
+                self.put_refusal(refusal)
+            }
+        }
     }
 
     /// Takes down the lines that a record would append.
@@ -309,14 +350,20 @@ impl Desk<'_> {
             Ok(verdict) => verdict,
             Err(_) => check(self.alloc, version, entries)?,
         };
+        let done = self.put_verdict(&verdict);
+        drop(verdict);
+        done
+    }
+
+    fn put_verdict(&mut self, verdict: &Verdict) -> Result<(), Fail> {
         match verdict {
             Verdict::Unsound { line, rule } => {
                 let rule = rule.name();
                 writeln!(self.text, "unsound line {line} {rule}")?;
+                Ok(())
             }
-            Verdict::Sound(summary) => self.put_summary(&summary)?,
+            Verdict::Sound(summary) => self.put_summary(summary),
         }
-        Ok(())
     }
 
     fn put_summary(&mut self, summary: &Summary) -> Result<(), Fail> {
@@ -328,6 +375,10 @@ impl Desk<'_> {
             "sound {entries} entries {actions} actions {unended} unended"
         )?;
         write!(self.text, " {closed} closed {cancelled} cancelled")?;
+        self.put_failed(summary)
+    }
+
+    fn put_failed(&mut self, summary: &Summary) -> Result<(), Fail> {
         for end in summary.failed.as_slice() {
             let (action, status, member) = (end.action, end.status.name(), end.member);
             write!(self.text, " failed {action} {status} {member}")?;
