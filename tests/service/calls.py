@@ -31,7 +31,7 @@ def test_one_and_sixteen_workers_serve(setting):
 
 
 def test_help_and_version(setting):
-    wanted_texts = {"--help": ("audit", "show", "upgrade", "play", "serve ADDRESS FILE WORKERS"), "--version": ("lra ", "rattle-kit")}
+    wanted_texts = {"--help": ("audit", "show", "upgrade", "play", "serve ADDRESS FILE WORKERS"), "--version": ("lra ", "rattle logic ")}
     for word, wanted in wanted_texts.items():
         status, output, fault = setting.run(word)
         equal(word, (status, fault), (0, ""))

@@ -12,5 +12,5 @@ lra --help                        prints these calls
 lra --version                     prints the version, and what proved it
 ";
 
-/// Their version, and the identity of the toolchain that proves and builds them.
-pub const VERSION: &str = "lra unreleased\nrattle-kit-13f logic dac8208d650f15bf\n";
+/// Their version, and the identity of the logic that their proofs are checked by, which kits of several numbers share.
+pub const VERSION: &str = "lra unreleased\nrattle logic dac8208d650f15bf\n";
