@@ -30,8 +30,8 @@ impl Model for FailedEnds {
 }
 
 impl FailedEnds {
-    /// The ends of a list.
-    pub(crate) fn from_vec(ends: Vec<FailedEnd>) -> FailedEnds
+    /// The ends of a list, which are to stand in the order of their numbers.
+    pub fn from_vec(ends: Vec<FailedEnd>) -> FailedEnds
         ensures { result ≡ ends.items }
     {
         FailedEnds { ends }

@@ -74,34 +74,11 @@ gone_is J p =
     gone_by (has_left J p) (decided J p direction.Compensation) (was_asked J p ask.Compensate) (decided J p direction.Completion) (was_asked J p ask.Complete) (decided_is_decisive J p direction.Compensation)
     (decided_is_decisive J p direction.Completion)
 
--- compensation is decided as the status says, where the member hasn't left
-compensated_later : (dp : Option Outcome) (wp : Bool) → IsDecisive dp → judged.has_compensated (status_by false None false dp wp) ≡ false
-compensated_later None true h = refl
-compensated_later None false h = refl
-compensated_later (Some outcome.Done) wp h = refl
-compensated_later (Some outcome.Failed) wp h = refl
-compensated_later (Some outcome.Accepted) wp h = absurd cc
-compensated_later (Some outcome.Silent) wp h = absurd cc
-
-compensated_by : (dc : Option Outcome) (wc : Bool) (dp : Option Outcome) (wp : Bool) → IsDecisive dc → IsDecisive dp → judged.has_compensated (status_by false dc wc dp wp) ≡ is_some dc
-compensated_by None true dp wp h k = refl
-compensated_by None false dp wp h k = compensated_later dp wp k
-compensated_by (Some outcome.Done) wc dp wp h k = refl
-compensated_by (Some outcome.Failed) wc dp wp h k = refl
-compensated_by (Some outcome.Accepted) wc dp wp h k = absurd cc
-compensated_by (Some outcome.Silent) wc dp wp h k = absurd cc
-
-has_compensated_is : (J : History) (p : ℕ) → has_left J p ≡ false → judged.has_compensated (member_status J p) ≡ is_some (decided J p direction.Compensation)
-unfolding member_status
-has_compensated_is J p h =
-    ap (λ (l : Bool). judged.has_compensated (status_by l (decided J p direction.Compensation) (was_asked J p ask.Compensate) (decided J p direction.Completion) (was_asked J p ask.Complete))) h
-    ∙ compensated_by (decided J p direction.Compensation) (was_asked J p ask.Compensate) (decided J p direction.Completion) (was_asked J p ask.Complete) (decided_is_decisive J p direction.Compensation) (decided_is_decisive J p direction.Completion)
-
-told_is : (J : History) (p : ℕ) (e : Ending) → has_left J p ≡ false → judged.has_told (member_of J p) e ≡ is_decided J p e
-told_is J p ending.Completed h = refl
-told_is J p ending.FailedToComplete h = refl
-told_is J p ending.Compensated h = has_compensated_is J p h
-told_is J p ending.FailedToCompensate h = has_compensated_is J p h
+told_is : (J : History) (p : ℕ) (e : Ending) → judged.has_told (member_of J p) e ≡ is_decided J p e
+told_is J p ending.Completed = refl
+told_is J p ending.FailedToComplete = refl
+told_is J p ending.Compensated = refl
+told_is J p ending.FailedToCompensate = refl
 
 pub awaited_is : (J : History) (p : ℕ) (e : Ending) → judged.is_awaited (member_status J p) e ≡ is_asked_for J p e
 awaited_is J p ending.Completed = refl
@@ -118,7 +95,7 @@ report_decides s J by h p e k f =
     (λ there.
     past_required s J c (not (has_gone (member_status J p))) refusal.HasLeft (judged.report_at by m p e (member_of J p)) (λ left. first_decides s J c 1 refusal.HasLeft known (ap not there, (left_from left, refl)))
     (λ stays.
-    at_told here known there (here_from stays) (judged.has_told (member_of J p) e) (sym (told_is J p e (here_from stays)))
+    at_told here known there (here_from stays) (judged.has_told (member_of J p) e) (sym (told_is J p e))
     (judged.is_awaited (member_status J p) e) (sym (awaited_is J p e)))))
   where
     c : Call

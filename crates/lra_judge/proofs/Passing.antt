@@ -43,9 +43,8 @@ abbrev pub member_of : History → ℕ → MemberRow
 member_of J p = record {
   action = action_of J p;
   status = member_status J p;
-  completion = last_reply J p direction.Completion;
-  compensation = last_reply J p direction.Compensation;
-  completed = is_some (decided J p direction.Completion);
+  completion = decided J p direction.Completion;
+  compensation = decided J p direction.Compensation;
   outstanding = outstanding_ask J p;
   want = wants J p;
   k = option_map_or (λ (kind : AskKind). repeat_count J p (stage_of kind (ask_direction J p kind))) (wants J p) 0;

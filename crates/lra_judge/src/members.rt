@@ -23,23 +23,13 @@ fn require_here(status: MemberStatus) -> Result<(), Refusal>
     }
 }
 
-/// Whether compensation is decided.
-fn has_compensated(status: MemberStatus) -> bool
-    ensures { result ≡ judged.has_compensated status }
-{
-    matches!(
-        status,
-        MemberStatus::Compensated | MemberStatus::FailedToCompensate
-    )
-}
-
 /// Whether the direction of an ending is decided.
 fn has_told(found: &MemberRow, ending: Ending) -> bool
     ensures { result ≡ judged.has_told found.now ending }
 {
     match ending {
-        Ending::Completed | Ending::FailedToComplete => found.completed,
-        Ending::Compensated | Ending::FailedToCompensate => has_compensated(found.status),
+        Ending::Completed | Ending::FailedToComplete => found.completion.is_some(),
+        Ending::Compensated | Ending::FailedToCompensate => found.compensation.is_some(),
     }
 }
 

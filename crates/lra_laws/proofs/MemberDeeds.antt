@@ -1,7 +1,7 @@
 -- The row of a member after an entry that concerns it.
 use Rattle.std.proofs.Common.{◌≡◌, ℕ, Bool, true, false, Option, Some, None, refl, sym, ap, ◌∙◌, cond}
 use Rattle.std.proofs.Math.Bool.{or-false, or-true}
-use Rattle.std.specs.Prelude.{◌==◌, ◌&&◌, ◌||◌, option_map, is_some}
+use Rattle.std.specs.Prelude.{◌==◌, ◌&&◌, ◌||◌, option_map}
 use Rattle.std.specs.Option.{option_map_or, option_or, option_and_then}
 use Rattle.lra_model.specs.declared.status.MemberStatus.{MemberStatus}
 use Rattle.lra_model.specs.declared.status.MemberStatus.TheVariants as member
@@ -20,11 +20,11 @@ use Rattle.lra_model.specs.Members.{action_given, addresses_given, is_leave_of, 
 use Rattle.lra_laws.proofs.GoodStatus.{status_by}
 use Rattle.lra_laws.proofs.Push.{step, has_left_push, was_asked_push, decided_push}
 use Rattle.lra_laws.proofs.Rests.{decided_is_decisive}
-use Rattle.lra_laws.specs.Rows.{Standing, MemberRow, standing_at, standing, member_row, decided_as, way_of, way_asked, asked_as, with_ask, completes, with_reply, with_reply_to, with_report, with_skip}
+use Rattle.lra_laws.specs.Rows.{Standing, MemberRow, standing_at, standing, member_row, decided_as, way_of, way_asked, asked_as, with_ask, word_of, decided_by, with_reply, with_reply_to, with_report, with_skip}
 use Rattle.lra_laws.proofs.RowLists.{eqb_self}
 use Rattle.lra_laws.proofs.Told.{entry, more, ask_fits}
 use Rattle.lra_laws.proofs.MemberWords.{status_is, action_kept, addresses_kept, left_quiet, asked_quiet, decided_quiet, reply_after, answer_after, answer_kept, stand_after, heard_of, replied_of, answered_of}
-use Rattle.lra_laws.proofs.StatusCases.{asked_to_complete, asked_to_compensate, skipped, goes_on, word_of, decided_anew}
+use Rattle.lra_laws.proofs.StatusCases.{asked_to_complete, asked_to_compensate, skipped, goes_on, decided_anew}
 
 -- a member's status after an entry, by what bears on it
 pub status_after : (J : History) (by m : ℕ) (d : Deed) (p : ℕ) (l gc gd : Bool) (c e : Option Outcome) → has_left (more J by m d) p ≡ l → decided (more J by m d) p direction.Compensation ≡ c → was_asked (more J by m d) p ask.Compensate ≡ gc
@@ -38,53 +38,55 @@ decided_after J by m d p way o h = decided_push J (entry by m d) p way ∙ ap (o
 heard_self : (p : ℕ) (way : Direction) (x : Heard) → (x.member == p) ≡ true → when (decides p way x) x.outcome ≡ word_of x.direction way x.outcome
 heard_self p way x h = ap (λ (b : Bool). when (b && same_direction x.direction way && is_decisive x.outcome) x.outcome) h
 
--- whether completion is decided, after one more word
-some_either : (o : Option Outcome) (b : Bool) (x : Outcome) → is_some (option_or o (when b x)) ≡ (is_some o || b)
-some_either (Some y) b x = refl
-some_either None true x = refl
-some_either None false x = refl
+-- what has decided a direction, after one more word
+word_decides : (J : History) (by m : ℕ) (d : Deed) (p : ℕ) (to way : Direction) (o : Outcome) → heard_of p to (heard_at (step J (entry by m d))) ≡ word_of way to o
+    → decided (more J by m d) p to ≡ decided_by to way o (decided J p to)
+word_decides J by m d p to way o = decided_after J by m d p to (word_of way to o)
 
-completed_after : (J : History) (by m : ℕ) (d : Deed) (p : ℕ) (way : Direction) (o : Outcome) → heard_of p direction.Completion (heard_at (step J (entry by m d))) ≡ word_of way direction.Completion o
-    → is_some (decided (more J by m d) p direction.Completion) ≡ (is_some (decided J p direction.Completion) || completes way o)
-completed_after J by m d p way o h = ap is_some (decided_after J by m d p direction.Completion (word_of way direction.Completion o) h) ∙ some_either (decided J p direction.Completion) (completes way o) o
+-- ---- a status and decisions that change alone
 
--- ---- a status and a decision that change alone
-
-state_row : (J : History) (by m : ℕ) (d : Deed) (p : ℕ) (s : MemberStatus) (b : Bool) → action_given p d ≡ None → addresses_given p d ≡ None → replied_at (step J (entry by m d)) ≡ None → standing_at p (step J (entry by m d)) ≡ None
-    → member_status (more J by m d) p ≡ s → is_some (decided (more J by m d) p direction.Completion) ≡ b → member_row (more J by m d) p ≡ record (member_row J p) { status = s; completed = b }
-state_row J by m d p s b a u r x h k = λ i. record {
+state_row : (J : History) (by m : ℕ) (d : Deed) (p : ℕ) (s : MemberStatus) (b c : Option Outcome) → action_given p d ≡ None → addresses_given p d ≡ None → replied_at (step J (entry by m d)) ≡ None → standing_at p (step J (entry by m d)) ≡ None
+    → member_status (more J by m d) p ≡ s → decided (more J by m d) p direction.Completion ≡ b → decided (more J by m d) p direction.Compensation ≡ c
+    → member_row (more J by m d) p ≡ record (member_row J p) { status = s; completed_as = b; compensated_as = c }
+state_row J by m d p s b c a u r x h k g = λ i. record {
   action = action_kept J by m d p a i;
   addresses = presence_of (addresses_kept J by m d p u i);
   status = h i;
   completion = reply_after J by m d p direction.Completion None (ap (replied_of p direction.Completion) r) i;
   compensation = reply_after J by m d p direction.Compensation None (ap (replied_of p direction.Compensation) r) i;
-  completed = k i;
+  completed_as = k i;
+  compensated_as = g i;
   asked = stand_after J by m d p None x i;
   has_forgotten = answer_kept J by m d p ask.Forget (ap (answered_of p ask.Forget) r) i;
   was_told = answer_kept J by m d p ask.After (ap (answered_of p ask.After) r) i;
 }
 
 pub leave_row : (J : History) (by m p : ℕ) → member_row (more J by m (Leave p)) p ≡ record (member_row J p) { status = member.Left }
-leave_row J by m p = state_row J by m (Leave p) p member.Left (is_some (decided J p direction.Completion)) refl refl refl refl
+leave_row J by m p = state_row J by m (Leave p) p member.Left (decided J p direction.Completion) (decided J p direction.Compensation) refl refl refl refl
     (status_is (more J by m (Leave p)) p ∙ ap (λ (b : Bool). status_by b (decided (more J by m (Leave p)) p direction.Compensation) (was_asked (more J by m (Leave p)) p ask.Compensate) (decided (more J by m (Leave p)) p direction.Completion) (was_asked (more J by m (Leave p)) p ask.Complete)) l)
-    (ap is_some (decided_quiet J by m (Leave p) p direction.Completion refl))
+    (decided_quiet J by m (Leave p) p direction.Completion refl)
+    (decided_quiet J by m (Leave p) p direction.Compensation refl)
   where
     l : has_left (more J by m (Leave p)) p ≡ true
     l = has_left_push J (entry by m (Leave p)) p ∙ ap (λ (b : Bool). has_left J p || b) (eqb_self p) ∙ or-true (has_left J p)
 
 pub skip_row : (J : History) (by m p : ℕ) → is_untouched (member_status J p) ≡ true → member_row (more J by m (Skip p)) p ≡ with_skip (member_row J p)
-skip_row J by m p h = state_row J by m (Skip p) p member.Completed true refl refl refl refl
+skip_row J by m p h = state_row J by m (Skip p) p member.Completed (option_or (decided J p direction.Completion) (Some outcome.Done)) (decided J p direction.Compensation) refl refl refl refl
     (status_after J by m (Skip p) p (has_left J p) (was_asked J p ask.Compensate) (was_asked J p ask.Complete) (decided J p direction.Compensation) (option_or (decided J p direction.Completion) (Some outcome.Done))
     (left_quiet J by m (Skip p) p refl)
-    (decided_quiet J by m (Skip p) p direction.Compensation (heard_self p direction.Compensation (record { member = p; direction = direction.Completion; outcome = outcome.Done }) (eqb_self p)))
+    not_compensated
     (asked_quiet J by m (Skip p) p ask.Compensate refl)
     (decided_after J by m (Skip p) p direction.Completion (Some outcome.Done) done)
     (asked_quiet J by m (Skip p) p ask.Complete refl)
     ∙ skipped (has_left J p) (decided J p direction.Compensation) (was_asked J p ask.Compensate) (decided J p direction.Completion) (was_asked J p ask.Complete) (ap is_untouched (sym (status_is J p)) ∙ h) (decided_is_decisive J p direction.Completion))
-    (completed_after J by m (Skip p) p direction.Completion outcome.Done done ∙ or-true (is_some (decided J p direction.Completion)))
+    (decided_after J by m (Skip p) p direction.Completion (Some outcome.Done) done)
+    not_compensated
   where
     done : heard_of p direction.Completion (heard_at (step J (entry by m (Skip p)))) ≡ Some outcome.Done
     done = heard_self p direction.Completion (record { member = p; direction = direction.Completion; outcome = outcome.Done }) (eqb_self p)
+
+    not_compensated : decided (more J by m (Skip p)) p direction.Compensation ≡ decided J p direction.Compensation
+    not_compensated = decided_quiet J by m (Skip p) p direction.Compensation (heard_self p direction.Compensation (record { member = p; direction = direction.Completion; outcome = outcome.Done }) (eqb_self p))
 
 -- what a member's asks say of the way of a word
 abbrev pub Went : History → ℕ → Direction → Type 0
@@ -119,12 +121,16 @@ goes_its_way J p h = (g.0 ∙ ap way_of (sym (status_is J p)), went (was_asked J
 pub report_row : (J : History) (by m p : ℕ) (o : Outcome) → (is_completing (member_status J p) || is_compensating (member_status J p)) ≡ true → member_row (more J by m (Report p o)) p ≡ with_report o (member_row J p)
 report_row J by m p o h =
     let g = goes_its_way J p h in
-    state_row J by m (Report p o) p (decided_as (way_of (member_status J p)) o (member_status J p)) (is_some (decided J p direction.Completion) || completes (way_of (member_status J p)) o) refl refl refl refl
+    state_row J by m (Report p o) p (decided_as (way_of (member_status J p)) o (member_status J p)) (decided_by direction.Completion (way_of (member_status J p)) o (decided J p direction.Completion)) (decided_by direction.Compensation (way_of (member_status J p)) o (decided J p direction.Compensation)) refl refl refl refl
     (word_status J by m (Report p o) p (status_direction J p) o g.1 refl refl refl heard ∙ ap (λ (w : Direction). decided_as w o (member_status J p)) g.0)
-    (completed_after J by m (Report p o) p (status_direction J p) o (heard direction.Completion) ∙ ap (λ (w : Direction). is_some (decided J p direction.Completion) || completes w o) g.0)
+    (decides direction.Completion g.0)
+    (decides direction.Compensation g.0)
   where
     heard : (to : Direction) → heard_of p to (heard_at (step J (entry by m (Report p o)))) ≡ word_of (status_direction J p) to o
     heard to = heard_self p to (record { member = p; direction = status_direction J p; outcome = o }) (eqb_self p)
+
+    decides : (to : Direction) → status_direction J p ≡ way_of (member_status J p) → decided (more J by m (Report p o)) p to ≡ decided_by to (way_of (member_status J p)) o (decided J p to)
+    decides to same = word_decides J by m (Report p o) p to (status_direction J p) o (heard to) ∙ ap (λ (w : Direction). decided_by to w o (decided J p to)) same
 
 -- ---- an ask
 
@@ -191,7 +197,8 @@ ask_row J by m n p kind h =
       status = ask_status J by m n p kind h i;
       completion = reply_after J by m d p direction.Completion None refl i;
       compensation = reply_after J by m d p direction.Compensation None refl i;
-      completed = is_some (decided_quiet J by m d p direction.Completion refl i);
+      completed_as = decided_quiet J by m d p direction.Completion refl i;
+      compensated_as = decided_quiet J by m d p direction.Compensation refl i;
       asked = x i;
       has_forgotten = answer_kept J by m d p ask.Forget refl i;
       was_told = answer_kept J by m d p ask.After refl i;
@@ -200,11 +207,11 @@ ask_row J by m n p kind h =
 -- ---- a reply
 
 replied_row : (way : Direction) (kind : AskKind) (n : ℕ) (o : Outcome) (r : MemberRow) (c d : Option Outcome) → c ≡ option_or (when (same_direction way direction.Completion) o) r.completion → d ≡ option_or (when (same_direction way direction.Compensation) o) r.compensation
-    → record r { status = decided_as way o r.status; completion = c; compensation = d; completed = r.completed || completes way o; asked = None; has_forgotten = r.has_forgotten || (same_kind kind ask.Forget && is_done o); was_told = r.was_told || (same_kind kind ask.After && is_done o) }
+    → record r { status = decided_as way o r.status; completion = c; compensation = d; completed_as = decided_by direction.Completion way o r.completed_as; compensated_as = decided_by direction.Compensation way o r.compensated_as; asked = None; has_forgotten = r.has_forgotten || (same_kind kind ask.Forget && is_done o); was_told = r.was_told || (same_kind kind ask.After && is_done o) }
     ≡ with_reply_to (record { number = n; kind = kind; direction = way }) o r
-replied_row direction.Completion kind n o r c d h k = λ i. record r { status = decided_as direction.Completion o r.status; completion = h i; compensation = k i; completed = r.completed || completes direction.Completion o; asked = None; has_forgotten = r.has_forgotten || (same_kind kind ask.Forget && is_done o); was_told = r.was_told || (same_kind kind ask.After && is_done o) }
-replied_row direction.Compensation kind n o r c d h k = λ i. record r { status = decided_as direction.Compensation o r.status; completion = h i; compensation = k i; completed = r.completed || completes direction.Compensation o; asked = None; has_forgotten = r.has_forgotten || (same_kind kind ask.Forget && is_done o); was_told = r.was_told || (same_kind kind ask.After && is_done o) }
-replied_row direction.Neither kind n o r c d h k = λ i. record r { status = decided_as direction.Neither o r.status; completion = h i; compensation = k i; completed = r.completed || completes direction.Neither o; asked = None; has_forgotten = r.has_forgotten || (same_kind kind ask.Forget && is_done o); was_told = r.was_told || (same_kind kind ask.After && is_done o) }
+replied_row direction.Completion kind n o r c d h k = λ i. record r { status = decided_as direction.Completion o r.status; completion = h i; compensation = k i; completed_as = decided_by direction.Completion direction.Completion o r.completed_as; compensated_as = decided_by direction.Compensation direction.Completion o r.compensated_as; asked = None; has_forgotten = r.has_forgotten || (same_kind kind ask.Forget && is_done o); was_told = r.was_told || (same_kind kind ask.After && is_done o) }
+replied_row direction.Compensation kind n o r c d h k = λ i. record r { status = decided_as direction.Compensation o r.status; completion = h i; compensation = k i; completed_as = decided_by direction.Completion direction.Compensation o r.completed_as; compensated_as = decided_by direction.Compensation direction.Compensation o r.compensated_as; asked = None; has_forgotten = r.has_forgotten || (same_kind kind ask.Forget && is_done o); was_told = r.was_told || (same_kind kind ask.After && is_done o) }
+replied_row direction.Neither kind n o r c d h k = λ i. record r { status = decided_as direction.Neither o r.status; completion = h i; compensation = k i; completed_as = decided_by direction.Completion direction.Neither o r.completed_as; compensated_as = decided_by direction.Compensation direction.Neither o r.compensated_as; asked = None; has_forgotten = r.has_forgotten || (same_kind kind ask.Forget && is_done o); was_told = r.was_told || (same_kind kind ask.After && is_done o) }
 
 -- what a reply leaves standing with the member that was asked
 pub stand_replied : (J : History) (by m n : ℕ) (o : Outcome) (x : Asked) → ask_of J n ≡ Some x → standing (more J by m (Reply n o)) x.member ≡ None
@@ -220,7 +227,8 @@ reply_row J by m n o x a went stands =
       status = word_status J by m d p x.direction o went refl refl refl heard i;
       completion = reply_after J by m d p direction.Completion (when (same_direction x.direction direction.Completion) o) (replied direction.Completion) i;
       compensation = reply_after J by m d p direction.Compensation (when (same_direction x.direction direction.Compensation) o) (replied direction.Compensation) i;
-      completed = completed_after J by m d p x.direction o (heard direction.Completion) i;
+      completed_as = word_decides J by m d p direction.Completion x.direction o (heard direction.Completion) i;
+      compensated_as = word_decides J by m d p direction.Compensation x.direction o (heard direction.Compensation) i;
       asked = stand_replied J by m n o x a i;
       has_forgotten = answer_after J by m d p ask.Forget (same_kind x.kind ask.Forget && is_done o) (answered ask.Forget) i;
       was_told = answer_after J by m d p ask.After (same_kind x.kind ask.After && is_done o) (answered ask.After) i;

@@ -2,7 +2,7 @@
 use Rattle.std.proofs.Common.{◌≡◌, ℕ, zero, suc, ◌+◌, ◌<◌, Bool, true, false, List, [], ◌∷◌, ◌++◌, length, map, Option, Some, None, refl, sym, ap, ◌∙◌, arith, eqb-true, append-nil}
 use Rattle.std.proofs.lemmas.Bool.{ne_eqb}
 use Rattle.std.proofs.lemmas.Option.{same_Some}
-use Rattle.std.specs.Prelude.{◌==◌, nat_lt, unwrap_or, option_to_list, is_some}
+use Rattle.std.specs.Prelude.{◌==◌, nat_lt, unwrap_or, option_to_list}
 use Rattle.std.specs.Option.{option_map_or}
 use Rattle.std.specs.List.{range_with_len}
 use Rattle.lra_model.specs.declared.status.MemberStatus.TheVariants as member
@@ -89,10 +89,11 @@ joined_row v t J by m p a u l h =
     let st : standing (more J by m d) p ≡ None = stand_after J by m d p None refl ∙ ap (λ (z : MemberRow). z.asked) old in
     let c = r direction.Completion ∙ ap (λ (z : MemberRow). z.completion) old in
     let g = r direction.Compensation ∙ ap (λ (z : MemberRow). z.compensation) old in
-    let e = ap is_some (decided_quiet J by m d p direction.Completion refl) ∙ ap (λ (z : MemberRow). z.completed) old in
+    let e = decided_quiet J by m d p direction.Completion refl ∙ ap (λ (z : MemberRow). z.completed_as) old in
+    let k = decided_quiet J by m d p direction.Compensation refl ∙ ap (λ (z : MemberRow). z.compensated_as) old in
     let f = answer_kept J by m d p ask.Forget refl ∙ ap (λ (z : MemberRow). z.has_forgotten) old in
     let w = answer_kept J by m d p ask.After refl ∙ ap (λ (z : MemberRow). z.was_told) old in
-    λ i. record { action = x i; addresses = presence_of (y i); status = s i; completion = c i; compensation = g i; completed = e i; asked = st i; has_forgotten = f i; was_told = w i }
+    λ i. record { action = x i; addresses = presence_of (y i); status = s i; completion = c i; compensation = g i; completed_as = e i; compensated_as = k i; asked = st i; has_forgotten = f i; was_told = w i }
 
 pub rows_joined : (v : Version) (t : List ℕ → Bool) (J : History) (by m p a : ℕ) (u : texts.Addresses) → is_legal v t J ≡ true → p ≡ length (members J) + 1
     → map (member_row (more J by m (Join p a u))) (members (more J by m (Join p a u))) ≡ map (member_row J) (members J) ++ new_member a u ∷ []

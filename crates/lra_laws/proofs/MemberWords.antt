@@ -1,7 +1,7 @@
 -- The words of a member after one more entry.
 use Rattle.std.proofs.Common.{◌≡◌, ℕ, Bool, false, List, [], ◌∷◌, ◌++◌, Option, Some, None, refl, sym, ap, ◌∙◌, cond}
 use Rattle.std.proofs.Math.Bool.{or-false}
-use Rattle.std.specs.Prelude.{◌==◌, ◌&&◌, ◌||◌, unwrap_or, option_map, is_some}
+use Rattle.std.specs.Prelude.{◌==◌, ◌&&◌, ◌||◌, unwrap_or, option_map}
 use Rattle.std.specs.Option.{option_map_or, option_or, option_and_then}
 use Rattle.std.specs.List.{filter_map}
 use Rattle.lra_model.specs.declared.asks.AskKind.{AskKind}
@@ -65,7 +65,8 @@ same_row J K p s = λ i. record {
   status = status_same J K p s.left s.decided s.asked i;
   completion = s.reply direction.Completion i;
   compensation = s.reply direction.Compensation i;
-  completed = is_some (s.decided direction.Completion i);
+  completed_as = s.decided direction.Completion i;
+  compensated_as = s.decided direction.Compensation i;
   asked = s.standing i;
   has_forgotten = s.answered ask.Forget i;
   was_told = s.answered ask.After i;

@@ -1,6 +1,6 @@
 -- What a member's status becomes, case by case.
 use Rattle.std.proofs.Common.{◌≡◌, Bool, true, false, Option, Some, None, refl, cond}
-use Rattle.std.specs.Prelude.{◌&&◌, ◌||◌}
+use Rattle.std.specs.Prelude.{◌||◌}
 use Rattle.std.specs.Option.{option_map_or, option_or}
 use Rattle.lra_model.specs.declared.status.MemberStatus.TheVariants as member
 use Rattle.lra_model.specs.declared.asks.AskKind.TheVariants as ask
@@ -8,9 +8,9 @@ use Rattle.lra_model.specs.declared.asks.Direction.{Direction}
 use Rattle.lra_model.specs.declared.asks.Direction.TheVariants as direction
 use Rattle.lra_model.specs.declared.asks.Outcome.{Outcome}
 use Rattle.lra_model.specs.declared.asks.Outcome.TheVariants as outcome
-use Rattle.lra_model.specs.Words.{when, is_untouched, is_completing, is_compensating, is_decisive, has_gone, same_direction}
+use Rattle.lra_model.specs.Words.{is_untouched, is_completing, is_compensating, is_decisive, has_gone, same_direction}
 use Rattle.lra_laws.proofs.GoodStatus.{status_by}
-use Rattle.lra_laws.specs.Rows.{decided_as, way_of}
+use Rattle.lra_laws.specs.Rows.{decided_as, way_of, word_of}
 use Rattle.lra_laws.proofs.Told.{ask_fits}
 
 -- what was decided in a direction is decisive
@@ -63,10 +63,6 @@ goes_on false c false (Some outcome.Done) gd h = absurd cc
 goes_on false c false (Some outcome.Failed) gd h = absurd cc
 goes_on false c false d true h = (refl, λ e. refl)
 goes_on false c false d false h = absurd cc
-
--- what was heard in a direction
-abbrev pub word_of : Direction → Direction → Outcome → Option Outcome
-word_of way to o = when (same_direction way to && is_decisive o) o
 
 pub decided_anew : (way : Direction) (o : Outcome) (l : Bool) (c : Option Outcome) (gc : Bool) (d : Option Outcome) (gd : Bool) → (same_direction way direction.Completion ≡ true → gd ≡ true) → (same_direction way direction.Compensation ≡ true → gc ≡ true)
     → is_word c ≡ true → is_word d ≡ true

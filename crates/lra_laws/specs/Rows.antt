@@ -1,6 +1,6 @@
 -- The forward state of a history: what stands for it in rows, and how one more entry changes it.
-use Rattle.std.specs.Prelude.{ℕ, zero, suc, ◌+◌, ◌-◌, ◌==◌, Bool, true, false, ◌&&◌, ◌||◌, not, cond, List, [], ◌∷◌, ◌++◌, length, map, Option, Some, None, unwrap_or, is_some, count_by, slice_get, slice_set}
-use Rattle.std.specs.Option.{option_map_or, option_and_then}
+use Rattle.std.specs.Prelude.{ℕ, zero, suc, ◌+◌, ◌-◌, ◌==◌, Bool, false, ◌&&◌, ◌||◌, not, cond, List, [], ◌∷◌, ◌++◌, length, map, Option, Some, None, unwrap_or, count_by, slice_get, slice_set}
+use Rattle.std.specs.Option.{option_map_or, option_or, option_and_then}
 use Rattle.std.specs.List.{filter_map}
 use Rattle.lra_model.specs.declared.status.ActionStatus.{ActionStatus}
 use Rattle.lra_model.specs.declared.status.ActionStatus.TheVariants as action
@@ -15,7 +15,7 @@ use Rattle.lra_model.specs.declared.asks.Outcome.TheVariants as outcome
 use Rattle.lra_model.specs.declared.entry.Deed.{Deed}
 use Rattle.lra_model.specs.declared.entry.Deed.TheVariants.{Enrol, Start, Join, Leave, Close, Cancel, Skip, Ask, Reply, Report, End, Restart, Renew}
 use Rattle.lra_model.specs.Addresses.{Addresses, Presence, presence_of}
-use Rattle.lra_model.specs.Words.{has_ended, has_failed, has_finished_cancelling, is_completing, is_compensating, is_completed, is_compensated, is_done_completing, is_done_compensating, has_gone, is_decisive, is_done, same_kind, same_direction}
+use Rattle.lra_model.specs.Words.{when, has_ended, has_failed, has_finished_cancelling, is_completing, is_compensating, is_completed, is_compensated, is_done_completing, is_done_compensating, has_gone, is_decisive, is_done, same_kind, same_direction}
 use Rattle.lra_model.specs.History.{History, Step, steps, last, clerks, actions, members, asks, last_moment}
 use Rattle.lra_model.specs.Actions.{Limit, parent, top, action_status, limit_in_force, children}
 use Rattle.lra_model.specs.Members.{Asked, ask_of, action_of, addresses_of, decided, member_status, last_reply, was_answered, ask_direction}
@@ -27,14 +27,16 @@ pub record Standing : Type 0 where
   pub kind : AskKind
   pub direction : Direction
 
--- a member, as the rules see it: completion and compensation are its last replies both ways, and completed is whether completion is decided
+-- a member, as the rules see it: completion and compensation are its last replies both ways, and completed_as and compensated_as the outcomes that
+-- decide them
 pub record MemberRow : Type 0 where
   pub action : ℕ
   pub addresses : Presence
   pub status : MemberStatus
   pub completion : Option Outcome
   pub compensation : Option Outcome
-  pub completed : Bool
+  pub completed_as : Option Outcome
+  pub compensated_as : Option Outcome
   pub asked : Option Standing
   pub has_forgotten : Bool
   pub was_told : Bool
@@ -146,7 +148,8 @@ member_row J p = record {
   status = member_status J p;
   completion = last_reply J p direction.Completion;
   compensation = last_reply J p direction.Compensation;
-  completed = is_some (decided J p direction.Completion);
+  completed_as = decided J p direction.Completion;
+  compensated_as = decided J p direction.Compensation;
   asked = standing J p;
   has_forgotten = was_answered J p ask.Forget;
   was_told = was_answered J p ask.After;
@@ -272,9 +275,13 @@ by_way direction.Completion completion compensation neither = completion
 by_way direction.Compensation completion compensation neither = compensation
 by_way direction.Neither completion compensation neither = neither
 
--- whether a word decides completion, where nothing did before
-abbrev pub completes : Direction → Outcome → Bool
-completes way o = same_direction way direction.Completion && is_decisive o
+-- what a word of one direction decides in another: the same one, if it is decisive
+abbrev pub word_of : Direction → Direction → Outcome → Option Outcome
+word_of way to o = when (same_direction way to && is_decisive o) o
+
+-- what has decided a direction, after one more word
+abbrev pub decided_by : Direction → Direction → Outcome → Option Outcome → Option Outcome
+decided_by to way o before = option_or before (word_of way to o)
 
 -- a member that answers the ask that stands
 abbrev pub with_reply_to : Standing → Outcome → MemberRow → MemberRow
@@ -282,7 +289,8 @@ with_reply_to x o r = record r {
   status = decided_as x.direction o r.status;
   completion = by_way x.direction (Some o) r.completion r.completion;
   compensation = by_way x.direction r.compensation (Some o) r.compensation;
-  completed = r.completed || completes x.direction o;
+  completed_as = decided_by direction.Completion x.direction o r.completed_as;
+  compensated_as = decided_by direction.Compensation x.direction o r.compensated_as;
   asked = None;
   has_forgotten = r.has_forgotten || (same_kind x.kind ask.Forget && is_done o);
   was_told = r.was_told || (same_kind x.kind ask.After && is_done o);
@@ -294,15 +302,19 @@ with_reply o r = option_map_or (λ (x : Standing). with_reply_to x o r) r.asked 
 
 -- a member that reports
 abbrev pub with_report : Outcome → MemberRow → MemberRow
-with_report o r = record r { status = decided_as (way_of r.status) o r.status; completed = r.completed || completes (way_of r.status) o }
+with_report o r = record r {
+  status = decided_as (way_of r.status) o r.status;
+  completed_as = decided_by direction.Completion (way_of r.status) o r.completed_as;
+  compensated_as = decided_by direction.Compensation (way_of r.status) o r.compensated_as;
+}
 
 -- a member that is skipped
 abbrev pub with_skip : MemberRow → MemberRow
-with_skip r = record r { status = member.Completed; completed = true }
+with_skip r = record r { status = member.Completed; completed_as = option_or r.completed_as (Some outcome.Done) }
 
 -- the row of a member that joins
 abbrev pub new_member : ℕ → Addresses → MemberRow
-new_member a u = record { action = a; addresses = presence_of u; status = member.Active; completion = None; compensation = None; completed = false; asked = None; has_forgotten = false; was_told = false }
+new_member a u = record { action = a; addresses = presence_of u; status = member.Active; completion = None; compensation = None; completed_as = None; compensated_as = None; asked = None; has_forgotten = false; was_told = false }
 
 -- the row of an action that starts
 abbrev pub new_action : ℕ → Option ℕ → ℕ → ℕ → ℕ → ActionRow

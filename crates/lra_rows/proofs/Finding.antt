@@ -140,7 +140,7 @@ pub member_held : (v : Version) (t : List ℕ → Bool) (J : History) → is_leg
 member_held v t J l p = decide (is_among (members J) p) refl
   where
     row : Option ℕ → Option AskKind → ℕ → Option ℕ → laws.MemberRow → MemberRow
-    row out want k last r = record { action = r.action; status = r.status; completion = r.completion; compensation = r.compensation; completed = r.completed; outstanding = out; want = want; k = k; last = last }
+    row out want k last r = record { action = r.action; status = r.status; completion = r.completed_as; compensation = r.compensated_as; outstanding = out; want = want; k = k; last = last }
 
     held : laws.MemberRow → MemberRow
     held r =

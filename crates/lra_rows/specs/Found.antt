@@ -1,5 +1,5 @@
 -- What is found of a history by a number.
-use Rattle.std.specs.Prelude.{ℕ, cond, Option, Some, None, option_map, unwrap_or, is_some}
+use Rattle.std.specs.Prelude.{ℕ, cond, Option, Some, None, option_map, unwrap_or}
 use Rattle.std.specs.Option.{option_map_or, option_and_then}
 use Rattle.lra_model.specs.declared.asks.AskKind.{AskKind}
 use Rattle.lra_model.specs.declared.status.ActionStatus.TheVariants as action
@@ -9,7 +9,7 @@ use Rattle.lra_model.specs.declared.entry.Deed.TheVariants.{End}
 use Rattle.lra_model.specs.Addresses.{Addresses}
 use Rattle.lra_model.specs.History.{History, actions, members, is_among}
 use Rattle.lra_model.specs.Actions.{parent, action_status, limit_in_force, depth}
-use Rattle.lra_model.specs.Members.{Asked, ask_of, action_of, addresses_of, decided, member_status, last_reply, ask_direction, is_outstanding, outstanding_ask}
+use Rattle.lra_model.specs.Members.{Asked, ask_of, action_of, addresses_of, decided, member_status, ask_direction, is_outstanding, outstanding_ask}
 use Rattle.lra_model.specs.Ends.{is_settled, right_end}
 use Rattle.lra_model.specs.Wants.{wants, stage_of, repeat_count, last_repeat}
 use Rattle.lra_rows.specs.declared.found.ActionRow.{ActionRow}
@@ -23,17 +23,16 @@ found_action J a =
     (Some (record { parent = parent J a; limit = (limit_in_force J a).length_of; since = (limit_in_force J a).since; depth = depth J a; status = unwrap_or (action_status J a) action.Active }))
     None
 
--- a member, if it is there: its action, its status, its last replies both ways, whether completion is decided, the ask of it that is
--- outstanding, what it wants, how often it was asked for that in vain, and when it last was
+-- a member, if it is there: its action, its status, the outcomes that decide it both ways, the ask of it that is outstanding, what it wants,
+-- how often it was asked for that in vain, and when it last was
 abbrev pub found_member : History → ℕ → Option MemberRow
 found_member J p =
     cond (is_among (members J) p)
     (Some (record {
       action = action_of J p;
       status = member_status J p;
-      completion = last_reply J p direction.Completion;
-      compensation = last_reply J p direction.Compensation;
-      completed = is_some (decided J p direction.Completion);
+      completion = decided J p direction.Completion;
+      compensation = decided J p direction.Compensation;
       outstanding = outstanding_ask J p;
       want = wants J p;
       k = option_map_or (λ (kind : AskKind). repeat_count J p (stage_of kind (ask_direction J p kind))) (wants J p) 0;

@@ -32,12 +32,11 @@ pub struct ActionRow {
 pub struct MemberRow {
     pub action: u64,
     pub status: MemberStatus,
-    /// The last reply in completion.
+    /// What decided completion: the first reply or report of it that was done or failed, or done where the member was skipped. Later ones
+    /// change nothing.
     pub completion: Option<Outcome>,
-    /// The last reply in compensation.
+    /// What decided compensation, likewise.
     pub compensation: Option<Outcome>,
-    /// Whether completion is decided, done or failed: a member that was asked to compensate since has a status that doesn't say.
-    pub completed: bool,
     /// The ask of it that is outstanding.
     pub outstanding: Option<u64>,
     /// What it wants to be asked next.
@@ -141,9 +140,8 @@ impl Rows {
         Some(MemberRow {
             action: row.action,
             status: row.status,
-            completion: row.completion,
-            compensation: row.compensation,
-            completed: row.completed,
+            completion: row.completed_as,
+            compensation: row.compensated_as,
             outstanding: self.outstanding(&row),
             want: self.want(&row),
             k: repeats.count,

@@ -4,6 +4,7 @@ ghost use Rattle.std.specs.Prelude.{◌≡◌, ◌-◌, ◌^◌, ◌≤◌, ◌&
 ghost use Rattle.lra_model.specs.Addresses.{Addresses, presence_of};
 ghost use Rattle.lra_model.specs.Words as words;
 ghost use Rattle.lra_laws.specs.Rows as rows;
+ghost use Rattle.lra_model.specs.declared.asks.Direction.TheVariants as direction;
 ghost use Rattle.lra_states.specs.Counts.{CanCount};
 
 use crate::state::{ActionState, Awaited, Limit, MemberState, Presence, Standing};
@@ -223,11 +224,24 @@ fn compensation_after(direction: Direction, outcome: Outcome, row: &MemberState)
     }
 }
 
-/// Whether a word decides completion, where nothing did before.
-fn completes(direction: Direction, outcome: Outcome) -> bool
-    ensures { result ≡ rows.completes direction outcome }
+/// What decides completion, after one more word.
+fn completed_by(way: Direction, outcome: Outcome, before: Option<Outcome>) -> Option<Outcome>
+    ensures { result ≡ rows.decided_by direction.Completion way outcome before }
 {
-    matches!(direction, Direction::Completion) && matches!(outcome, Outcome::Done | Outcome::Failed)
+    match (before, way, outcome) {
+        (None, Direction::Completion, Outcome::Done | Outcome::Failed) => Some(outcome),
+        _ => before,
+    }
+}
+
+/// What decides compensation, after one more word.
+fn compensated_by(way: Direction, outcome: Outcome, before: Option<Outcome>) -> Option<Outcome>
+    ensures { result ≡ rows.decided_by direction.Compensation way outcome before }
+{
+    match (before, way, outcome) {
+        (None, Direction::Compensation, Outcome::Done | Outcome::Failed) => Some(outcome),
+        _ => before,
+    }
 }
 
 /// Whether an ask to forget was answered well.
@@ -251,7 +265,8 @@ fn with_reply_to(asked: Standing, outcome: Outcome, row: &MemberState) -> Member
         status: decided_as(asked.direction, outcome, row.status),
         completion: completion_after(asked.direction, outcome, row),
         compensation: compensation_after(asked.direction, outcome, row),
-        completed: row.completed || completes(asked.direction, outcome),
+        completed_as: completed_by(asked.direction, outcome, row.completed_as),
+        compensated_as: compensated_by(asked.direction, outcome, row.compensated_as),
         asked: Awaited::none(),
         has_forgotten: row.has_forgotten || forgets(asked.kind, outcome),
         was_told: row.was_told || hears(asked.kind, outcome),
@@ -273,9 +288,11 @@ pub fn with_reply(outcome: Outcome, row: &MemberState) -> MemberState
 pub fn with_report(outcome: Outcome, row: &MemberState) -> MemberState
     ensures { result ≡ rows.with_report outcome row.now }
 {
+    let way = way_of(row.status);
     MemberState {
-        status: decided_as(way_of(row.status), outcome, row.status),
-        completed: row.completed || completes(way_of(row.status), outcome),
+        status: decided_as(way, outcome, row.status),
+        completed_as: completed_by(way, outcome, row.completed_as),
+        compensated_as: compensated_by(way, outcome, row.compensated_as),
         ..*row
     }
 }
@@ -286,7 +303,7 @@ pub fn with_skip(row: &MemberState) -> MemberState
 {
     MemberState {
         status: MemberStatus::Completed,
-        completed: true,
+        completed_as: Some(row.completed_as.unwrap_or(Outcome::Done)),
         ..*row
     }
 }
@@ -325,7 +342,8 @@ pub fn new_member(action: u64, addresses: Presence) -> MemberState
         status: MemberStatus::Active,
         completion: None,
         compensation: None,
-        completed: false,
+        completed_as: None,
+        compensated_as: None,
         asked: Awaited::none(),
         has_forgotten: false,
         was_told: false,

@@ -138,8 +138,10 @@ pub struct MemberState {
     pub completion: Option<Outcome>,
     /// The last reply in compensation.
     pub compensation: Option<Outcome>,
-    /// Whether completion is decided, done or failed.
-    pub completed: bool,
+    /// What decided completion, done or failed.
+    pub completed_as: Option<Outcome>,
+    /// What decided compensation, done or failed.
+    pub compensated_as: Option<Outcome>,
     pub has_forgotten: bool,
     pub was_told: bool,
 }
@@ -157,7 +159,8 @@ impl Model for MemberState {
       status = r.status;
       completion = r.completion;
       compensation = r.compensation;
-      completed = r.completed;
+      completed_as = r.completed_as;
+      compensated_as = r.compensated_as;
       asked = r.asked;
       has_forgotten = r.has_forgotten;
       was_told = r.was_told;
@@ -169,7 +172,8 @@ impl Model for MemberState {
       status = r.status;
       completion = r.completion;
       compensation = r.compensation;
-      completed = r.completed;
+      completed_as = r.completed_as;
+      compensated_as = r.compensated_as;
       asked = r.asked;
       has_forgotten = r.has_forgotten;
       was_told = r.was_told;

@@ -1,5 +1,5 @@
 -- What the code decides on each command, by what it finds of a history.
-use Rattle.std.specs.Prelude.{◌≡◌, ℕ, ◌+◌, ◌-◌, ◌^◌, ◌==◌, min, nat_le, Bool, true, false, ◌&&◌, not, cond, length, Option, Some, None, Result, Ok, Err}
+use Rattle.std.specs.Prelude.{◌≡◌, ℕ, ◌+◌, ◌-◌, ◌^◌, ◌==◌, min, nat_le, Bool, true, false, ◌&&◌, not, cond, length, Option, Some, None, is_some, Result, Ok, Err}
 use Rattle.std.specs.Option.{option_map_or, option_and_then}
 use Rattle.lra_model.specs.declared.version.Version.{Version}
 use Rattle.lra_model.specs.declared.version.Version.TheVariants as version
@@ -236,18 +236,12 @@ leave J by m a p = do
   _ ← still_open r.status
   Ok (written by m (deed.Leave p))
 
--- whether compensation is decided
-abbrev pub has_compensated : MemberStatus → Bool
-has_compensated member.Compensated = true
-has_compensated member.FailedToCompensate = true
-has_compensated _ = false
-
 -- whether the direction of an ending is decided
 abbrev pub has_told : MemberRow → Ending → Bool
-has_told x ending.Completed = x.completed
-has_told x ending.FailedToComplete = x.completed
-has_told x ending.Compensated = has_compensated x.status
-has_told x ending.FailedToCompensate = has_compensated x.status
+has_told x ending.Completed = is_some x.completion
+has_told x ending.FailedToComplete = is_some x.completion
+has_told x ending.Compensated = is_some x.compensation
+has_told x ending.FailedToCompensate = is_some x.compensation
 
 -- whether a member is being asked for what it tells
 abbrev pub is_awaited : MemberStatus → Ending → Bool

@@ -46,9 +46,8 @@ abbrev pub held_member : Sheet → ℕ → Option MemberRow
 held_member s p = option_map (λ (r : laws.MemberRow). record {
   action = r.action;
   status = r.status;
-  completion = r.completion;
-  compensation = r.compensation;
-  completed = r.completed;
+  completion = r.completed_as;
+  compensation = r.compensated_as;
   outstanding = held_outstanding s r;
   want = wanted (facts_by s.state) (member_by s.state r);
   k = (held_repeats s p r).count;
