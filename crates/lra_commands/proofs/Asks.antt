@@ -26,7 +26,7 @@ use Rattle.lra_commands.specs.Calls.{Command, Call}
 use Rattle.lra_commands.specs.Blocks.{block}
 use Rattle.lra_commands.specs.Refusals.{status_at, full_grounds, first_ground, refused}
 use Rattle.lra_commands.specs.Answers.{answer}
-use Rattle.lra_commands.specs.Queries.{rows_of, holds_end, known_where, tell, asks, answer_as, CommandsAsk, QueriesMiss, RowsHoldEnds}
+use Rattle.lra_commands.specs.Queries.{rows_of, holds_end, known_where, is_listed, tell, asks, answer_as, CommandsAsk, QueriesMiss, RowsHoldEnds}
 
 -- ---- the commands that only ask
 
@@ -78,6 +78,7 @@ unfolding tell
 queries_miss J (query.ActionStatus a) r h = inl (missed (is_among (actions J) a) _ _ r h)
 queries_miss J (query.MemberStatus p) r h = inr (missed (is_among (members J) p) _ _ r h)
 queries_miss J (query.Awaited a place) r h = inl (missed (is_among (actions J) a) _ _ r h)
+queries_miss J (query.Row l place) r h = inl (missed (is_listed J l) _ _ r h)
 
 -- ---- what holds the end of an action
 

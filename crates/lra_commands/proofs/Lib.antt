@@ -11,4 +11,5 @@ pub mod Stopping
 pub mod Worked
 pub mod WorkedQueries
 pub mod Tells
+pub mod ToldWhole
 pub mod Writers

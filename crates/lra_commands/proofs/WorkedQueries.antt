@@ -8,17 +8,20 @@ use Rattle.lra_model.specs.declared.asks.Outcome.TheVariants as outcome
 use Rattle.lra_model.specs.declared.asks.Cause.TheVariants as cause
 use Rattle.lra_model.specs.declared.entry.Deed.TheVariants.{Enrol, Start, Join, Leave, Close, Cancel, Ask, Reply, Restart}
 use Rattle.lra_model.specs.History.{History, steps, actions, members}
-use Rattle.lra_model.specs.Actions.{action_status, children, members_of}
+use Rattle.lra_model.specs.Actions.{parent, action_status, children, members_of}
 use Rattle.lra_model.specs.Members.{addresses_of, has_left, stays, was_asked, ask_of, decided, member_status, is_outstanding, outstanding_ask}
 use Rattle.lra_laws.proofs.Worked.{at, u, c, uris, nest}
 use Rattle.lra_commands.specs.declared.query.Query.{Query}
-use Rattle.lra_commands.specs.declared.query.Query.TheVariants.{ActionStatus, MemberStatus, Awaited}
+use Rattle.lra_commands.specs.declared.query.Query.TheVariants.{ActionStatus, MemberStatus, Awaited, Row}
 use Rattle.lra_commands.specs.declared.query.Awaited.TheVariants.{Member, Action}
+use Rattle.lra_commands.specs.declared.query.Listing.TheVariants.{Members, Nested, Actions}
+use Rattle.lra_commands.specs.declared.query.Row.TheVariants as row
 use Rattle.lra_commands.specs.declared.query.Known.{Known}
-use Rattle.lra_commands.specs.declared.query.Known.TheVariants.{ActionIs, MemberIs, Awaits, AwaitsNothing}
+use Rattle.lra_commands.specs.declared.query.Known.TheVariants as known
+use Rattle.lra_commands.specs.declared.query.Known.TheVariants.{ActionIs, MemberIs, Awaits, AwaitsNothing, NoMore}
 use Rattle.lra_commands.specs.declared.refusal.Refusal.{Refusal}
 use Rattle.lra_commands.specs.declared.refusal.Refusal.TheVariants.{NoSuchAction, NoSuchMember}
-use Rattle.lra_commands.specs.Queries.{rows_of, awaited_from, tell}
+use Rattle.lra_commands.specs.Queries.{rows_of, awaited_from, rows_along, row_from, tell}
 
 -- what queries are told, in their order
 abbrev told : History → List Query → List (Result Known Refusal)
@@ -54,3 +57,23 @@ forgets_void_asks = refl
 pub cancels : told (nest ++ at 3 (Cancel 2 cause.Client) ∷ []) (Awaited 1 0 ∷ Awaited 2 0 ∷ []) ≡ (Ok AwaitsNothing ∷ Ok (Awaits 0 (Member 1 None)) ∷ [])
 unfolding steps actions members action_status children members_of addresses_of has_left stays was_asked ask_of decided member_status is_outstanding outstanding_ask rows_of awaited_from tell
 cancels = refl
+
+-- the members of an action, those that left among them, with what was asked of the one that a restart didn't free yet
+pub lists_members : told four_members (Row (Members 1) 0 ∷ Row (Members 1) 1 ∷ Row (Members 1) 2 ∷ Row (Members 1) 3 ∷ Row (Members 1) 4 ∷ Row (Members 2) 0 ∷ [])
+    ≡ (
+    Ok (known.Row 0 (row.Member 1 member.Active None)) ∷ Ok (known.Row 1 (row.Member 2 member.Left None)) ∷ Ok (known.Row 2 (row.Member 3 member.Completed None))
+    ∷ Ok (known.Row 3 (row.Member 4 member.Completing (Some 2))) ∷ Ok NoMore ∷ Err NoSuchAction ∷ []
+    )
+unfolding steps actions members parent action_status children members_of addresses_of has_left stays was_asked ask_of decided member_status is_outstanding outstanding_ask rows_along row_from tell
+lists_members = refl
+
+-- the actions nested in an action, and all that have a status: where that at the place hasn't, the next that has
+pub lists_actions : told (nest ++ at 3 (Close 2 cause.Client) ∷ [])
+    (Row (Nested 1) 0 ∷ Row (Nested 1) 1 ∷ Row (Nested 2) 0 ∷ Row (Nested 3) 0 ∷ Row (Actions None) 0 ∷ Row (Actions None) 1 ∷ Row (Actions None) 2
+    ∷ Row (Actions (Some action.Closing)) 0 ∷ Row (Actions (Some action.Active)) 1 ∷ [])
+    ≡ (
+    Ok (known.Row 0 (row.Action 2 action.Closing (Some 1))) ∷ Ok NoMore ∷ Ok NoMore ∷ Err NoSuchAction ∷ Ok (known.Row 0 (row.Action 1 action.Active None))
+    ∷ Ok (known.Row 1 (row.Action 2 action.Closing (Some 1))) ∷ Ok NoMore ∷ Ok (known.Row 1 (row.Action 2 action.Closing (Some 1))) ∷ Ok NoMore ∷ []
+    )
+unfolding steps actions members parent action_status children members_of addresses_of has_left stays was_asked ask_of decided member_status is_outstanding outstanding_ask rows_along row_from tell
+lists_actions = refl

@@ -20,7 +20,7 @@ use Rattle.lra_commands.specs.Deeds.{own_deed, writer_of, entry_of}
 use Rattle.lra_commands.specs.Blocks.{block}
 use Rattle.lra_commands.specs.Refusals.{refused}
 use Rattle.lra_commands.specs.Answers.{growth}
-use Rattle.lra_commands.specs.Counters.{Setting, Sight, terms_of, call_of, entries_under, added_by, IsSeenAfter, IsGivenSince, KeepsHistory, WritesOnce}
+use Rattle.lra_commands.specs.Counters.{Sight, terms_of, call_of, entries_under, IsSeenAfter, IsGivenSince, KeepsHistory, WritesOnce}
 
 -- each entry is under the number
 abbrev pub AreBy : ℕ → List Entry → Type 0

@@ -1,12 +1,12 @@
 -- What a query is told.
-use Rattle.std.specs.Prelude.{◌≡◌, ◌⊎◌, ℕ, ◌+◌, nat_lt, Bool, false, ◌&&◌, not, List, [], ◌++◌, length, take, drop, map, Option, Some, None, Result, Ok, Err, cond}
+use Rattle.std.specs.Prelude.{◌≡◌, ◌⊎◌, ℕ, zero, suc, ◌+◌, ◌<◌, nat_lt, Bool, true, false, ◌&&◌, not, List, [], ◌∷◌, ◌++◌, length, take, drop, map, filter, Option, Some, None, Result, Ok, Err, cond}
 use Rattle.std.specs.Option.{option_map_or}
 use Rattle.std.specs.List.{find, position_or_len, list_any}
 use Rattle.lra_model.specs.declared.status.ActionStatus.{ActionStatus}
 use Rattle.lra_model.specs.declared.status.ActionStatus.TheVariants as action
-use Rattle.lra_model.specs.Words.{has_ended, has_finished_cancelling, is_done_completing, is_done_compensating}
+use Rattle.lra_model.specs.Words.{has_ended, has_finished_cancelling, is_done_completing, is_done_compensating, same_status}
 use Rattle.lra_model.specs.History.{History, clerks, actions, members, is_among}
-use Rattle.lra_model.specs.Actions.{children, members_of}
+use Rattle.lra_model.specs.Actions.{parent, children, members_of}
 use Rattle.lra_model.specs.Members.{stays, member_status, outstanding_ask}
 use Rattle.lra_model.specs.Ends.{action_is, settles}
 use Rattle.lra_commands.specs.declared.command.Command.TheVariants as command
@@ -16,6 +16,10 @@ use Rattle.lra_commands.specs.declared.query.Query.{Query}
 use Rattle.lra_commands.specs.declared.query.Query.TheVariants as query
 use Rattle.lra_commands.specs.declared.query.Awaited.{Awaited}
 use Rattle.lra_commands.specs.declared.query.Awaited.TheVariants as awaited
+use Rattle.lra_commands.specs.declared.query.Listing.{Listing}
+use Rattle.lra_commands.specs.declared.query.Listing.TheVariants as listing
+use Rattle.lra_commands.specs.declared.query.Row.{Row}
+use Rattle.lra_commands.specs.declared.query.Row.TheVariants as row
 use Rattle.lra_commands.specs.declared.query.Known.{Known}
 use Rattle.lra_commands.specs.declared.query.Known.TheVariants as known
 use Rattle.lra_commands.specs.declared.refusal.Refusal.{Refusal}
@@ -25,6 +29,26 @@ use Rattle.lra_commands.specs.Calls.{Command, Call}
 use Rattle.lra_commands.specs.Blocks.{block}
 use Rattle.lra_commands.specs.Refusals.{status_at}
 use Rattle.lra_commands.specs.Answers.{answer}
+
+-- ---- rows, from a place on
+
+-- how many rows one query looks at (this project's choice)
+abbrev pub most_rows : ℕ
+most_rows = 256
+
+-- the rows that a query looks at, from a place on
+abbrev pub looked_at : {X : Type 0} → List X → ℕ → List X
+looked_at xs place = take most_rows (drop place xs)
+
+-- what is told where none of the rows looked at passes: where to go on, unless those were the last
+abbrev pub none_told : {X : Type 0} → Known → List X → ℕ → Known
+none_told last xs place = cond (nat_lt (place + most_rows) (length xs)) (known.Further (place + most_rows)) last
+
+-- what is told of rows from a place on: the first of those looked at that passes a test, with its place (this project's choice)
+abbrev pub first_from : {X : Type 0} → (X → Bool) → (ℕ → X → Known) → Known → List X → ℕ → Known
+first_from test told last xs place = option_map_or (told (place + position_or_len test (looked_at xs place))) (find test (looked_at xs place)) (none_told last xs place)
+
+-- ---- what an action waits for
 
 -- the rows of an action: its members, those that left among them, each with the ask of it that is outstanding, and then the actions nested directly
 -- in it (this project's choice of order)
@@ -41,26 +65,44 @@ holds_end action.Cancelling J (awaited.Member p ask) = stays J p && not (is_done
 holds_end action.Cancelling J (awaited.Action b) = not (action_is has_finished_cancelling J b)
 holds_end _ J row = false
 
--- how many rows one query looks at (this project's choice)
-abbrev pub most_rows : ℕ
-most_rows = 256
-
--- the rows that a query looks at, from a place on
-abbrev pub looked_at : History → ℕ → ℕ → List Awaited
-looked_at J a place = take most_rows (drop place (rows_of J a))
-
--- whether a row holds the end of an action
-abbrev pub holds : History → ℕ → Awaited → Bool
-holds J a row = holds_end (status_at J a) J row
-
--- what is told where none of the rows looked at holds the end: where to go on, unless those were the last
-abbrev pub none_awaited : History → ℕ → ℕ → Known
-none_awaited J a place = cond (nat_lt (place + most_rows) (length (rows_of J a))) (known.Further (place + most_rows)) known.AwaitsNothing
-
 -- what an action waits for, from a place on: the first of the rows looked at that holds its end (this project's choice)
 unfoldable pub awaited_from : History → ℕ → ℕ → Known
-awaited_from J a place =
-    option_map_or (known.Awaits (place + position_or_len (holds J a) (looked_at J a place))) (find (holds J a) (looked_at J a place)) (none_awaited J a place)
+awaited_from J a place = first_from (holds_end (status_at J a) J) known.Awaits known.AwaitsNothing (rows_of J a) place
+
+-- ---- listings
+
+-- a member's row: its status and the ask of it that is outstanding (MicroProfile LRA 2.0, ParticipantStatus; the ask is this project's choice)
+abbrev pub member_row : History → ℕ → Row
+member_row J p = row.Member p (member_status J p) (outstanding_ask J p)
+
+-- an action's row: its status and the action that it is nested in (MicroProfile LRA 2.0, LRAStatus and nested LRAs)
+abbrev pub action_row : History → ℕ → Row
+action_row J a = row.Action a (status_at J a) (parent J a)
+
+-- the rows that a listing goes along: an action's members, those that left among them, the actions nested directly in it, or all actions
+-- (MicroProfile LRA 2.0, participants, nested LRAs and LRAs)
+unfoldable pub rows_along : History → Listing → List Row
+rows_along J (listing.Members a) = map (member_row J) (members_of J a)
+rows_along J (listing.Nested a) = map (action_row J) (children J a)
+rows_along J (listing.Actions status) = map (action_row J) (actions J)
+
+-- whether a row that a listing goes along belongs to it: of actions, where a status is given, one that has it (MicroProfile LRA 2.0, all LRAs by
+-- status)
+abbrev pub belongs : Listing → Row → Bool
+belongs (listing.Actions (Some status)) (row.Action a now parent) = same_status status now
+belongs _ _ = true
+
+-- the next row of a listing, from a place on (this project's choice)
+unfoldable pub row_from : History → Listing → ℕ → Known
+row_from J l place = first_from (belongs l) known.Row known.NoMore (rows_along J l) place
+
+-- whether what a listing is of is there: its action, where it is of one
+abbrev pub is_listed : History → Listing → Bool
+is_listed J (listing.Members a) = is_among (actions J) a
+is_listed J (listing.Nested a) = is_among (actions J) a
+is_listed J (listing.Actions status) = true
+
+-- ---- what each query is told
 
 -- what is told of something that is there, or else that it isn't
 abbrev pub known_where : Bool → Known → Refusal → Result Known Refusal
@@ -71,6 +113,7 @@ unfoldable pub tell : History → Query → Result Known Refusal
 tell J (query.ActionStatus a) = known_where (is_among (actions J) a) (known.ActionIs (status_at J a)) refusal.NoSuchAction
 tell J (query.MemberStatus p) = known_where (is_among (members J) p) (known.MemberIs (member_status J p)) refusal.NoSuchMember
 tell J (query.Awaited a place) = known_where (is_among (actions J) a) (awaited_from J a place) refusal.NoSuchAction
+tell J (query.Row l place) = known_where (is_listed J l) (row_from J l place) refusal.NoSuchAction
 
 -- ---- commands that ask
 
@@ -80,7 +123,7 @@ asks (command.Status a) = Some (query.ActionStatus a)
 asks (command.MemberStatus p) = Some (query.MemberStatus p)
 asks _ = None
 
--- what is known, as a command is told it; no command asks what an action waits for
+-- what is known, as a command is told it; no command asks for rows
 abbrev pub told_as : Known → Told
 told_as (known.ActionIs status) = told.ActionIs status
 told_as (known.MemberIs status) = told.MemberIs status
@@ -104,3 +147,18 @@ QueriesMiss = (J : History) (q : Query) (r : Refusal) → tell J q ≡ Err r →
 abbrev pub RowsHoldEnds : Type 0
 RowsHoldEnds = (J : History) (a : ℕ) (status : ActionStatus) → (status ≡ action.Closing) ⊎ (status ≡ action.Cancelling)
     → settles (Some status) J a ≡ not (list_any (holds_end status J) (rows_of J a))
+
+-- the rows that are told from what one query was told on: its row and what is told from the place after it, or what is told from where to go on
+abbrev pub rows_after : (ℕ → List Row) → Known → List Row
+rows_after on (known.Row place r) = r ∷ on (place + 1)
+rows_after on (known.Further place) = on place
+rows_after on _ = []
+
+-- the rows that are told where a listing is asked for again and again, at most so many times
+abbrev pub told_on : ℕ → History → Listing → ℕ → List Row
+told_on zero J l place = []
+told_on (suc n) J l place = rows_after (told_on n J l) (row_from J l place)
+
+-- a listing that is asked for so is told whole: each row that belongs to it, once, in order
+abbrev pub ListingsAreToldWhole : Type 0
+ListingsAreToldWhole = (J : History) (l : Listing) (n : ℕ) → length (rows_along J l) < n → told_on n J l 0 ≡ filter (belongs l) (rows_along J l)

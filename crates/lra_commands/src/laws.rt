@@ -1,7 +1,7 @@
 //! Laws of coordinators: public functions that do nothing, whose contracts say what holds whatever commands are given.
 
 ghost use Rattle.lra_commands.specs.Counters.{CountersTell, CountersWriteOnce};
-ghost use Rattle.lra_commands.specs.Queries.{CommandsAsk, QueriesMiss, RowsHoldEnds};
+ghost use Rattle.lra_commands.specs.Queries.{CommandsAsk, ListingsAreToldWhole, QueriesMiss, RowsHoldEnds};
 ghost use Rattle.lra_commands.specs.Runs.{CallsKeepHistories, CallsLeaveQuiet, CallsMakeHistories};
 
 /// Whatever commands are given to a coordinator, by any clerks, at any moments and in any order, refused ones among
@@ -48,4 +48,10 @@ pub fn queries_miss()
 /// its rows holds its end.
 pub fn rows_hold_ends()
     ensures { RowsHoldEnds }
+{}
+
+/// A listing that is asked for row by row, each time from the place after the row that was told, is told whole: each of its rows
+/// once, in order.
+pub fn listings_are_told_whole()
+    ensures { ListingsAreToldWhole }
 {}

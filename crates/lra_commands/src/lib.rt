@@ -13,8 +13,8 @@ pub use command::{Command, Told};
 pub use counter::{Counter, CounterFault, Order};
 pub use laws::{
     calls_leave_quiet_histories, commands_ask, commands_keep_histories, commands_make_histories,
-    counters_tell, counters_write_once, queries_miss, rows_hold_ends,
+    counters_tell, counters_write_once, listings_are_told_whole, queries_miss, rows_hold_ends,
 };
 pub use limits::{Limits, Terms};
-pub use query::{Awaited, Known, Query};
+pub use query::{Awaited, Known, Listing, Query, Row};
 pub use refusal::{Refusal, Resource};

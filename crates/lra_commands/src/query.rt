@@ -17,6 +17,37 @@ pub enum Query {
     /// What an action waits for. Its rows are its members and then the actions nested directly in it, those that came first
     /// before the others; the place of the first is 0. At most 256 of them are looked at, from this place on.
     Awaited { action: u64, place: u64 },
+    /// The next row of a listing. The place of the first is 0. At most 256 rows are looked at, from this place on, so that a page
+    /// is this query asked again, each time from the place after the one that it told.
+    Row { of: Listing, place: u64 },
+}
+
+/// Rows of a coordinator's history, those that came first before the others.
+#[derive(Clone, Copy, Debug, PartialEq, Eq)]
+pub enum Listing {
+    /// An action's members, those that left among them.
+    Members { action: u64 },
+    /// The actions nested directly in an action.
+    Nested { action: u64 },
+    /// All actions, or those alone that have a status. The place of each is its number less one, whether or not it is told.
+    Actions { status: Option<ActionStatus> },
+}
+
+/// A row of a listing.
+#[derive(Clone, Copy, Debug, PartialEq, Eq)]
+pub enum Row {
+    /// A member, its status, and the ask of it that is outstanding, if one is.
+    Member {
+        member: u64,
+        status: MemberStatus,
+        ask: Option<u64>,
+    },
+    /// An action, its status, and the action that it is nested in, if it is.
+    Action {
+        action: u64,
+        status: ActionStatus,
+        parent: Option<u64>,
+    },
 }
 
 /// What holds the end of an action.
@@ -37,14 +68,18 @@ pub enum Known {
     MemberIs(MemberStatus),
     /// The first of the rows looked at that holds the action's end, and its place.
     Awaits { place: u64, awaited: Awaited },
-    /// None of the rows looked at holds the action's end, and there are more from this place on.
+    /// None of the rows looked at is told, and there are more from this place on.
     Further(u64),
     /// No row from the place on holds the action's end.
     AwaitsNothing,
+    /// The first of the rows looked at that belongs to the listing, and its place.
+    Row { place: u64, row: Row },
+    /// The listing has no row from the place on.
+    NoMore,
 }
 
 impl Known {
-    /// The same, as a command is told it. What an action waits for is told to no command: there it is `Idle`.
+    /// The same, as a command is told it. Rows are told to no command: there it is `Idle`.
     pub const fn told(self) -> Told
         ensures { result ≡ told_as self }
     {
@@ -54,6 +89,8 @@ impl Known {
             Known::Awaits { .. } => Told::Idle,
             Known::Further(_) => Told::Idle,
             Known::AwaitsNothing => Told::Idle,
+            Known::Row { .. } => Told::Idle,
+            Known::NoMore => Told::Idle,
         }
     }
 }

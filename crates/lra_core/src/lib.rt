@@ -19,8 +19,8 @@ pub use laws::{
     asks_are_answered_once, blocks_fit_once, commands_make_sound_texts, errands_are_of_asks,
 };
 pub use lra_commands::{
-    Awaited, Counter, CounterFault, Known, Limits, Order, Query, Refusal, Resource, Told,
-    calls_leave_quiet_histories, commands_keep_histories, commands_make_histories,
+    Awaited, Counter, CounterFault, Known, Limits, Listing, Order, Query, Refusal, Resource, Row,
+    Told, calls_leave_quiet_histories, commands_keep_histories, commands_make_histories,
 };
 pub use lra_ids::{Address, Instance};
 pub use lra_model::{Memory, Rule, Version};

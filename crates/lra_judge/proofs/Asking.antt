@@ -4,6 +4,7 @@ use Rattle.lra_model.specs.History.{History, clerks, actions, members, is_among}
 use Rattle.lra_model.specs.Members.{member_status}
 use Rattle.lra_commands.specs.declared.query.Query.{Query}
 use Rattle.lra_commands.specs.declared.query.Query.TheVariants as query
+use Rattle.lra_commands.specs.declared.query.Listing.{Listing}
 use Rattle.lra_commands.specs.declared.query.Known.{Known}
 use Rattle.lra_commands.specs.declared.query.Known.TheVariants as known
 use Rattle.lra_commands.specs.declared.limits.Terms.{Terms}
@@ -13,7 +14,7 @@ use Rattle.lra_commands.specs.Calls.{Command, Call}
 use Rattle.lra_commands.specs.Blocks.{block}
 use Rattle.lra_commands.specs.Refusals.{status_at}
 use Rattle.lra_commands.specs.Answers.{answer}
-use Rattle.lra_commands.specs.Queries.{known_where, awaited_from, tell, asks, told_as, answer_as}
+use Rattle.lra_commands.specs.Queries.{known_where, awaited_from, is_listed, row_from, tell, asks, told_as, answer_as}
 use Rattle.lra_commands.proofs.Asks.{commands_ask}
 use Rattle.lra_judge.specs.Decisions.{IsDecided}
 use Rattle.lra_judge.specs.inner.Judged as judged
@@ -45,3 +46,7 @@ tell_member J p = refl
 pub tell_awaited : (J : History) (a place : ℕ) → tell J (query.Awaited a place) ≡ known_where (is_among (actions J) a) (awaited_from J a place) refusal.NoSuchAction
 unfolding tell
 tell_awaited J a place = refl
+
+pub tell_row : (J : History) (l : Listing) (place : ℕ) → tell J (query.Row l place) ≡ known_where (is_listed J l) (row_from J l place) refusal.NoSuchAction
+unfolding tell
+tell_row J l place = refl

@@ -1,10 +1,8 @@
--- What an action waits for, by what is found: row by row, and along the rows that are looked at.
-use Rattle.std.proofs.Common.{◌≡◌, ℕ, zero, suc, ◌+◌, ◌-◌, ◌≤◌, ◌<◌, Bool, true, false, List, [], ◌∷◌, ◌++◌, length, take, drop, map, Option, Some, None, refl, sym, ap, ◌∙◌, cond, min, arith}
+-- What an action waits for, row by row, by what is found.
+use Rattle.std.proofs.Common.{◌≡◌, ℕ, Bool, true, false, List, [], ◌∷◌, ◌++◌, map, Option, Some, None, refl, sym, ap, ◌∙◌, cond}
 use Rattle.std.proofs.Math.Bool.{and-false}
-use Rattle.std.proofs.lemmas.List.{drop_all}
-use Rattle.std.specs.Prelude.{◌&&◌, ◌==◌, not, is_some, unwrap_or, slice_get}
+use Rattle.std.specs.Prelude.{◌&&◌, ◌==◌, not, is_some, unwrap_or}
 use Rattle.std.specs.Option.{option_map_or, option_and_then}
-use Rattle.std.specs.List.{find, position_or_len}
 use Rattle.lra_model.specs.declared.status.ActionStatus.{ActionStatus}
 use Rattle.lra_model.specs.declared.status.ActionStatus.TheVariants as action
 use Rattle.lra_model.specs.declared.version.Version.{Version}
@@ -15,7 +13,6 @@ use Rattle.lra_model.specs.Actions.{action_status, children, members_of}
 use Rattle.lra_model.specs.Members.{action_of, addresses_of, has_left, stays, member_status, outstanding_ask}
 use Rattle.lra_model.specs.Rules.{is_legal}
 use Rattle.lra_laws.specs.Rows as rows
-use Rattle.lra_laws.specs.Sheets.{Sheet, StandsFor}
 use Rattle.lra_laws.proofs.Legal.{status_is_there, members_of_lem}
 use Rattle.lra_laws.proofs.MemberRows.{absent_row}
 use Rattle.lra_laws.proofs.GoodLists.{among_here, among_there}
@@ -24,11 +21,8 @@ use Rattle.lra_rows.specs.declared.found.ActionRow.{ActionRow}
 use Rattle.lra_rows.specs.declared.found.MemberRow.{MemberRow}
 use Rattle.lra_commands.specs.declared.query.Awaited.{Awaited}
 use Rattle.lra_commands.specs.declared.query.Awaited.TheVariants as awaited
-use Rattle.lra_commands.specs.declared.query.Known.{Known}
-use Rattle.lra_commands.specs.declared.query.Known.TheVariants as known
-use Rattle.lra_commands.specs.Refusals.{status_at}
-use Rattle.lra_commands.specs.Queries.{rows_of, holds_end, most_rows, none_awaited, awaited_from}
-use Rattle.lra_judge.specs.inner.Awaited.{waits_for_member, waits_for_action, can_compensate, waits_for_row, waits_for_found, found_status, held, member_row, found_rows, seen_from, told_of, further}
+use Rattle.lra_commands.specs.Queries.{rows_of, holds_end}
+use Rattle.lra_judge.specs.inner.Awaited.{waits_for_member, waits_for_action, can_compensate, waits_for_row, waits_for_found, found_status, held, member_row, found_rows}
 use Rattle.lra_judge.proofs.OnMembers.{gone_is}
 use Rattle.lra_judge.proofs.Passing.{row_of, member_of}
 
@@ -95,7 +89,7 @@ action_by J action.FailedToClose b = refl
 action_by J action.Cancelled b = refl
 action_by J action.FailedToCancel b = refl
 
-held_is : (v : Version) (t : List ℕ → Bool) (J : History) → is_legal v t J ≡ true → (status : ActionStatus) (row : Awaited) → held status J row ≡ holds_end status J row
+pub held_is : (v : Version) (t : List ℕ → Bool) (J : History) → is_legal v t J ≡ true → (status : ActionStatus) (row : Awaited) → held status J row ≡ holds_end status J row
 held_is v t J l status (awaited.Member p ask) = member_waits v t J l status p ∙ member_by J status p ask
 held_is v t J l status (awaited.Action b) = ap (waits_for_action status) (status_found v t J l b) ∙ action_by J status b
 
@@ -103,7 +97,7 @@ map_same : (f g : ℕ → Awaited) (ns : List ℕ) → ((n : ℕ) → is_among n
 map_same f g [] h = refl
 map_same f g (n ∷ ns) h = λ i. h n (among_here n ns) i ∷ map_same f g ns (λ m k. h m (among_there n ns m k)) i
 
-rows_are : (v : Version) (t : List ℕ → Bool) (J : History) → is_legal v t J ≡ true → (a : ℕ) → found_rows J a ≡ rows_of J a
+pub rows_are : (v : Version) (t : List ℕ → Bool) (J : History) → is_legal v t J ≡ true → (a : ℕ) → found_rows J a ≡ rows_of J a
 unfolding rows_of
 rows_are v t J l a = ap (λ (front : List Awaited). front ++ map awaited.Action (children J a)) (map_same (member_row J) (λ p. awaited.Member p (outstanding_ask J p)) (members_of J a) one)
   where
@@ -111,84 +105,3 @@ rows_are v t J l a = ap (λ (front : List Awaited). front ++ map awaited.Action 
     one p h =
         let there = (both (is_among (members J) p) (action_of J p == a) (sym (members_of_lem v t J l a p) ∙ h)).0 in
         ap (λ b. awaited.Member p (option_and_then (λ (r : MemberRow). r.outstanding) (cond b (Some (member_of J p)) None))) there
-
--- ---- along the rows
-
-drop_there : {X : Type 0} (xs : List X) (i : ℕ) (x : X) → slice_get xs i ≡ Some x → drop i xs ≡ x ∷ drop (i + 1) xs
-drop_there [] i x h = absurd cc
-drop_there (y ∷ ys) zero x h = let e : y ≡ x = cc in ap (λ z. z ∷ ys) e
-drop_there (y ∷ ys) (suc i) x h = let e : suc (i + 1) ≡ suc i + 1 = omega arith in drop_there ys i x h ∙ ap (λ k. x ∷ drop k (y ∷ ys)) e
-
-drop_gone : {X : Type 0} (xs : List X) (i : ℕ) → slice_get xs i ≡ None → drop i xs ≡ []
-drop_gone [] i h = drop_all i [] (omega arith)
-drop_gone (y ∷ ys) zero h = absurd cc
-drop_gone (y ∷ ys) (suc i) h = drop_gone ys i h
-
--- what is told of rows, the first of which is at a place
-abbrev seen : (Awaited → Bool) → Known → ℕ → List Awaited → Known
-seen h none place xs = option_map_or (known.Awaits (place + position_or_len h xs)) (find h xs) none
-
--- the first holds the end
-held_here : (h : Awaited → Bool) (none : Known) (xs : List Awaited) (at n : ℕ) (row : Awaited) → slice_get xs at ≡ Some row → h row ≡ true → seen_from h none xs at (suc n) ≡ known.Awaits at row
-held_here h none xs at n row g k =
-    let rest = take n (drop (at + 1) xs) in
-    let e : at + 0 ≡ at = omega arith in
-    ap (λ ys. seen h none at (take (suc n) ys)) (drop_there xs at row g) ∙ ap (λ b. option_map_or (known.Awaits (at + cond (not b) (1 + position_or_len h rest) 0)) (cond b (Some row) (find h rest)) none) k
-    ∙ ap (λ m. known.Awaits m row) e
-
--- it doesn't
-held_later : (h : Awaited → Bool) (none : Known) (xs : List Awaited) (at n : ℕ) (row : Awaited) → slice_get xs at ≡ Some row → h row ≡ false → seen_from h none xs at (suc n) ≡ seen_from h none xs (at + 1) n
-held_later h none xs at n row g k =
-    let rest = take n (drop (at + 1) xs) in
-    let e : at + (1 + position_or_len h rest) ≡ (at + 1) + position_or_len h rest = omega arith in
-    ap (λ ys. seen h none at (take (suc n) ys)) (drop_there xs at row g) ∙ ap (λ b. option_map_or (known.Awaits (at + cond (not b) (1 + position_or_len h rest) 0)) (cond b (Some row) (find h rest)) none) k
-    ∙ ap (λ m. option_map_or (known.Awaits m) (find h rest) none) e
-
--- there are none
-none_there : (h : Awaited → Bool) (none : Known) (xs : List Awaited) (at n : ℕ) → drop at xs ≡ [] → seen_from h none xs at n ≡ none
-none_there h none xs at n e = ap (λ ys. seen h none at (take n ys)) e ∙ by n
-  where
-    by : (m : ℕ) → seen h none at (take m []) ≡ none
-    by zero = refl
-    by (suc m) = refl
-
-pub none_past : (h : Awaited → Bool) (none : Known) (xs : List Awaited) (at n : ℕ) → slice_get xs at ≡ None → seen_from h none xs at n ≡ none
-none_past h none xs at n g = none_there h none xs at n (drop_gone xs at g)
-
--- all were looked at
-pub none_left : (h : Awaited → Bool) (none : Known) (xs : List Awaited) (place n : ℕ) → min (place + most_rows) (length xs) ≤ place + n → seen_from h none xs (place + n) (most_rows - n) ≡ none
-none_left h none xs place n e = by (most_rows - n) refl
-  where
-    by : (k : ℕ) → most_rows - n ≡ k → seen_from h none xs (place + n) k ≡ none
-    by zero g = refl
-    by (suc k) g = none_there h none xs (place + n) (suc k) (drop_all (place + n) xs (omega arith))
-
--- the same, once some were looked at
-pub held_at : (h : Awaited → Bool) (none : Known) (xs : List Awaited) (place n : ℕ) (row : Awaited) → n < most_rows → slice_get xs (place + n) ≡ Some row → h row ≡ true
-    → seen_from h none xs (place + n) (most_rows - n) ≡ known.Awaits (place + n) row
-held_at h none xs place n row lt g k =
-    let e : most_rows - n ≡ suc (most_rows - (n + 1)) = omega arith in
-    ap (seen_from h none xs (place + n)) e ∙ held_here h none xs (place + n) (most_rows - (n + 1)) row g k
-
-pub next_at : (h : Awaited → Bool) (none : Known) (xs : List Awaited) (place n : ℕ) (row : Awaited) → n < most_rows → slice_get xs (place + n) ≡ Some row → h row ≡ false
-    → seen_from h none xs (place + n) (most_rows - n) ≡ seen_from h none xs (place + (n + 1)) (most_rows - (n + 1))
-next_at h none xs place n row lt g k =
-    let e : most_rows - n ≡ suc (most_rows - (n + 1)) = omega arith in
-    let f : (place + n) + 1 ≡ place + (n + 1) = omega arith in
-    ap (seen_from h none xs (place + n)) e ∙ held_later h none xs (place + n) (most_rows - (n + 1)) row g k ∙ ap (λ m. seen_from h none xs m (most_rows - (n + 1))) f
-
--- ---- what is told of the history
-
-seen_is : (v : Version) (t : List ℕ → Bool) (J : History) → is_legal v t J ≡ true → (status : ActionStatus) (a : ℕ) (none : Known) (place n : ℕ)
-    → seen_from (held status J) none (found_rows J a) place n ≡ seen_from (holds_end status J) none (rows_of J a) place n
-seen_is v t J l status a none place n = λ i. seen_from (λ row. held_is v t J l status row i) none (rows_are v t J l a i) place n
-
-pub further_is : (v : Version) (t : List ℕ → Bool) (J : History) → is_legal v t J ≡ true → (a place : ℕ) → further (length (found_rows J a)) place ≡ none_awaited J a place
-further_is v t J l a place = ap (λ (xs : List Awaited). further (length xs) place) (rows_are v t J l a)
-
-pub awaited_is : (s : Sheet) (J : History) → StandsFor s J → (a place : ℕ) (status : ActionStatus) → status ≡ status_at J a → (found : Option (ℕ × Awaited))
-    → ((none : Known) → told_of found none ≡ seen_from (held status J) none (found_rows J a) place most_rows) → told_of found (further (length (found_rows J a)) place) ≡ awaited_from J a place
-unfolding awaited_from
-awaited_is s J k a place status e found h =
-    h (further (length (found_rows J a)) place) ∙ ap (λ none. seen_from (held status J) none (found_rows J a) place most_rows) (further_is k.version k.is_address J k.legal a place)
-    ∙ seen_is k.version k.is_address J k.legal status a (none_awaited J a place) place most_rows ∙ ap (λ (x : ActionStatus). seen_from (holds_end x J) (none_awaited J a place) (rows_of J a) place most_rows) e

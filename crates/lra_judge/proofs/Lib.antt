@@ -5,8 +5,10 @@ pub mod Counts
 pub mod EachCommand
 pub mod ForCallers
 pub mod Grounds
+pub mod Listings
 pub mod OnActions
 pub mod OnAsks
 pub mod OnMembers
 pub mod OnStart
 pub mod Passing
+pub mod Walks

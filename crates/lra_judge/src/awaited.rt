@@ -1,20 +1,14 @@
-//! What an action waits for.
+//! The rows of an action, and which of them hold its end.
 
-ghost use Rattle.std.specs.Prelude.{◌≡◌, ◌≤◌, ◌+◌, min, max, length, slice_get};
+ghost use Rattle.std.specs.Prelude.{◌≡◌, length, slice_get};
 ghost use Rattle.lra_model.specs.Words as words;
 ghost use Rattle.lra_model.specs.History.{History};
 ghost use Rattle.lra_laws.specs.Sheets.{StandsFor};
-ghost use Rattle.lra_commands.specs.declared.query.Known.{Known as Told};
-ghost use Rattle.lra_commands.specs.Refusals.{status_at};
-ghost use Rattle.lra_commands.specs.Queries as queries;
 ghost use Rattle.lra_judge.specs.inner.Awaited as awaits;
 
 use lra_commands::{Awaited, Known};
 use lra_model::{ActionStatus, MemberStatus};
 use lra_tables::{MemberRow, Tables};
-
-/// How many rows one query looks at.
-const MOST_ROWS: u64 = 256;
 
 /// Whether a Closing action needn't wait for a member.
 fn is_done_completing(status: MemberStatus) -> bool
@@ -153,61 +147,28 @@ fn row_at(tables: &Tables, action: u64, place: u64) -> Option<Awaited>
 }
 
 /// How many rows an action has.
-fn count_rows(tables: &Tables, action: u64) -> u64
+pub(crate) fn count_awaited(tables: &Tables, action: u64) -> u64
     ensures { (J : History) → StandsFor tables.now.sheet J → result ≡ length (awaits.found_rows J action) }
 {
     (tables.members(action).len() + tables.children(action).len()) as u64
 }
 
-/// How many rows are looked at from a place on, of so many.
-fn count_looked(rows: u64, place: u64) -> u64
-    ensures most { result ≤ queries.most_rows }
-    ensures within { place + result ≤ max place rows }
-    ensures all { min (place + queries.most_rows) rows ≤ place + result }
-{
-    if place < rows {
-        MOST_ROWS.min(rows - place)
-    } else {
-        0
-    }
-}
-
-/// The first of the rows looked at that holds the end of an action with this status, and its place.
-fn first_held(
+/// What is told of the row at a place, if there is one that holds the end of an action with this status.
+pub(crate) fn look_awaited(
     tables: &Tables,
     action: u64,
     status: ActionStatus,
     place: u64,
-) -> Option<(u64, Awaited)>
-    ensures { (J : History) (none : Told) → StandsFor tables.now.sheet J
-        → awaits.told_of result none ≡ awaits.seen_from (awaits.held status J) none (awaits.found_rows J action) place queries.most_rows }
+) -> Option<Known>
+    ensures { (J : History) → StandsFor tables.now.sheet J → result ≡ awaits.look_awaited J action status place }
 {
-    let rows = count_rows(tables, action);
-    for n in 0..count_looked(rows, place) {
-        let row = row_at(tables, action, place + n)?;
-        if holds(tables, status, row) {
-            return Some((place + n, row));
-        }
-    }
-    None
-}
-
-/// Where to go on, by how many rows there are.
-fn further(rows: u64, place: u64) -> Known
-    ensures { result ≡ awaits.further rows place }
-{
-    match place.checked_add(MOST_ROWS) {
-        Some(next) if next < rows => Known::Further(next),
-        _ => Known::AwaitsNothing,
-    }
-}
-
-/// What an action with this status waits for, from a place on.
-pub(crate) fn awaited_from(tables: &Tables, action: u64, status: ActionStatus, place: u64) -> Known
-    ensures { (J : History) → StandsFor tables.now.sheet J → status ≡ status_at J action → result ≡ queries.awaited_from J action place }
-{
-    match first_held(tables, action, status, place) {
-        Some((place, awaited)) => Known::Awaits { place, awaited },
-        None => further(count_rows(tables, action), place),
+    let row = row_at(tables, action, place)?;
+    if holds(tables, status, row) {
+        Some(Known::Awaits {
+            place,
+            awaited: row,
+        })
+    } else {
+        None
     }
 }

@@ -10,10 +10,12 @@ mod deciding;
 mod decision;
 mod errand;
 mod judge;
+mod listed;
 mod members;
 mod queries;
 mod stored;
 mod telling;
+mod walk;
 
 pub use beside::Beside;
 pub use deciding::decide;

@@ -8,12 +8,12 @@ ghost use Rattle.lra_laws.specs.Sheets.{StandsFor};
 ghost use Rattle.lra_commands.specs.declared.query.Known.TheVariants as known;
 ghost use Rattle.lra_commands.specs.declared.refusal.Refusal.TheVariants as refusal;
 ghost use Rattle.lra_commands.specs.Refusals.{status_at};
-ghost use Rattle.lra_commands.specs.Queries.{awaited_from, known_where, tell};
+ghost use Rattle.lra_commands.specs.Queries.{awaited_from, is_listed, known_where, row_from, tell};
 
-use crate::awaited::awaited_from;
 use crate::decision::Decision;
 use crate::judge::Judge;
-use lra_commands::{Known, Query, Refusal};
+use crate::walk::{Walk, tell_from};
+use lra_commands::{Known, Listing, Query, Refusal};
 use lra_tables::Tables;
 
 /// The status of an action.
@@ -41,8 +41,47 @@ fn awaited(tables: &Tables, action: u64, place: u64) -> Result<Known, Refusal>
     ensures { (J : History) → StandsFor tables.now.sheet J → result ≡ known_where (is_among (actions J) action) (awaited_from J action place) refusal.NoSuchAction }
 {
     match tables.action(action) {
-        Some(row) => Ok(awaited_from(tables, action, row.status, place)),
+        Some(row) => Ok(tell_from(
+            tables,
+            Walk::Awaited {
+                action,
+                status: row.status,
+            },
+            place,
+        )),
         None => Err(Refusal::NoSuchAction),
+    }
+}
+
+/// Whether an action is there.
+fn is_there(tables: &Tables, action: u64) -> bool
+    ensures { (J : History) → StandsFor tables.now.sheet J → result ≡ is_among (actions J) action }
+{
+    match tables.action(action) {
+        Some(_) => true,
+        None => false,
+    }
+}
+
+/// Whether what a listing is of is there.
+fn is_listed(tables: &Tables, listing: Listing) -> bool
+    ensures { (J : History) → StandsFor tables.now.sheet J → result ≡ is_listed J listing }
+{
+    match listing {
+        Listing::Members { action } => is_there(tables, action),
+        Listing::Nested { action } => is_there(tables, action),
+        Listing::Actions { .. } => true,
+    }
+}
+
+/// The next row of a listing, from a place on.
+fn next_row(tables: &Tables, listing: Listing, place: u64) -> Result<Known, Refusal>
+    ensures { (J : History) → StandsFor tables.now.sheet J → result ≡ known_where (is_listed J listing) (row_from J listing place) refusal.NoSuchAction }
+{
+    if is_listed(tables, listing) {
+        Ok(tell_from(tables, Walk::Listed { listing }, place))
+    } else {
+        Err(Refusal::NoSuchAction)
     }
 }
 
@@ -54,6 +93,7 @@ pub fn tell(tables: &Tables, query: Query) -> Result<Known, Refusal>
         Query::ActionStatus { action } => action_is(tables, action),
         Query::MemberStatus { member } => member_is(tables, member),
         Query::Awaited { action, place } => awaited(tables, action, place),
+        Query::Row { of, place } => next_row(tables, of, place),
     }
 }
 

@@ -1,7 +1,6 @@
--- What the code tells that an action waits for, by what it finds of a history.
-use Rattle.std.specs.Prelude.{ℕ, ◌+◌, nat_lt, Bool, false, ◌&&◌, not, List, ◌++◌, map, take, drop, Option, is_some, cond}
+-- What the code finds of what an action waits for.
+use Rattle.std.specs.Prelude.{ℕ, Bool, false, ◌&&◌, not, List, ◌++◌, map, Option, is_some, slice_get}
 use Rattle.std.specs.Option.{option_map_or, option_and_then}
-use Rattle.std.specs.List.{find, position_or_len}
 use Rattle.lra_model.specs.declared.status.ActionStatus.{ActionStatus}
 use Rattle.lra_model.specs.declared.status.ActionStatus.TheVariants as action
 use Rattle.lra_model.specs.declared.status.MemberStatus.{MemberStatus}
@@ -16,7 +15,7 @@ use Rattle.lra_commands.specs.declared.query.Awaited.{Awaited}
 use Rattle.lra_commands.specs.declared.query.Awaited.TheVariants as awaited
 use Rattle.lra_commands.specs.declared.query.Known.{Known}
 use Rattle.lra_commands.specs.declared.query.Known.TheVariants as known
-use Rattle.lra_commands.specs.Queries.{most_rows}
+use Rattle.lra_judge.specs.inner.Told.{told_at}
 
 -- whether an action with a status waits for a member with a status
 abbrev pub waits_for_member : ActionStatus → MemberStatus → Bool
@@ -63,14 +62,6 @@ member_row J p = awaited.Member p (found_ask J p)
 abbrev pub found_rows : History → ℕ → List Awaited
 found_rows J a = map (member_row J) (members_of J a) ++ map awaited.Action (children J a)
 
--- what is told of rows from a place on, of which so many are looked at: the first that passes, or else what is told where none does
-abbrev pub seen_from : (Awaited → Bool) → Known → List Awaited → ℕ → ℕ → Known
-seen_from h none rows place n = option_map_or (known.Awaits (place + position_or_len h (take n (drop place rows)))) (find h (take n (drop place rows))) none
-
--- what was found, as it is told, or else what is told where nothing was
-abbrev pub told_of : Option (ℕ × Awaited) → Known → Known
-told_of found none = option_map_or (λ (x : ℕ × Awaited). known.Awaits x.0 x.1) found none
-
--- where to go on, by how many rows there are
-abbrev pub further : ℕ → ℕ → Known
-further rows place = cond (nat_lt (place + most_rows) rows) (known.Further (place + most_rows)) known.AwaitsNothing
+-- what is told of the row at a place, if there is one that holds the end of an action with a status
+abbrev pub look_awaited : History → ℕ → ActionStatus → ℕ → Option Known
+look_awaited J a status place = told_at (held status J) known.Awaits place (slice_get (found_rows J a) place)

@@ -1,7 +1,7 @@
 use Rattle.std.proofs.Common.{◌∙◌, ap, sym}
 use Rattle.lra_commands.specs.declared.query.Query.{Query}
 use Rattle.lra_commands.specs.Queries.{tell}
-use Rattle.lra_judge.proofs.Asking.{tell_status, tell_member, tell_awaited}
+use Rattle.lra_judge.proofs.Asking.{tell_status, tell_member, tell_awaited, tell_row}
 use Rattle.lra_judge.proofs.queries.tell.Goals as goal
 
 pub returns-in-ActionStatus : goal.returns-in-ActionStatus
@@ -12,3 +12,6 @@ returns-in-MemberStatus c = λ J k. c.member_is.ensures J k ∙ sym (tell_member
 
 pub returns-in-Awaited : goal.returns-in-Awaited
 returns-in-Awaited c = λ J k. c.awaited.ensures J k ∙ sym (tell_awaited J c.in-Awaited.action c.in-Awaited.place) ∙ ap (λ (q : Query). tell J q) (sym c.in-Awaited.is)
+
+pub returns-in-Row : goal.returns-in-Row
+returns-in-Row c = λ J k. c.next_row.ensures J k ∙ sym (tell_row J c.in-Row.of c.in-Row.place) ∙ ap (λ (q : Query). tell J q) (sym c.in-Row.is)

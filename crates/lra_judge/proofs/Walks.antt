@@ -1,0 +1,138 @@
+-- What is told along rows, from a place on.
+use Rattle.std.proofs.Common.{◌≡◌, ℕ, zero, suc, ◌+◌, ◌-◌, ◌≤◌, ◌<◌, Bool, true, false, List, [], ◌∷◌, length, take, drop, Option, Some, None, refl, sym, ap, ◌∙◌, cond, min, arith}
+use Rattle.std.proofs.lemmas.List.{drop_all}
+use Rattle.std.proofs.lemmas.Option.{slice_get_past}
+use Rattle.std.specs.Prelude.{not, is_some, unwrap_or, slice_get}
+use Rattle.std.specs.Option.{option_map_or}
+use Rattle.std.specs.List.{find, position_or_len}
+use Rattle.lra_model.specs.declared.status.ActionStatus.{ActionStatus}
+use Rattle.lra_model.specs.declared.version.Version.{Version}
+use Rattle.lra_model.specs.Words.{when}
+use Rattle.lra_model.specs.History.{History}
+use Rattle.lra_model.specs.Rules.{is_legal}
+use Rattle.lra_laws.specs.Sheets.{Sheet, StandsFor}
+use Rattle.lra_commands.specs.declared.query.Awaited.{Awaited}
+use Rattle.lra_commands.specs.declared.query.Listing.{Listing}
+use Rattle.lra_commands.specs.declared.query.Row.{Row}
+use Rattle.lra_commands.specs.declared.query.Known.{Known}
+use Rattle.lra_commands.specs.declared.query.Known.TheVariants as known
+use Rattle.lra_commands.specs.Queries.{most_rows, first_from, holds_end, rows_of, awaited_from, belongs, rows_along, row_from}
+use Rattle.lra_judge.specs.declared.walk.Walk.{Walk}
+use Rattle.lra_judge.specs.declared.walk.Walk.TheVariants as walk
+use Rattle.lra_judge.specs.inner.Awaited.{held, found_rows}
+use Rattle.lra_judge.specs.inner.Listed.{count_listed}
+use Rattle.lra_judge.specs.inner.Told.{told_at}
+use Rattle.lra_judge.specs.inner.Walks.{first_some, count_rows, look, last_of, none_told, IsTold}
+use Rattle.lra_judge.proofs.Awaits.{held_is, rows_are}
+use Rattle.lra_judge.proofs.Listings.{gone, row_is, count_is}
+
+-- ---- place by place
+
+-- something is told of the first place
+told_here : (f : ℕ → Option Known) (none : Known) (at n : ℕ) → is_some (f at) ≡ true → first_some f none at (suc n) ≡ unwrap_or (f at) none
+unfolding first_some
+told_here f none at n h = by (f at) h
+  where
+    by : (o : Option Known) → is_some o ≡ true → unwrap_or o (first_some f none (at + 1) n) ≡ unwrap_or o none
+    by None h = absurd cc
+    by (Some x) h = refl
+
+-- nothing is
+told_later : (f : ℕ → Option Known) (none : Known) (at n : ℕ) → is_some (f at) ≡ false → first_some f none at (suc n) ≡ first_some f none (at + 1) n
+unfolding first_some
+told_later f none at n h = by (f at) h
+  where
+    by : (o : Option Known) → is_some o ≡ false → unwrap_or o (first_some f none (at + 1) n) ≡ first_some f none (at + 1) n
+    by None h = refl
+    by (Some x) h = absurd cc
+
+-- nothing is told from there on
+none_past : (f : ℕ → Option Known) (none : Known) (at n : ℕ) → ((k : ℕ) → at ≤ k → f k ≡ None) → first_some f none at n ≡ none
+unfolding first_some
+none_past f none at zero h = refl
+none_past f none at (suc n) h = ap (λ (o : Option Known). unwrap_or o (first_some f none (at + 1) n)) (h at (omega arith)) ∙ none_past f none (at + 1) n (λ k g. h k (omega (arith, g)))
+
+-- ---- along a list
+
+drop_there : {X : Type 0} (xs : List X) (i : ℕ) (x : X) → slice_get xs i ≡ Some x → drop i xs ≡ x ∷ drop (i + 1) xs
+drop_there [] i x h = absurd cc
+drop_there (y ∷ ys) zero x h = let e : y ≡ x = cc in ap (λ z. z ∷ ys) e
+drop_there (y ∷ ys) (suc i) x h = let e : suc (i + 1) ≡ suc i + 1 = omega arith in drop_there ys i x h ∙ ap (λ k. x ∷ drop k (y ∷ ys)) e
+
+-- what is told of a list of rows, the first of which is at a place
+abbrev seen : {X : Type 0} → (X → Bool) → (ℕ → X → Known) → Known → ℕ → List X → Known
+seen test told none at xs = option_map_or (told (at + position_or_len test xs)) (find test xs) none
+
+-- what is told place by place is what is told of the list
+told_along : {X : Type 0} (test : X → Bool) (told : ℕ → X → Known) (none : Known) (xs : List X) (n at : ℕ) → first_some (λ k. told_at test told k (slice_get xs k)) none at n ≡ seen test told none at (take n (drop at xs))
+unfolding first_some
+told_along test told none xs zero at = refl
+told_along {X = X} test told none xs (suc n) at = one (slice_get xs at) refl (told_along test told none xs n (at + 1))
+  where
+    rest : List X
+    rest = take n (drop (at + 1) xs)
+
+    later : Known
+    later = first_some (λ k. told_at test told k (slice_get xs k)) none (at + 1) n
+
+    two : (b : Bool) (x : X) → later ≡ seen test told none (at + 1) rest
+        → unwrap_or (when b (told at x)) later ≡ option_map_or (told (at + cond (not b) (1 + position_or_len test rest) 0)) (cond b (Some x) (find test rest)) none
+    two true x h = let e : at ≡ at + 0 = omega arith in ap (λ m. told m x) e
+    two false x h = let e : (at + 1) + position_or_len test rest ≡ at + (1 + position_or_len test rest) = omega arith in h ∙ ap (λ m. option_map_or (told m) (find test rest) none) e
+
+    one : (o : Option X) → slice_get xs at ≡ o → later ≡ seen test told none (at + 1) rest → unwrap_or (told_at test told at (slice_get xs at)) later ≡ seen test told none at (take (suc n) (drop at xs))
+    one None g h =
+        none_past (λ k. told_at test told k (slice_get xs k)) none at (suc n) (λ k l. ap (told_at test told k) (slice_get_past xs k (let m = gone xs at g in omega (arith, l, m))))
+        ∙ sym (ap (λ ys. seen test told none at (take (suc n) ys)) (drop_all at xs (gone xs at g)))
+    one (Some x) g h = ap (λ o. unwrap_or (told_at test told at o) later) g ∙ two (test x) x h ∙ sym (ap (λ ys. seen test told none at (take (suc n) ys)) (drop_there xs at x g))
+
+-- ---- along a walk
+
+past_rows : (v : Version) (t : List ℕ → Bool) (J : History) → is_legal v t J ≡ true → (w : Walk) (k : ℕ) → count_rows J w ≤ k → look J w k ≡ None
+past_rows v t J l (walk.Awaited a status) k h = ap (told_at (held status J) known.Awaits k) (slice_get_past (found_rows J a) k h)
+past_rows v t J l (walk.Listed x) k h =
+    ap (told_at (belongs x) known.Row k) (row_is v t J l x k ∙ slice_get_past (rows_along J x) k (let e = count_is J x in omega (arith, h, e)))
+
+-- all rows were looked at
+pub none_left : (s : Sheet) (J : History) → StandsFor s J → (w : Walk) (none : Known) (place n : ℕ) → min (place + most_rows) (count_rows J w) ≤ place + n → first_some (look J w) none (place + n) (most_rows - n) ≡ none
+unfolding first_some
+none_left s J k w none place n e = by (most_rows - n) refl
+  where
+    by : (m : ℕ) → most_rows - n ≡ m → first_some (look J w) none (place + n) m ≡ none
+    by zero g = refl
+    by (suc m) g = none_past (look J w) none (place + n) (suc m) (λ i h. past_rows k.version k.is_address J k.legal w i (omega (arith, e, g, h)))
+
+-- something is told of the next row, or nothing
+pub told_next : (J : History) (w : Walk) (none : Known) (place n : ℕ) (told : Option Known) → n < most_rows → told ≡ look J w (place + n) → is_some told ≡ true
+    → first_some (look J w) none (place + n) (most_rows - n) ≡ unwrap_or told none
+told_next J w none place n told lt g h =
+    let e : most_rows - n ≡ suc (most_rows - (n + 1)) = omega (arith, lt) in
+    ap (first_some (look J w) none (place + n)) e ∙ told_here (look J w) none (place + n) (most_rows - (n + 1)) (ap is_some (sym g) ∙ h) ∙ ap (λ o. unwrap_or o none) (sym g)
+
+pub passed_over : (J : History) (w : Walk) (none : Known) (place n : ℕ) (told : Option Known) → n < most_rows → told ≡ look J w (place + n) → is_some told ≡ false
+    → first_some (look J w) none (place + n) (most_rows - n) ≡ first_some (look J w) none (place + (n + 1)) (most_rows - (n + 1))
+passed_over J w none place n told lt g h =
+    let e : most_rows - n ≡ suc (most_rows - (n + 1)) = omega (arith, lt) in
+    let f : (place + n) + 1 ≡ place + (n + 1) = omega arith in
+    ap (first_some (look J w) none (place + n)) e ∙ told_later (look J w) none (place + n) (most_rows - (n + 1)) (ap is_some (sym g) ∙ h) ∙ ap (λ m. first_some (look J w) none m (most_rows - (n + 1))) f
+
+-- ---- what is told of the history
+
+awaited_found : (v : Version) (t : List ℕ → Bool) (J : History) → is_legal v t J ≡ true → (a place : ℕ) (status : ActionStatus)
+    → first_some (look J (walk.Awaited a status)) (none_told known.AwaitsNothing (length (found_rows J a)) place) place most_rows
+    ≡ first_some (λ k. told_at (holds_end status J) known.Awaits k (slice_get (rows_of J a) k)) (none_told known.AwaitsNothing (length (rows_of J a)) place) place most_rows
+awaited_found v t J l a place status = λ i.
+    first_some (λ k. told_at (λ (row : Awaited). held_is v t J l status row i) known.Awaits k (slice_get (rows_are v t J l a i) k)) (none_told known.AwaitsNothing (length (rows_are v t J l a i)) place) place most_rows
+
+row_found : (v : Version) (t : List ℕ → Bool) (J : History) → is_legal v t J ≡ true → (x : Listing) (place : ℕ)
+    → first_some (look J (walk.Listed x)) (none_told known.NoMore (count_listed J x) place) place most_rows
+    ≡ first_some (λ k. told_at (belongs x) known.Row k (slice_get (rows_along J x) k)) (none_told known.NoMore (length (rows_along J x)) place) place most_rows
+row_found v t J l x place = λ i. first_some (λ k. told_at (belongs x) known.Row k (row_is v t J l x k i)) (none_told known.NoMore (count_is J x i) place) place most_rows
+
+pub walk_told : (s : Sheet) (J : History) → StandsFor s J → (w : Walk) (place : ℕ) (k : Known) → k ≡ first_some (look J w) (none_told (last_of w) (count_rows J w) place) place most_rows → IsTold J w place k
+unfolding awaited_from row_from
+walk_told s J h (walk.Awaited a status) place k e = λ g.
+    e ∙ awaited_found h.version h.is_address J h.legal a place status ∙ told_along (holds_end status J) known.Awaits (none_told known.AwaitsNothing (length (rows_of J a)) place) (rows_of J a) most_rows place
+    ∙ ap (λ (x : ActionStatus). first_from (holds_end x J) known.Awaits known.AwaitsNothing (rows_of J a) place) g
+walk_told s J h (walk.Listed x) place k e =
+    e ∙ row_found h.version h.is_address J h.legal x place ∙ told_along (belongs x) known.Row (none_told known.NoMore (length (rows_along J x)) place) (rows_along J x) most_rows place

@@ -1,0 +1,11 @@
+use Rattle.std.proofs.Common.{◌≡◌, ◌+◌, ◌-◌}
+use Rattle.lra_model.specs.History.{History}
+use Rattle.lra_laws.specs.Sheets.{StandsFor}
+use Rattle.lra_commands.specs.declared.query.Known.{Known}
+use Rattle.lra_commands.specs.Queries.{most_rows}
+use Rattle.lra_judge.specs.inner.Walks.{first_some, look}
+use Rattle.lra_judge.proofs.walk.first_told.Given as goal
+
+abbrev pub invariant-loop-n : goal.invariant-loop-n
+invariant-loop-n l =
+    (J : History) (none : Known) → StandsFor l.tables.sheet J → first_some (look J l.walk) none l.place most_rows ≡ first_some (look J l.walk) none (l.place + l.n) (most_rows - l.n)

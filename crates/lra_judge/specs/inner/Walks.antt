@@ -1,0 +1,40 @@
+-- Rows from a place on, and what is told of them.
+use Rattle.std.specs.Prelude.{◌≡◌, ℕ, zero, suc, ◌+◌, nat_lt, length, Option, unwrap_or, cond}
+use Rattle.lra_model.specs.History.{History}
+use Rattle.lra_commands.specs.declared.query.Known.{Known}
+use Rattle.lra_commands.specs.declared.query.Known.TheVariants as known
+use Rattle.lra_commands.specs.Refusals.{status_at}
+use Rattle.lra_commands.specs.Queries.{most_rows, awaited_from, row_from}
+use Rattle.lra_judge.specs.declared.walk.Walk.{Walk}
+use Rattle.lra_judge.specs.declared.walk.Walk.TheVariants as walk
+use Rattle.lra_judge.specs.inner.Awaited.{found_rows, look_awaited}
+use Rattle.lra_judge.specs.inner.Listed.{count_listed, look_listed}
+
+-- what is told first from a place on, of so many places, or else what is told where nothing is
+unfoldable pub first_some : (ℕ → Option Known) → Known → ℕ → ℕ → Known
+first_some look none at zero = none
+first_some look none at (suc n) = unwrap_or (look at) (first_some look none (at + 1) n)
+
+-- how many rows there are
+abbrev pub count_rows : History → Walk → ℕ
+count_rows J (walk.Awaited a status) = length (found_rows J a)
+count_rows J (walk.Listed l) = count_listed J l
+
+-- what is told of the row at a place, if there is one that is told
+abbrev pub look : History → Walk → ℕ → Option Known
+look J (walk.Awaited a status) place = look_awaited J a status place
+look J (walk.Listed l) place = look_listed J l place
+
+-- what is told where no row from any place on is
+abbrev pub last_of : Walk → Known
+last_of (walk.Awaited a status) = known.AwaitsNothing
+last_of (walk.Listed l) = known.NoMore
+
+-- what is told where none of the rows looked at is, of so many
+abbrev pub none_told : Known → ℕ → ℕ → Known
+none_told last rows place = cond (nat_lt (place + most_rows) rows) (known.Further (place + most_rows)) last
+
+-- what is told from a place on is what the query is told, along the rows of an action by its status
+abbrev pub IsTold : History → Walk → ℕ → Known → Type 0
+IsTold J (walk.Awaited a status) place k = status ≡ status_at J a → k ≡ awaited_from J a place
+IsTold J (walk.Listed l) place k = k ≡ row_from J l place

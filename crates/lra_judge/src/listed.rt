@@ -1,0 +1,91 @@
+//! The rows of listings.
+
+ghost use Rattle.std.specs.Prelude.{◌≡◌, ◌<◌, ◌-◌, ◌^◌};
+ghost use Rattle.lra_model.specs.History.{History};
+ghost use Rattle.lra_laws.specs.Sheets.{StandsFor};
+ghost use Rattle.lra_commands.specs.Queries as queries;
+ghost use Rattle.lra_judge.specs.inner.Listed as listed;
+
+use lra_commands::{Known, Listing, Row};
+use lra_tables::Tables;
+
+/// The row of a member, if it is there.
+fn member_row(tables: &Tables, member: u64) -> Option<Row>
+    ensures { (J : History) → StandsFor tables.now.sheet J → result ≡ listed.member_found J member }
+{
+    let found = tables.member(member)?;
+    Some(Row::Member {
+        member,
+        status: found.status,
+        ask: found.outstanding,
+    })
+}
+
+/// The row of an action, if it is there.
+fn action_row(tables: &Tables, action: u64) -> Option<Row>
+    ensures { (J : History) → StandsFor tables.now.sheet J → result ≡ listed.action_found J action }
+{
+    let found = tables.action(action)?;
+    Some(Row::Action {
+        action,
+        status: found.status,
+        parent: found.parent,
+    })
+}
+
+/// How many rows a listing goes along.
+pub(crate) fn count_listed(tables: &Tables, listing: Listing) -> u64
+    ensures { (J : History) → StandsFor tables.now.sheet J → result ≡ listed.count_listed J listing }
+{
+    match listing {
+        Listing::Members { action } => tables.members(action).len() as u64,
+        Listing::Nested { action } => tables.children(action).len() as u64,
+        Listing::Actions { .. } => tables.count_actions(),
+    }
+}
+
+/// The row at a place: of all actions, that of the number after it.
+fn row_at(tables: &Tables, listing: Listing, place: u64) -> Option<Row>
+    requires { place < 2 ^ 64 - 1 }
+    ensures { (J : History) → StandsFor tables.now.sheet J → result ≡ listed.row_at J listing place }
+{
+    match listing {
+        Listing::Members { action } => {
+            let member = tables.members(action).get(place as usize)?;
+            member_row(tables, *member)
+        }
+        Listing::Nested { action } => {
+            let nested = tables.children(action).get(place as usize)?;
+            action_row(tables, *nested)
+        }
+        Listing::Actions { .. } => action_row(tables, place + 1),
+    }
+}
+
+/// Whether a row belongs to a listing that goes along it.
+fn belongs(listing: Listing, row: Row) -> bool
+    ensures { result ≡ queries.belongs listing row }
+{
+    match (listing, row) {
+        (
+            Listing::Actions {
+                status: Some(status),
+            },
+            Row::Action { status: now, .. },
+        ) => status.is_same(now),
+        _ => true,
+    }
+}
+
+/// What is told of the row at a place, if there is one that belongs to the listing.
+pub(crate) fn look_listed(tables: &Tables, listing: Listing, place: u64) -> Option<Known>
+    requires { place < 2 ^ 64 - 1 }
+    ensures { (J : History) → StandsFor tables.now.sheet J → result ≡ listed.look_listed J listing place }
+{
+    let row = row_at(tables, listing, place)?;
+    if belongs(listing, row) {
+        Some(Known::Row { place, row })
+    } else {
+        None
+    }
+}

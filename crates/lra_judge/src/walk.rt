@@ -1,0 +1,102 @@
+//! What a query goes along, row by row, and the first of the rows that it tells.
+
+ghost use Rattle.std.specs.Prelude.{◌≡◌, ◌≤◌, ◌<◌, ◌+◌, ◌-◌, ◌^◌, min, max, unwrap_or};
+ghost use Rattle.lra_model.specs.History.{History};
+ghost use Rattle.lra_laws.specs.Sheets.{StandsFor};
+ghost use Rattle.lra_commands.specs.declared.query.Known.{Known as Told};
+ghost use Rattle.lra_commands.specs.Queries.{most_rows};
+ghost use Rattle.lra_judge.specs.inner.Walks as walks;
+
+use crate::awaited::{count_awaited, look_awaited};
+use crate::listed::{count_listed, look_listed};
+use lra_commands::{Known, Listing};
+use lra_model::ActionStatus;
+use lra_tables::Tables;
+
+/// How many rows one query looks at.
+const MOST_ROWS: u64 = 256;
+
+/// What a query goes along.
+#[derive(Clone, Copy)]
+pub(crate) enum Walk {
+    /// The rows of an action with this status, for what holds its end.
+    Awaited { action: u64, status: ActionStatus },
+    /// The rows of a listing.
+    Listed { listing: Listing },
+}
+
+/// How many rows there are.
+fn count_rows(tables: &Tables, walk: Walk) -> u64
+    ensures { (J : History) → StandsFor tables.now.sheet J → result ≡ walks.count_rows J walk }
+{
+    match walk {
+        Walk::Awaited { action, .. } => count_awaited(tables, action),
+        Walk::Listed { listing } => count_listed(tables, listing),
+    }
+}
+
+/// What is told of the row at a place, if there is one that is told.
+fn look(tables: &Tables, walk: Walk, place: u64) -> Option<Known>
+    requires { place < 2 ^ 64 - 1 }
+    ensures { (J : History) → StandsFor tables.now.sheet J → result ≡ walks.look J walk place }
+{
+    match walk {
+        Walk::Awaited { action, status } => look_awaited(tables, action, status, place),
+        Walk::Listed { listing } => look_listed(tables, listing, place),
+    }
+}
+
+/// How many rows are looked at from a place on, of so many.
+fn count_looked(rows: u64, place: u64) -> u64
+    ensures most { result ≤ most_rows }
+    ensures within { place + result ≤ max place rows }
+    ensures all { min (place + most_rows) rows ≤ place + result }
+{
+    if place < rows {
+        MOST_ROWS.min(rows - place)
+    } else {
+        0
+    }
+}
+
+/// What is told of the first of the rows looked at that is told.
+fn first_told(tables: &Tables, walk: Walk, place: u64) -> Option<Known>
+    ensures { (J : History) (none : Told) → StandsFor tables.now.sheet J → unwrap_or result none ≡ walks.first_some (walks.look J walk) none place most_rows }
+{
+    let rows = count_rows(tables, walk);
+    for n in 0..count_looked(rows, place) {
+        let told = look(tables, walk, place + n);
+        if told.is_some() {
+            return told;
+        }
+    }
+    None
+}
+
+/// What is told where no row from any place on is.
+fn last_of(walk: Walk) -> Known
+    ensures { result ≡ walks.last_of walk }
+{
+    match walk {
+        Walk::Awaited { .. } => Known::AwaitsNothing,
+        Walk::Listed { .. } => Known::NoMore,
+    }
+}
+
+/// What is told where none of the rows looked at is, of so many.
+fn none_told(last: Known, rows: u64, place: u64) -> Known
+    ensures { result ≡ walks.none_told last rows place }
+{
+    match place.checked_add(MOST_ROWS) {
+        Some(next) if next < rows => Known::Further(next),
+        _ => last,
+    }
+}
+
+/// What is told from a place on.
+pub(crate) fn tell_from(tables: &Tables, walk: Walk, place: u64) -> Known
+    ensures { (J : History) → StandsFor tables.now.sheet J → walks.IsTold J walk place result }
+{
+    let none = none_told(last_of(walk), count_rows(tables, walk), place);
+    first_told(tables, walk, place).unwrap_or(none)
+}
