@@ -1,6 +1,7 @@
 -- Chunk lines, contents and trailers, from the bytes that were kept to the stream.
-use Rattle.std.proofs.Common.{◌≡◌, ◌≢◌, get_or, ℕ, ◌+◌, ◌<◌, ◌≤◌, List, ◌∷◌, ◌++◌, length, take, drop, refl, sym, ap, subst, ◌∙◌, arith, append_assoc, Option, Ok, Err, inl, inr}
+use Rattle.std.proofs.Common.{◌≡◌, ◌≢◌, get_or, ℕ, ◌+◌, ◌<◌, ◌≤◌, ◌&&◌, ◌==◌, true, false, Bool, List, ◌∷◌, ◌++◌, length, take, drop, refl, sym, ap, subst, ◌∙◌, arith, append_assoc, Option, Ok, Err, inl, inr}
 use Rattle.std.specs.Prelude.{IfSome, ◌⊎◌}
+use Rattle.std.proofs.lemmas.Bool.Decides.{nat_tests}
 use Rattle.std.proofs.lemmas.List.{length-append, length-drop, length-take, drop-drop, drop_more, take-append-drop}
 use Rattle.httparse.specs.Ascii.{crlf_bytes}
 use Rattle.httparse.specs.Grammar.{ReadsChunkLine, HasNoChunkLine, NeverHasChunkLine, ReadsSection, HasNoSection}
@@ -13,7 +14,7 @@ use Rattle.lra_wire.specs.declared.inbox.Inbox.{Inbox}
 use Rattle.lra_wire.specs.Chunks.{HasTrailer, PassesLimit, RefusesLine, RefusesTrailer, RefusesContent}
 use Rattle.lra_wire.specs.Inbox.{kept_bytes, stream_of, IsOutside}
 use Rattle.lra_wire.specs.inner.Growth.{Grows}
-use Rattle.lra_wire.specs.inner.Steps.{IsTrailerOf, IsLineOf, ReadsTrailerAt, ReadsLineAt}
+use Rattle.lra_wire.specs.inner.Steps.{has_line_end, IsTrailerOf, IsLineOf, ReadsTrailerAt, ReadsLineAt}
 use Rattle.lra_wire.proofs.StreamLemmas.{on_stream, on_stream_end, grown, drop_more_bytes}
 
 -- ---- whatever follows
@@ -138,6 +139,25 @@ two_at bytes n h =
 -- a CRLF stands there
 pub line_end_there : (bytes : List ℕ) (n : ℕ) → n + 2 ≤ length bytes → get_or bytes n 0 ≡ 13 → get_or bytes (n + 1) 0 ≡ 10 → drop n bytes ≡ crlf_bytes ++ drop (n + 2) bytes
 line_end_there bytes n h cr lf = two_at bytes n h ∙ ap (λ b. b ∷ get_or bytes (n + 1) 0 ∷ drop (n + 2) bytes) cr ∙ ap (λ b. 13 ∷ b ∷ drop (n + 2) bytes) lf
+
+both_are : (a b : ℕ) → ((a == 13) && (b == 10)) ≡ true → (a ≡ 13) × (b ≡ 10)
+both_are a b e = (grind (arith, nat_tests), grind (arith, nat_tests))
+
+one_differs : (a b : ℕ) → ((a == 13) && (b == 10)) ≡ false → (a ≢ 13) ⊎ (b ≢ 10)
+one_differs a b e = by (a == 13) refl
+  where
+    by : (t : Bool) → (a == 13) ≡ t → (a ≢ 13) ⊎ (b ≢ 10)
+    by true f = inr (λ g. grind (arith, nat_tests))
+    by false f = inl (λ g. grind (arith, nat_tests))
+
+-- what the test of a line's end says
+pub found_line_end : (bytes kept : List ℕ) (n : ℕ) (found : Bool) → bytes ≡ kept → found ≡ has_line_end bytes n → found ≡ true → n + 2 ≤ length kept → drop n kept ≡ crlf_bytes ++ drop (n + 2) kept
+found_line_end bytes kept n found same is yes_it_is h =
+    let both = both_are (get_or kept n 0) (get_or kept (n + 1) 0) (sym (is ∙ ap (λ bs. has_line_end bs n) same) ∙ yes_it_is) in
+    line_end_there kept n h both.0 both.1
+
+pub missed_line_end : (bytes kept : List ℕ) (n : ℕ) (found : Bool) → bytes ≡ kept → found ≡ has_line_end bytes n → found ≡ false → (get_or kept n 0 ≢ 13) ⊎ (get_or kept (n + 1) 0 ≢ 10)
+missed_line_end bytes kept n found same is none = one_differs (get_or kept n 0) (get_or kept (n + 1) 0) (sym (is ∙ ap (λ bs. has_line_end bs n) same) ∙ none)
 
 -- none does, whatever follows
 pub no_line_end : {R : Type 0} (remaining : R → Option (List ℕ)) (start room size : ℕ) (old new : Inbox R) → start ≤ length (kept_bytes old)

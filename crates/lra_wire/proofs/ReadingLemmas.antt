@@ -15,14 +15,14 @@ use Rattle.lra_wire.specs.declared.fields.Stated.TheVariants.{Nothing, Length, M
 use Rattle.lra_wire.specs.declared.inbox.Inbox.{Inbox}
 use Rattle.lra_wire.specs.declared.request.RequestRead.{RequestRead}
 use Rattle.lra_wire.specs.Fields.{is_coded, stated_of, stated_body, body_length_of, lists_close}
-use Rattle.lra_wire.specs.inner.Heads.{IsHeadAt}
+use Rattle.lra_wire.specs.inner.Heads.{IsHeadAt, ReadsHead}
 use Rattle.lra_wire.specs.Inbox.{kept_bytes, stream_of, IsOutside, AsksAt}
 use Rattle.lra_wire.specs.inner.Growth.{Grows, FillsTo, LacksBytes}
 use Rattle.lra_wire.specs.inner.Reading.{request_at}
-use Rattle.lra_wire.specs.Request.{IsRequest, Request, request_of, fields_of, RefusesBody, RefusesRequest, EndsInBody, GivesRequest, AwaitsRequest}
+use Rattle.lra_wire.specs.Request.{HasHead, NeverLawful, IsRequest, Request, request_of, fields_of, RefusesBody, RefusesRequest, EndsInBody, GivesRequest, AwaitsRequest}
 use Rattle.lra_wire.specs.Streams.{IfBothKnown}
 use Rattle.lra_wire.proofs.InboxLemmas.{Grows_trans, asks_on}
-use Rattle.lra_wire.proofs.StreamLemmas.{on_stream}
+use Rattle.lra_wire.proofs.StreamLemmas.{on_stream, on_stream_end, known}
 
 ok_is_no_err : {n : ℕ} {fault : WireFault} → ¬ (◌≡◌ {A = Result ℕ WireFault} (Ok n) (Err fault))
 ok_is_no_err e = cc
@@ -196,3 +196,27 @@ found_request {R} remaining old mid full new headers spans size read grows at st
     both_known (stream_of remaining old) (kept_bytes full) (remaining full.reader) end P (Grows_trans grows filled.0).stream there in
     subst (λ (s : Option (List ℕ)). IfBothKnown (stream_of remaining old) s P)
     (ap (λ bs. prepend_known bs (remaining full.reader)) (sym kept) ∙ ap (λ r. prepend_known (kept_bytes new) (remaining r)) (sym reader)) known
+
+-- no head, whatever follows
+never_more : (bytes rest : List ℕ) → NeverLawful bytes → NeverLawful (bytes ++ rest)
+never_more bytes rest never = λ more head tail found. never (rest ++ more) head tail (subst (λ (bs : List ℕ). HasHead bs head tail) (append_assoc bytes rest more) found)
+
+-- why there is no head
+pub head_refused : {R : Type 0} (remaining : R → Option (List ℕ)) (old new : Inbox R) (headers : List HeaderSpan) (fault : WireFault)
+    → ReadsHead remaining old new headers (Err fault) → IfSome (stream_of remaining old) (λ bytes. RefusesRequest bytes fault)
+head_refused remaining old new headers fault (inl outside) = known (stream_of remaining old) (λ bytes. RefusesRequest bytes fault) (λ bytes. outside_refuses fault bytes outside)
+head_refused remaining old new headers fault (inr (grows, inl (bad, never))) =
+    on_stream grows (λ bytes. RefusesRequest bytes fault) (λ rest. subst (RefusesRequest (kept_bytes new ++ rest)) (sym bad) (never_more (kept_bytes new) rest never))
+head_refused remaining old new headers fault (inr (grows, inr (cut, end, ends))) =
+    on_stream_end grows (λ bytes. RefusesRequest bytes fault) end (subst (RefusesRequest (kept_bytes new)) (sym cut) (inl ends))
+
+-- the stream is at its end, and nothing was kept
+pub none_left : {R : Type 0} (remaining : R → Option (List ℕ)) (old new : Inbox R) (headers : List HeaderSpan)
+    → ReadsHead remaining old new headers (Ok None) → IfBothKnown (stream_of remaining old) (stream_of remaining new) (GivesRequest None)
+none_left remaining old new headers read = go (stream_of remaining old) (kept_bytes new) (remaining new.reader) read.0.stream read.1 read.2
+  where
+    go : (before : Option (List ℕ)) (kept : List ℕ) (left : Option (List ℕ)) → Keeps before (prepend_known kept left) → IsAtEnd left → kept ≡ []
+        → IfBothKnown before (prepend_known kept left) (GivesRequest None)
+    go None kept left keeps end nil = tt
+    go (Some xs) kept None keeps end nil = absurd keeps
+    go (Some xs) kept (Some ys) keeps end nil = let none : kept ++ ys ≡ [] = ap (λ bs. bs ++ ys) nil ∙ end in (sym keeps ∙ none, none)

@@ -4,7 +4,7 @@ ghost use Rattle.httparse.specs.Grammar.{HasNoChunkLine, HasNoSection};
 ghost use Rattle.lra_wire.specs.Chunks.{AwaitsChunk, AwaitsChunks};
 ghost use Rattle.lra_wire.specs.Inbox.{kept_bytes, stream_of, AsksAt};
 ghost use Rattle.lra_wire.specs.inner.Growth.{LacksBytes};
-ghost use Rattle.lra_wire.specs.inner.Steps.{FindsLine, FindsNewLine, ReadsLineAt, FindsTrailer, FindsNewTrailer, ReadsTrailerAt, ReadsLast, ReadsContent, ReadsPiece, FindsBody, LacksBody, AsksBehind};
+ghost use Rattle.lra_wire.specs.inner.Steps.{FindsLine, FindsNewLine, ReadsLineAt, FindsTrailer, FindsNewTrailer, ReadsTrailerAt, ReadsLast, ReadsContent, ReadsPiece, FindsBody, LacksBody, AsksBehind, has_line_end};
 
 use crate::fault::WireFault;
 use crate::framing::Framing;
@@ -93,11 +93,18 @@ fn next_content<R: Read + Drop>(
         return Err(WireFault::TooLarge);
     }
     inbox.fill_to(to + 2)?;
-    let bytes = inbox.bytes();
-    if bytes[to] != b'\r' || bytes[to + 1] != b'\n' {
+    if !has_line_end(inbox.bytes(), to) {
         return Err(WireFault::BadLength);
     }
     Ok(to)
+}
+
+/// Whether a line ends there in CRLF.
+fn has_line_end(bytes: &[u8], at: usize) -> bool
+    requires { at + 2 ≤ length bytes.now }
+    ensures { result ≡ has_line_end bytes.now at }
+{
+    bytes[at] == b'\r' && bytes[at + 1] == b'\n'
 }
 
 /// Reads the trailer that begins at `start`, and answers where it ends.

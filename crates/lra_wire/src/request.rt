@@ -4,9 +4,10 @@ ghost use Rattle.httparse.specs.Spans.{IsHeaderWithin, header_bytes};
 ghost use Rattle.lra_wire.specs.declared.fault.WireFault.{WireFault};
 ghost use Rattle.lra_wire.specs.Fields.{body_length_of};
 ghost use Rattle.lra_wire.specs.inner.Heads.{has_host, IsHeadAt, FindsHead, FindsNewHead, EndsHead, ReadsHead};
-ghost use Rattle.lra_wire.specs.Inbox.{stream_of, is_spent, AsksAt};
+ghost use Rattle.lra_wire.specs.Inbox.{kept_bytes, stream_of, is_spent, AsksAt};
+ghost use Rattle.lra_wire.specs.inner.Growth.{LacksBytes};
 ghost use Rattle.lra_wire.specs.Request.{Request, IsRequest, GivesRequest, RefusesRequest, IsOpenRequest, AwaitsRequest, request_of};
-ghost use Rattle.lra_wire.specs.inner.Reading.{NextRequest, request_at};
+ghost use Rattle.lra_wire.specs.inner.Reading.{NextRequest, TakesBody, request_at};
 ghost use Rattle.lra_wire.specs.Requests.{Requests, EndsAlike};
 ghost use Rattle.lra_wire.specs.Streams.{IfBothKnown};
 
@@ -90,11 +91,25 @@ fn next_request<R: Read + Drop>(
     };
     let size = body_length(inbox.bytes(), &headers[..head.headers])?;
     let mut request = request_at(alloc, inbox.bytes(), &headers, &head)?;
-    let end = head.len + size;
-    inbox.fill_to(end)?;
-    request.body = Vec::from_slice(alloc, &inbox.bytes()[head.len..end])?;
-    inbox.take(end);
+    request.body = take_body(alloc, inbox, head.len, head.len + size)?;
     Ok(Some(request))
+}
+
+/// Reads the body of the request that ends there, and leaves what came behind it.
+fn take_body<R: Read + Drop>(
+    alloc: Global,
+    inbox: &mut Inbox<R>,
+    start: usize,
+    end: usize,
+) -> Result<Vec<u8>, WireFault>
+    requires { start ≤ end }
+    ensures body { TakesBody R.remaining start end inbox.old inbox.new result }
+    ensures asks { AsksAt (LacksBytes end (kept_bytes inbox.old)) inbox.old inbox.new }
+{
+    inbox.fill_to(end)?;
+    let body = Vec::from_slice(alloc, &inbox.bytes()[start..end])?;
+    inbox.take(end);
+    Ok(body)
 }
 
 /// Reads until there is a whole head, and writes where its fields are. What came is parsed anew with

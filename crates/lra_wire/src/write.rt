@@ -1,7 +1,8 @@
 //! Requests and responses, written.
-ghost use Rattle.std.specs.Prelude.{◌≡◌, ◌≢◌, ◌++◌, IfOk, OnOk, Err};
+ghost use Rattle.std.specs.Prelude.{◌≡◌, ◌≢◌, [], ◌++◌, codes, IfOk, OnOk, Err};
 ghost use Rattle.std.specs.List.{flat_map};
 ghost use Rattle.std.specs.Io.KnownBytes.{Keeps};
+ghost use Rattle.httparse.specs.Ascii.{crlf_bytes};
 ghost use Rattle.lra_wire.specs.Writing.{field_line, message_text, request_text, reply_text, Sends};
 
 use crate::fault::WireFault;
@@ -49,12 +50,23 @@ pub fn write_request<W: Write>(
 fn request_text(alloc: Global, request: &RequestWrite<'_>) -> Result<Vec<u8>, AllocError>
     ensures { IfOk result (λ text. text.items ≡ request_text request.now) }
 {
-    let mut text = Vec::from_slice(alloc, request.method.as_bytes())?;
-    text.push(b' ')?;
-    text.extend_from_slice(request.target.as_bytes())?;
-    text.extend_from_slice(b" HTTP/1.1")?;
-    push_rest(&mut text, request.fields, request.body)?;
-    Ok(text)
+    let mut text = Vec::new(alloc);
+    match lay_request(&mut text, request) {
+        Ok(()) => Ok(text),
+        Err(fault) => Err(fault),
+    }
+}
+
+/// Makes a request's text in the empty page.
+fn lay_request(page: &mut Vec<u8>, request: &RequestWrite<'_>) -> Result<(), AllocError>
+    requires { page.old.items ≡ [] }
+    ensures { OnOk result (page.new.items ≡ request_text request.now) }
+{
+    push_text(page, request.method.as_bytes())?;
+    push_text(page, b" ")?;
+    push_text(page, request.target.as_bytes())?;
+    push_text(page, b" HTTP/1.1")?;
+    push_rest(page, request.fields, request.body)
 }
 
 /// Writes a response of HTTP/1.1 (RFC 9112, section 4).
@@ -83,22 +95,23 @@ pub fn write_response_in<W: Write>(
     // No memory, and nothing went out.
     ensures memory { result ≡ Err WireFault.Memory → Keeps (W.contents writer.old) (W.contents writer.new) }
 {
+    page.clear();
     match lay_reply(page, reply) {
         Ok(()) => send(writer, page.as_slice()),
         Err(_) => Err(WireFault::Memory),
     }
 }
 
-/// Makes a response's text in the page.
+/// Makes a response's text in the empty page.
 fn lay_reply(page: &mut Vec<u8>, reply: &ReplyWrite<'_>) -> Result<(), AllocError>
+    requires { page.old.items ≡ [] }
     ensures { OnOk result (page.new.items ≡ reply_text reply.now) }
 {
     let mut buffer = Buffer::new();
-    page.clear();
-    page.extend_from_slice(b"HTTP/1.1 ")?;
-    page.extend_from_slice(buffer.format(reply.code).as_bytes())?;
-    page.push(b' ')?;
-    page.extend_from_slice(reply.phrase.as_bytes())?;
+    push_text(page, b"HTTP/1.1 ")?;
+    push_text(page, buffer.format(reply.code).as_bytes())?;
+    push_text(page, b" ")?;
+    push_text(page, reply.phrase.as_bytes())?;
     push_rest(page, reply.fields, reply.body)
 }
 
@@ -106,22 +119,34 @@ fn lay_reply(page: &mut Vec<u8>, reply: &ReplyWrite<'_>) -> Result<(), AllocErro
 fn push_rest(text: &mut Vec<u8>, fields: &[(&str, &str)], body: &[u8]) -> Result<(), AllocError>
     ensures { OnOk result (text.new.items ≡ message_text text.old.items fields.now body.now) }
 {
-    text.extend_from_slice(b"\r\n")?;
+    push_text(text, b"\r\n")?;
     push_fields(text, fields)?;
-    text.extend_from_slice(b"\r\n")?;
-    text.extend_from_slice(body)
+    push_text(text, b"\r\n")?;
+    push_text(text, body)
 }
 
 fn push_fields(text: &mut Vec<u8>, fields: &[(&str, &str)]) -> Result<(), AllocError>
     ensures { OnOk result (text.new.items ≡ text.old.items ++ flat_map field_line fields.now) }
 {
     for (name, value) in fields {
-        text.extend_from_slice(name.as_bytes())?;
-        text.extend_from_slice(b": ")?;
-        text.extend_from_slice(value.as_bytes())?;
-        text.extend_from_slice(b"\r\n")?;
+        push_field(text, name, value)?;
     }
     Ok(())
+}
+
+fn push_field(text: &mut Vec<u8>, name: &str, value: &str) -> Result<(), AllocError>
+    ensures { OnOk result (text.new.items ≡ text.old.items ++ (name.now ++ codes ": " ++ value.now ++ crlf_bytes)) }
+{
+    push_text(text, name.as_bytes())?;
+    push_text(text, b": ")?;
+    push_text(text, value.as_bytes())?;
+    push_text(text, b"\r\n")
+}
+
+fn push_text(text: &mut Vec<u8>, more: &[u8]) -> Result<(), AllocError>
+    ensures { OnOk result (text.new.items ≡ text.old.items ++ more.now) }
+{
+    text.extend_from_slice(more)
 }
 
 /// Writes all the bytes, unless a write fails or takes none.

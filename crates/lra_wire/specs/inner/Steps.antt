@@ -1,5 +1,5 @@
 -- What the steps of reading a response find, each from an inbox to an inbox.
-use Rattle.std.specs.Prelude.{◌≡◌, ◌⊎◌, ℕ, ◌+◌, ◌<◌, ◌≤◌, List, ◌++◌, length, drop, slice_range, Option, Some, None, Result, Ok, Err, IfSome, ⊤}
+use Rattle.std.specs.Prelude.{◌≡◌, ◌⊎◌, ℕ, ◌+◌, ◌<◌, ◌≤◌, Bool, ◌&&◌, ◌==◌, List, ◌++◌, length, drop, slice_index, slice_range, Option, Some, None, Result, Ok, Err, IfSome, ⊤}
 use Rattle.std.specs.Io.KnownBytes.{IsAtEnd}
 use Rattle.httparse.specs.Grammar.{ResponseHead, print_response, HasNoResponse, MayBecomeResponse, status_code, ChunkLine, print_chunk_line, chunk_size, ReadsChunkLine, HasNoChunkLine, NeverHasChunkLine, MayBecomeChunkLine, HasNoSection, MayBecomeSection}
 use Rattle.httparse.specs.Ascii.{crlf_bytes}
@@ -104,6 +104,10 @@ ReadsTrailerAt remaining start old new (Err fault) = IsOutside fault
     ⊎ (Grows remaining old new × (((fault ≡ BadLength) × SectionOverflows 64 (drop start (kept_bytes new)))
     ⊎ (((fault ≡ TooLarge) × HasNoSection (drop start (kept_bytes new)) × (1048576 ≤ length (kept_bytes new)))
     ⊎ ((fault ≡ Cut) × IsAtEnd (remaining new.reader) × HasNoSection (drop start (kept_bytes new)) × MayBecomeSection (drop start (kept_bytes new))))))
+
+-- CRLF stands at the place
+abbrev pub has_line_end : List ℕ → ℕ → Bool
+has_line_end bytes at = slice_index bytes at == 13 && slice_index bytes (at + 1) == 10
 
 -- the chunk at a place of the bytes, whose content lies between these places
 pub record IsPieceAt (place : ℕ) (bytes : List ℕ) (from to : ℕ) : Type 0 where
