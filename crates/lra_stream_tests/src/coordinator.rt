@@ -1,18 +1,25 @@
 //! A coordinator in memory, and what is done with one. A function that owns a coordinator lends it, and lets it go at one exit.
 
+ghost use Rattle.std.specs.Prelude.{◌≡◌, IfSome, true};
+ghost use Rattle.lra_ids.specs.Addresses.{is_base};
+
 use lra_core::{Coordinator, Errand, Instance, Limits};
-use lra_ids::address;
+use lra_ids::{Address, address};
 use lra_model::{Outcome, suits};
 use std::alloc::Global;
+
+/// What URIs begin with.
+pub fn base(alloc: Global) -> Option<Address>
+    ensures { IfSome result (λ base. is_base base ≡ true) }
+{
+    let base = address(alloc, "http://127.0.0.1:8080/").ok()?;
+    if base.is_base() { Some(base) } else { None }
+}
 
 /// A coordinator without clerks.
 pub fn coordinator(alloc: Global) -> Option<Coordinator> {
     let instance = Instance::new(7)?;
-    let base = address(alloc, "http://127.0.0.1:8080/").ok()?;
-    if !base.is_base() {
-        drop(base);
-        return None;
-    }
+    let base = base(alloc)?;
     Some(Coordinator::new(alloc, instance, base, Limits::usual()))
 }
 

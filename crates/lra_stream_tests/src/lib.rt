@@ -10,4 +10,6 @@ mod front;
 #[cfg(test)]
 mod pieces;
 #[cfg(test)]
+mod rows;
+#[cfg(test)]
 mod wire;

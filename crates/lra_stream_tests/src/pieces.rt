@@ -12,16 +12,24 @@ pub struct Pieces<'a> {
     pub fails: bool,
 }
 
+impl Pieces<'_> {
+    /// A text in pieces of this size, which then ends.
+    pub fn of(text: &str, size: usize) -> Pieces<'_> {
+        Pieces {
+            rest: text.as_bytes(),
+            size,
+            fails: false,
+        }
+    }
+}
+
 impl Read for Pieces<'_> {
     fn read(&mut self, buf: &mut [u8]) -> io::Result<usize> {
         if self.fails && self.rest.is_empty() {
             return Err(io::ErrorKind::Other.into());
         }
-        let count = self.size.min(self.rest.len()).min(buf.len());
-        let (front, rest) = self.rest.split_at(count);
-        buf[..count].copy_from_slice(front);
-        self.rest = rest;
-        Ok(count)
+        let room = self.size.min(buf.len());
+        self.rest.read(&mut buf[..room])
     }
 }
 

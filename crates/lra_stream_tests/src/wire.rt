@@ -1,6 +1,4 @@
 //! HTTP/1.1 messages, read in pieces and written by turns.
-mod faults;
 mod memory;
-mod requests;
-mod responses;
+mod messages;
 mod writing;

@@ -1,13 +1,15 @@
 //! Verdicts on worked journals, whole and in pieces, and their accounts.
 
+ghost use Rattle.std.specs.Prelude.{◌≡◌, ◌+◌, ◌<◌, ◌^◌, length};
+
 mod memory;
 
+use crate::texts::is_told;
 use lra_auditor::{
-    Account, Auditor, AuditorFault, FailedEnd, ListedAction, ListedMember, Rule, Verdict, audit,
-    check,
+    Account, Auditor, AuditorFault, FailedEnds, Listing, Memory, Summary, Verdict, audit, check,
 };
-use lra_journal::read_journal;
-use lra_model::{ActionStatus, MemberStatus};
+use lra_journal::{Version, read_journal};
+use lra_model::Entry;
 use std::alloc::{AllocError, Global};
 use std::process::Abort;
 use std::test::Fail;
@@ -45,21 +47,24 @@ line 5 cause: lra-journal 2 7;1 0 enrol;1 0 start 1 * 5;1 3 renew 1 5;1 7 cancel
 line 4 grammar: lra-journal 1 7;1 0 enrol;1 0 start 1 * 0;1 2 join 1 1 http://n.test/é http://n.test/c * http://n.test/f http://n.test/a;
 ";
 
-/// Byte by byte, in pieces of seven bytes, and whole.
-const SIZES: [usize; 3] = [1, 7, usize::MAX];
+/// What is told of a legal history.
+fn told_of(alloc: Global, summary: &Summary) -> Result<String, Memory> {
+    let (entries, actions) = (summary.entries, summary.actions);
+    let (unended, closed) = (summary.unended, summary.closed);
+    let cancelled = summary.cancelled;
+    let failed = summary.failed.as_slice().len();
+    format!(in alloc;
+        "{entries} entries, {actions} actions, {unended} unended, {closed} closed, {cancelled} cancelled, {failed} failed"
+    )
+}
 
 /// What a verdict tells.
-fn told(alloc: Global, verdict: &Verdict) -> Result<String, AllocError> {
+fn told(alloc: Global, verdict: Verdict) -> Result<String, Memory> {
     match verdict {
         Verdict::Sound(summary) => {
-            let (entries, actions) = (summary.entries, summary.actions);
-            let (unended, closed) = (summary.unended, summary.closed);
-            let cancelled = summary.cancelled;
-            let failed = summary.failed.as_slice().len();
-            let counted = format!(in alloc; "{entries} entries, {actions} actions")?;
-            format!(in alloc;
-                "{counted}, {unended} unended, {closed} closed, {cancelled} cancelled, {failed} failed"
-            )
+            let told = told_of(alloc, &summary);
+            drop(summary);
+            told
         }
         Verdict::Unsound { line, rule } => {
             let rule = rule.name();
@@ -68,181 +73,281 @@ fn told(alloc: Global, verdict: &Verdict) -> Result<String, AllocError> {
     }
 }
 
-/// The verdict on bytes that are fed in pieces of this size, or of one byte where it is 0. Where memory runs out the
-/// auditor is spent from then on.
-fn audit_in_pieces<R: Abort + AllocGlobal>(
+/// What an audit of bytes tells.
+fn told_whole(alloc: Global, bytes: &[u8]) -> Result<String, Memory> {
+    let verdict = audit(alloc, bytes)?;
+    told(alloc, verdict)
+}
+
+/// Feeds bytes in pieces of this size, or of one byte where it is 0. Where memory runs out the auditor is spent from then on.
+fn feed_pieces<R: Abort>(
     rt: &R,
+    auditor: &mut Auditor,
     bytes: &[u8],
     size: usize,
-) -> Result<Verdict, AuditorFault> {
-    let mut auditor = Auditor::new(rt.alloc());
+) -> Result<(), AuditorFault>
+    requires { auditor.old.fed ≡ 0 }
+{
     let mut rest = bytes;
     while !rest.is_empty() {
         let (piece, others) = rest.split_at(size.max(1).min(rest.len()));
         if let Err(fault) = auditor.feed(piece) {
             assert_eq!(rt; fault, AuditorFault::Memory);
             assert_eq!(rt; auditor.feed(others), Err(AuditorFault::Spent));
-            assert!(rt; matches!(auditor.finish(), Err(AuditorFault::Spent)));
             return Err(fault);
         }
         rest = others;
     }
-    auditor.finish()
+    Ok(())
 }
 
-/// Whole and in pieces the verdict on the bytes is the one that is wanted.
-fn is_judged<R: Abort + AllocGlobal>(rt: &R, bytes: &[u8], want: &str) -> Result<(), Fail> {
-    let verdict = told(rt.alloc(), &audit(rt.alloc(), bytes)?)?;
-    assert_eq!(rt; verdict.as_str(), want);
-    for size in SIZES {
-        let verdict = told(rt.alloc(), &audit_in_pieces(rt, bytes, size)?)?;
-        assert_eq!(rt; verdict.as_str(), want, "by {size}");
+/// What is told at the end of an auditor that was fed.
+fn told_at_end(alloc: Global, auditor: Auditor) -> Result<String, AuditorFault> {
+    let verdict = auditor.finish()?;
+    Ok(told(alloc, verdict)?)
+}
+
+/// What is told of bytes that are fed in pieces of this size.
+fn told_in_pieces<R: Abort + AllocGlobal>(
+    rt: &R,
+    bytes: &[u8],
+    size: usize,
+) -> Result<String, AuditorFault> {
+    let mut auditor = Auditor::new(rt.alloc());
+    let fed = feed_pieces(rt, &mut auditor, bytes, size);
+    let told = told_at_end(rt.alloc(), auditor);
+    if let Err(fault) = fed {
+        assert_eq!(rt; told.err(), Some(AuditorFault::Spent));
+        return Err(fault);
     }
+    told
+}
+
+/// In pieces of this size the verdict on the bytes is the one that is wanted.
+fn is_judged_by<R: Abort + AllocGlobal>(
+    rt: &R,
+    bytes: &[u8],
+    size: usize,
+    want: &str,
+) -> Result<(), AuditorFault> {
+    is_told(rt, "pieces", told_in_pieces(rt, bytes, size), want)
+}
+
+/// Whole, byte by byte, and in pieces of seven bytes and more than all the verdict on the bytes is the one that is wanted.
+fn is_judged<R: Abort + AllocGlobal>(rt: &R, bytes: &[u8], want: &str) -> Result<(), AuditorFault> {
+    is_judged_by(rt, bytes, 1, want)?;
+    is_judged_by(rt, bytes, 7, want)?;
+    is_judged_by(rt, bytes, usize::MAX, want)?;
+    is_told(rt, "the whole", told_whole(rt.alloc(), bytes), want)?;
     Ok(())
+}
+
+/// A journal whose lines end in semicolons is judged so.
+fn is_worked<R: Abort + AllocGlobal>(rt: &R, lines: &str, want: &str) -> Result<(), AuditorFault> {
+    let journal = lines.replace(rt.alloc(), ';', "\n")?;
+    is_judged(rt, journal.as_bytes(), want)
 }
 
 #[test]
 fn worked_journals(rt: HostRuntime) -> Result<(), Fail> {
     for row in JOURNALS.lines() {
         let (want, lines) = row.split_once(": ").ok_or("no column")?;
-        let journal = lines.replace(rt.alloc(), ';', "\n")?;
-        is_judged(&rt, journal.as_bytes(), want)?;
+        is_worked(&rt, lines, want)?;
     }
     is_judged(&rt, b"", "line 1 header")?;
     is_judged(&rt, b"\xFF", "line 1 header")?;
     is_judged(&rt, b"lra-journal 1 7\n1 0 enrol\n\xFF\n", "line 3 grammar")?;
     is_judged(&rt, b"lra-journal 1 7\n1 0 enrol\n\xC3", "line 3 grammar")?;
-    let nested = NESTED.replace(rt.alloc(), ';', "\n")?;
-    is_judged(&rt, nested.as_bytes(), NESTED_VERDICT)
-}
-
-#[test]
-fn failed_ends(rt: HostRuntime) -> Result<(), Fail> {
-    let journal = FAILED.replace(rt.alloc(), ';', "\n")?;
-    let Verdict::Sound(summary) = audit(rt.alloc(), journal.as_bytes())? else {
-        return Err("unsound")?;
-    };
-    let ends = [1, 2].map(|action| FailedEnd {
-        action,
-        status: ActionStatus::FailedToClose,
-        member: 1,
-    });
-    assert!(rt; summary.failed.as_slice() == ends.as_slice());
-    assert_eq!(rt; summary.failed.into_vec().len(), 2);
+    is_worked(&rt, NESTED, NESTED_VERDICT)?;
     Ok(())
 }
 
-/// Journals that break off in a line, each with the verdict on it: the second has a fault before that.
-const BROKEN_OFF: [(&str, &str); 2] = [
-    (
+/// Failed ends, printed, and how many there are.
+fn shown_ends(alloc: Global, failed: FailedEnds) -> Result<String, Memory> {
+    let shown = format!(in alloc; "{:?}", failed.as_slice())?;
+    let ends = failed.into_vec();
+    let count = ends.len();
+    drop(ends);
+    format!(in alloc; "{count} {shown}")
+}
+
+/// The failed ends of a journal that is sound.
+fn failed_ends_of(alloc: Global, bytes: &[u8]) -> Result<String, Memory> {
+    match audit(alloc, bytes)? {
+        Verdict::Sound(summary) => shown_ends(alloc, summary.failed),
+        Verdict::Unsound { .. } => format!(in alloc; "unsound"),
+    }
+}
+
+#[test]
+fn failed_ends(rt: HostRuntime) -> Result<(), Memory> {
+    let journal = FAILED.replace(rt.alloc(), ';', "\n")?;
+    is_told(
+        &rt,
+        FAILED,
+        failed_ends_of(rt.alloc(), journal.as_bytes()),
+        "2 [FailedEnd { action: 1, status: FailedToClose, member: 1 }, FailedEnd { action: 2, status: FailedToClose, member: 1 }]",
+    )
+}
+
+/// In pieces of every size the verdict on a journal is the one that is wanted.
+fn is_judged_by_every<R: Abort + AllocGlobal>(
+    rt: &R,
+    journal: &str,
+    want: &str,
+) -> Result<(), AuditorFault> {
+    for size in 1..=journal.len() {
+        is_judged_by(rt, journal.as_bytes(), size, want)?;
+    }
+    Ok(())
+}
+
+/// Journals that break off in a line: the second has a fault before that.
+#[test]
+fn pieces_of_every_size(rt: HostRuntime) -> Result<(), AuditorFault> {
+    is_judged_by_every(
+        &rt,
         "lra-journal 1 7\n1 0 enrol\n1 0 start 1 * 0\n1 5 close 1 client\n1 5 end 1 Closed",
         "line 5 grammar",
-    ),
-    (
+    )?;
+    is_judged_by_every(
+        &rt,
         "lra-journal 1 7\n1 0 enrol\n1 0 start 1 * 0\n1 5 end 1 Closed\n1 5",
         "line 4 unsettled",
-    ),
-];
-
-#[test]
-fn pieces_of_every_size(rt: HostRuntime) -> Result<(), Fail> {
-    for (journal, want) in BROKEN_OFF {
-        for size in 1..=journal.len() {
-            let verdict = audit_in_pieces(&rt, journal.as_bytes(), size)?;
-            let verdict = told(rt.alloc(), &verdict)?;
-            assert_eq!(rt; verdict.as_str(), want, "by {size}");
-        }
-    }
-    Ok(())
+    )
 }
 
-#[test]
-fn pieces_after_a_fault(rt: HostRuntime) -> Result<(), Fail> {
-    let mut auditor = Auditor::new(rt.alloc());
+/// Feeds a line at fault, and others after it.
+fn feed_fault(auditor: &mut Auditor) -> Result<(), AuditorFault>
+    requires { auditor.old.fed ≡ 0 }
+{
     auditor.feed(b"lra-journal 1 7\n1 0 start 1 * 0\n1 0")?;
     auditor.feed(b" enrol\n1 0 start 01 * 0\n")?;
-    auditor.feed(b"\xFF")?;
-    let verdict = told(rt.alloc(), &auditor.finish()?)?;
-    assert_eq!(rt; verdict.as_str(), "line 2 clerk");
-    Ok(())
-}
-
-/// A journal whose last line has five addresses of this many letters after `http://n.test/`.
-fn with_addresses(alloc: Global, letters: usize) -> Result<Vec<u8>, AllocError> {
-    let mut journal = Vec::new(alloc);
-    journal.extend_from_slice(b"lra-journal 1 7\n1 0 enrol\n1 0 start 1 * 0\n1 2 join 1 1")?;
-    for _ in 0..5 {
-        journal.extend_from_slice(b" http://n.test/")?;
-        for _ in 0..letters {
-            journal.push(b'a')?;
-        }
-    }
-    journal.push(b'\n')?;
-    Ok(journal)
+    auditor.feed(b"\xFF")
 }
 
 #[test]
-fn the_longest_addresses(rt: HostRuntime) -> Result<(), Fail> {
-    let longest = with_addresses(rt.alloc(), 498)?;
-    let longer = with_addresses(rt.alloc(), 499)?;
-    is_judged(
+fn pieces_after_a_fault(rt: HostRuntime) -> Result<(), AuditorFault> {
+    let mut auditor = Auditor::new(rt.alloc());
+    let fed = feed_fault(&mut auditor);
+    let verdict = told_at_end(rt.alloc(), auditor);
+    assert_eq!(rt; fed, Ok(()));
+    is_told(&rt, "pieces after a fault", verdict, "line 2 clerk")
+}
+
+/// An address of this many letters after `http://n.test/`, and a space before it.
+fn address_of(alloc: Global, letters: usize) -> Result<String, Memory> {
+    let mut address = String::from_str(alloc, " http://n.test/")?;
+    for _ in 0..letters {
+        address.push('a')?;
+    }
+    Ok(address)
+}
+
+/// A journal whose last line has five such addresses is judged so.
+fn is_judged_with<R: Abort + AllocGlobal>(
+    rt: &R,
+    letters: usize,
+    want: &str,
+) -> Result<(), AuditorFault> {
+    let address = address_of(rt.alloc(), letters)?;
+    let journal = format!(in rt.alloc();
+        "lra-journal 1 7\n1 0 enrol\n1 0 start 1 * 0\n1 2 join 1 1{address}{address}{address}{address}{address}\n"
+    )?;
+    is_judged(rt, journal.as_bytes(), want)
+}
+
+#[test]
+fn the_longest_addresses(rt: HostRuntime) -> Result<(), AuditorFault> {
+    is_judged_with(
         &rt,
-        &longest,
+        498,
         "3 entries, 1 actions, 1 unended, 0 closed, 0 cancelled, 0 failed",
     )?;
-    is_judged(&rt, &longer, "line 4 grammar")
+    is_judged_with(&rt, 499, "line 4 grammar")
+}
+
+/// What a check of the entries from a place on tells.
+fn told_from(
+    alloc: Global,
+    version: Version,
+    entries: &[Entry],
+    place: usize,
+) -> Result<String, Memory> {
+    let verdict = check(alloc, version, entries.get(place..).unwrap_or(&[]))?;
+    told(alloc, verdict)
+}
+
+/// What a check of a journal's entries from a place on tells.
+fn told_in_memory(alloc: Global, bytes: &[u8], place: usize) -> Result<String, Memory> {
+    match read_journal(alloc, bytes) {
+        Ok((version, _, entries)) => {
+            let told = told_from(alloc, version, &entries, place);
+            drop(entries);
+            told
+        }
+        Err(_) => Err(AllocError),
+    }
 }
 
 #[test]
-fn entries_in_memory(rt: HostRuntime) -> Result<(), Fail> {
-    let alloc = rt.alloc();
-    let journal = NESTED.replace(alloc, ';', "\n")?;
-    let (version, _, entries) = read_journal(alloc, journal.as_bytes())?;
-    let whole = told(alloc, &check(alloc, version, &entries)?)?;
-    assert_eq!(rt; whole.as_str(), NESTED_VERDICT);
-    let torn = told(
-        alloc,
-        &check(alloc, version, entries.get(1..).unwrap_or(&[]))?,
-    )?;
-    assert_eq!(rt; torn.as_str(), "line 2 clerk");
-    Ok(())
+fn entries_in_memory(rt: HostRuntime) -> Result<(), Memory> {
+    let journal = NESTED.replace(rt.alloc(), ';', "\n")?;
+    let whole = told_in_memory(rt.alloc(), journal.as_bytes(), 0);
+    is_told(&rt, NESTED, whole, NESTED_VERDICT)?;
+    let torn = told_in_memory(rt.alloc(), journal.as_bytes(), 1);
+    is_told(&rt, "all but the first entry", torn, "line 2 clerk")
 }
 
-fn list_whole(alloc: Global, bytes: &[u8]) -> Result<Account, AuditorFault> {
+/// How many actions and members a listing has, an action and a member of it, and one that isn't there.
+fn shown_listing(alloc: Global, listing: &Listing) -> Result<String, Memory> {
+    let (actions, members) = (listing.action_count(), listing.member_count());
+    let (action, member) = (listing.action(2), listing.member(1));
+    let none = listing.action(3);
+    format!(in alloc; "{actions} {members} {action:?} {member:?} {none:?}")
+}
+
+/// What an account tells.
+fn shown(alloc: Global, account: Account) -> Result<String, Memory> {
+    match account {
+        Account::Sound(listing) => {
+            let shown = shown_listing(alloc, &listing);
+            drop(listing);
+            shown
+        }
+        Account::Unsound { line, rule } => format!(in alloc; "line {line} {rule:?}"),
+    }
+}
+
+/// What the account of an auditor that was fed tells.
+fn shown_at_end(alloc: Global, auditor: Auditor) -> Result<String, AuditorFault> {
+    let account = auditor.list()?;
+    Ok(shown(alloc, account)?)
+}
+
+/// What the account of a journal whose lines end in semicolons tells.
+fn shown_account(alloc: Global, lines: &str) -> Result<String, AuditorFault> {
+    let journal = lines.replace(alloc, ';', "\n")?;
     let mut auditor = Auditor::new(alloc);
-    auditor.feed(bytes)?;
-    auditor.list()
+    // Where that fails the auditor is spent.
+    let _ = auditor.feed(journal.as_bytes());
+    let shown = shown_at_end(alloc, auditor);
+    drop(journal);
+    shown
 }
 
 #[test]
-fn actions_and_members_are_listed(rt: HostRuntime) -> Result<(), Fail> {
-    let journal = FAILED.replace(rt.alloc(), ';', "\n")?;
-    let Account::Sound(listing) = list_whole(rt.alloc(), journal.as_bytes())? else {
-        return Err("unsound")?;
-    };
-    let inner = ListedAction {
-        action: 2,
-        parent: Some(1),
-        status: ActionStatus::FailedToClose,
-    };
-    let member = ListedMember {
-        member: 1,
-        action: 2,
-        status: MemberStatus::FailedToComplete,
-    };
-    assert!(rt; listing.action_count() == 2 && listing.member_count() == 1);
-    assert!(rt; listing.action(2) == Some(inner));
-    assert!(rt; listing.member(1) == Some(member));
-    assert!(rt; listing.action(3).is_none());
-    Ok(())
+fn actions_and_members_are_listed(rt: HostRuntime) -> Result<(), AuditorFault> {
+    is_told(
+        &rt,
+        FAILED,
+        shown_account(rt.alloc(), FAILED),
+        "2 1 Some(ListedAction { action: 2, parent: Some(1), status: FailedToClose }) Some(ListedMember { member: 1, action: 2, status: FailedToComplete }) None",
+    )
 }
 
 #[test]
-fn a_fault_is_named_in_an_account(rt: HostRuntime) -> Result<(), Fail> {
-    let bytes = b"lra-journal 1 7\n1 0 start 1 * 0\n";
-    let Account::Unsound { line, rule } = list_whole(rt.alloc(), bytes)? else {
-        return Err("sound")?;
-    };
-    assert!(rt; line == 2 && rule == Rule::Clerk);
-    Ok(())
+fn a_fault_is_named_in_an_account(rt: HostRuntime) -> Result<(), AuditorFault> {
+    let lines = "lra-journal 1 7;1 0 start 1 * 0;";
+    is_told(&rt, lines, shown_account(rt.alloc(), lines), "line 2 Clerk")
 }

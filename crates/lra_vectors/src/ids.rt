@@ -1,8 +1,8 @@
 //! Addresses by the URL Standard, the texts that are refused, and the identifiers of actions and members.
 
 use lra_ids::{
-    Address, Instance, UriFault, address, is_address_text, read_action, read_id, read_recovery,
-    spell_action, spell_recovery,
+    Address, Instance, Memory, UriFault, address, is_address_text, read_action, read_id,
+    read_recovery, spell_action, spell_recovery,
 };
 use std::alloc::{AllocError, Global};
 use std::process::Abort;
@@ -121,30 +121,33 @@ fn answer(alloc: Global, text: &str) -> Result<String, AllocError> {
 
 // The text is answered so; it is an address as it stands exactly where it stands for itself.
 fn is_answered<R: Abort + AllocGlobal>(rt: &R, text: &str, want: &str) -> Result<(), Fail> {
-    let answer = answer(rt.alloc(), text)?;
-    assert_eq!(rt; answer.as_str(), want, "at {text:?}");
     let own = is_address_text(rt.alloc(), text.as_bytes())?;
-    assert_eq!(rt; own, text == want, "at {text:?}");
+    let answer = answer(rt.alloc(), text)?;
+    assert!(rt;
+        answer.as_str() == want && own == (text == want),
+        "{text:?} -> {answer}"
+    );
+    Ok(())
+}
+
+fn are_answered<R: Abort + AllocGlobal>(rt: &R, rows: &str) -> Result<(), Fail> {
+    for row in rows.lines() {
+        let (text, want) = row.split_once(" -> ").ok_or("no column")?;
+        is_answered(rt, text, want)?;
+    }
     Ok(())
 }
 
 #[test]
 fn addresses_by_the_standard(rt: HostRuntime) -> Result<(), Fail> {
-    for rows in [
-        FORMS,
-        PORTS,
-        DOT_SEGMENTS,
-        PERCENT_FORMS,
-        NUMBERED_HOSTS,
-        NAMED_HOSTS,
-        USERS,
-        REFUSED,
-    ] {
-        for row in rows.lines() {
-            let (text, want) = row.split_once(" -> ").ok_or("no column")?;
-            is_answered(&rt, text, want)?;
-        }
-    }
+    are_answered(&rt, FORMS)?;
+    are_answered(&rt, PORTS)?;
+    are_answered(&rt, DOT_SEGMENTS)?;
+    are_answered(&rt, PERCENT_FORMS)?;
+    are_answered(&rt, NUMBERED_HOSTS)?;
+    are_answered(&rt, NAMED_HOSTS)?;
+    are_answered(&rt, USERS)?;
+    are_answered(&rt, REFUSED)?;
     is_answered(&rt, "", "not a URL")?;
     is_answered(&rt, "\u{1} http://p.test/x \n", "http://p.test/x")?;
     is_answered(&rt, "http://p.t\nest/a\tb", "http://p.test/ab")?;
@@ -152,11 +155,16 @@ fn addresses_by_the_standard(rt: HostRuntime) -> Result<(), Fail> {
     Ok(())
 }
 
+// What is answered where the parser has a fault.
+fn told_of(alloc: Global, fault: ParseError) -> Result<String, AllocError> {
+    let fault = UriFault::from(fault);
+    format!(in alloc; "{fault}")
+}
+
 #[test]
 fn faults_of_the_parser(rt: HostRuntime) -> Result<(), Fail> {
-    let overflow = UriFault::from(ParseError::Overflow);
     assert_eq!(rt;
-        format!(in rt.alloc(); "{overflow}")?.as_str(),
+        told_of(rt.alloc(), ParseError::Overflow)?.as_str(),
         "out of memory"
     );
     assert_eq!(rt; UriFault::from(ParseError::InvalidPort), UriFault::NotUrl);
@@ -192,18 +200,21 @@ fn length_of(alloc: Global, text: &str) -> Result<String, AllocError> {
     }
 }
 
+// The row of a front, a letter and a length.
+fn long_row(alloc: Global, front: &str, letter: &str, len: usize) -> Result<String, AllocError> {
+    let text = filled(alloc, front, letter, len)?;
+    let length = length_of(alloc, text.as_str())?;
+    format!(in alloc; "{front}|{letter}|{len}|{length}")
+}
+
 #[test]
 fn long_texts(rt: HostRuntime) -> Result<(), Fail> {
     for row in LONG_TEXTS.lines() {
         let (front, columns) = row.split_once('|').ok_or("no column")?;
         let (letter, columns) = columns.split_once('|').ok_or("no column")?;
-        let (len, want) = columns.split_once('|').ok_or("no column")?;
-        let text = filled(rt.alloc(), front, letter, len.parse()?)?;
-        assert_eq!(rt;
-            length_of(rt.alloc(), text.as_str())?.as_str(),
-            want,
-            "at {row:?}"
-        );
+        let (len, _) = columns.split_once('|').ok_or("no column")?;
+        let found = long_row(rt.alloc(), front, letter, len.parse()?)?;
+        assert_eq!(rt; found.as_str(), row);
     }
     Ok(())
 }
@@ -219,64 +230,81 @@ http://p.test:80/c p.test - /c
 ";
 
 // The row of a text, by its address.
-fn row_of(alloc: Global, text: &str) -> Result<String, Fail> {
-    let own = address(alloc, text)?;
+fn row_of(alloc: Global, text: &str, own: &Address) -> Result<String, AllocError> {
     let (authority, target) = (own.authority(), own.target());
-    Ok(match own.port() {
-        Some(port) => format!(in alloc; "{text} {authority} {port} {target}")?,
-        None => format!(in alloc; "{text} {authority} - {target}")?,
-    })
+    match own.port() {
+        Some(port) => format!(in alloc; "{text} {authority} {port} {target}"),
+        None => format!(in alloc; "{text} {authority} - {target}"),
+    }
+}
+
+fn parts_of(alloc: Global, text: &str) -> Result<String, Fail> {
+    let own = address(alloc, text)?;
+    let row = row_of(alloc, text, &own);
+    drop(own);
+    Ok(row?)
 }
 
 #[test]
 fn parts_of_addresses(rt: HostRuntime) -> Result<(), Fail> {
     for row in PARTS.lines() {
         let (text, _) = row.split_once(' ').ok_or("no column")?;
-        assert_eq!(rt; row_of(rt.alloc(), text)?.as_str(), row);
+        assert_eq!(rt; parts_of(rt.alloc(), text)?.as_str(), row);
     }
     Ok(())
+}
+
+// The text of a copy.
+fn copied(own: &Address) -> Result<String, Memory> {
+    let copy = own.copy()?;
+    Ok(String::from(copy))
 }
 
 #[test]
 fn copies(rt: HostRuntime) -> Result<(), Fail> {
-    let copy = address(rt.alloc(), "http://p.test/c?q#f")?.copy()?;
-    assert_eq!(rt; String::from(copy).as_str(), "http://p.test/c?q#f");
+    let own = address(rt.alloc(), "http://p.test/c?q#f")?;
+    let text = copied(&own);
+    drop(own);
+    assert_eq!(rt; text?.as_str(), "http://p.test/c?q#f");
     Ok(())
 }
 
+// Whether a text is a base, and the text.
 const BASES: &str = "\
-http://127.0.0.1:8080/
-http://p.test
-http://u@[::1]:1/
-";
-
-const NO_BASES: &str = "\
-http://p.test/x
-http://p.test/x/
-http://p.test//
-http://p.test/?
-http://p.test/#
-http://p.test?/
-http://p.test#/
+true http://127.0.0.1:8080/
+true http://p.test
+true http://u@[::1]:1/
+false http://p.test/x
+false http://p.test/x/
+false http://p.test//
+false http://p.test/?
+false http://p.test/#
+false http://p.test?/
+false http://p.test#/
 ";
 
 fn is_base(alloc: Global, text: &str) -> Result<bool, UriFault> {
-    Ok(address(alloc, text)?.is_base())
+    let own = address(alloc, text)?;
+    let is_base = own.is_base();
+    drop(own);
+    Ok(is_base)
+}
+
+// Whether a text of so many bytes is one, to which a slash is added.
+fn is_long_base(alloc: Global, len: usize) -> Result<bool, Fail> {
+    let text = filled(alloc, "http://", "a", len)?;
+    Ok(is_base(alloc, text.as_str())?)
 }
 
 #[test]
 fn bases(rt: HostRuntime) -> Result<(), Fail> {
-    for text in BASES.lines() {
-        assert!(rt; is_base(rt.alloc(), text)?, "at {text:?}");
+    for row in BASES.lines() {
+        let (_, text) = row.split_once(' ').ok_or("no column")?;
+        let is_base = is_base(rt.alloc(), text)?;
+        assert_eq!(rt; format!(in rt.alloc(); "{is_base} {text}")?.as_str(), row);
     }
-    for text in NO_BASES.lines() {
-        assert!(rt; !is_base(rt.alloc(), text)?, "at {text:?}");
-    }
-    // A slash is added to each.
-    let longest = filled(rt.alloc(), "http://", "a", 399)?;
-    assert!(rt; is_base(rt.alloc(), longest.as_str())?);
-    let longer = filled(rt.alloc(), "http://", "a", 400)?;
-    assert!(rt; !is_base(rt.alloc(), longer.as_str())?);
+    assert!(rt; is_long_base(rt.alloc(), 399)?);
+    assert!(rt; !is_long_base(rt.alloc(), 400)?);
     Ok(())
 }
 
@@ -298,22 +326,40 @@ fn uris_of(
     if n == 0 || n >= 1 << 62 || !base.is_base() {
         return Err("no number or no base");
     }
-    let (Ok(action), Ok(recovery)) = (
-        spell_action(alloc, instance, n, base),
-        spell_recovery(alloc, instance, n, base),
-    ) else {
+    let Ok(action) = spell_action(alloc, instance, n, base) else {
+        return Err("out of memory");
+    };
+    let Ok(recovery) = spell_recovery(alloc, instance, n, base) else {
         return Err("out of memory");
     };
     Ok((action, recovery))
 }
 
-// What the text is read as: an action's URI, a member's, or a UUID alone.
-fn readings(text: &str, instance: Instance, base: &Address) -> [Option<u64>; 3] {
-    [
-        read_action(text, instance, base),
-        read_recovery(text, instance, base),
-        read_id(text, instance),
-    ]
+// Adds a text and what it is read as: an action's URI, a member's, or a UUID alone.
+fn push_reading(
+    found: &mut String,
+    text: &str,
+    instance: Instance,
+    base: &Address,
+) -> Result<(), AllocError> {
+    let action = read_action(text, instance, base);
+    let recovery = read_recovery(text, instance, base);
+    let id = read_id(text, instance);
+    write!(found, "{text} {action:?} {recovery:?} {id:?};")
+}
+
+// Adds the number's URIs, and what each is read as.
+fn push_spelled(
+    found: &mut String,
+    alloc: Global,
+    instance: Instance,
+    n: u64,
+    base: &Address,
+) -> Result<(), Fail> {
+    let (action, recovery) = uris_of(alloc, instance, n, base)?;
+    push_reading(found, action.as_str(), instance, base)?;
+    push_reading(found, recovery.as_str(), instance, base)?;
+    Ok(())
 }
 
 // The number's URIs end in the text, and each is read as what it is and as nothing else.
@@ -323,20 +369,32 @@ fn is_spelled<R: Abort + AllocGlobal>(
     n: u64,
     text: &str,
 ) -> Result<(), Fail> {
+    let want = format!(in rt.alloc();
+        "http://p.test/lra-coordinator/{text} Some({n}) None None;http://p.test/lra-recovery/{text} None Some({n}) None;"
+    )?;
     let base = address(rt.alloc(), "http://p.test/")?;
-    let (action, recovery) = uris_of(rt.alloc(), instance, n, &base)?;
-    let (action, recovery) = (action.as_str(), recovery.as_str());
-    assert_eq!(rt;
-        action.strip_prefix("http://p.test/lra-coordinator/"),
-        Some(text)
-    );
-    assert_eq!(rt;
-        recovery.strip_prefix("http://p.test/lra-recovery/"),
-        Some(text)
-    );
-    assert_eq!(rt; readings(action, instance, &base), [Some(n), None, None]);
-    assert_eq!(rt; readings(recovery, instance, &base), [None, Some(n), None]);
-    assert_eq!(rt; readings(text, instance, &base), [None, None, Some(n)]);
+    let mut found = String::new(rt.alloc());
+    let spelled = push_spelled(&mut found, rt.alloc(), instance, n, &base);
+    drop(base);
+    spelled?;
+    assert_eq!(rt; found.as_str(), want.as_str());
+    Ok(())
+}
+
+// The text is read as a UUID alone, of this number if there is one.
+fn is_read<R: Abort + AllocGlobal>(
+    rt: &R,
+    instance: Instance,
+    text: &str,
+    id: Option<u64>,
+) -> Result<(), Fail> {
+    let want = format!(in rt.alloc(); "{text} None None {id:?};")?;
+    let base = address(rt.alloc(), "http://p.test/")?;
+    let mut found = String::new(rt.alloc());
+    let read = push_reading(&mut found, text, instance, &base);
+    drop(base);
+    read?;
+    assert_eq!(rt; found.as_str(), want.as_str());
     Ok(())
 }
 
@@ -346,7 +404,9 @@ fn spelled_identifiers(rt: HostRuntime) -> Result<(), Fail> {
         let (instance, row) = row.split_once(' ').ok_or("no column")?;
         let (n, text) = row.split_once(' ').ok_or("no column")?;
         let instance = Instance::new(instance.parse()?).ok_or("refused")?;
-        is_spelled(&rt, instance, n.parse()?, text)?;
+        let n = n.parse()?;
+        is_spelled(&rt, instance, n, text)?;
+        is_read(&rt, instance, text, Some(n))?;
     }
     Ok(())
 }
@@ -371,31 +431,43 @@ urn:uuid:00000000-0000-8007-8000-000000000001
 #[test]
 fn texts_that_are_no_identifiers(rt: HostRuntime) -> Result<(), Fail> {
     let seven = Instance::new(7).ok_or("refused")?;
-    let base = address(rt.alloc(), "http://p.test/")?;
     for text in NO_IDENTIFIERS.lines() {
-        let read = readings(text, seven, &base);
-        assert_eq!(rt; read, [None, None, None], "at {text:?}");
+        is_read(&rt, seven, text, None)?;
     }
-    assert!(rt; read_id("", seven).is_none());
-    assert!(rt; read_id("00000000-0000-8007-8000-000000000001 ", seven).is_none());
+    is_read(&rt, seven, "", None)?;
+    is_read(&rt, seven, "00000000-0000-8007-8000-000000000001 ", None)?;
     let last = Instance::new((1 << 60) - 1).ok_or("refused")?;
     let capital = "http://p.test/lra-coordinator/ffffffff-ffff-8fff-bfff-fffffffffffF";
-    assert_eq!(rt; readings(capital, last, &base), [None, None, None]);
-    Ok(())
+    is_read(&rt, last, capital, None)
+}
+
+// The second try has memory where the first had none.
+fn base_again(alloc: Global) -> Result<Address, UriFault> {
+    match address(alloc, "http://p.test/") {
+        Ok(base) => Ok(base),
+        Err(_) => address(alloc, "http://p.test/"),
+    }
+}
+
+fn uris_again(
+    alloc: Global,
+    instance: Instance,
+    base: &Address,
+) -> Result<(String, String), &'static str> {
+    match uris_of(alloc, instance, 1, base) {
+        Ok(uris) => Ok(uris),
+        Err(_) => uris_of(alloc, instance, 1, base),
+    }
 }
 
 // Run with one allocation failing in turn: a spelling that takes a refused growth is refused, and the next one has memory.
 #[test]
 fn a_refused_growth_is_memory_at_a_spelling(rt: HostRuntime) -> Result<(), Fail> {
-    let base = match address(rt.alloc(), "http://p.test/") {
-        Ok(base) => base,
-        Err(_) => address(rt.alloc(), "http://p.test/")?,
-    };
     let seven = Instance::new(7).ok_or("refused")?;
-    let (action, _) = match uris_of(rt.alloc(), seven, 1, &base) {
-        Ok(uris) => uris,
-        Err(_) => uris_of(rt.alloc(), seven, 1, &base)?,
-    };
+    let base = base_again(rt.alloc())?;
+    let uris = uris_again(rt.alloc(), seven, &base);
+    drop(base);
+    let (action, _) = uris?;
     assert_eq!(rt;
         action.as_str(),
         "http://p.test/lra-coordinator/00000000-0000-8007-8000-000000000001"

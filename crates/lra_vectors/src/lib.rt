@@ -14,4 +14,6 @@ mod runs;
 #[cfg(test)]
 mod tables;
 #[cfg(test)]
+mod texts;
+#[cfg(test)]
 mod timers;

@@ -1,10 +1,11 @@
 //! The words of the model: names, statuses, outcomes that suit, numbers of coordinators, and copies.
 
+use crate::texts::is_told;
 use lra_model::{
-    ActionStatus, AskKind, Deed, Ending, Entry, Instance, MemberStatus, Outcome, Rule, Uris,
-    Version, suits,
+    ActionStatus, AskKind, Deed, Ending, Entry, Instance, MemberStatus, Memory, Outcome, Rule,
+    Uris, Version, suits,
 };
-use std::test::Fail;
+use std::alloc::Global;
 
 #[test]
 fn statuses_have_the_names_of_the_standard(rt: HostRuntime) {
@@ -44,18 +45,30 @@ fn outcomes_suit_kinds(rt: HostRuntime) {
     assert!(rt; !suits(AskKind::After, Outcome::Accepted));
 }
 
-#[test]
-fn numbers_of_coordinators_end_below_two_to_sixty(rt: HostRuntime) {
-    assert_eq!(rt;
-        Instance::new((1 << 60) - 1).map(Instance::number),
-        Some((1 << 60) - 1)
-    );
-    assert_eq!(rt; Instance::new(1 << 60), None);
+// Whether a coordinator may have this number, and has it then.
+fn is_number(number: u64) -> bool {
+    match Instance::new(number) {
+        Some(instance) => instance.number() == number,
+        None => false,
+    }
 }
 
 #[test]
-fn a_copied_entry_has_the_same_addresses(rt: HostRuntime) -> Result<(), Fail> {
-    let alloc = rt.alloc();
+fn numbers_of_coordinators_end_below_two_to_sixty(rt: HostRuntime) {
+    assert!(rt; is_number((1 << 60) - 1));
+    assert_eq!(rt; Instance::new(1 << 60), None);
+}
+
+// A copy of an entry, printed.
+fn shown_copy(alloc: Global, entry: &Entry) -> Result<String, Memory> {
+    let copy = entry.copy()?;
+    let shown = format!(in alloc; "{copy:?}");
+    drop(copy);
+    shown
+}
+
+// A copy of a member's joining with this address alone, printed.
+fn joined(alloc: Global, after: String) -> Result<String, Memory> {
     let entry = Entry {
         by: 3,
         moment: 12,
@@ -67,19 +80,22 @@ fn a_copied_entry_has_the_same_addresses(rt: HostRuntime) -> Result<(), Fail> {
                 complete: None,
                 status: None,
                 forget: None,
-                after: Some(String::from_str(alloc, "http://n.test/a")?),
+                after: Some(after),
             },
         },
     };
-    let copy = entry.copy()?;
-    assert_eq!(rt; (copy.by, copy.moment), (3, 12));
-    let Deed::Join { uris, .. } = &copy.deed else {
-        return Err(Fail::from("a copy of a join is a join"));
-    };
-    assert!(rt; uris.compensate.is_none());
-    let Some(after) = &uris.after else {
-        return Err(Fail::from("a copy has the addresses of what it is a copy of"));
-    };
-    assert_eq!(rt; after.as_str(), "http://n.test/a");
-    Ok(())
+    let shown = shown_copy(alloc, &entry);
+    drop(entry);
+    shown
+}
+
+#[test]
+fn a_copied_entry_has_the_same_addresses(rt: HostRuntime) -> Result<(), Memory> {
+    let after = String::from_str(rt.alloc(), "http://n.test/a")?;
+    is_told(
+        &rt,
+        "a copy",
+        joined(rt.alloc(), after),
+        "Entry { by: 3, moment: 12, deed: Join { member: 1, action: 2, uris: Uris { compensate: None, complete: None, status: None, forget: None, after: Some(\"http://n.test/a\") } } }",
+    )
 }

@@ -1,21 +1,21 @@
 //! Worked histories in tables, entry by entry: the status of each row, and what a plan of the entry has.
 
-ghost use Rattle.std.specs.Prelude.{◌≡◌, true};
+ghost use Rattle.std.specs.Prelude.{◌≡◌, true, [], IfOk};
 ghost use Rattle.lra_model.specs.declared.version.Version.{Version};
 ghost use Rattle.lra_model.specs.Rules.{is_legal};
 ghost use Rattle.lra_ids.specs.Addresses.{is_address};
-ghost use Rattle.lra_laws.specs.Sheets.{Follows};
+ghost use Rattle.lra_laws.specs.Sheets.{Follows, sheet_of};
 
 mod cascades;
 mod memory;
 
+use crate::texts::is_told;
 use lra_auditor::{Verdict, check};
-use lra_journal::read_journal;
-use lra_model::{Entry, Memory};
+use lra_journal::{JournalFault, read_journal};
+use lra_model::{Entry, Memory, Version};
 use lra_tables::{Plan, Tables};
 use std::alloc::Global;
 use std::process::Abort;
-use std::test::Fail;
 
 /// Histories, each after its header. After each entry stand the statuses of all actions, and of all members. What follows by
 /// itself from the entry before is marked by `+`.
@@ -164,9 +164,8 @@ lra-journal 1 7
 + 1 0 end 2 Closed -> Closing Closed /
 + 1 0 end 1 Closed -> Closed Closed /";
 
-/// The statuses of all actions, and of all members.
-fn statuses(alloc: Global, tables: &Tables) -> Result<String, Memory> {
-    let mut text = String::new(alloc);
+/// Adds the statuses of all actions, and of all members.
+fn push_statuses(text: &mut String, tables: &Tables) -> Result<(), Memory> {
     for place in 0..tables.count_actions() {
         if let Some(row) = tables.action(place + 1) {
             text.push_str(row.status.name())?;
@@ -180,22 +179,21 @@ fn statuses(alloc: Global, tables: &Tables) -> Result<String, Memory> {
             text.push_str(row.status.name())?;
         }
     }
-    Ok(text)
+    Ok(())
 }
 
-/// The journal of a worked history.
-fn journal_of(alloc: Global, history: &str) -> Result<String, Memory> {
-    let mut journal = String::new(alloc);
+/// Adds the journal of a worked history.
+fn push_journal(journal: &mut String, history: &str) -> Result<(), Memory> {
     for line in history.lines() {
         let entry = line.split_once(" -> ").map_or(line, |(entry, _)| entry);
         journal.push_str(entry.strip_prefix("+ ").unwrap_or(entry))?;
         journal.push('\n')?;
     }
-    Ok(journal)
+    Ok(())
 }
 
 /// The plan of an entry that is allowed now.
-fn planned(tables: &mut Tables, entry: &Entry) -> Result<Plan, Memory>
+fn plan_of(tables: &mut Tables, entry: &Entry) -> Result<Plan, Memory>
     requires { Follows tables.old.sheet entry.now }
     ensures { tables.new.sheet ≡ tables.old.sheet }
 {
@@ -203,11 +201,20 @@ fn planned(tables: &mut Tables, entry: &Entry) -> Result<Plan, Memory>
     tables.plan(entry)
 }
 
-/// Whether entries are the same, by their texts.
-fn are_same(alloc: Global, left: &[Entry], right: &[Entry]) -> Result<bool, Memory> {
-    let left = format!(in alloc; "{left:?}")?;
-    let right = format!(in alloc; "{right:?}")?;
-    Ok(left.as_bytes() == right.as_bytes())
+/// Entries as text.
+fn shown(alloc: Global, entries: &[Entry]) -> Result<String, Memory> {
+    format!(in alloc; "{entries:?}")
+}
+
+/// What is planned of an entry that is allowed now.
+fn planned(alloc: Global, tables: &mut Tables, entry: &Entry) -> Result<String, Memory>
+    requires { Follows tables.old.sheet entry.now }
+    ensures { tables.new.sheet ≡ tables.old.sheet }
+{
+    let plan = plan_of(tables, entry)?;
+    let planned = shown(alloc, plan.entries());
+    drop(plan);
+    planned
 }
 
 /// How many lines follow by themselves from the one at a place.
@@ -220,64 +227,113 @@ fn count_following(lines: &[&str], place: usize) -> usize {
         .count()
 }
 
-/// What is planned of an entry is it and what follows, as the history has it.
-fn assert_block<R: Abort>(
+/// What is planned of the entry at a place is it and what follows, as the history has it.
+fn assert_plan<R: Abort>(
     rt: &R,
     alloc: Global,
-    plan: &Plan,
+    planned: String,
     entries: &[Entry],
     lines: &[&str],
     place: usize,
-) -> Result<(), Fail> {
+) -> Result<(), Memory> {
     let end = place
         .saturating_add(1)
         .saturating_add(count_following(lines, place));
-    let wanted = entries.get(place..end).ok_or("no such lines")?;
-    let same = are_same(alloc, plan.entries(), wanted)?;
-    let planned = plan.entries();
-    assert!(rt; same, "at {place}: {planned:?}");
+    let wanted = shown(alloc, entries.get(place..end).unwrap_or(&[]));
+    is_told(rt, "a plan", wanted, planned.as_str())
+}
+
+/// The line at a place ends with the statuses that the tables have.
+fn assert_statuses<R: Abort>(
+    rt: &R,
+    alloc: Global,
+    tables: &Tables,
+    lines: &[&str],
+    place: usize,
+) -> Result<(), Memory> {
+    let mut found = String::new(alloc);
+    push_statuses(&mut found, tables)?;
+    let line = lines.get(place).copied().unwrap_or("");
+    assert!(rt; line.ends_with(found.as_str()), "{found} after {line}");
     Ok(())
 }
 
-/// Applies a history entry by entry, and looks at each plan before and at the rows after.
+/// Applies a history entry by entry to empty tables, and looks at each plan before and at the rows after.
 fn assert_rows<R: Abort>(
+    rt: &R,
+    alloc: Global,
+    tables: &mut Tables,
+    entries: &[Entry],
+    lines: &[&str],
+) -> Result<(), Memory>
+    requires legal { (v : Version) × (is_legal v is_address entries.now ≡ true) }
+    requires empty { tables.old.sheet ≡ sheet_of [] }
+{
+    for entry in entries {
+        let place = tables.count_entries() as usize;
+        let planned = planned(alloc, tables, entry)?;
+        assert_plan(rt, alloc, planned, entries, lines, place)?;
+        tables.apply(entry)?;
+        assert_statuses(rt, alloc, tables, lines, place)?;
+    }
+    Ok(())
+}
+
+/// Whether entries are a legal history.
+fn is_sound(alloc: Global, version: Version, entries: &[Entry]) -> Result<bool, Memory>
+    ensures { IfOk result (λ sound. sound ≡ is_legal version is_address entries.now) }
+{
+    match check(alloc, version, entries)? {
+        Verdict::Sound(summary) => {
+            drop(summary);
+            Ok(true)
+        }
+        Verdict::Unsound { .. } => Ok(false),
+    }
+}
+
+/// A legal history with its statuses.
+fn assert_lines<R: Abort>(
     rt: &R,
     alloc: Global,
     entries: &[Entry],
     lines: &[&str],
-) -> Result<(), Fail>
+) -> Result<(), Memory>
     requires { (v : Version) × (is_legal v is_address entries.now ≡ true) }
 {
+    assert_eq!(rt; lines.len(), entries.len());
     let mut tables = Tables::empty(alloc);
-    for entry in entries {
-        let place = tables.count_entries() as usize;
-        let plan = planned(&mut tables, entry)?;
-        assert_block(rt, alloc, &plan, entries, lines, place)?;
-        tables.apply(entry)?;
-        let line = lines.get(place).ok_or("too few lines")?;
-        let found = statuses(alloc, &tables)?;
-        assert!(rt; line.ends_with(found.as_str()), "{found} after {line}");
-    }
-    Ok(())
+    let looked = assert_rows(rt, alloc, &mut tables, entries, lines);
+    drop(tables);
+    looked
+}
+
+/// A history's entries, and its lines with statuses.
+fn assert_entries<R: Abort>(
+    rt: &R,
+    alloc: Global,
+    version: Version,
+    entries: &[Entry],
+    history: &str,
+) -> Result<(), Memory> {
+    let is_sound = is_sound(alloc, version, entries)?;
+    assert!(rt; is_sound, "{history}");
+    let lines: Vec<&str> = history.lines().skip(1).collect(alloc)?;
+    assert_lines(rt, alloc, entries, lines.as_slice())
 }
 
 /// A history with its statuses.
-fn assert_history<R: Abort>(rt: &R, alloc: Global, history: &str) -> Result<(), Fail> {
-    let journal = journal_of(alloc, history)?;
+fn assert_history<R: Abort>(rt: &R, alloc: Global, history: &str) -> Result<(), JournalFault> {
+    let mut journal = String::new(alloc);
+    push_journal(&mut journal, history)?;
     let (version, _, entries) = read_journal(alloc, journal.as_bytes())?;
-    let lines: Vec<&str> = history.lines().skip(1).collect(alloc)?;
-    assert_eq!(rt; lines.len(), entries.len());
-    match check(alloc, version, entries.as_slice())? {
-        Verdict::Sound(_) => assert_rows(rt, alloc, entries.as_slice(), lines.as_slice()),
-        Verdict::Unsound { line, rule } => {
-            let rule = rule.name();
-            Err(format!(in alloc; "line {line} {rule}")?)?
-        }
-    }
+    let looked = assert_entries(rt, alloc, version, entries.as_slice(), history);
+    drop(entries);
+    Ok(looked?)
 }
 
 #[test]
-fn worked_histories(rt: HostRuntime) -> Result<(), Fail> {
+fn worked_histories(rt: HostRuntime) -> Result<(), JournalFault> {
     for history in WORKED.split('|') {
         assert_history(&rt, rt.alloc(), history)?;
     }

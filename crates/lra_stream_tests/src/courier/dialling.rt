@@ -1,10 +1,11 @@
 //! A courier over connections in memory.
 use super::forget;
+use crate::rows::{number, parted, written_out};
 use lra_courier::{Dialler, DiallingCourier};
 use std::alloc::{AllocError, Global};
+use std::fmt::Write as _;
 use std::io;
 use std::io::{Read, Write};
-use std::test::Fail;
 
 /// A member at one socket alone, which takes so many bytes of a request and gives its reply.
 #[derive(Drop)]
@@ -59,52 +60,62 @@ impl<'a> Dialler for Member<'a> {
     }
 }
 
-// What a call to this address tells, where the member at `p.test:80` takes so many bytes of the request.
-fn told(alloc: Global, room: usize, reply: &[u8], address: &str) -> Result<String, AllocError> {
+// An address, how much of a request the member takes, its reply, where `~` ends a line, and what a call tells.
+const CALLS: &str = "\
+http://p.test/f|4096|HTTP/1.1 204 x~Content-Length: 0~~|done
+http://p.test:8080/f|4096|HTTP/1.1 204 x~Content-Length: 0~~|no connection
+http://q.test/f|4096|HTTP/1.1 204 x~Content-Length: 0~~|no connection
+http://p.test|4096|HTTP/1.1 204 x~Content-Length: 0~~|no request: not an address
+http://p.test/f|0|HTTP/1.1 204 x~Content-Length: 0~~|no request: output failed
+http://p.test/f|20|HTTP/1.1 204 x~Content-Length: 0~~|no request: output failed
+http://p.test/f|4096|HTTP/1.1 500 x~Content-Length: 0~~|silent
+http://p.test/f|4096|HTTP/1.1 20 x~Content-Length: 0~~|no response: bad head
+http://p.test/f|4096||no response: message cut short";
+
+// Takes down what a call to this address tells.
+fn put_call(
+    alloc: Global,
+    member: Member<'_>,
+    address: &str,
+    text: &mut String,
+) -> Result<(), AllocError> {
+    match DiallingCourier::over(member, alloc).try_call(&forget(address)) {
+        Ok(outcome) => text.push_str(outcome.name()),
+        Err(fault) => write!(text, "{fault}"),
+    }
+}
+
+// Whether that is what it tells.
+fn tells(alloc: Global, member: Member<'_>, address: &str, wanted: &str) -> bool {
+    let mut text = String::new(alloc);
+    let done = put_call(alloc, member, address, &mut text);
+    done.is_ok() && text.as_str() == wanted
+}
+
+// Whether the call of a row tells what the row says.
+fn row_tells(alloc: Global, row: &str) -> Option<bool> {
+    let (address, row) = parted(row, "|");
+    let (room, row) = parted(row, "|");
+    let (reply, wanted) = parted(row, "|");
     let member = Member {
         socket: "p.test:80",
-        room,
-        reply,
+        room: number(room)? as usize,
+        reply: reply.as_bytes(),
     };
-    match DiallingCourier::over(member, alloc).try_call(&forget(address)) {
-        Ok(outcome) => String::from_str(alloc, outcome.name()),
-        Err(fault) => format!(in alloc; "{fault}"),
-    }
+    Some(tells(alloc, member, address, wanted))
 }
 
-// An address, how much of a request the member takes, the code that it replies, and what is told.
-const CALLS: &str = "\
-http://p.test/f 4096 204 -> done
-http://p.test:8080/f 4096 204 -> no connection
-http://q.test/f 4096 204 -> no connection
-http://p.test 4096 204 -> no request: not an address
-http://p.test/f 0 204 -> no request: output failed
-http://p.test/f 20 204 -> no request: output failed
-http://p.test/f 4096 500 -> silent
-http://p.test/f 4096 20 -> no response: bad head";
-
-// What the call of a row tells.
-fn told_in(alloc: Global, call: &str) -> Result<String, Fail> {
-    let (address, call) = call.split_once(' ').ok_or("no room")?;
-    let (room, code) = call.split_once(' ').ok_or("no code")?;
-    let room = room.parse()?;
-    let reply = format!(in alloc; "HTTP/1.1 {code} x\r\nContent-Length: 0\r\n\r\n")?;
-    Ok(told(alloc, room, reply.as_bytes(), address)?)
+// The same of a row as the table has it.
+fn call_tells(alloc: Global, row: &str) -> Option<bool> {
+    let row = written_out(alloc, row);
+    let told = row_tells(alloc, row.as_str());
+    drop(row);
+    told
 }
 
 #[test]
-fn a_call_tells_what_came_of_it(rt: HostRuntime) -> Result<(), Fail> {
+fn a_call_tells_what_came_of_it(rt: HostRuntime) {
     for row in CALLS.lines() {
-        let (call, wanted) = row.split_once(" -> ").ok_or("nothing wanted")?;
-        let found = told_in(rt.alloc(), call)?;
-        assert_eq!(rt; found.as_str(), wanted, "{call}");
+        assert!(rt; call_tells(rt.alloc(), row) == Some(true), "{row}");
     }
-    Ok(())
-}
-
-#[test]
-fn a_response_that_does_not_come_is_told(rt: HostRuntime) -> Result<(), Fail> {
-    let found = told(rt.alloc(), 4096, b"", "http://p.test/f")?;
-    assert_eq!(rt; found.as_str(), "no response: message cut short");
-    Ok(())
 }

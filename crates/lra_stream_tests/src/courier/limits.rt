@@ -1,8 +1,8 @@
 //! A courier over a network and a clock of our own.
 use super::forget;
+use crate::rows::{number, parted};
 use lra_courier::TcpCourier;
-use lra_model::Outcome;
-use std::alloc::Global;
+use std::alloc::{AllocError, Global};
 use std::cell::Cell;
 use std::io;
 use std::io::{ErrorKind, Read, Write};
@@ -68,11 +68,8 @@ struct Slow<'a> {
 impl Read for Slow<'_> {
     fn read(&mut self, buf: &mut [u8]) -> io::Result<usize> {
         self.world.wait(self.world.read_secs);
-        let count = self.left.len().min(buf.len()).min(1);
-        let (front, left) = self.left.split_at(count);
-        buf[..count].copy_from_slice(front);
-        self.left = left;
-        Ok(count)
+        let room = buf.len().min(1);
+        self.left.read(&mut buf[..room])
     }
 }
 
@@ -164,72 +161,55 @@ impl<'a> Net for Handle<'a> {
     }
 }
 
-fn outcome(alloc: Global, world: &World, address: &str) -> Outcome {
-    TcpCourier::new(Handle { world }, alloc).call(&forget(address))
+/// How many connections fail, how many seconds each takes, and each read, the address of a call, and what comes of it: where it
+/// matters, the last port and the number of connections too. The port is the address's or 80. The limit of 30 s is one over all
+/// reads: the response comes in 18, of which the last begins once 17 are over. That of 5 s is one over all addresses, of which a
+/// name has two.
+const CALLS: &str = "\
+0 0 0 http://127.0.0.1/f -> done, port 80,
+0 0 0 http://127.0.0.1:9000/f -> done, port 9000,
+0 0 0 http://[::1]/f -> done, port 80,
+0 0 0 http://[::1]:81/f -> done, port 81,
+0 0 0 http://p.test/f -> done, port 80,
+0 0 0 http://p.test:8081/f -> done, port 8081,
+0 0 1 http://127.0.0.1:9000/f -> done,
+0 12 1 http://127.0.0.1:9000/f -> done,
+0 13 1 http://127.0.0.1:9000/f -> silent,
+0 0 2 http://127.0.0.1:9000/f -> silent,
+0 0 40 http://127.0.0.1:9000/f -> silent,
+0 4 0 http://p.test/f -> done, port 80, 1 connections
+1 4 0 http://p.test/f -> done, port 80, 2 connections
+1 5 0 http://p.test/f -> silent, port 80, 1 connections
+2 1 0 http://p.test/f -> silent, port 80, 2 connections";
+
+/// What comes of a call in a world.
+fn told(alloc: Global, world: &World, address: &str) -> Result<String, AllocError> {
+    let outcome = TcpCourier::new(Handle { world }, alloc).call(&forget(address));
+    let (name, port, connects) = (outcome.name(), world.port.get(), world.connects.get());
+    format!(in alloc; "{name}, port {port}, {connects} connections")
 }
 
-// The port of the connection over which a call to this address is answered.
-fn answered_at(alloc: Global, address: &str) -> Option<u16> {
-    let world = World::new(0, 0, 0);
-    match outcome(alloc, &world, address) {
-        Outcome::Done => Some(world.port.get()),
-        _ => None,
+/// Whether what comes of it is what is wanted.
+fn comes_to(alloc: Global, world: &World, address: &str, wanted: &str) -> bool {
+    match &told(alloc, world, address) {
+        Ok(told) => told.as_str().starts_with(wanted),
+        Err(_) => false,
     }
+}
+
+/// The same in the world of a row.
+fn row_holds(alloc: Global, row: &str) -> Option<bool> {
+    let (failing, row) = parted(row, " ");
+    let (connect_secs, row) = parted(row, " ");
+    let (read_secs, row) = parted(row, " ");
+    let (address, wanted) = parted(row, " -> ");
+    let world = World::new(number(failing)?, number(connect_secs)?, number(read_secs)?);
+    Some(comes_to(alloc, &world, address, wanted))
 }
 
 #[test]
-fn the_port_is_the_address_s_or_80(rt: HostRuntime) {
-    for (address, port) in [
-        ("http://127.0.0.1/f", 80),
-        ("http://127.0.0.1:9000/f", 9000),
-        ("http://[::1]/f", 80),
-        ("http://[::1]:81/f", 81),
-        ("http://p.test/f", 80),
-        ("http://p.test:8081/f", 8081),
-    ] {
-        assert!(rt; answered_at(rt.alloc(), address) == Some(port), "{address}");
-    }
-}
-
-// What comes of a call where the connection and each read take so many seconds.
-fn outcome_after(alloc: Global, connect_secs: u64, read_secs: u64) -> Outcome {
-    let world = World::new(0, connect_secs, read_secs);
-    outcome(alloc, &world, "http://127.0.0.1:9000/f")
-}
-
-// The response comes in 18 reads: the last begins once 17 of them are over.
-#[test]
-fn the_limit_of_30_s_is_one_over_all_reads(rt: HostRuntime) {
-    for connect_secs in [0, 12] {
-        let found = outcome_after(rt.alloc(), connect_secs, 1);
-        assert!(rt; found == Outcome::Done, "{connect_secs}");
-    }
-    for (connect_secs, read_secs) in [(13, 1), (0, 2), (0, 40)] {
-        let found = outcome_after(rt.alloc(), connect_secs, read_secs);
-        assert!(rt; found == Outcome::Silent, "{connect_secs} and {read_secs}");
-    }
-}
-
-// How many connections a call to a name asks for, of which so many fail, and what comes of it.
-fn connects(alloc: Global, failing: u64, connect_secs: u64) -> (u64, Outcome) {
-    let world = World::new(failing, connect_secs, 0);
-    let found = outcome(alloc, &world, "http://p.test/f");
-    (world.connects.get(), found)
-}
-
-// A name has two addresses, and 5 s are for both.
-#[test]
-fn the_limit_of_5_s_is_one_over_all_addresses(rt: HostRuntime) {
-    for (failing, connect_secs, count, expected) in [
-        (0, 4, 1, Outcome::Done),
-        (1, 4, 2, Outcome::Done),
-        (1, 5, 1, Outcome::Silent),
-        (2, 1, 2, Outcome::Silent),
-    ] {
-        let (asked, found) = connects(rt.alloc(), failing, connect_secs);
-        assert!(rt;
-            asked == count && found == expected,
-            "{failing} and {connect_secs}"
-        );
+fn a_call_keeps_to_its_port_and_to_the_limits(rt: HostRuntime) {
+    for row in CALLS.lines() {
+        assert!(rt; row_holds(rt.alloc(), row) == Some(true), "{row}");
     }
 }

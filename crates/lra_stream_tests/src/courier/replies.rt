@@ -1,7 +1,10 @@
+use crate::rows::{parted, written_out};
 use lra_courier::classify;
 use lra_model::{AskKind, Direction};
+use std::alloc::Global;
 
-// Kind, direction, code, the body between brackets, and the outcome.
+// Kind, direction, code, the body between brackets, and the outcome. `~` stands for a line's end, and `^` for a line feed: blanks at
+// the ends of a body don't count.
 const REPLIES: &str = "complete completion 200 [Completing] -> accepted
 complete completion 200 [Completed] -> done
 complete completion 200 [FailedToComplete] -> failed
@@ -62,45 +65,35 @@ after neither 200 [] -> done
 after neither 204 [] -> done
 after neither 300 [] -> silent
 after neither 410 [] -> done
-after neither 500 [] -> silent";
+after neither 500 [] -> silent
+compensate compensation 200 [~\t Compensating \t~] -> accepted
+compensate compensation 200 [^\"Compensating\"^] -> accepted
+compensate compensation 200 [\x0cCompensating] -> done
+compensate compensation 200 [Compen sating] -> done";
 
-// What a row's reply comes to, where the row has the form above.
-fn outcome_in(row: &str) -> Option<&'static str> {
-    let (call, body) = row.split_once(" [")?;
-    let (body, _) = body.rsplit_once(']')?;
-    let (call, code) = call.rsplit_once(' ')?;
-    let (kind, direction) = call.split_once(' ')?;
+// The name of what a reply comes to.
+fn outcome_of(kind: &str, direction: &str, code: &str, body: &str) -> Option<&'static str> {
     let kind = AskKind::from_name(kind.as_bytes())?;
     let direction = Direction::from_name(direction.as_bytes())?;
     let code = code.parse::<u16>().ok()?;
     Some(classify(kind, direction, code, body.as_bytes()).name())
 }
 
-// Whether a line's reply comes to its outcome.
-fn line_holds(line: &str) -> bool {
-    match line.split_once(" -> ") {
-        Some((row, outcome)) => outcome_in(row) == Some(outcome),
-        None => false,
-    }
+// Whether a row's reply comes to its outcome.
+fn row_holds(alloc: Global, row: &str) -> bool {
+    let row = written_out(alloc, row);
+    let (call, reply) = parted(row.as_str(), " [");
+    let (kind, call) = parted(call, " ");
+    let (direction, code) = parted(call, " ");
+    let (body, outcome) = parted(reply, "] -> ");
+    let holds = outcome_of(kind, direction, code, body) == Some(outcome);
+    drop(row);
+    holds
 }
 
 #[test]
 fn replies_come_to_outcomes(rt: HostRuntime) {
-    for line in REPLIES.lines() {
-        assert!(rt; line_holds(line), "{line}");
-    }
-}
-
-#[test]
-fn blanks_at_the_ends_of_a_body_do_not_count(rt: HostRuntime) {
-    let rows: [(&[u8], &str); 4] = [
-        (b"\r\n\t Compensating \t\r\n", "accepted"),
-        (b"\n\"Compensating\"\n", "accepted"),
-        (b"\x0cCompensating", "done"),
-        (b"Compen sating", "done"),
-    ];
-    for (body, outcome) in rows {
-        let found = classify(AskKind::Compensate, Direction::Compensation, 200, body);
-        assert_eq!(rt; found.name(), outcome);
+    for row in REPLIES.lines() {
+        assert!(rt; row_holds(rt.alloc(), row), "{row}");
     }
 }

@@ -1,14 +1,14 @@
 use crate::pieces::{Pieces, Sink};
+use crate::rows::{parted, repeated, written_out};
 use lra_courier::{Callback, SendFault};
 use lra_model::{ActionStatus, AskKind, Direction, Outcome};
 use std::alloc::Global;
-use std::test::Fail;
 
 const ACTION: &str = "http://127.0.0.1:8080/lra-coordinator/00000000-0000-8007-8000-000000000001";
 
 const RECOVERY: &str = "http://127.0.0.1:8080/lra-recovery/00000000-0000-8007-8000-000000000001";
 
-// Kind, address, and the request, a line feed for each line's end.
+// Kind, address, and the request, a line feed for each line's end, between `|`.
 const REQUESTS: &str = "complete http://p.test:9000/c
 PUT /c HTTP/1.1
 Host: p.test:9000
@@ -76,63 +76,62 @@ fn callback(kind: AskKind, address: &str) -> Callback<'_> {
     }
 }
 
-// What a writer with room for that many bytes takes of a callback's request, and how it goes.
-fn sent(alloc: Global, callback: &Callback<'_>, room: usize) -> (Vec<u8>, Result<(), SendFault>) {
+// Whether a writer with room for that many bytes takes these of a callback's request, and whether it goes so.
+fn is_sent(
+    alloc: Global,
+    callback: &Callback<'_>,
+    room: usize,
+    taken: &[u8],
+    end: Result<(), SendFault>,
+) -> bool {
     let mut sink = Sink::new(alloc, 7, room);
     let result = callback.send(alloc, &mut sink);
-    (sink.taken, result)
+    let sent = result == end && sink.taken.as_slice() == taken;
+    drop(sink);
+    sent
 }
 
-// Whether the request of a row is written for its kind and its address.
-fn is_written(alloc: Global, row: &str) -> Result<bool, Fail> {
-    let (head, request) = row.split_once('\n').ok_or("no request")?;
-    let (kind, address) = head.split_once(' ').ok_or("no address")?;
-    let kind = AskKind::from_name(kind.as_bytes()).ok_or("no kind")?;
-    let request = request.replace(alloc, "\n", "\r\n")?;
-    let (taken, result) = sent(alloc, &callback(kind, address), 4096);
-    Ok(result.is_ok() && taken.as_slice() == request.as_bytes())
-}
-
-#[test]
-fn requests_are_these_bytes(rt: HostRuntime) -> Result<(), Fail> {
-    for row in REQUESTS.split('|') {
-        assert!(rt; is_written(rt.alloc(), row)?, "{row}");
+// Whether this is a callback's request, of which a writer that fails has a front.
+fn is_written(alloc: Global, callback: &Callback<'_>, request: &[u8]) -> bool {
+    for room in 0..request.len() {
+        if !is_sent(alloc, callback, room, &request[..room], Err(SendFault::Io)) {
+            return false;
+        }
     }
-    Ok(())
+    is_sent(alloc, callback, 4096, request, Ok(()))
 }
 
-// Whether a writer with room for that many bytes fails, and has a front of the request.
-fn has_front(alloc: Global, callback: &Callback<'_>, whole: &[u8], room: usize) -> bool {
-    let (taken, result) = sent(alloc, callback, room);
-    result == Err(SendFault::Io) && taken.len() == room && whole.starts_with(taken.as_slice())
+// Whether that of a row is written for its kind and its address.
+fn row_is_written(alloc: Global, row: &str) -> Option<bool> {
+    let (head, request) = parted(row, "\n");
+    let (kind, address) = parted(head, " ");
+    let kind = AskKind::from_name(kind.as_bytes())?;
+    let request = request.replace(alloc, "\n", "\r\n").ok()?;
+    Some(is_written(alloc, &callback(kind, address), request.as_bytes()))
 }
 
 #[test]
-fn a_writer_that_fails_has_a_front_of_the_request(rt: HostRuntime) {
-    let callback = callback(AskKind::Complete, "http://p.test:9000/c");
-    let (whole, _) = sent(rt.alloc(), &callback, 4096);
-    for room in 0..whole.len() {
-        assert!(rt;
-            has_front(rt.alloc(), &callback, whole.as_slice(), room),
-            "{room}"
-        );
+fn requests_are_these_bytes_or_a_front_of_them(rt: HostRuntime) {
+    for row in REQUESTS.split('|') {
+        assert!(rt; row_is_written(rt.alloc(), row) == Some(true), "{row}");
     }
 }
 
 // Whether nothing is written to this address.
 fn is_kept_back(alloc: Global, address: &str) -> bool {
-    let (taken, result) = sent(alloc, &callback(AskKind::Complete, address), 4096);
-    result == Err(SendFault::BadAddress) && taken.is_empty()
+    let callback = callback(AskKind::Complete, address);
+    is_sent(alloc, &callback, 4096, b"", Err(SendFault::BadAddress))
 }
+
+const NO_ADDRESSES: &str = "\
+http://p.test
+HTTP://p.test/
+https://p.test/
+p.test";
 
 #[test]
 fn nothing_goes_to_what_is_no_address_as_it_stands(rt: HostRuntime) {
-    for address in [
-        "http://p.test",
-        "HTTP://p.test/",
-        "https://p.test/",
-        "p.test",
-    ] {
+    for address in NO_ADDRESSES.lines() {
         assert!(rt; is_kept_back(rt.alloc(), address), "{address}");
     }
 }
@@ -143,96 +142,82 @@ fn exchanged(alloc: Global, reader: Pieces<'_>, room: usize) -> (Outcome, usize)
     let mut writer = Sink::new(alloc, 10, room);
     let callback = callback(AskKind::Complete, "http://p.test:9000/c");
     let found = callback.exchange(alloc, reader, &mut writer);
-    (found, writer.taken.len())
+    let taken = writer.taken.len();
+    drop(writer);
+    (found, taken)
 }
 
-// What comes of one where these bytes come, in pieces of that size. Then they end, or the reader fails.
-fn outcome(alloc: Global, rest: &[u8], size: usize, fails: bool) -> Outcome {
+// Whether this comes of one where these bytes come, in pieces of that size. Then they end, or the reader fails.
+fn comes_to(alloc: Global, rest: &[u8], size: usize, fails: bool, outcome: &str) -> bool {
     let (found, _) = exchanged(alloc, Pieces { rest, size, fails }, 4096);
-    found
+    found.name() == outcome
+}
+
+// A response, `~` for each line's end, and what comes of it.
+const RESPONSES: &str = "\
+HTTP/1.1 202 ~Content-Length: 0~~|accepted
+HTTP/1.1 412 Precondition~Content-Length: 0~~|silent
+HTTP/1.1 410 Gone~Content-Length: 4~~gone|done
+HTTP/1.1 200 OK~Transfer-Encoding: chunked~~4~Comp~5~leted~0~~|done
+HTTP/1.1 200 OK~Transfer-Encoding: chunked~~10~FailedToComplete~0~~|failed
+HTTP/1.1 200 OK~Transfer-Encoding: chunked~~b~Compensated~0~~|silent
+HTTP/1.1 200 OK~Transfer-Encoding: chunked~~2~ok~0~~|done
+HTTP/1.1 100 Continue~~HTTP/1.1 409 Conflict~Content-Length: 0~~|failed";
+
+// Whether that of a row comes to its outcome, whole and byte by byte.
+fn row_comes_to_outcome(alloc: Global, row: &str) -> bool {
+    let row = written_out(alloc, row);
+    let (response, outcome) = parted(row.as_str(), "|");
+    let response = response.as_bytes();
+    let holds = comes_to(alloc, response, 1, true, outcome)
+        && comes_to(alloc, response, 4096, true, outcome);
+    drop(row);
+    holds
 }
 
 #[test]
 fn responses_come_to_outcomes_whatever_pieces_they_come_in(rt: HostRuntime) {
-    let rows: [(&str, &str); 8] = [
-        ("HTTP/1.1 202 \r\nContent-Length: 0\r\n\r\n", "accepted"),
-        (
-            "HTTP/1.1 412 Precondition\r\nContent-Length: 0\r\n\r\n",
-            "silent",
-        ),
-        ("HTTP/1.1 410 Gone\r\nContent-Length: 4\r\n\r\ngone", "done"),
-        (
-            "HTTP/1.1 200 OK\r\nTransfer-Encoding: chunked\r\n\r\n4\r\nComp\r\n5\r\nleted\r\n0\r\n\r\n",
-            "done",
-        ),
-        (
-            "HTTP/1.1 200 OK\r\nTransfer-Encoding: chunked\r\n\r\n10\r\nFailedToComplete\r\n0\r\n\r\n",
-            "failed",
-        ),
-        (
-            "HTTP/1.1 200 OK\r\nTransfer-Encoding: chunked\r\n\r\nb\r\nCompensated\r\n0\r\n\r\n",
-            "silent",
-        ),
-        (
-            "HTTP/1.1 200 OK\r\nTransfer-Encoding: chunked\r\n\r\n2\r\nok\r\n0\r\n\r\n",
-            "done",
-        ),
-        (
-            "HTTP/1.1 100 Continue\r\n\r\nHTTP/1.1 409 Conflict\r\nContent-Length: 0\r\n\r\n",
-            "failed",
-        ),
-    ];
-    for (response, name) in rows {
-        for size in [1, 4096] {
-            let found = outcome(rt.alloc(), response.as_bytes(), size, true);
-            assert_eq!(rt; found.name(), name, "{response}");
-        }
+    for row in RESPONSES.lines() {
+        assert!(rt; row_comes_to_outcome(rt.alloc(), row), "{row}");
     }
 }
 
-const DONE: &[u8] =
-    b"HTTP/1.1 200 OK\r\nTransfer-Encoding: chunked\r\n\r\n9\r\nCompleted\r\n0\r\n\r\n";
+const DONE: &str =
+    "HTTP/1.1 200 OK\r\nTransfer-Encoding: chunked\r\n\r\n9\r\nCompleted\r\n0\r\n\r\n";
+
+// Whether a response that is cut is silent, where the stream ends and where it fails.
+fn is_silent(alloc: Global, front: &[u8]) -> bool {
+    comes_to(alloc, front, 20, false, "silent") && comes_to(alloc, front, 20, true, "silent")
+}
 
 #[test]
 fn a_response_that_is_cut_is_silent(rt: HostRuntime) {
-    for end in 0..DONE.len() {
-        for fails in [false, true] {
-            let found = outcome(rt.alloc(), &DONE[..end], 20, fails);
-            assert_eq!(rt; found, Outcome::Silent);
-        }
+    let done = DONE.as_bytes();
+    for end in 0..done.len() {
+        assert!(rt; is_silent(rt.alloc(), &done[..end]), "{end}");
     }
 }
 
-// What comes of a response to which so many interim heads lead.
-fn outcome_after(alloc: Global, count: usize) -> Result<Outcome, Fail> {
-    let mut bytes = b"HTTP/1.1 103 Early\r\n\r\n".repeat(alloc, count)?;
-    bytes.extend_from_slice(DONE)?;
-    Ok(outcome(alloc, bytes.as_slice(), 4096, false))
+// Whether this comes of a response to which so many interim heads lead.
+fn comes_after(alloc: Global, count: usize, outcome: &str) -> bool {
+    match &repeated(alloc, "HTTP/1.1 103 Early\r\n\r\n", count, DONE) {
+        Ok(response) => comes_to(alloc, response.as_bytes(), 4096, false, outcome),
+        Err(_) => false,
+    }
 }
 
 #[test]
-fn eight_interim_heads_are_skipped_and_nine_are_silent(rt: HostRuntime) -> Result<(), Fail> {
-    for count in 0..10 {
-        let found = outcome_after(rt.alloc(), count)?;
-        assert!(rt; (found == Outcome::Done) == (count < 9), "{count}");
+fn eight_interim_heads_are_skipped_and_nine_are_silent(rt: HostRuntime) {
+    for count in 0..9 {
+        assert!(rt; comes_after(rt.alloc(), count, "done"), "{count}");
     }
-    Ok(())
-}
-
-// What comes of a callback whose writer has room for so many bytes, and how many it takes.
-fn outcome_with_room(alloc: Global, room: usize) -> (Outcome, usize) {
-    let reader = Pieces {
-        rest: DONE,
-        size: 4096,
-        fails: false,
-    };
-    exchanged(alloc, reader, room)
+    assert!(rt; comes_after(rt.alloc(), 9, "silent"));
 }
 
 #[test]
 fn a_callback_whose_writer_fails_is_silent(rt: HostRuntime) {
     for room in [0, 1, 100] {
-        let (found, taken) = outcome_with_room(rt.alloc(), room);
-        assert!(rt; found == Outcome::Silent && taken == room, "{room}");
+        let exchanged = exchanged(rt.alloc(), Pieces::of(DONE, 4096), room);
+        assert!(rt; exchanged == (Outcome::Silent, room), "{room}");
     }
 }

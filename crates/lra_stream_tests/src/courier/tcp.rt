@@ -1,9 +1,11 @@
-use super::errands::first_errand;
+//! A courier over sockets.
+use super::errands::errand_to;
 use super::forget;
+use crate::rows::parted;
 use lra_core::Errand;
 use lra_courier::{Courier, TcpCourier};
-use lra_model::{Outcome, Uris};
-use std::alloc::{AllocError, Global};
+use lra_model::Outcome;
+use std::alloc::Global;
 use std::io;
 use std::io::{Read, Write};
 use std::net::{Ipv4Addr, Net, SocketAddr, TcpListener, TcpStream};
@@ -19,62 +21,8 @@ where
     Ok((listener, addr))
 }
 
-// Takes a connection and answers it, once something came.
-fn answer_once(listener: &TcpListener, response: &[u8]) -> io::Result<()> {
-    let (mut stream, _) = listener.accept()?;
-    let mut piece = [0u8; 4096];
-    let _ = stream.read(&mut piece)?;
-    stream.write_all(response)
-}
-
-#[test]
-fn a_reply_comes_over_a_socket(rt: HostRuntime) -> Result<(), Fail> {
-    let (listener, addr) = listen(&rt)?;
-    let port = addr.port();
-    let address = format!(in rt.alloc(); "http://127.0.0.1:{port}/f")?;
-    let courier = TcpCourier::new(&rt, rt.alloc());
-    for (response, outcome) in [
-        ("HTTP/1.1 204 No Content\r\n\r\n", Outcome::Done),
-        ("HTTP/1.1 500 Oops\r\n\r\n", Outcome::Silent),
-        ("", Outcome::Silent),
-    ] {
-        let (found, _) = join(
-            &rt,
-            || courier.call(&forget(address.as_str())),
-            || answer_once(&listener, response.as_bytes()),
-        );
-        assert_eq!(rt; found, outcome);
-    }
-    drop(listener);
-    let found = courier.call(&forget(address.as_str()));
-    assert_eq!(rt; found, Outcome::Silent);
-    Ok(())
-}
-
-/// A member that can be asked to complete, at a port of this host.
-fn member(alloc: Global, port: u16) -> Result<Uris, AllocError> {
-    Ok(Uris {
-        compensate: Some(format!(in alloc; "http://127.0.0.1:{port}/u")?),
-        complete: Some(format!(in alloc; "http://127.0.0.1:{port}/c")?),
-        status: None,
-        forget: None,
-        after: None,
-    })
-}
-
-/// An errand to have that member complete.
-fn complete_errand(alloc: Global, port: u16) -> Result<Errand, Fail> {
-    let member = member(alloc, port)?;
-    let errand = first_errand(alloc, &member);
-    drop(member);
-    match errand {
-        Some(errand) => Ok(errand),
-        None => Err("no one is to be asked")?,
-    }
-}
-
 // Takes a connection, and answers it once the head of a request came.
-fn answer_head(listener: &TcpListener) -> io::Result<()> {
+fn answer(listener: &TcpListener, response: &str) -> io::Result<()> {
     let (mut stream, _) = listener.accept()?;
     let mut last = [0u8; 4];
     for _ in 0..4096 {
@@ -84,16 +32,60 @@ fn answer_head(listener: &TcpListener) -> io::Result<()> {
         }
         last = [last[1], last[2], last[3], byte[0]];
     }
-    stream.write_all(b"HTTP/1.1 204 No Content\r\n\r\n")
+    stream.write_all(response.as_bytes())
+}
+
+// Addresses at a port of this host: to compensate, to complete, and for the status.
+fn addresses(alloc: Global, port: u16) -> String {
+    let addresses = format!(in alloc;
+        "http://127.0.0.1:{port}/u http://127.0.0.1:{port}/c http://127.0.0.1:{port}/s"
+    );
+    addresses.unwrap_or(String::new(alloc))
+}
+
+const DONE: &str = "HTTP/1.1 204 No Content\r\n\r\n";
+
+#[test]
+fn a_reply_comes_over_a_socket(rt: HostRuntime) -> Result<(), Fail> {
+    let (listener, addr) = listen(&rt)?;
+    let addresses = addresses(rt.alloc(), addr.port());
+    let (address, _) = parted(addresses.as_str(), " ");
+    let courier = TcpCourier::new(&rt, rt.alloc());
+    for (response, outcome) in [
+        (DONE, Outcome::Done),
+        ("HTTP/1.1 500 Oops\r\n\r\n", Outcome::Silent),
+        ("", Outcome::Silent),
+    ] {
+        let (found, _) = join(
+            &rt,
+            || courier.call(&forget(address)),
+            || answer(&listener, response),
+        );
+        assert!(rt; found == outcome, "{response}");
+    }
+    drop(listener);
+    let found = courier.call(&forget(address));
+    assert!(rt; found == Outcome::Silent);
+    Ok(())
+}
+
+// An errand to a member at a port of this host.
+fn errand_at(alloc: Global, port: u16) -> Option<Errand> {
+    let addresses = addresses(alloc, port);
+    let errand = errand_to(alloc, addresses.as_str());
+    drop(addresses);
+    errand
 }
 
 #[test]
 fn an_errand_is_carried_over_a_socket(rt: HostRuntime) -> Result<(), Fail> {
     let (listener, addr) = listen(&rt)?;
-    let errand = complete_errand(rt.alloc(), addr.port())?;
+    let Some(errand) = errand_at(rt.alloc(), addr.port()) else {
+        return Err("no one is to be asked")?;
+    };
     let mut courier = TcpCourier::new(&rt, rt.alloc());
-    let (found, _) = join(&rt, || courier.carry(&errand), || answer_head(&listener));
+    let (found, _) = join(&rt, || courier.carry(&errand), || answer(&listener, DONE));
     errand.discard();
-    assert_eq!(rt; found, Outcome::Done);
+    assert!(rt; found == Outcome::Done);
     Ok(())
 }

@@ -2,9 +2,11 @@
 ghost use Rattle.std.specs.Prelude.{◌≡◌, IsTrue};
 ghost use Rattle.lra_ids.specs.Addresses.{is_base};
 
+use crate::coordinator::base;
 use lra_commands::{Counter, CounterFault, Order, Told};
 use lra_front::Clock;
 use lra_ids::{Address, Instance};
+use std::alloc::Global;
 
 #[derive(Drop)]
 pub(super) struct Worn {
@@ -13,15 +15,11 @@ pub(super) struct Worn {
     ghost is_base: { IsTrue (is_base base) },
 }
 
-impl Worn {
-    /// A counter with that instance and base.
-    pub(super) fn new(instance: Instance, base: Address) -> Option<Worn> {
-        if base.is_base() {
-            Some(Worn { instance, base })
-        } else {
-            None
-        }
-    }
+/// A counter at which nothing can be given.
+pub(super) fn worn_counter(alloc: Global) -> Option<Worn> {
+    let instance = Instance::new(7)?;
+    let base = base(alloc)?;
+    Some(Worn { instance, base })
 }
 
 impl Counter for Worn {

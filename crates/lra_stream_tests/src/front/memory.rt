@@ -1,12 +1,10 @@
 //! What a stream comes to where a growth is refused: run with one allocation failing in turn.
 
 use super::bench::{STARTED, enrolled, entries_of};
-use super::serve;
 use crate::pieces::{Pieces, Sink};
-use lra_front::{Clock, StreamEnd};
-use std::alloc::Global;
+use lra_front::{Clock, StreamEnd, serve_stream};
+use std::alloc::{AllocError, Global};
 use std::fmt::Write;
-use std::test::Fail;
 
 /// A start with a body, and a status read of what it starts.
 const STREAM: &str =
@@ -79,36 +77,14 @@ impl Clock for Asked {
     }
 }
 
-/// What the stream comes to.
-#[derive(Drop)]
-struct Come {
-    taken: Vec<u8>,
-    requests: u64,
-    entries: usize,
-    end: StreamEnd,
-}
-
-/// What the stream comes to: nothing where memory was refused before it began.
-fn serve_once(alloc: Global) -> Option<Come> {
-    let reader = Pieces {
-        rest: STREAM.as_bytes(),
-        size: 4096,
-        fails: false,
-    };
-    let sink = Sink {
-        taken: Vec::with_capacity(alloc, 4096).ok()?,
-        size: 4096,
-        room: 4096,
-    };
+/// How many requests of the stream were read at a bench of its own, how many entries it has then, and how the stream ended. Nothing,
+/// where memory was refused before it began.
+fn serve_once(alloc: Global, sink: &mut Sink) -> Option<(u64, usize, StreamEnd)> {
     let mut bench = enrolled(alloc)?;
     let mut clock = Asked { requests: 0 };
-    let (taken, end) = serve(alloc, &mut bench, &mut clock, reader, sink);
-    Some(Come {
-        taken,
-        requests: clock.requests,
-        entries: entries_of(bench),
-        end,
-    })
+    let reader = Pieces::of(STREAM, 4096);
+    let end = serve_stream(alloc, reader, sink, &mut bench, &mut clock);
+    Some((clock.requests, entries_of(bench), end))
 }
 
 /// The code of the reply that a text begins with, and what comes after it.
@@ -121,11 +97,9 @@ fn first_reply(text: &[u8]) -> Option<(&'static str, &[u8])> {
     None
 }
 
-/// Takes down what a stream came to.
-fn put(come: &Come, line: &mut String) -> Result<(), Fail> {
-    let (requests, entries, end) = (come.requests, come.entries, come.end);
-    write!(line, "{requests} requests, {entries} entries, {end:?}:")?;
-    let mut left = come.taken.as_slice();
+/// Takes down the codes of replies.
+fn put_replies(replies: &[u8], line: &mut String) -> Result<(), AllocError> {
+    let mut left = replies;
     for _ in 0..3 {
         if let Some((code, rest)) = first_reply(left) {
             write!(line, " {code}")?;
@@ -133,54 +107,63 @@ fn put(come: &Come, line: &mut String) -> Result<(), Fail> {
         }
     }
     if !left.is_empty() {
-        write!(line, " and more")?;
+        line.push_str(" and more")?;
     }
     Ok(())
 }
 
-/// What the stream comes to, taken down: nothing where memory was refused before it began.
-fn told(alloc: Global) -> Result<Option<String>, Fail> {
-    let Ok(mut line) = String::with_capacity(alloc, 128) else {
-        return Ok(None);
-    };
-    match serve_once(alloc) {
-        Some(come) => {
-            put(&come, &mut line)?;
-            Ok(Some(line))
-        }
-        None => Ok(None),
+/// Takes down what the stream came to.
+fn put(come: (u64, usize, StreamEnd), replies: &[u8], line: &mut String) -> Result<(), AllocError> {
+    let (requests, entries, end) = come;
+    write!(line, "{requests} requests, {entries} entries, {end:?}:")?;
+    put_replies(replies, line)
+}
+
+/// Takes down what the stream comes to: nothing where memory was refused before it began. There is room for its replies.
+fn put_come(alloc: Global, sink: &mut Sink, line: &mut String) -> Result<(), AllocError> {
+    sink.taken.reserve(4096)?;
+    match serve_once(alloc, sink) {
+        Some(come) => put(come, sink.taken.as_slice(), line),
+        None => Ok(()),
     }
 }
 
-/// Whether the stream came to what it does where nothing is refused.
-fn is_whole(told: &Option<String>) -> bool {
-    match told {
-        Some(line) => line.as_str() == WHOLE,
-        None => false,
+/// The same where there is room for what is taken down.
+fn put_told(alloc: Global, line: &mut String) -> Result<(), AllocError> {
+    line.reserve(128)?;
+    let mut sink = Sink::new(alloc, 4096, 4096);
+    let done = put_come(alloc, &mut sink, line);
+    drop(sink);
+    done
+}
+
+/// What the stream comes to: nothing where memory was refused before it began.
+fn told(alloc: Global) -> String {
+    let mut line = String::new(alloc);
+    if put_told(alloc, &mut line).is_err() {
+        line.clear();
     }
+    line
 }
 
 /// Whether the stream came to something that it may come to where one growth is refused.
-fn is_refused(told: &Option<String>) -> bool {
-    let Some(line) = told else {
-        return true;
-    };
+fn is_refused(told: &str) -> bool {
     for end in ENDS.lines() {
-        if line.as_str() == end {
+        if told == end {
             return true;
         }
     }
-    false
+    told.is_empty()
 }
 
 // With one growth refused in turn each end is one of these, and the next stream is answered whole.
 #[test]
-fn a_refused_growth_is_answered_where_it_can_be(rt: HostRuntime) -> Result<(), Fail> {
-    let first = told(rt.alloc())?;
-    let again = told(rt.alloc())?;
+fn a_refused_growth_is_answered_where_it_can_be(rt: HostRuntime) {
+    let first = told(rt.alloc());
+    let again = told(rt.alloc());
+    let (first, again) = (first.as_str(), again.as_str());
     assert!(rt;
-        is_whole(&first) || is_refused(&first) && is_whole(&again),
-        "{first:?}"
+        first == WHOLE || is_refused(first) && again == WHOLE,
+        "{first}"
     );
-    Ok(())
 }

@@ -3,7 +3,13 @@
 use super::*;
 
 fn is_line(version: Version, line: &[u8]) -> bool {
-    read_borrowed(version, line).is_some()
+    match read_borrowed(version, line) {
+        Some(entry) => {
+            drop(entry);
+            true
+        }
+        None => false,
+    }
 }
 
 // Each without its line feed.
@@ -74,21 +80,34 @@ const NO_WORDS: &str = "\
 1 0 renew 1 1 1
 ";
 
-#[test]
-fn numbers_and_words(rt: HostRuntime) -> Result<(), Fail> {
-    for row in LINES.lines() {
-        let line = format!(in rt.alloc(); "{row}\n")?;
-        assert!(rt; is_line(Version::One, line.as_bytes()), "{row:?}");
+// Whether a row with a line feed is a line.
+fn is_row(alloc: Global, version: Version, row: &str) -> Result<bool, Memory> {
+    let line = format!(in alloc; "{row}\n")?;
+    let is_line = is_line(version, line.as_bytes());
+    drop(line);
+    Ok(is_line)
+}
+
+// Each row with a line feed is a line, or none is.
+fn are_lines<R: Abort + AllocGlobal>(
+    rt: &R,
+    version: Version,
+    rows: &str,
+    want: bool,
+) -> Result<(), Memory> {
+    for row in rows.lines() {
+        assert!(rt; is_row(rt.alloc(), version, row)? == want, "{row:?}");
     }
-    for rows in [NO_NUMBERS, NO_WORDS] {
-        for row in rows.lines() {
-            let line = format!(in rt.alloc(); "{row}\n")?;
-            assert!(rt; !is_line(Version::Two, line.as_bytes()), "{row:?}");
-        }
-    }
-    assert!(rt; is_line(Version::Two, b"1 0 renew 1 1\n"));
-    assert!(rt; !is_line(Version::One, b"1 0 renew 1 1\n"));
     Ok(())
+}
+
+#[test]
+fn numbers_and_words(rt: HostRuntime) -> Result<(), Memory> {
+    are_lines(&rt, Version::One, LINES, true)?;
+    are_lines(&rt, Version::Two, NO_NUMBERS, false)?;
+    are_lines(&rt, Version::Two, NO_WORDS, false)?;
+    are_lines(&rt, Version::Two, "1 0 renew 1 1", true)?;
+    are_lines(&rt, Version::One, "1 0 renew 1 1", false)
 }
 
 // Each ends before a `|`.
@@ -102,56 +121,67 @@ fn separators(rt: HostRuntime) {
     }
 }
 
-// A line with these bytes, again and again, as its first address, between these ends.
+// These bytes, again and again, between these ends.
 fn around(
     alloc: Global,
     front: &str,
-    address: &[u8],
+    piece: &[u8],
     times: u32,
     back: &str,
 ) -> Result<Vec<u8>, Memory> {
     let mut line = Vec::new(alloc);
     line.extend_from_slice(front.as_bytes())?;
     for _ in 0..times {
-        line.extend_from_slice(address)?;
+        line.extend_from_slice(piece)?;
     }
     line.extend_from_slice(back.as_bytes())?;
     Ok(line)
 }
 
-// Whether a `join` with such a compensate address is a line.
-fn is_address(alloc: Global, address: &[u8], times: u32) -> Result<bool, Memory> {
-    let line = around(alloc, "1 2 join 3 4 ", address, times, " complete * * *\n")?;
-    Ok(is_line(Version::One, line.as_slice()))
+// A `join` with such a compensate address is a line, or is none.
+fn is_address<R: Abort + AllocGlobal>(
+    rt: &R,
+    piece: &[u8],
+    times: u32,
+    want: bool,
+) -> Result<(), Memory> {
+    let line = around(
+        rt.alloc(),
+        "1 2 join 3 4 ",
+        piece,
+        times,
+        " complete * * *\n",
+    )?;
+    let found = is_line(Version::One, line.as_slice());
+    drop(line);
+    assert!(rt; found == want, "{times} of {piece:?}");
+    Ok(())
+}
+
+// Each ends before a `|`.
+fn are_addresses<R: Abort + AllocGlobal>(rt: &R, texts: &str, want: bool) -> Result<(), Memory> {
+    for text in texts.split('|') {
+        is_address(rt, text.as_bytes(), 1, want)?;
+    }
+    Ok(())
 }
 
 #[test]
-fn addresses(rt: HostRuntime) -> Result<(), Fail> {
-    for address in "*|**|!|~".split('|') {
-        assert!(rt;
-            is_address(rt.alloc(), address.as_bytes(), 1)?,
-            "{address:?}"
-        );
-    }
-    for address in "|a b|a\tb|a\rb|a\nb|a\0|a\u{1f}|a\u{7f}|a\u{80}|é".split('|') {
-        assert!(rt;
-            !is_address(rt.alloc(), address.as_bytes(), 1)?,
-            "{address:?}"
-        );
-    }
-    assert!(rt; !is_address(rt.alloc(), &[b'a', 0xff], 1)?);
-    assert!(rt; is_address(rt.alloc(), b"a", 512)?);
-    assert!(rt; !is_address(rt.alloc(), b"a", 513)?);
-    Ok(())
+fn addresses(rt: HostRuntime) -> Result<(), Memory> {
+    are_addresses(&rt, "*|**|!|~", true)?;
+    are_addresses(
+        &rt,
+        "|a b|a\tb|a\rb|a\nb|a\0|a\u{1f}|a\u{7f}|a\u{80}|é",
+        false,
+    )?;
+    is_address(&rt, &[b'a', 0xff], 1, false)?;
+    is_address(&rt, b"a", 512, true)?;
+    is_address(&rt, b"a", 513, false)
 }
 
 // Five addresses of 512 bytes, and the greatest numbers.
 fn longest(alloc: Global, last: &str) -> Result<Vec<u8>, Memory> {
-    let mut address = Vec::new(alloc);
-    address.push(b' ')?;
-    for _ in 0..512 {
-        address.push(b'a')?;
-    }
+    let address = around(alloc, " ", b"a", 512, "")?;
     around(
         alloc,
         "4294967295 18446744073709551615 join 18446744073709551615 18446744073709551615",
@@ -161,14 +191,21 @@ fn longest(alloc: Global, last: &str) -> Result<Vec<u8>, Memory> {
     )
 }
 
+// Whether that is a line, and how long it is.
+fn is_longest(alloc: Global, version: Version, last: &str) -> Result<(bool, usize), Memory> {
+    let line = longest(alloc, last)?;
+    let (found, len) = (is_line(version, line.as_slice()), line.len());
+    drop(line);
+    Ok((found, len))
+}
+
 #[test]
-fn the_longest_line(rt: HostRuntime) -> Result<(), Fail> {
-    let line = longest(rt.alloc(), "\n")?;
-    assert_eq!(rt; line.len(), 2644);
-    assert!(rt; is_line(Version::One, line.as_slice()));
+fn the_longest_line(rt: HostRuntime) -> Result<(), Memory> {
+    let (found, len) = is_longest(rt.alloc(), Version::One, "\n")?;
+    assert!(rt; found && len == 2644);
     for last in "a\n| \n|\n\n| *\n".split('|') {
-        let longer = longest(rt.alloc(), last)?;
-        assert!(rt; !is_line(Version::Two, longer.as_slice()), "{last:?}");
+        let (found, _) = is_longest(rt.alloc(), Version::Two, last)?;
+        assert!(rt; !found, "{last:?}");
     }
     Ok(())
 }

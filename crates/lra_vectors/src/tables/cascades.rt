@@ -2,63 +2,60 @@
 //! ends first.
 
 use super::assert_history;
+use lra_journal::JournalFault;
 use lra_model::Memory;
-use std::alloc::Global;
-use std::test::Fail;
 
 /// How many actions the chain has.
 const DEPTH: u64 = 64;
 
-/// Ends a line: so many actions have one status, and so many have another.
-fn push_statuses(
-    text: &mut String,
-    (count, status): (u64, &str),
-    (others, other): (u64, &str),
-) -> Result<(), Memory> {
-    text.push_str(" -> ")?;
+/// So many actions have this status.
+fn push_status(text: &mut String, count: u64, status: &str) -> Result<(), Memory> {
     for _ in 0..count {
         text.push_str(status)?;
-        text.push(' ')?;
     }
-    for _ in 0..others {
-        text.push_str(other)?;
-        text.push(' ')?;
-    }
+    Ok(())
+}
+
+/// Ends a line: so many actions are cancelling, and so many others have another status.
+fn push_statuses(text: &mut String, count: u64, others: u64, other: &str) -> Result<(), Memory> {
+    text.push_str(" -> ")?;
+    push_status(text, count, "Cancelling ")?;
+    push_status(text, others, other)?;
     text.push_str("/\n")
 }
 
 /// The chain is started.
-fn push_starts(text: &mut String, alloc: Global) -> Result<(), Memory> {
+fn push_starts(text: &mut String) -> Result<(), Memory> {
     text.push_str("lra-journal 1 7\n1 0 enrol -> /\n1 0 start 1 * 0 -> Active /\n")?;
     for parent in 1..DEPTH {
         let action = parent + 1;
-        text.push_str(format!(in alloc; "1 0 start {action} {parent} 0")?.as_str())?;
-        push_statuses(text, (action, "Active"), (0, ""))?;
+        write!(text, "1 0 start {action} {parent} 0")?;
+        push_statuses(text, 0, action, "Active ")?;
     }
     Ok(())
 }
 
 /// Its top is cancelled, and all below.
-fn push_cancels(text: &mut String, alloc: Global) -> Result<(), Memory> {
+fn push_cancels(text: &mut String) -> Result<(), Memory> {
     text.push_str("1 1 cancel 1 client")?;
-    push_statuses(text, (1, "Cancelling"), (DEPTH - 1, "Active"))?;
+    push_statuses(text, 1, DEPTH - 1, "Active ")?;
     for parent in 1..DEPTH {
         let action = parent + 1;
-        text.push_str(format!(in alloc; "+ 1 1 cancel {action} parent")?.as_str())?;
-        push_statuses(text, (action, "Cancelling"), (DEPTH - action, "Active"))?;
+        write!(text, "+ 1 1 cancel {action} parent")?;
+        push_statuses(text, action, DEPTH - action, "Active ")?;
     }
     for ended in 0..DEPTH {
         let action = DEPTH - ended;
-        text.push_str(format!(in alloc; "+ 1 1 end {action} Cancelled")?.as_str())?;
-        push_statuses(text, (action - 1, "Cancelling"), (ended + 1, "Cancelled"))?;
+        write!(text, "+ 1 1 end {action} Cancelled")?;
+        push_statuses(text, action - 1, ended + 1, "Cancelled ")?;
     }
     Ok(())
 }
 
 #[test]
-fn a_chain_is_cancelled_from_its_top(rt: HostRuntime) -> Result<(), Fail> {
+fn a_chain_is_cancelled_from_its_top(rt: HostRuntime) -> Result<(), JournalFault> {
     let mut text = String::new(rt.alloc());
-    push_starts(&mut text, rt.alloc())?;
-    push_cancels(&mut text, rt.alloc())?;
+    push_starts(&mut text)?;
+    push_cancels(&mut text)?;
     assert_history(&rt, rt.alloc(), text.as_str())
 }

@@ -1,20 +1,18 @@
 //! Tables where a growth is refused: run with one allocation failing in turn (`rt try --test --fail-alloc N`). A call after it
 //! has memory.
 
-ghost use Rattle.std.specs.Prelude.{◌≡◌, true, OnOk};
+ghost use Rattle.std.specs.Prelude.{◌≡◌, true, OnOk, IfOk, []};
 ghost use Rattle.lra_model.specs.declared.version.Version.{Version};
 ghost use Rattle.lra_model.specs.Rules.{is_legal};
 ghost use Rattle.lra_ids.specs.Addresses.{is_address};
-ghost use Rattle.lra_laws.specs.Sheets.{Follows, sheet_after};
+ghost use Rattle.lra_laws.specs.Sheets.{Follows, sheet_of, sheet_after};
 
-use super::planned;
-use lra_auditor::{Verdict, check};
+use super::{is_sound, plan_of};
 use lra_journal::read_journal;
 use lra_model::{Entry, Memory, Version};
 use lra_tables::Tables;
 use std::alloc::{AllocError, Global};
 use std::process::Abort;
-use std::test::Fail;
 
 /// Every deed: members of an action and of one nested in it, one that leaves, one that is completed without being asked, and
 /// one that only hears of the end.
@@ -54,6 +52,14 @@ fn entries_of(alloc: Global) -> Result<(Version, Vec<Entry>), Memory> {
     match read_journal(alloc, JOURNAL.as_bytes()) {
         Ok((version, _, entries)) => Ok((version, entries)),
         Err(_) => Err(AllocError),
+    }
+}
+
+/// The entries of the journal. Where that is refused, the second try has memory.
+fn entries_again(alloc: Global) -> Result<(Version, Vec<Entry>), Memory> {
+    match entries_of(alloc) {
+        Ok(read) => Ok(read),
+        Err(_) => entries_of(alloc),
     }
 }
 
@@ -115,13 +121,19 @@ fn are_same_counts(left: &Tables, right: &Tables) -> bool {
     )
 }
 
+/// Whether two tables have the same rows.
+fn are_same(left: &Tables, right: &Tables) -> bool {
+    for number in 0..4 {
+        if !is_same_action(left, right, number) || !is_same_member(left, right, number + 1) {
+            return false;
+        }
+    }
+    are_same_counts(left, right)
+}
+
 /// Two tables have the same rows.
 fn assert_same<R: Abort>(rt: &R, left: &Tables, right: &Tables) {
-    assert!(rt; are_same_counts(left, right));
-    for number in 0..4 {
-        assert!(rt; is_same_action(left, right, number));
-        assert!(rt; is_same_member(left, right, number + 1));
-    }
+    assert!(rt; are_same(left, right));
 }
 
 /// Applies an entry to tables beside others of the same history: where that is refused they are as before, and it isn't the
@@ -153,49 +165,92 @@ fn follow(tables: &mut Tables, entry: &Entry) -> Result<(), Memory>
     Ok(())
 }
 
-/// Plans an entry: where that is refused the rows are as before, and it isn't the second time. Then the plan is dropped.
-fn plan<R: Abort>(rt: &R, tables: &mut Tables, others: &Tables, entry: &Entry) -> Result<(), Memory>
+/// Whether there is memory to plan an entry. The plan is dropped.
+fn is_planned(tables: &mut Tables, entry: &Entry) -> bool
     requires { Follows tables.old.sheet entry.now }
     ensures { tables.new.sheet ≡ tables.old.sheet }
 {
-    let first = planned(tables, entry);
+    match plan_of(tables, entry) {
+        Ok(plan) => {
+            drop(plan);
+            true
+        }
+        Err(_) => false,
+    }
+}
+
+/// Plans an entry: where that is refused the rows are as before, and it isn't the second time.
+fn plan<R: Abort>(rt: &R, tables: &mut Tables, others: &Tables, entry: &Entry)
+    requires { Follows tables.old.sheet entry.now }
+    ensures { tables.new.sheet ≡ tables.old.sheet }
+{
+    let is_first = is_planned(tables, entry);
     assert_same(rt, tables, others);
-    if first.is_err() {
-        planned(tables, entry)?;
+    if !is_first {
+        let is_second = is_planned(tables, entry);
+        assert!(rt; is_second);
+        assert_same(rt, tables, others);
+    }
+}
+
+/// Plans and applies each entry of a history to empty tables, beside others.
+fn fill<R: Abort>(
+    rt: &R,
+    tables: &mut Tables,
+    others: &mut Tables,
+    entries: &[Entry],
+) -> Result<(), Memory>
+    requires legal { (v : Version) × (is_legal v is_address entries.now ≡ true) }
+    requires empty { tables.old.sheet ≡ sheet_of [] }
+    requires others { others.old.sheet ≡ sheet_of [] }
+{
+    for entry in entries {
+        plan(rt, tables, others, entry);
+        apply(rt, tables, others, entry)?;
+        follow(others, entry)?;
         assert_same(rt, tables, others);
     }
     Ok(())
 }
 
 /// Plans and applies each entry of a history.
-fn fill<R: Abort>(rt: &R, alloc: Global, entries: &[Entry]) -> Result<(), Memory>
+fn fill_empty<R: Abort>(rt: &R, alloc: Global, entries: &[Entry]) -> Result<(), Memory>
     requires { (v : Version) × (is_legal v is_address entries.now ≡ true) }
 {
     let mut tables = Tables::empty(alloc);
     let mut others = Tables::empty(alloc);
-    for entry in entries {
-        plan(rt, &mut tables, &others, entry)?;
-        apply(rt, &mut tables, &others, entry)?;
-        follow(&mut others, entry)?;
-        assert_same(rt, &tables, &others);
+    let filled = fill(rt, &mut tables, &mut others, entries);
+    drop(tables);
+    drop(others);
+    filled
+}
+
+/// Whether the entries are a legal history. Where memory for that is refused, the second try has it.
+fn is_sound_again(alloc: Global, version: Version, entries: &[Entry]) -> Result<bool, Memory>
+    ensures { IfOk result (λ sound. sound ≡ is_legal version is_address entries.now) }
+{
+    match is_sound(alloc, version, entries) {
+        Ok(sound) => Ok(sound),
+        Err(_) => is_sound(alloc, version, entries),
     }
-    Ok(())
+}
+
+fn fill_sound<R: Abort>(
+    rt: &R,
+    alloc: Global,
+    version: Version,
+    entries: &[Entry],
+) -> Result<(), Memory> {
+    assert_eq!(rt; entries.len(), 27);
+    let is_sound = is_sound_again(alloc, version, entries)?;
+    assert!(rt; is_sound);
+    fill_empty(rt, alloc, entries)
 }
 
 #[test]
-fn a_refused_growth_leaves_the_rows_as_they_were(rt: HostRuntime) -> Result<(), Fail> {
-    let (version, entries) = match entries_of(rt.alloc()) {
-        Ok(read) => read,
-        Err(_) => entries_of(rt.alloc())?,
-    };
-    assert_eq!(rt; entries.len(), 27);
-    let sound = match check(rt.alloc(), version, entries.as_slice()) {
-        Ok(verdict) => verdict,
-        Err(_) => check(rt.alloc(), version, entries.as_slice())?,
-    };
-    assert!(rt; matches!(sound, Verdict::Sound(_)));
-    if let Verdict::Sound(_) = sound {
-        fill(&rt, rt.alloc(), entries.as_slice())?;
-    }
-    Ok(())
+fn a_refused_growth_leaves_the_rows_as_they_were(rt: HostRuntime) -> Result<(), Memory> {
+    let (version, entries) = entries_again(rt.alloc())?;
+    let filled = fill_sound(&rt, rt.alloc(), version, entries.as_slice());
+    drop(entries);
+    filled
 }

@@ -1,5 +1,5 @@
 use Rattle.std.proofs.Common.{◌≡◌, ◌+◌, length}
-use Rattle.lra_vectors.proofs.auditor.audit_in_pieces.Given as goal
+use Rattle.lra_vectors.proofs.auditor.feed_pieces.Given as goal
 
 abbrev pub invariant-loop-rt : goal.invariant-loop-rt
 invariant-loop-rt g l = l.auditor.fed + length l.rest ≡ length l.bytes
