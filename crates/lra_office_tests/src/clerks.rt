@@ -4,24 +4,36 @@ ghost use Rattle.std.specs.Prelude.{◌≡◌, IfOk, IfSome};
 ghost use Rattle.lra_office.specs.Clerks.{IsClerkOf};
 ghost use Rattle.lra_ticket.specs.Locks.{lock_id, pass_id, pass_view};
 
-use crate::making::{enrolled, made, shut};
+use crate::making::{enrolled, enrolled_two, made, shut};
+use crate::signals::{Signals, wait_for};
 use lra_core::Told;
 use lra_journal::read_journal;
-use lra_model::ActionStatus;
-use lra_office::{Clerk, Office, Serving, TryRefusal};
+use lra_model::{ActionStatus, Entry};
+use lra_office::{Clerk, Office, OfficeRefusal, Serving, TryRefusal};
 use lra_ticket::Pass;
 use std::alloc::Global;
 use std::io::{self, Write};
 use std::marker::Send;
-use std::str::from_utf8;
 use std::sync::Wait;
-use std::sync::atomic::{AtomicBool, Ordering};
+use std::sync::atomic::Ordering;
 use std::test::Fail;
-use std::thread::{Threads, join, sleep};
-use std::time::{Clock, Duration};
+use std::thread::{Threads, join};
+use std::time::Clock;
 
-/// A clerk of an office, and whether it is answered as one who is alone.
-fn acts_alone<V: Serving, R: Wait>(
+/// Whether a clerk is answered as one who is alone.
+fn acts_alone<V: Serving, R: Wait>(rt: &R, office: &Office<V>, clerk: &mut Clerk<V>) -> bool
+    requires { IsClerkOf office.now.lock clerk.old }
+    ensures { IsClerkOf office.now.lock clerk.new }
+{
+    let started = office.start(rt, clerk, 0, None, 0) == Ok(Told::Action(1));
+    let closed = office.try_close(clerk, 5, 1) == Ok(Told::Now(ActionStatus::Closed));
+    let status = Told::ActionIs(ActionStatus::Closed);
+    let told = office.try_status(clerk, 1) == Ok(status);
+    started && closed && told
+}
+
+/// The only clerk of an office, and whether it is answered as one who is alone.
+fn alone<V: Serving, R: Wait>(
     rt: &R,
     office: &Office<V>,
     pass: Pass<V>,
@@ -31,23 +43,34 @@ fn acts_alone<V: Serving, R: Wait>(
     ensures { IfOk result (λ r. IsClerkOf office.now.lock r.0) }
 {
     let mut clerk = enrolled(rt, office, pass)?;
-    let started = office.start(rt, &mut clerk, 0, None, 0) == Ok(Told::Action(1));
-    let closed = office.try_close(&mut clerk, 5, 1) == Ok(Told::Now(ActionStatus::Closed));
-    let status = Told::ActionIs(ActionStatus::Closed);
-    let told = office.try_status(&mut clerk, 1) == Ok(status);
-    Ok((clerk, started && closed && told))
+    let is_served = acts_alone(rt, office, &mut clerk);
+    Ok((clerk, is_served))
+}
+
+/// The same at a new office, with its journal.
+fn alone_at<R: Wait>(rt: &R, alloc: Global) -> Result<(Vec<u8>, bool), Fail> {
+    let (office, pass) = made(alloc, Vec::new(alloc))?;
+    let worked = alone(rt, &office, pass);
+    shut(office, worked)
 }
 
 #[test]
 fn who_is_alone_is_never_told_to_wait(rt: HostRuntime) -> Result<(), Fail> {
-    let (office, pass) = made(rt.alloc(), Vec::new(rt.alloc()))?;
-    let (clerk, is_served) = acts_alone(&rt, &office, pass)?;
-    let journal = shut(office, clerk)?;
-    assert!(rt; is_served);
+    let (journal, is_served) = alone_at(&rt, rt.alloc())?;
     let wanted =
         "lra-journal 2 7\n1 0 enrol\n1 0 start 1 * 0\n1 5 close 1 client\n1 5 end 1 Closed\n";
-    assert_eq!(rt; from_utf8(&journal)?, wanted);
+    let is_wanted = journal.as_slice() == wanted.as_bytes();
+    drop(journal);
+    assert!(rt; is_served && is_wanted);
     Ok(())
+}
+
+/// The number of an action that was started.
+fn started(told: Result<Told, OfficeRefusal>) -> Option<u64> {
+    match told {
+        Ok(Told::Action(action)) => Some(action),
+        _ => None,
+    }
 }
 
 /// Starts an action, and tells its number.
@@ -59,9 +82,12 @@ fn starts<V: Serving, R: Wait>(
     requires { IsClerkOf office.now.lock clerk }
     ensures { IfSome result (λ r. IsClerkOf office.now.lock r.0) }
 {
-    match office.start(rt, &mut clerk, 1, None, 0) {
-        Ok(Told::Action(action)) => Some((clerk, action)),
-        _ => None,
+    match started(office.start(rt, &mut clerk, 1, None, 0)) {
+        Some(action) => Some((clerk, action)),
+        None => {
+            drop(clerk);
+            None
+        }
     }
 }
 
@@ -77,7 +103,10 @@ fn enrols_and_starts<V: Serving, R: Wait>(
 {
     match office.clerk(rt, pass, 1) {
         Ok(clerk) => starts(rt, office, clerk),
-        Err(_) => None,
+        Err(refused) => {
+            drop(refused);
+            None
+        }
     }
 }
 
@@ -103,21 +132,35 @@ fn two<V: Serving + Send, R: Threads + Wait + Sync>(
             ensures { IfSome result (λ r. IsClerkOf office.entry.now.lock r.0) }
         { enrols_and_starts(rt, office, pass) },
     );
-    let (first, _) = first?;
-    let (second, action) = second?;
+    let Some((first, _)) = first else {
+        drop(second);
+        return None;
+    };
+    let Some((second, action)) = second else {
+        drop(first);
+        return None;
+    };
     Some((first, second, action))
 }
 
-/// How many entries of a journal bear a number.
-fn count_by(alloc: Global, journal: &[u8], number: u32) -> Result<u32, Fail> {
-    let (_, _, entries) = read_journal(alloc, journal)?;
+/// How many entries bear a number.
+fn count_by(entries: &[Entry], number: u32) -> u32 {
     let mut count = 0u32;
-    for entry in entries.as_slice() {
+    for entry in entries {
         if entry.by == number {
             count = count.saturating_add(1);
         }
     }
-    Ok(count)
+    count
+}
+
+/// How many entries of a journal bear the numbers 1, 2 and 3.
+fn counts(alloc: Global, journal: &[u8]) -> Result<(u32, u32, u32), Fail> {
+    let (_, _, entries) = read_journal(alloc, journal)?;
+    let all = entries.as_slice();
+    let counts = (count_by(all, 1), count_by(all, 2), count_by(all, 3));
+    drop(entries);
+    Ok(counts)
 }
 
 /// What is left of two clerks that met, and whether one has seen what the other did in its thread.
@@ -147,41 +190,16 @@ fn meet_at<W: Write + Drop + Send, R: Threads + Wait + Sync>(
     writer: W,
 ) -> Result<(W, bool), Fail> {
     let (office, pass) = made(alloc, writer)?;
-    let (clerk, has_seen) = sees_the_other(rt, &office, pass)?;
-    Ok((shut(office, clerk)?, has_seen))
+    let worked = sees_the_other(rt, &office, pass);
+    shut(office, worked)
 }
 
 #[test]
 fn a_clerk_sees_what_another_did_in_its_thread(rt: HostRuntime) -> Result<(), Fail> {
     let (journal, has_seen) = meet_at(&rt, rt.alloc(), Vec::new(rt.alloc()))?;
     assert!(rt; has_seen);
-    for number in 1..3u32 {
-        assert_eq!(rt; count_by(rt.alloc(), &journal, number)?, 2);
-    }
-    assert_eq!(rt; count_by(rt.alloc(), &journal, 3)?, 0);
+    assert_eq!(rt; counts(rt.alloc(), journal.as_slice())?, (2, 2, 0));
     Ok(())
-}
-
-/// What a writer and the thread beside it tell one another.
-#[derive(Drop)]
-struct Signals {
-    /// The writer is to wait from now on.
-    armed: AtomicBool,
-    /// It was called, and waits.
-    entered: AtomicBool,
-    /// It may go on.
-    answered: AtomicBool,
-}
-
-/// Waits for a signal, ten seconds at most, and tells whether it came.
-fn wait_for<R: Clock>(rt: &R, signal: &AtomicBool) -> bool {
-    for _ in 0..1_000 {
-        if signal.load(Ordering::SeqCst) {
-            return true;
-        }
-        sleep(rt, Duration::from_millis(10));
-    }
-    false
 }
 
 /// A writer in memory that waits, once it is armed, until another thread was answered.
@@ -211,7 +229,9 @@ impl<R: Clock> Write for Slow<'_, R> {
 fn starts_slowly<V: Serving, R: Wait>(rt: &R, office: &Office<V>, mut clerk: Clerk<V>) -> bool
     requires { IsClerkOf office.now.lock clerk }
 {
-    office.start(rt, &mut clerk, 1, None, 0) == Ok(Told::Action(1))
+    let told = office.start(rt, &mut clerk, 1, None, 0);
+    drop(clerk);
+    told == Ok(Told::Action(1))
 }
 
 /// Whether a status is asked for in vain once the writer waits.
@@ -225,6 +245,7 @@ fn is_told_busy<V: Serving, R: Clock>(
 {
     let has_entered = wait_for(rt, &signals.entered);
     let answer = office.try_status(&mut clerk, 1);
+    drop(clerk);
     signals.answered.store(true, Ordering::SeqCst);
     has_entered && answer == Err(TryRefusal::Busy)
 }
@@ -239,8 +260,7 @@ fn do_overlap<V: Serving + Send, R: Threads + Wait + Clock + Sync>(
     requires lock { pass_id pass ≡ lock_id office.now.lock }
     requires newcomer { (pass_view pass).number ≡ 0 }
 {
-    let (first, pass) = office.split(enrolled(rt, office, pass)?);
-    let second = enrolled(rt, office, pass)?;
+    let (first, second) = enrolled_two(rt, office, pass)?;
     signals.armed.store(true, Ordering::SeqCst);
     let (started, busy) = join(
         rt,
@@ -262,16 +282,14 @@ fn overlap_at<W: Write + Drop + Send, R: Threads + Wait + Clock + Sync>(
     signals: &Signals,
 ) -> Result<bool, Fail> {
     let (office, pass) = made(alloc, writer)?;
-    do_overlap(rt, &office, pass, signals)
+    let told = do_overlap(rt, &office, pass, signals);
+    drop(office);
+    told
 }
 
 #[test]
 fn a_try_beside_one_who_is_served_is_busy(rt: HostRuntime) -> Result<(), Fail> {
-    let signals = Signals {
-        armed: AtomicBool::new(false),
-        entered: AtomicBool::new(false),
-        answered: AtomicBool::new(false),
-    };
+    let signals = Signals::new();
     let writer = Slow {
         rt: &rt,
         signals: &signals,

@@ -6,7 +6,7 @@ ghost use Rattle.lra_office.specs.Clerks.{clerk_view, IsClerkOf};
 ghost use Rattle.lra_office.specs.Windows.{IsOfficeOf};
 ghost use Rattle.lra_ticket.specs.Locks.{lock_id, pass_id, pass_view};
 
-use crate::making::{enrolled, made, shut};
+use crate::making::{enrolled_two, made, shut};
 use crate::workers::Still;
 use lra_office::{Clerk, Office, Serving};
 use lra_ticket::Pass;
@@ -117,7 +117,9 @@ fn two_answer<V: Serving + Send, R: Threads + Wait + Sync>(
         { answers_one(rt, alloc, door, office, second) },
     );
     let (clerk, has_ended) = one;
-    (clerk, has_ended && other.1)
+    let (other, other_has_ended) = other;
+    drop(other);
+    (clerk, has_ended && other_has_ended)
 }
 
 /// What a client reads, and how the two end who answer it.
@@ -140,8 +142,7 @@ fn visited<
     requires made { IsOfficeOf (V.setting (pass_view pass).origin) office.now }
     ensures { IfOk result (λ r. IsClerkOf office.now.lock r.0) }
 {
-    let (first, pass) = office.split(enrolled(rt, office, pass)?);
-    let second = enrolled(rt, office, pass)?;
+    let (first, second) = enrolled_two(rt, office, pass)?;
     let ((clerk, have_ended), replies) = join(
         rt,
         move || -> (Clerk<V>, bool)
@@ -165,8 +166,8 @@ fn visited_at<
     address: SocketAddr,
 ) -> Result<(W, Visited), Fail> {
     let (office, pass) = made(alloc, writer)?;
-    let (clerk, seen) = visited(rt, alloc, &office, pass, door, address)?;
-    Ok((shut(office, clerk)?, seen))
+    let worked = visited(rt, alloc, &office, pass, door, address);
+    shut(office, worked)
 }
 
 #[test]

@@ -6,9 +6,13 @@ mod clerks;
 #[cfg(test)]
 mod connections;
 #[cfg(test)]
+mod faulty;
+#[cfg(test)]
 mod making;
 #[cfg(test)]
 mod scribe;
+#[cfg(test)]
+mod signals;
 #[cfg(test)]
 mod stopping;
 #[cfg(test)]

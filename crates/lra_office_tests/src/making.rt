@@ -8,9 +8,10 @@ ghost use Rattle.lra_ticket.specs.Locks.{lock_id, pass_id, pass_view};
 
 use lra_core::{Instance, Limits};
 use lra_ids::{Address, address};
+use lra_model::Uris;
 use lra_office::{Clerk, Desk, Office, Serving};
 use lra_ticket::Pass;
-use std::alloc::Global;
+use std::alloc::{AllocError, Global};
 use std::io::Write;
 use std::sync::Wait;
 use std::test::Fail;
@@ -23,6 +24,7 @@ pub fn base(alloc: Global) -> Result<Address, Fail>
     if base.is_base() {
         Ok(base)
     } else {
+        drop(base);
         Err("no base")?
     }
 }
@@ -39,7 +41,10 @@ pub fn made<W: Write + Drop>(
     let instance = Instance::new(7).ok_or("no instance")?;
     match Office::create(alloc, instance, base(alloc)?, Limits::usual(), writer) {
         Ok(made) => Ok(made),
-        Err(_) => Err("an office can be made")?,
+        Err(refused) => {
+            drop(refused);
+            Err("an office can be made")?
+        }
     }
 }
 
@@ -56,16 +61,85 @@ pub fn enrolled<V: Serving, R: Wait>(
 {
     match office.clerk(rt, pass, 0) {
         Ok(clerk) => Ok(clerk),
-        Err(_) => Err("a clerk can be enrolled")?,
+        Err(refused) => {
+            drop(refused);
+            Err("a clerk can be enrolled")?
+        }
     }
 }
 
-/// The writer of an office that is shut.
-pub fn shut<W: Write + Drop>(office: Office<Desk<W>>, clerk: Clerk<Desk<W>>) -> Result<W, Fail>
+/// Enrols two clerks.
+pub fn enrolled_two<V: Serving, R: Wait>(
+    rt: &R,
+    office: &Office<V>,
+    pass: Pass<V>,
+) -> Result<(Clerk<V>, Clerk<V>), Fail>
+    requires lock { pass_id pass ≡ lock_id office.now.lock }
+    requires newcomer { (pass_view pass).number ≡ 0 }
+    ensures first { IfOk result (λ r. IsClerkOf office.now.lock r.0) }
+    ensures second { IfOk result (λ r. IsClerkOf office.now.lock r.1) }
+    ensures first_origin { IfOk result (λ r. (clerk_view r.0).origin ≡ (pass_view pass).origin) }
+    ensures second_origin { IfOk result (λ r. (clerk_view r.1).origin ≡ (pass_view pass).origin) }
+{
+    let (first, pass) = office.split(enrolled(rt, office, pass)?);
+    match enrolled(rt, office, pass) {
+        Ok(second) => Ok((first, second)),
+        Err(fault) => {
+            drop(first);
+            Err(fault)
+        }
+    }
+}
+
+/// Shuts an office by its clerk, and gives its writer beside what was told.
+pub fn ended<W: Write + Drop, T: Drop>(
+    office: Office<Desk<W>>,
+    clerk: Clerk<Desk<W>>,
+    told: T,
+) -> Result<(W, T), Fail>
     requires { IsClerkOf office.lock clerk }
 {
     match office.shut(clerk) {
-        Ok((_, scribe)) => Ok(scribe.into_writer()),
-        Err(_) => Err("the lock is free")?,
+        Ok((coordinator, scribe)) => {
+            drop(coordinator);
+            Ok((scribe.into_writer(), told))
+        }
+        Err(left) => {
+            drop(left);
+            drop(told);
+            Err("the lock is free")?
+        }
     }
+}
+
+/// Shuts an office after the work that was done there, and gives its writer beside what the work told.
+pub fn shut<W: Write + Drop, T: Drop>(
+    office: Office<Desk<W>>,
+    worked: Result<(Clerk<Desk<W>>, T), Fail>,
+) -> Result<(W, T), Fail>
+    requires { IfOk worked (λ r. IsClerkOf office.lock r.0) }
+{
+    match worked {
+        Ok((clerk, told)) => ended(office, clerk, told),
+        Err(fault) => {
+            drop(office);
+            Err(fault)
+        }
+    }
+}
+
+/// The addresses of a participant at a host: of a compensation and a completion, and of its status where that is asked for.
+pub fn participant(alloc: Global, host: &str, has_status: bool) -> Result<Uris, AllocError> {
+    let status = if has_status {
+        Some(format!(in alloc; "{host}/s")?)
+    } else {
+        None
+    };
+    Ok(Uris {
+        compensate: Some(format!(in alloc; "{host}/u")?),
+        complete: Some(format!(in alloc; "{host}/c")?),
+        status,
+        forget: None,
+        after: None,
+    })
 }

@@ -1,15 +1,19 @@
 //! What is left of an office when its writer fails, and what goes on from there.
 
+ghost use Rattle.std.specs.Prelude.{◌≡◌};
 ghost use Rattle.lra_office.specs.Clerks.{IsClerkOf};
+ghost use Rattle.lra_ticket.specs.Locks.{lock_id, pass_id, pass_view};
 
-use crate::making::base;
+use crate::faulty::Faulty;
+use crate::making::{base, ended, participant};
 use lra_auditor::{Verdict, audit};
 use lra_core::{Errand, Instance, Limits, Refusal, Told};
 use lra_journal::whole;
 use lra_model::{ActionStatus, Ending, Outcome, Rule, Uris, suits};
 use lra_office::{Clerk, Desk, Office, OfficeRefusal, ReopenFault, StartFault};
+use lra_ticket::Pass;
 use std::alloc::Global;
-use std::io::{self, Error, ErrorKind, Write};
+use std::io::ErrorKind;
 use std::sync::Wait;
 use std::test::Fail;
 
@@ -17,63 +21,23 @@ use std::test::Fail;
 const JOURNAL: &str =
     "lra-journal 2 7\n1 0 enrol\n1 10 start 1 * 0\n1 11 join 1 1 http://p.test/u http://p.test/c http://p.test/s * *\n1 12 join 2 1 http://q.test/u http://q.test/c * * *\n1 20 close 1 client\n1 21 ask 1 1 complete\n1 22 ask 2 2 complete\n1 23 reply 2 done\n1 24 reply 1 accepted\n1 30 report 1 done\n1 30 end 1 Closed\n";
 
-/// A writer in memory, with so much room, one of whose calls goes wrong. It would go on after that.
-#[derive(Drop)]
-struct Faulty {
-    taken: Vec<u8>,
-    room: usize,
-    /// Which call goes wrong, counted from 1.
-    bad_call: u32,
-    calls: u32,
-}
-
-impl Write for Faulty {
-    fn write(&mut self, buf: &[u8]) -> io::Result<usize> {
-        self.calls = self.calls.saturating_add(1);
-        let count = buf.len().min(self.room);
-        if self.calls == self.bad_call || count == 0 {
-            return Err(Error::from(ErrorKind::Other));
-        }
-        self.taken.extend_from_slice(&buf[..count])?;
-        self.room = self.room.saturating_sub(count);
-        Ok(count)
-    }
-
-    fn flush(&mut self) -> io::Result<()> {
-        Ok(())
-    }
-}
-
+/// A writer with so much room, one of whose calls fails.
 fn writer_with(alloc: Global, room: usize, bad_call: u32) -> Faulty {
     Faulty {
         taken: Vec::new(alloc),
         room,
+        piece: usize::MAX,
         bad_call,
+        fault: Some(ErrorKind::Other),
         calls: 0,
     }
-}
-
-/// A participant with all the addresses that its name gives and a `complete`, and a `status` if it is asked for.
-fn participant(alloc: Global, name: &str, has_status: bool) -> Result<Uris, Fail> {
-    let status = if has_status {
-        Some(format!(in alloc; "http://{name}.test/s")?)
-    } else {
-        None
-    };
-    Ok(Uris {
-        compensate: Some(format!(in alloc; "http://{name}.test/u")?),
-        complete: Some(format!(in alloc; "http://{name}.test/c")?),
-        status,
-        forget: None,
-        after: None,
-    })
 }
 
 /// What came of each command after the enrolment, and of a status at the end, by a letter.
 ///
 /// `t` where something was told, `S` where it was refused since the writer has failed, `x` where it was refused else, and `-` where nothing
 /// was to be done; of the status `a` for Active, `g` for Closing and `d` for Closed.
-#[derive(Clone, Copy, PartialEq, Eq)]
+#[derive(Clone, Copy)]
 struct Answers {
     letters: [u8; 10],
     count: usize,
@@ -82,7 +46,7 @@ struct Answers {
 impl Answers {
     /// Whether they are what is to come of the commands where so many were told something.
     fn are_of(&self, told: usize) -> bool {
-        match ANSWERS.get(told) {
+        match ANSWERS.lines().nth(told) {
             Some(letters) => letters.as_bytes() == self.letters.as_slice(),
             None => false,
         }
@@ -129,20 +93,20 @@ fn refusal_letter(fault: OfficeRefusal) -> u8 {
 }
 
 /// What is to come of the commands, by how many of all ten were told something, the enrolment among them: the one whose text doesn't fit
-/// is stopped, and so is each later one that would write. What is refused anyhow, or writes nothing, is answered as ever.
-const ANSWERS: [&str; 11] = [
-    "----------",
-    "Sxxx----xx",
-    "tSSS----xa",
-    "ttSS----xa",
-    "tttS----xa",
-    "ttttSS--xg",
-    "tttttS-SSg",
-    "ttttttSSSg",
-    "tttttttSSg",
-    "ttttttttSg",
-    "tttttttttd",
-];
+/// is stopped, and so is each later one that would write. What is refused anyhow, or writes nothing, is answered as ever. The first line
+/// is of none.
+const ANSWERS: &str = "\
+----------
+Sxxx----xx
+tSSS----xa
+ttSS----xa
+tttS----xa
+ttttSS--xg
+tttttS-SSg
+ttttttSSSg
+tttttttSSg
+ttttttttSg
+tttttttttd";
 
 /// Asks for something that is due.
 fn ask<R: Wait>(
@@ -197,6 +161,40 @@ fn record<R: Wait>(
     }
 }
 
+/// Starts the action, which both join, and closes it.
+fn give_orders<R: Wait>(
+    rt: &R,
+    office: &Office<Desk<Faulty>>,
+    clerk: &mut Clerk<Desk<Faulty>>,
+    first: &Uris,
+    second: &Uris,
+    answers: &mut Answers,
+)
+    requires { IsClerkOf office.now.lock clerk.old }
+    ensures { IsClerkOf office.now.lock clerk.new }
+{
+    answers.note_told(office.start(rt, clerk, 10, None, 0));
+    answers.note_told(office.join(rt, clerk, 11, 1, first));
+    answers.note_told(office.join(rt, clerk, 12, 1, second));
+    answers.note_told(office.close(rt, clerk, 20, 1));
+}
+
+/// Asks both, and records what came of it.
+fn ask_both<R: Wait>(
+    rt: &R,
+    office: &Office<Desk<Faulty>>,
+    clerk: &mut Clerk<Desk<Faulty>>,
+    answers: &mut Answers,
+)
+    requires { IsClerkOf office.now.lock clerk.old }
+    ensures { IsClerkOf office.now.lock clerk.new }
+{
+    let one = ask(rt, office, clerk, 21, answers);
+    let two = ask(rt, office, clerk, 22, answers);
+    record(rt, office, clerk, 23, two, Outcome::Done, answers);
+    record(rt, office, clerk, 24, one, Outcome::Accepted, answers);
+}
+
 /// The commands of the journal, but for the first, and then a status.
 fn give_all<R: Wait>(
     rt: &R,
@@ -209,49 +207,71 @@ fn give_all<R: Wait>(
     ensures { IsClerkOf office.now.lock clerk.new }
 {
     let mut answers = Answers::new();
-    answers.note_told(office.start(rt, clerk, 10, None, 0));
-    answers.note_told(office.join(rt, clerk, 11, 1, first));
-    answers.note_told(office.join(rt, clerk, 12, 1, second));
-    answers.note_told(office.close(rt, clerk, 20, 1));
-    let one = ask(rt, office, clerk, 21, &mut answers);
-    let two = ask(rt, office, clerk, 22, &mut answers);
-    record(rt, office, clerk, 23, two, Outcome::Done, &mut answers);
-    record(rt, office, clerk, 24, one, Outcome::Accepted, &mut answers);
+    give_orders(rt, office, clerk, first, second, &mut answers);
+    ask_both(rt, office, clerk, &mut answers);
     answers.note_told(office.report(rt, clerk, 30, 1, Ending::Completed));
     answers.note_told(office.status(rt, clerk, 1));
     answers
 }
 
-/// What is left of the commands in an office: what came of them, and the writer. Where the clerk's enrolment was stopped, there is
-/// none.
+/// What came of the commands in an office, and its writer. Where the clerk's enrolment was stopped, there is none.
+type Ran = Option<(Faulty, Answers)>;
+
+/// Gives the commands by a clerk, and shuts the office.
+fn run_by<R: Wait>(
+    rt: &R,
+    office: Office<Desk<Faulty>>,
+    mut clerk: Clerk<Desk<Faulty>>,
+    first: &Uris,
+    second: &Uris,
+) -> Result<Ran, Fail>
+    requires { IsClerkOf office.lock clerk }
+{
+    let answers = give_all(rt, &office, &mut clerk, first, second);
+    Ok(Some(ended(office, clerk, answers)?))
+}
+
+/// Enrols the clerk, and gives the commands by it.
+fn run_at<R: Wait>(
+    rt: &R,
+    office: Office<Desk<Faulty>>,
+    pass: Pass<Desk<Faulty>>,
+    first: &Uris,
+    second: &Uris,
+) -> Result<Ran, Fail>
+    requires lock { pass_id pass ≡ lock_id office.lock }
+    requires newcomer { (pass_view pass).number ≡ 0 }
+{
+    match office.clerk(rt, pass, 0) {
+        Ok(clerk) => run_by(rt, office, clerk, first, second),
+        Err((pass, fault)) => {
+            drop(pass);
+            drop(office);
+            if fault == OfficeRefusal::Refused(Refusal::Stopped) {
+                Ok(None)
+            } else {
+                Err("a clerk is enrolled, or stopped")?
+            }
+        }
+    }
+}
+
+/// Makes the office, and gives the commands there.
 fn run<R: Wait>(
     rt: &R,
     alloc: Global,
     first: &Uris,
     second: &Uris,
     writer: Faulty,
-) -> Result<Option<(Answers, Faulty)>, Fail> {
+) -> Result<Ran, Fail> {
     let instance = Instance::new(7).ok_or("no instance")?;
-    let (office, pass) = match Office::create(
-        alloc,
-        instance,
-        base(alloc)?,
-        Limits::usual(),
-        writer,
-    ) {
-        Ok(made) => made,
-        Err((StartFault::Stopped, Some(writer))) => return Ok(Some((Answers::new(), writer))),
-        Err(_) => return Err("no memory")?,
-    };
-    let mut clerk = match office.clerk(rt, pass, 0) {
-        Ok(clerk) => clerk,
-        Err((_, OfficeRefusal::Refused(Refusal::Stopped))) => return Ok(None),
-        Err(_) => return Err("a clerk is enrolled, or stopped")?,
-    };
-    let answers = give_all(rt, &office, &mut clerk, first, second);
-    match office.shut(clerk) {
-        Ok((_, scribe)) => Ok(Some((answers, scribe.into_writer()))),
-        Err(_) => Err("the lock is free")?,
+    match Office::create(alloc, instance, base(alloc)?, Limits::usual(), writer) {
+        Ok((office, pass)) => run_at(rt, office, pass, first, second),
+        Err((StartFault::Stopped, Some(writer))) => Ok(Some((writer, Answers::new()))),
+        Err(refused) => {
+            drop(refused);
+            Err("no memory")?
+        }
     }
 }
 
@@ -285,8 +305,10 @@ fn stops_in_time<R: Wait>(
     let (front, _) = JOURNAL.as_bytes().split_at(room.min(JOURNAL.len()));
     let lines = count_lines(front);
     match run(rt, alloc, first, second, writer_with(alloc, room, 0))? {
-        Some((answers, writer)) => {
-            Ok(writer.taken.as_slice() == front && answers.are_of(fitting(lines)))
+        Some((writer, answers)) => {
+            let is_front = writer.taken.as_slice() == front;
+            drop(writer);
+            Ok(is_front && answers.are_of(fitting(lines)))
         }
         None => Ok(lines == 1),
     }
@@ -302,16 +324,34 @@ fn is_left_alone<R: Wait>(
 ) -> Result<bool, Fail> {
     let writer = writer_with(alloc, JOURNAL.len(), bad_call);
     match run(rt, alloc, first, second, writer)? {
-        Some((answers, writer)) => {
+        Some((writer, answers)) => {
+            let calls = writer.calls;
             let lines = count_lines(writer.taken.as_slice());
-            Ok(
-                writer.calls == bad_call
-                    && JOURNAL.as_bytes().starts_with(writer.taken.as_slice())
-                    && lines.saturating_add(1) == bad_call
-                    && answers.are_of(fitting(lines)),
-            )
+            let is_front = JOURNAL.as_bytes().starts_with(writer.taken.as_slice());
+            drop(writer);
+            let is_last = calls == bad_call && lines.saturating_add(1) == bad_call;
+            Ok(is_front && is_last && answers.are_of(fitting(lines)))
         }
         None => Ok(bad_call == 2),
+    }
+}
+
+/// What an office has written that goes on from a journal, once an action was started there and it is shut.
+fn started_at<R: Wait>(
+    rt: &R,
+    office: Office<Desk<Faulty>>,
+    mut clerk: Clerk<Desk<Faulty>>,
+    moment: u64,
+) -> Result<Vec<u8>, Fail>
+    requires { IsClerkOf office.lock clerk }
+{
+    let is_started = office.start(rt, &mut clerk, moment, None, 0).is_ok();
+    let (writer, is_started) = ended(office, clerk, is_started)?;
+    if is_started {
+        Ok(writer.taken)
+    } else {
+        drop(writer);
+        Err("an action can be started")?
     }
 }
 
@@ -324,7 +364,7 @@ fn go_on<R: Wait>(
 ) -> Result<Result<Vec<u8>, ReopenFault>, Fail> {
     let journal = Vec::from_slice(alloc, bytes)?;
     let writer = writer_with(alloc, usize::MAX, 0);
-    let (office, mut clerk) = match Office::reopen(
+    match Office::reopen(
         alloc,
         journal,
         base(alloc)?,
@@ -332,16 +372,19 @@ fn go_on<R: Wait>(
         writer,
         moment,
     ) {
-        Ok(opened) => opened,
-        Err((fault, _)) => return Ok(Err(fault)),
-    };
-    if office.start(rt, &mut clerk, moment, None, 0).is_err() {
-        return Err("an action can be started")?;
+        Ok((office, clerk)) => Ok(Ok(started_at(rt, office, clerk, moment)?)),
+        Err((fault, writer)) => {
+            drop(writer);
+            Ok(Err(fault))
+        }
     }
-    match office.shut(clerk) {
-        Ok((_, scribe)) => Ok(Ok(scribe.into_writer().taken)),
-        Err(_) => Err("the lock is free")?,
-    }
+}
+
+/// Whether a journal's lines and what was written after them make a sound journal.
+fn is_sound(alloc: Global, lines: &[u8], written: &[u8]) -> Result<bool, Fail> {
+    let mut journal = Vec::from_slice(alloc, lines)?;
+    journal.extend_from_slice(written)?;
+    Ok(matches!(audit(alloc, journal.as_slice())?, Verdict::Sound(_)))
 }
 
 /// Whether so many bytes of the journal are reopened just where they have its header, and what is written then makes a sound journal.
@@ -350,15 +393,41 @@ fn reopens<R: Wait>(rt: &R, alloc: Global, room: usize) -> Result<bool, Fail> {
     match go_on(rt, alloc, front, 31)? {
         Ok(written) => {
             let (lines, _) = front.split_at(whole(front));
-            let mut journal = Vec::from_slice(alloc, lines)?;
-            journal.extend_from_slice(written.as_slice())?;
-            Ok(room >= 16 && matches!(audit(alloc, journal.as_slice())?, Verdict::Sound(_)))
+            Ok(room >= 16 && is_sound(alloc, lines, written.as_slice())?)
         }
         Err(fault) => {
             let line = 1;
             let rule = Rule::Header;
             Ok(room < 16 && fault == ReopenFault::Unsound { line, rule })
         }
+    }
+}
+
+/// The first room at which reopening comes to something else.
+fn first_unsound<R: Wait>(rt: &R, alloc: Global) -> Result<Option<usize>, Fail> {
+    for room in 0..JOURNAL.len() + 1 {
+        if !reopens(rt, alloc, room)? {
+            return Ok(Some(room));
+        }
+    }
+    Ok(None)
+}
+
+/// Whether a journal is sound, and gone on from by these lines.
+fn goes_on_by<R: Wait>(
+    rt: &R,
+    alloc: Global,
+    journal: &str,
+    moment: u64,
+    lines: &str,
+) -> Result<bool, Fail> {
+    match go_on(rt, alloc, journal.as_bytes(), moment)? {
+        Ok(written) => {
+            let is_wanted = written.as_slice() == lines.as_bytes();
+            drop(written);
+            Ok(is_wanted)
+        }
+        Err(_) => Ok(false),
     }
 }
 
@@ -376,7 +445,10 @@ fn is_full(alloc: Global) -> Result<bool, Fail> {
     let writer = writer_with(alloc, usize::MAX, 0);
     match Office::reopen(alloc, journal, base(alloc)?, limits, writer, 9) {
         Err((ReopenFault::Full, Some(writer))) => Ok(writer.calls == 0),
-        _ => Ok(false),
+        other => {
+            drop(other);
+            Ok(false)
+        }
     }
 }
 
@@ -402,36 +474,29 @@ fn first_astray<R: Wait>(
 
 #[test]
 fn a_writer_that_fails_is_called_no_more(rt: HostRuntime) -> Result<(), Fail> {
-    let first = participant(rt.alloc(), "p", true)?;
-    let second = participant(rt.alloc(), "q", false)?;
+    let first = participant(rt.alloc(), "http://p.test", true)?;
+    let second = participant(rt.alloc(), "http://q.test", false)?;
     let astray = first_astray(&rt, rt.alloc(), &first, &second)?;
     assert!(rt; astray.is_none());
     Ok(())
 }
 
-#[test]
-fn a_journal_is_reopened_from_whatever_whole_lines_are_left(rt: HostRuntime) -> Result<(), Fail> {
-    for room in 0..JOURNAL.len() + 1 {
-        let sound = reopens(&rt, rt.alloc(), room)?;
-        assert!(rt; sound, "of {room}");
-    }
-    let Ok(written) = go_on(&rt, rt.alloc(), TORN.as_bytes(), 9)? else {
-        panic!(rt; "it is sound")
-    };
-    assert!(rt;
-        written.as_slice()
-            == b"2 9 enrol\n2 9 skip 1\n2 9 end 1 Closed\n2 9 restart\n2 9 start 2 * 0\n".as_slice()
-    );
+/// Whether a torn journal is gone on from by the end that it lacks, and one without its last end by that.
+fn lacking_ends_are_added<R: Wait>(rt: &R, alloc: Global) -> Result<bool, Fail> {
+    let torn = "2 9 enrol\n2 9 skip 1\n2 9 end 1 Closed\n2 9 restart\n2 9 start 2 * 0\n";
+    let is_mended = goes_on_by(rt, alloc, TORN, 9, torn)?;
     let unended = JOURNAL
         .strip_suffix("1 30 end 1 Closed\n")
         .ok_or("it has an end")?;
-    let Ok(written) = go_on(&rt, rt.alloc(), unended.as_bytes(), 40)? else {
-        panic!(rt; "it is sound")
-    };
-    assert!(rt;
-        written.as_slice()
-            == b"2 40 enrol\n2 40 end 1 Closed\n2 40 restart\n2 40 start 2 * 0\n".as_slice()
-    );
+    let lines = "2 40 enrol\n2 40 end 1 Closed\n2 40 restart\n2 40 start 2 * 0\n";
+    Ok(goes_on_by(rt, alloc, unended, 40, lines)? && is_mended)
+}
+
+#[test]
+fn a_journal_is_reopened_from_whatever_whole_lines_are_left(rt: HostRuntime) -> Result<(), Fail> {
+    let unsound = first_unsound(&rt, rt.alloc())?;
+    assert!(rt; unsound.is_none(), "of {unsound:?}");
+    assert!(rt; lacking_ends_are_added(&rt, rt.alloc())?);
     assert!(rt; is_full(rt.alloc())?);
     Ok(())
 }

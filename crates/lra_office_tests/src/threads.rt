@@ -1,12 +1,12 @@
 //! Sixteen threads at one office: what each of them did stands in the journal once, and in order.
 
-ghost use Rattle.std.specs.Prelude.{◌≡◌, All, IfOk};
+ghost use Rattle.std.specs.Prelude.{◌≡◌, [], All, IfOk, OnOk};
 ghost use Rattle.lra_office.specs.Clerks.{IsClerkOf};
 ghost use Rattle.lra_ticket.specs.Locks.{lock_id, pass_id, pass_view};
 
-use crate::making::{enrolled, made, shut};
+use crate::making::{enrolled, made, participant, shut};
 use lra_auditor::{Summary, Verdict, audit};
-use lra_core::{Refusal, Told};
+use lra_core::{Errand, Refusal, Told};
 use lra_journal::read_journal;
 use lra_model::{Deed, Entry, Outcome, Uris, suits};
 use lra_office::{Clerk, Office, OfficeRefusal, Serving};
@@ -30,7 +30,7 @@ const COMMANDS: u64 = 1_000;
 const STARTING: u64 = 50;
 
 /// The entry that a command writes first.
-#[derive(Clone, Copy, Debug, PartialEq, Eq)]
+#[derive(Clone, Copy, PartialEq, Eq)]
 enum Own {
     Start(u64),
     Join(u64),
@@ -74,14 +74,18 @@ fn note(
 }
 
 /// The addresses of one who joins at this turn of a clerk.
-fn participant(alloc: Global, number: u32, turn: u64) -> Result<Uris, AllocError> {
-    Ok(Uris {
-        compensate: Some(format!(in alloc; "http://p{number}.test/u{turn}")?),
-        complete: Some(format!(in alloc; "http://p{number}.test/c{turn}")?),
-        status: None,
-        forget: None,
-        after: None,
-    })
+fn joining(alloc: Global, number: u32, turn: u64) -> Result<Uris, AllocError> {
+    let host = format!(in alloc; "http://p{number}.test/{turn}")?;
+    participant(alloc, &host, false)
+}
+
+/// What comes of an ask: every seventh fails.
+fn outcome_of(ask: u64) -> Outcome {
+    if ask % 7 == 0 {
+        Outcome::Failed
+    } else {
+        Outcome::Done
+    }
 }
 
 /// One who works at an office in a thread.
@@ -107,10 +111,11 @@ impl<V: Serving, R: Wait> Worker<'_, V, R> {
     }
 
     fn join(&mut self, moment: u64, action: u64) -> Option<()> {
-        let uris = participant(self.alloc, self.number, moment).ok()?;
+        let uris = joining(self.alloc, self.number, moment).ok()?;
         let told = self
             .office
             .join(self.rt, &mut self.clerk, moment, action, &uris);
+        drop(uris);
         note(&mut self.written, None, told)
     }
 
@@ -152,20 +157,19 @@ impl<V: Serving, R: Wait> Worker<'_, V, R> {
         Some(())
     }
 
-    /// Asks who is to be asked, and takes down that it is done, or has failed. Where no one is, it tells a status.
+    /// Asks who is to be asked, and takes down what comes of it. Where no one is, it tells a status.
     fn ask(&mut self, moment: u64) -> Option<()> {
-        let Ok(asked) = self.office.next_ask(self.rt, &mut self.clerk, moment) else {
-            return None;
-        };
-        let Some(errand) = asked else {
-            return self.tell();
-        };
+        match self.office.next_ask(self.rt, &mut self.clerk, moment) {
+            Ok(Some(errand)) => self.answer(moment, errand),
+            Ok(None) => self.tell(),
+            Err(_) => None,
+        }
+    }
+
+    /// Takes down that what is asked is done, or has failed.
+    fn answer(&mut self, moment: u64, errand: Errand) -> Option<()> {
         let ask = errand.ask();
-        let outcome = if ask % 7 == 0 {
-            Outcome::Failed
-        } else {
-            Outcome::Done
-        };
+        let outcome = outcome_of(ask);
         if !suits(errand.kind(), outcome) {
             errand.discard();
             return None;
@@ -174,15 +178,18 @@ impl<V: Serving, R: Wait> Worker<'_, V, R> {
             .office
             .record(self.rt, &mut self.clerk, moment, errand, outcome)
         {
-            Ok(told) => {
-                self.written.push(Own::Ask(ask)).ok()?;
-                note(&mut self.written, Some(Own::Reply(ask)), Ok(told))
-            }
+            Ok(told) => self.note_reply(ask, told),
             Err((_, errand)) => {
                 errand.discard();
                 None
             }
         }
+    }
+
+    /// Takes down an ask and its reply.
+    fn note_reply(&mut self, ask: u64, told: Told) -> Option<()> {
+        self.written.push(Own::Ask(ask)).ok()?;
+        note(&mut self.written, Some(Own::Reply(ask)), Ok(told))
     }
 
     /// Tells the status of the first action, if there is one.
@@ -203,14 +210,20 @@ impl<V: Serving, R: Wait> Worker<'_, V, R> {
         Some(())
     }
 
-    /// What its commands wrote, where each was told what it may be.
-    fn work(mut self) -> Option<Vec<Own>> {
+    /// Does all its commands, where each is told what it may be.
+    fn work(&mut self) -> Option<()> {
         if self.number <= ASKING {
-            self.ask_all()?;
+            self.ask_all()
         } else {
-            self.act()?;
+            self.act()
         }
-        Some(self.written)
+    }
+
+    /// What its commands wrote.
+    fn into_written(self) -> Vec<Own> {
+        let Worker { clerk, written, .. } = self;
+        drop(clerk);
+        written
     }
 }
 
@@ -224,7 +237,7 @@ fn work_of<V: Serving, R: Wait>(
 ) -> Option<Vec<Own>>
     requires { IsClerkOf office.now.lock clerk }
 {
-    let worker = Worker {
+    let mut worker = Worker {
         rt,
         alloc,
         office,
@@ -232,30 +245,35 @@ fn work_of<V: Serving, R: Wait>(
         number,
         written: Vec::new(alloc),
     };
-    worker.work()
+    let done = worker.work();
+    let written = worker.into_written();
+    done.map(|()| written)
 }
 
-/// Clerks with the numbers from 1 on, and a pass for one more.
+/// Adds clerks with the numbers from 1 on, and gives a pass for one more.
 fn clerks<V: Serving, R: Wait>(
     rt: &R,
-    alloc: Global,
     office: &Office<V>,
     mut pass: Pass<V>,
-) -> Result<(Vec<(u32, Clerk<V>)>, Pass<V>), Fail>
+    all: &mut Vec<(u32, Clerk<V>)>,
+) -> Result<Pass<V>, Fail>
+    requires none { all.old.items ≡ [] }
     requires lock { pass_id pass ≡ lock_id office.now.lock }
     requires newcomer { (pass_view pass).number ≡ 0 }
-    ensures jobs { IfOk result (λ r. All (λ job. IsClerkOf office.now.lock job.1) r.0.items) }
-    ensures lock { IfOk result (λ r. pass_id r.1 ≡ lock_id office.now.lock) }
-    ensures newcomer { IfOk result (λ r. (pass_view r.1).number ≡ 0) }
+    ensures jobs { OnOk result (All (λ job. IsClerkOf office.now.lock job.1) all.new.items) }
+    ensures lock { IfOk result (λ pass. pass_id pass ≡ lock_id office.now.lock) }
+    ensures newcomer { IfOk result (λ pass. (pass_view pass).number ≡ 0) }
 {
-    let mut all = Vec::new(alloc);
     for place in 0..THREADS {
         let (clerk, other) = office.split(enrolled(rt, office, pass)?);
         pass = other;
         all.push((place + 1, clerk))?;
     }
-    Ok((all, pass))
+    Ok(pass)
 }
+
+/// What each thread wrote.
+type Written = Result<Vec<Option<Vec<Own>>>, AllocError>;
 
 /// What each clerk writes, in a thread of its own.
 fn work_all<V: Serving + Send, R: Threads + Wait + Sync>(
@@ -263,7 +281,7 @@ fn work_all<V: Serving + Send, R: Threads + Wait + Sync>(
     alloc: Global,
     office: &Office<V>,
     jobs: Vec<(u32, Clerk<V>)>,
-) -> Result<Vec<Option<Vec<Own>>>, AllocError>
+) -> Written
     requires { All (λ job. IsClerkOf office.now.lock job.1) jobs.items }
 {
     thread::map_vec(
@@ -281,15 +299,21 @@ fn work_at<V: Serving + Send, R: Threads + Wait + Sync>(
     alloc: Global,
     office: &Office<V>,
     pass: Pass<V>,
-) -> Result<(Clerk<V>, Vec<Option<Vec<Own>>>), Fail>
+) -> Result<(Clerk<V>, Written), Fail>
     requires lock { pass_id pass ≡ lock_id office.now.lock }
     requires newcomer { (pass_view pass).number ≡ 0 }
     ensures { IfOk result (λ r. IsClerkOf office.now.lock r.0) }
 {
-    let (jobs, pass) = clerks(rt, alloc, office, pass)?;
-    let written = work_all(rt, alloc, office, jobs)?;
-    let clerk = enrolled(rt, office, pass)?;
-    Ok((clerk, written))
+    let mut jobs = Vec::new(alloc);
+    let pass = clerks(rt, office, pass, &mut jobs)?;
+    let written = work_all(rt, alloc, office, jobs);
+    match enrolled(rt, office, pass) {
+        Ok(clerk) => Ok((clerk, written)),
+        Err(fault) => {
+            drop(written);
+            Err(fault)
+        }
+    }
 }
 
 /// The writer once all threads have ended, and what each of them wrote.
@@ -297,10 +321,10 @@ fn run<W: Write + Drop + Send, R: Threads + Wait + Sync>(
     rt: &R,
     alloc: Global,
     writer: W,
-) -> Result<(W, Vec<Option<Vec<Own>>>), Fail> {
+) -> Result<(W, Written), Fail> {
     let (office, pass) = made(alloc, writer)?;
-    let (clerk, written) = work_at(rt, alloc, &office, pass)?;
-    Ok((shut(office, clerk)?, written))
+    let worked = work_at(rt, alloc, &office, pass);
+    shut(office, worked)
 }
 
 /// Whether the commands' entries of a number are these, in this order.
@@ -329,31 +353,48 @@ fn summary(alloc: Global, journal: &[u8]) -> Result<Summary, Fail> {
     }
 }
 
-/// Whether what each thread wrote stands in the journal once and in order, under its clerk's number, and how many entries that
-/// is in all.
-fn stand_in(
-    alloc: Global,
-    journal: &[u8],
-    written: &[Option<Vec<Own>>],
-) -> Result<(bool, u64), Fail> {
-    let (_, _, entries) = read_journal(alloc, journal)?;
+/// Whether what each thread wrote stands among the entries once and in order, under its clerk's number, and how many entries that is
+/// in all.
+fn stand_among(entries: &[Entry], written: &[Option<Vec<Own>>]) -> Result<(bool, u64), Fail> {
     let mut stand = true;
     let mut count = 0u64;
     let mut number = 0u32;
     for own in written {
         let own = own.as_ref().ok_or("a command wasn't done")?;
         number = number.saturating_add(1);
-        stand = stand && are_of(entries.as_slice(), number, own.as_slice());
+        stand = are_of(entries, number, own.as_slice()) && stand;
         count = count.saturating_add(own.len() as u64);
     }
     Ok((stand, count))
 }
 
+/// The same of a journal's entries.
+fn stand_in(
+    alloc: Global,
+    journal: &[u8],
+    written: &[Option<Vec<Own>>],
+) -> Result<(bool, u64), Fail> {
+    let (_, _, entries) = read_journal(alloc, journal)?;
+    let told = stand_among(entries.as_slice(), written);
+    drop(entries);
+    told
+}
+
+/// Whether what each thread wrote stands in the journal, how many entries that is, and the summary of the journal.
+fn told_of(alloc: Global, journal: &[u8], written: &Written) -> Result<(bool, u64, Summary), Fail> {
+    let Ok(written) = written else {
+        return Err("there is memory for all")?;
+    };
+    let (stand, count) = stand_in(alloc, journal, written.as_slice())?;
+    Ok((stand, count, summary(alloc, journal)?))
+}
+
 #[test]
 fn sixteen_threads_have_one_history(rt: HostRuntime) -> Result<(), Fail> {
     let (journal, written) = run(&rt, rt.alloc(), Vec::new(rt.alloc()))?;
-    let summary = summary(rt.alloc(), journal.as_slice())?;
-    let (stand, count) = stand_in(rt.alloc(), journal.as_slice(), written.as_slice())?;
+    let told = told_of(rt.alloc(), journal.as_slice(), &written);
+    drop(written);
+    let (stand, count, summary) = told?;
     assert!(rt; stand);
     let ended = summary.actions.saturating_sub(summary.unended);
     let enrolled = u64::from(THREADS) + 1;

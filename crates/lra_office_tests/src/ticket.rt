@@ -1,17 +1,19 @@
 //! The lock, with a list of entries behind it.
-ghost use Rattle.std.specs.Prelude.{◌≡◌, ◌≢◌, ℕ, ◌<◌, [], ◌∷◌, ◌++◌, true, if◌then◌else◌, IfSome};
+ghost use Rattle.std.specs.Prelude.{◌≡◌, ◌≢◌, ℕ, ◌<◌, [], ◌∷◌, ◌++◌, true, if◌then◌else◌, IfOk, IfSome};
 ghost use Rattle.std.specs.Thread.{IsSync};
 ghost use Rattle.lra_ticket.specs.History.{entries_by};
 ghost use Rattle.lra_ticket.specs.Locks.{lock_id, pass_id, held_id, pass_view, held_view};
 
-use crossbeam_channel::{Receiver, Sender, unbounded};
-use lra_model::{Deed, Entry};
+use crate::signals::{Signals, wait_for};
+use lra_model::{Deed, Entry, Memory};
 use lra_ticket::example::{AddFault, EntryLock, EntryPass, add};
 use lra_ticket::{Held, TryFault, Worn};
 use std::alloc::Global;
 use std::sync::Wait;
+use std::sync::atomic::Ordering;
 use std::test::Fail;
 use std::thread::{Threads, join};
+use std::time::Clock;
 
 fn entry(by: u32, moment: u64) -> Entry
     ensures { result.by ≡ by }
@@ -38,7 +40,13 @@ fn has_none_by(entries: &Vec<Entry>, number: u32) -> bool
 fn push(entries: &mut Vec<Entry>, entry: Entry) -> bool
     ensures { entries.new.items ≡ (if result then entries.old.items ++ entry ∷ [] else entries.old.items) }
 {
-    entries.push(entry).is_ok()
+    match entries.push(entry) {
+        Ok(()) => true,
+        Err(refused) => {
+            drop(refused);
+            false
+        }
+    }
 }
 
 // Adds one entry under the holder's number, and gives the list back. Where memory is refused, the counts of the test are short.
@@ -55,7 +63,7 @@ fn write(
     requires number { ((held_view held).number ≡ number) × (number ≢ 0) }
     ensures { (pass_id result ≡ lock_id lock.now) × ((pass_view result).number ≡ number) }
 {
-    push(&mut entries, entry(number, moment));
+    let _ = push(&mut entries, entry(number, moment));
     lock.give(held, entries)
 }
 
@@ -76,7 +84,7 @@ fn enrol(
     if is_new && push(&mut entries, entry(number, 0)) {
         return Some(lock.give(held, entries));
     }
-    lock.give(held, entries);
+    drop(lock.give(held, entries));
     None
 }
 
@@ -95,7 +103,10 @@ fn append<R: Wait>(
     match add(rt, lock, pass, entry(number, moment)) {
         Ok(pass) => Some(pass),
         Err((pass, AddFault::Memory)) => add(rt, lock, pass, entry(number, moment)).ok(),
-        Err((_, AddFault::Worn)) => None,
+        Err((pass, AddFault::Worn)) => {
+            drop(pass);
+            None
+        }
     }
 }
 
@@ -114,7 +125,10 @@ fn append_soon<R: Wait>(
     match lock.try_take(pass) {
         Ok((held, entries)) => Some(write(lock, held, entries, number, moment)),
         Err((pass, TryFault::Busy)) => append(rt, lock, pass, number, moment),
-        Err((_, TryFault::Worn)) => None,
+        Err((pass, TryFault::Worn)) => {
+            drop(pass);
+            None
+        }
     }
 }
 
@@ -126,7 +140,25 @@ fn first_block<R: Wait>(rt: &R, lock: &EntryLock, pass: EntryPass, number: u32) 
 {
     match lock.take(rt, pass) {
         Ok((held, entries)) => enrol(lock, held, entries, number),
-        Err((_, Worn)) => None,
+        Err((pass, Worn)) => {
+            drop(pass);
+            None
+        }
+    }
+}
+
+// The same with no wait.
+fn first_block_soon(lock: &EntryLock, pass: EntryPass, number: u32) -> Option<EntryPass>
+    requires lock { pass_id pass ≡ lock_id lock.now }
+    requires number { ((pass_view pass).number ≡ 0) × (number ≢ 0) }
+    ensures { IfSome result (λ p. (pass_id p ≡ lock_id lock.now) × ((pass_view p).number ≡ number)) }
+{
+    match lock.try_take(pass) {
+        Ok((held, entries)) => enrol(lock, held, entries, number),
+        Err((pass, _)) => {
+            drop(pass);
+            None
+        }
     }
 }
 
@@ -154,6 +186,27 @@ fn clerk<R: Wait>(
     Some(pass)
 }
 
+// One pass of two, where there are both.
+fn join_both(
+    lock: &EntryLock,
+    one: Option<EntryPass>,
+    other: Option<EntryPass>,
+) -> Option<EntryPass>
+    requires one { IfSome one (λ p. pass_id p ≡ lock_id lock.now) }
+    requires other { IfSome other (λ p. pass_id p ≡ lock_id lock.now) }
+    ensures { IfSome result (λ p. pass_id p ≡ lock_id lock.now) }
+{
+    let Some(one) = one else {
+        drop(other);
+        return None;
+    };
+    let Some(other) = other else {
+        drop(one);
+        return None;
+    };
+    Some(lock.join(one, other))
+}
+
 // Two clerks in two threads, under this number and the next.
 fn two<R: Threads + Wait + Sync>(
     rt: &R,
@@ -178,7 +231,7 @@ fn two<R: Threads + Wait + Sync>(
             ensures { IfSome result (λ p. pass_id p ≡ lock_id lock.entry.now) }
         { clerk(rt, lock, other, number + 1, blocks) },
     );
-    Some(lock.join(one?, other?))
+    join_both(lock, one, other)
 }
 
 // Four, in four threads.
@@ -205,42 +258,35 @@ fn four<R: Threads + Wait + Sync>(
             ensures { IfSome result (λ p. pass_id p ≡ lock_id lock.entry.now) }
         { two(rt, lock, other, number + 2, blocks) },
     );
-    Some(lock.join(one?, other?))
+    join_both(lock, one, other)
 }
 
-// Takes the lock, says so, and gives it back once it is told to.
-fn hold<R: Wait>(
-    rt: &R,
-    lock: &EntryLock,
-    pass: EntryPass,
-    taken: Sender<()>,
-    done: Receiver<()>,
-) -> Option<EntryPass>
+// Takes the lock, says so, and gives it back once it is told to. True where it was had.
+fn hold<R: Wait + Clock>(rt: &R, lock: &EntryLock, pass: EntryPass, signals: &Signals) -> bool
     requires { pass_id pass ≡ lock_id lock.now }
-    ensures { IfSome result (λ p. pass_id p ≡ lock_id lock.now) }
 {
-    let Ok((held, entries)) = lock.take(rt, pass) else {
-        return None;
-    };
-    let _ = taken.send(rt, ());
-    let _ = done.recv(rt);
-    Some(give_unchanged(lock, held, entries))
+    match lock.take(rt, pass) {
+        Ok((held, entries)) => {
+            signals.entered.store(true, Ordering::SeqCst);
+            let is_told = wait_for(rt, &signals.answered);
+            drop(give_unchanged(lock, held, entries));
+            is_told
+        }
+        Err((pass, Worn)) => {
+            drop(pass);
+            false
+        }
+    }
 }
 
 // Tries once, as soon as it is told that the lock is held. True where the answer is Busy.
-fn try_once<R: Wait>(
-    rt: &R,
-    lock: &EntryLock,
-    pass: EntryPass,
-    taken: Receiver<()>,
-    done: Sender<()>,
-) -> bool
+fn try_once<R: Clock>(rt: &R, lock: &EntryLock, pass: EntryPass, signals: &Signals) -> bool
     requires { pass_id pass ≡ lock_id lock.now }
 {
-    let _ = taken.recv(rt);
+    let is_held = wait_for(rt, &signals.entered);
     let was_busy = is_busy(lock, pass);
-    let _ = done.send(rt, ());
-    was_busy
+    signals.answered.store(true, Ordering::SeqCst);
+    is_held && was_busy
 }
 
 fn is_busy(lock: &EntryLock, pass: EntryPass) -> bool
@@ -248,10 +294,13 @@ fn is_busy(lock: &EntryLock, pass: EntryPass) -> bool
 {
     match lock.try_take(pass) {
         Ok((held, entries)) => {
-            give_unchanged(lock, held, entries);
+            drop(give_unchanged(lock, held, entries));
             false
         }
-        Err((_, fault)) => fault == TryFault::Busy,
+        Err((pass, fault)) => {
+            drop(pass);
+            fault == TryFault::Busy
+        }
     }
 }
 
@@ -264,56 +313,58 @@ fn give_unchanged(lock: &EntryLock, held: Held<Vec<Entry>>, entries: Vec<Entry>)
     lock.give(held, entries)
 }
 
-// The pass, where both ways to take the lock answer that no ticket is left.
-fn find_worn<R: Wait>(rt: &R, lock: &EntryLock, pass: EntryPass) -> Option<EntryPass>
+// The pass, where a try answers that no ticket is left.
+fn try_worn(lock: &EntryLock, pass: EntryPass) -> Option<EntryPass>
     requires { pass_id pass ≡ lock_id lock.now }
     ensures { IfSome result (λ p. pass_id p ≡ lock_id lock.now) }
 {
-    let pass = match lock.take(rt, pass) {
-        Ok((held, entries)) => {
-            give_unchanged(lock, held, entries);
-            return None;
-        }
-        Err((pass, Worn)) => pass,
-    };
     match lock.try_take(pass) {
         Ok((held, entries)) => {
-            give_unchanged(lock, held, entries);
+            drop(give_unchanged(lock, held, entries));
             None
         }
-        Err((pass, fault)) => {
-            if fault == TryFault::Worn {
-                Some(pass)
-            } else {
-                None
-            }
+        Err((pass, TryFault::Worn)) => Some(pass),
+        Err((pass, TryFault::Busy)) => {
+            drop(pass);
+            None
         }
     }
 }
 
+// The pass, where both ways to take the lock answer so.
+fn find_worn<R: Wait>(rt: &R, lock: &EntryLock, pass: EntryPass) -> Option<EntryPass>
+    requires { pass_id pass ≡ lock_id lock.now }
+    ensures { IfSome result (λ p. pass_id p ≡ lock_id lock.now) }
+{
+    match lock.take(rt, pass) {
+        Ok((held, entries)) => {
+            drop(give_unchanged(lock, held, entries));
+            None
+        }
+        Err((pass, Worn)) => try_worn(lock, pass),
+    }
+}
+
 // True where the second thread found the lock held by the first.
-fn overlap<R: Threads + Wait + Sync>(
+fn overlap<R: Threads + Wait + Clock + Sync>(
     rt: &R,
-    alloc: Global,
     lock: &EntryLock,
     pass: EntryPass,
-) -> Result<bool, Fail>
+    signals: &Signals,
+) -> bool
     requires { pass_id pass ≡ lock_id lock.now }
 {
-    let (taken, is_taken) = unbounded(alloc)?;
-    let (done, is_done) = unbounded(alloc)?;
     let (one, other) = lock.split(pass);
-    let (held, was_busy) = join(
+    let (was_told, was_busy) = join(
         rt,
-        move || -> Option<EntryPass>
+        move || -> bool
             requires { pass_id one ≡ lock_id lock.now }
-            ensures { IfSome result (λ p. pass_id p ≡ lock_id lock.entry.now) }
-        { hold(rt, lock, one, taken, is_done) },
+        { hold(rt, lock, one, signals) },
         move || -> bool
             requires { pass_id other ≡ lock_id lock.now }
-        { try_once(rt, lock, other, is_taken, done) },
+        { try_once(rt, lock, other, signals) },
     );
-    Ok(held.is_some() && was_busy)
+    was_told && was_busy
 }
 
 // Whether the entries of the number have the moments from 0 up to this many, in order.
@@ -330,70 +381,123 @@ fn counts_up(entries: &[Entry], number: u32, blocks: u64) -> bool {
     next == blocks.wrapping_add(1)
 }
 
+// Whether there are so many entries, and those of each of these numbers have the moments from 0 up to this many, in order.
+fn has(entries: &[Entry], len: usize, numbers: &[u32], blocks: u64) -> bool {
+    let mut has = entries.len() == len;
+    for number in numbers {
+        has = counts_up(entries, *number, blocks) && has;
+    }
+    has
+}
+
+// The entries of a lock that no one holds.
+fn closed(lock: EntryLock, pass: Option<EntryPass>) -> Option<Vec<Entry>>
+    requires { IfSome pass (λ p. pass_id p ≡ lock_id lock) }
+    ensures { IfSome result (λ entries. entries_by 0 entries.items ≡ []) }
+{
+    let Some(pass) = pass else {
+        drop(lock);
+        return None;
+    };
+    match lock.close(pass) {
+        Ok(entries) => Some(entries),
+        Err(left) => {
+            drop(left);
+            None
+        }
+    }
+}
+
+// Whether no one holds the lock, and it has such entries.
+fn ends_with(
+    lock: EntryLock,
+    pass: Option<EntryPass>,
+    len: usize,
+    numbers: &[u32],
+    blocks: u64,
+) -> bool
+    requires { IfSome pass (λ p. pass_id p ≡ lock_id lock) }
+{
+    match closed(lock, pass) {
+        Some(entries) => {
+            let has = has(entries.as_slice(), len, numbers, blocks);
+            drop(entries);
+            has
+        }
+        None => false,
+    }
+}
+
+// A list of one entry, under the number 2.
+fn one_entry(alloc: Global) -> Result<Vec<Entry>, Memory>
+    ensures lawful { IfOk result (λ entries. entries_by 0 entries.items ≡ []) }
+    ensures number { IfOk result (λ entries. entries_by 2 entries.items ≢ []) }
+{
+    let mut entries = Vec::new(alloc);
+    if push(&mut entries, entry(2, 0)) {
+        Ok(entries)
+    } else {
+        drop(entries);
+        Err(Memory)
+    }
+}
+
 #[test]
 fn four_threads_lose_and_repeat_nothing(rt: HostRuntime) -> Result<(), Fail> {
     let (lock, pass) = EntryLock::new(rt.alloc(), Vec::new(rt.alloc()))?;
-    let pass = four(&rt, &lock, pass, 1, 10_000).expect(&rt, "each clerk wrote all its blocks");
-    let Ok(entries) = lock.close(pass) else {
-        panic!(rt; "no one holds the lock")
-    };
-    assert_eq!(rt; entries.len(), 40_004);
-    for number in 1..5 {
-        assert!(rt; counts_up(&entries, number, 10_000), "of {number}");
-    }
+    let pass = four(&rt, &lock, pass, 1, 10_000);
+    assert!(rt; ends_with(lock, pass, 40_004, &[1, 2, 3, 4], 10_000));
     Ok(())
 }
 
 #[test]
 fn a_try_beside_a_holder_is_busy(rt: HostRuntime) -> Result<(), Fail> {
     let (lock, pass) = EntryLock::new(rt.alloc(), Vec::new(rt.alloc()))?;
-    assert!(rt; overlap(&rt, rt.alloc(), &lock, pass)?);
+    let was_busy = overlap(&rt, &lock, pass, &Signals::new());
+    drop(lock);
+    assert!(rt; was_busy);
     Ok(())
 }
 
 #[test]
 fn the_ticket_before_the_last_is_drawn_once(rt: HostRuntime) -> Result<(), Fail> {
     let (lock, pass) = EntryLock::starting_at(rt.alloc(), Vec::new(rt.alloc()), u64::MAX - 1)?;
-    let Ok((held, entries)) = lock.take(&rt, pass) else {
-        panic!(rt; "one ticket was left")
+    let pass = match first_block(&rt, &lock, pass, 1) {
+        Some(pass) => find_worn(&rt, &lock, pass),
+        None => None,
     };
-    let pass = enrol(&lock, held, entries, 1).expect(&rt, "the number is new");
-    let pass = find_worn(&rt, &lock, pass).expect(&rt, "no ticket is left");
-    let Ok(entries) = lock.close(pass) else {
-        panic!(rt; "no one holds the lock")
-    };
-    assert!(rt; entries.len() == 1 && counts_up(&entries, 1, 0));
+    assert!(rt; ends_with(lock, pass, 1, &[1], 0));
     Ok(())
 }
 
 #[test]
 fn a_lock_without_a_ticket_gives_its_value_back(rt: HostRuntime) -> Result<(), Fail> {
-    let mut entries = Vec::new(rt.alloc());
-    assert!(rt; push(&mut entries, entry(2, 0)));
-    let (lock, pass) = EntryLock::starting_at(rt.alloc(), entries, u64::MAX)?;
-    let pass = find_worn(&rt, &lock, pass).expect(&rt, "no ticket is left");
-    let Ok(entries) = lock.close(pass) else {
-        panic!(rt; "no one holds the lock")
-    };
-    assert!(rt; entries.len() == 1 && counts_up(&entries, 2, 0));
+    let (lock, pass) = EntryLock::starting_at(rt.alloc(), one_entry(rt.alloc())?, u64::MAX)?;
+    let pass = find_worn(&rt, &lock, pass);
+    assert!(rt; ends_with(lock, pass, 1, &[2], 0));
     Ok(())
+}
+
+// A pass that is split, enrolled without a wait, met and joined, and has then added a block.
+fn split_meet_and_join<R: Wait>(rt: &R, lock: &EntryLock, pass: EntryPass) -> Option<EntryPass>
+    requires lock { pass_id pass ≡ lock_id lock.now }
+    requires newcomer { (pass_view pass).number ≡ 0 }
+    ensures { IfSome result (λ p. pass_id p ≡ lock_id lock.now) }
+{
+    let (first, second) = lock.split(pass);
+    let Some(first) = first_block_soon(lock, first, 7) else {
+        drop(second);
+        return None;
+    };
+    let (second, first) = lock.meet(second, first);
+    append(rt, lock, lock.join(first, second), 7, 1)
 }
 
 #[test]
 fn passes_are_split_met_and_joined(rt: HostRuntime) -> Result<(), Fail> {
-    let (lock, first) = EntryLock::new(rt.alloc(), Vec::new(rt.alloc()))?;
-    let (first, second) = lock.split(first);
-    let Ok((held, entries)) = lock.try_take(first) else {
-        panic!(rt; "no one holds the lock")
-    };
-    let first = enrol(&lock, held, entries, 7).expect(&rt, "the number is new");
-    let (second, first) = lock.meet(second, first);
-    let pass = lock.join(first, second);
-    let pass = append(&rt, &lock, pass, 7, 1).expect(&rt, "the joined pass has the number 7");
-    let Ok(entries) = lock.close(pass) else {
-        panic!(rt; "no one holds the lock")
-    };
-    assert!(rt; entries.len() == 2 && counts_up(&entries, 7, 1));
+    let (lock, pass) = EntryLock::new(rt.alloc(), Vec::new(rt.alloc()))?;
+    let pass = split_meet_and_join(&rt, &lock, pass);
+    assert!(rt; ends_with(lock, pass, 2, &[7], 1));
     Ok(())
 }
 
@@ -407,50 +511,58 @@ fn a_refused_close_hands_lock_and_pass_back(rt: HostRuntime) -> Result<(), Fail>
     let Err((lock, second)) = lock.close(second) else {
         panic!(rt; "the lock is held")
     };
-    let first = enrol(&lock, held, entries, 3).expect(&rt, "the number is new");
-    let pass = lock.join(second, first);
-    let Ok(entries) = lock.close(pass) else {
-        panic!(rt; "no one holds the lock")
-    };
-    assert!(rt; entries.len() == 1 && counts_up(&entries, 3, 0));
+    let first = enrol(&lock, held, entries, 3);
+    let pass = join_both(&lock, Some(second), first);
+    assert!(rt; ends_with(lock, pass, 1, &[3], 0));
     Ok(())
+}
+
+// The two tickets of a new lock round such entries that starts at 5, and whether it has them.
+fn parts_of_new(alloc: Global, entries: Vec<Entry>) -> Result<(u64, u64, bool), Memory>
+    requires { entries_by 0 entries.items ≡ [] }
+{
+    let (lock, pass) = EntryLock::starting_at(alloc, entries, 5)?;
+    let parts = lock.into_parts(pass);
+    let told = (parts.next, parts.serving, parts.value.is_some());
+    drop(parts);
+    Ok(told)
 }
 
 #[test]
 fn a_lock_made_for_a_number_goes_on_under_it(rt: HostRuntime) -> Result<(), Fail> {
-    let mut entries = Vec::new(rt.alloc());
-    assert!(rt; push(&mut entries, entry(2, 0)));
-    let (lock, pass) = EntryLock::new_for(rt.alloc(), entries, 2)?;
-    let pass = append(&rt, &lock, pass, 2, 1).expect(&rt, "the lock is free");
-    let (lock, pass) = match lock.close(pass) {
-        Ok(entries) => {
-            assert!(rt; entries.len() == 2 && counts_up(&entries, 2, 1));
-            EntryLock::starting_at(rt.alloc(), entries, 5)?
-        }
-        Err(refused) => refused,
-    };
-    let parts = lock.into_parts(pass);
-    assert_eq!(rt; (parts.next, parts.serving), (5, 5));
-    assert!(rt; parts.value.is_some());
+    let (lock, pass) = EntryLock::new_for(rt.alloc(), one_entry(rt.alloc())?, 2)?;
+    let pass = append(&rt, &lock, pass, 2, 1);
+    let entries = closed(lock, pass).ok_or("no one holds the lock")?;
+    assert!(rt; has(entries.as_slice(), 2, &[2], 1));
+    assert_eq!(rt; parts_of_new(rt.alloc(), entries)?, (5, 5, true));
     Ok(())
+}
+
+// The pass of one of two clerks that has added its blocks: the second, where the first was refused memory.
+fn one_of_two<R: Wait>(rt: &R, lock: &EntryLock, pass: EntryPass) -> Option<EntryPass>
+    requires lock { pass_id pass ≡ lock_id lock.now }
+    requires newcomer { (pass_view pass).number ≡ 0 }
+    ensures { IfSome result (λ p. pass_id p ≡ lock_id lock.now) }
+{
+    let (one, other) = lock.split(pass);
+    match clerk(rt, lock, one, 1, 8) {
+        Some(pass) => {
+            drop(other);
+            Some(pass)
+        }
+        None => clerk(rt, lock, other, 1, 8),
+    }
 }
 
 // Where one growth is refused, each call answers so and leaves the lock as it was, so that a second one succeeds.
 #[test]
 fn a_refused_growth_changes_nothing(rt: HostRuntime) -> Result<(), Fail> {
-    let (lock, one) = match EntryLock::new(rt.alloc(), Vec::new(rt.alloc())) {
+    let (lock, pass) = match EntryLock::new(rt.alloc(), Vec::new(rt.alloc())) {
         Ok(made) => made,
         Err(_) => EntryLock::new(rt.alloc(), Vec::new(rt.alloc()))?,
     };
-    let (one, other) = lock.split(one);
-    let pass = match clerk(&rt, &lock, one, 1, 8) {
-        Some(pass) => pass,
-        None => clerk(&rt, &lock, other, 1, 8).expect(&rt, "the second growth is not refused"),
-    };
-    let Ok(entries) = lock.close(pass) else {
-        panic!(rt; "no one holds the lock")
-    };
-    assert!(rt; entries.len() == 9 && counts_up(&entries, 1, 8));
+    let pass = one_of_two(&rt, &lock, pass);
+    assert!(rt; ends_with(lock, pass, 9, &[1], 8));
     Ok(())
 }
 

@@ -4,15 +4,16 @@ ghost use Rattle.std.specs.Prelude.{◌≡◌, IfOk};
 ghost use Rattle.lra_office.specs.Clerks.{IsClerkOf};
 ghost use Rattle.lra_ticket.specs.Locks.{lock_id, pass_id, pass_view};
 
-use crate::making::{enrolled, made, shut};
+use crate::making::{enrolled, enrolled_two, made, participant, shut};
 use lra_core::{Errand, Told};
 use lra_courier::Courier;
 use lra_front::Clock;
-use lra_model::{Outcome, Uris, suits};
+use lra_model::{Outcome, suits};
 use lra_office::{Clerk, Office, Serving};
 use lra_ticket::Pass;
 use lra_workers::{Gate, Go, WorkerEnd, run_worker};
-use std::alloc::{AllocError, Global};
+use std::alloc::Global;
+use std::fmt;
 use std::io::Write;
 use std::marker::Send;
 use std::str::from_utf8;
@@ -113,14 +114,22 @@ impl<R: time::Clock> Gate for Patient<'_, R> {
     }
 }
 
-fn participant(alloc: Global, member: u64) -> Result<Uris, AllocError> {
-    Ok(Uris {
-        compensate: Some(format!(in alloc; "http://p{member}.test/u")?),
-        complete: Some(format!(in alloc; "http://p{member}.test/c")?),
-        status: None,
-        forget: None,
-        after: None,
-    })
+/// Lets the next member join the action.
+fn joins<V: Serving, R: Wait>(
+    rt: &R,
+    alloc: Global,
+    office: &Office<V>,
+    clerk: &mut Clerk<V>,
+    member: u64,
+) -> Result<bool, Fail>
+    requires { IsClerkOf office.now.lock clerk.old }
+    ensures { IsClerkOf office.now.lock clerk.new }
+{
+    let host = format!(in alloc; "http://p{member}.test")?;
+    let uris = participant(alloc, &host, false)?;
+    let told = office.join(rt, clerk, 2, 1, &uris);
+    drop(uris);
+    Ok(told == Ok(Told::Member(member)))
 }
 
 /// Closes an action with so many members.
@@ -136,63 +145,87 @@ fn closes<V: Serving, R: Wait>(
 {
     let mut done = office.start(rt, clerk, 1, None, 0) == Ok(Told::Action(1));
     for place in 0..members {
-        let uris = participant(alloc, place + 1)?;
-        done = done && office.join(rt, clerk, 2, 1, &uris) == Ok(Told::Member(place + 1));
+        done = joins(rt, alloc, office, clerk, place + 1)? && done;
     }
-    done = done && office.close(rt, clerk, 3, 1).is_ok();
-    Ok(done)
+    let closed = office.close(rt, clerk, 3, 1).is_ok();
+    Ok(closed && done)
 }
 
 /// How a worker ends whose gate holds its errand back so often, and how often the gate was asked.
-fn held_at<V: Serving, R: Wait>(
+fn holds_back<V: Serving, R: Wait>(
     rt: &R,
-    alloc: Global,
     office: &Office<V>,
-    pass: Pass<V>,
+    clerk: Clerk<V>,
     holds: u32,
-) -> Result<(Clerk<V>, WorkerEnd, u32), Fail>
-    requires lock { pass_id pass ≡ lock_id office.now.lock }
-    requires newcomer { (pass_view pass).number ≡ 0 }
-    ensures { IfOk result (λ r. IsClerkOf office.now.lock r.0) }
+) -> (Clerk<V>, (WorkerEnd, u32))
+    requires { IsClerkOf office.now.lock clerk }
+    ensures { IsClerkOf office.now.lock result.0 }
 {
-    let mut clerk = enrolled(rt, office, pass)?;
-    if !closes(rt, alloc, office, &mut clerk, 1)? {
-        return Err("an action can be closed")?;
-    }
     let mut gate = Holding {
         holds,
         asked: 0,
         has_answered: false,
     };
     let (clerk, end) = run_worker(rt, office, clerk, &mut Prompt, &mut gate, &mut Still);
-    Ok((clerk, end, gate.asked))
+    (clerk, (end, gate.asked))
+}
+
+/// The same once the first clerk of an office has closed an action with one member.
+fn held_at<V: Serving, R: Wait>(
+    rt: &R,
+    alloc: Global,
+    office: &Office<V>,
+    pass: Pass<V>,
+    holds: u32,
+) -> Result<(Clerk<V>, (WorkerEnd, u32)), Fail>
+    requires lock { pass_id pass ≡ lock_id office.now.lock }
+    requires newcomer { (pass_view pass).number ≡ 0 }
+    ensures { IfOk result (λ r. IsClerkOf office.now.lock r.0) }
+{
+    let mut clerk = enrolled(rt, office, pass)?;
+    match closes(rt, alloc, office, &mut clerk, 1) {
+        Ok(true) => Ok(holds_back(rt, office, clerk, holds)),
+        Ok(false) => {
+            drop(clerk);
+            Err("an action can be closed")?
+        }
+        Err(fault) => {
+            drop(clerk);
+            Err(fault)
+        }
+    }
 }
 
 /// The same at a new office, with its journal.
-fn held<R: Wait>(rt: &R, alloc: Global, holds: u32) -> Result<(Vec<u8>, WorkerEnd, u32), Fail> {
+fn held<R: Wait>(rt: &R, alloc: Global, holds: u32) -> Result<(Vec<u8>, (WorkerEnd, u32)), Fail> {
     let (office, pass) = made(alloc, Vec::new(alloc))?;
-    let (clerk, end, asked) = held_at(rt, alloc, &office, pass, holds)?;
-    Ok((shut(office, clerk)?, end, asked))
+    let worked = held_at(rt, alloc, &office, pass, holds);
+    shut(office, worked)
 }
 
-/// The journal of an errand that is held back, and what is added where it is answered.
+/// The journal of an errand that is held back. What is added where it is answered comes after it.
 const HELD: &str =
     "lra-journal 2 7\n1 0 enrol\n1 1 start 1 * 0\n1 2 join 1 1 http://p1.test/u http://p1.test/c * * *\n1 3 close 1 client\n1 9 ask 1 1 complete\n";
 
-const ANSWERED: &str = "1 9 reply 1 done\n1 9 end 1 Closed\n";
+/// Takes down how the worker ended, how often its gate was asked, and what was added to the journal.
+fn tell_held<R: Wait>(rt: &R, alloc: Global, holds: u32, text: &mut String) -> Result<(), Fail> {
+    let (journal, (end, asked)) = held(rt, alloc, holds)?;
+    let journal = from_utf8(&journal)?;
+    let added = journal.strip_prefix(HELD).ok_or("an ask is written")?;
+    fmt::Write::write_fmt(text, format_args!("{end:?} {asked}\n{added}"))?;
+    Ok(())
+}
+
+/// What comes of an errand that is held back just short of for ever, for ever, and longer still.
+const TOLD: &str = "Ended 1000\n1 9 reply 1 done\n1 9 end 1 Closed\nHeld 1000\nHeld 1000\n";
 
 #[test]
 fn a_worker_that_is_held_back_ends_and_leaves_its_ask(rt: HostRuntime) -> Result<(), Fail> {
-    for (holds, wanted, rest) in [
-        (999, WorkerEnd::Ended, ANSWERED),
-        (1_000, WorkerEnd::Held, ""),
-        (u32::MAX, WorkerEnd::Held, ""),
-    ] {
-        let (journal, end, asked) = held(&rt, rt.alloc(), holds)?;
-        assert_eq!(rt; end, wanted);
-        assert_eq!(rt; asked, 1_000);
-        assert_eq!(rt; from_utf8(&journal)?.strip_prefix(HELD), Some(rest));
-    }
+    let mut text = String::new(rt.alloc());
+    tell_held(&rt, rt.alloc(), 999, &mut text)?;
+    tell_held(&rt, rt.alloc(), 1_000, &mut text)?;
+    tell_held(&rt, rt.alloc(), u32::MAX, &mut text)?;
+    assert_eq!(rt; text.as_str(), TOLD);
     Ok(())
 }
 
@@ -239,7 +272,9 @@ fn two_answer<V: Serving + Send, R: Threads + Wait + time::Clock + Sync>(
         { answers_one(rt, office, second, signal) },
     );
     let (clerk, has_ended) = one;
-    (clerk, has_ended && other.1)
+    let (other, other_has_ended) = other;
+    drop(other);
+    (clerk, has_ended && other_has_ended)
 }
 
 /// Two workers at an office where two asks are due.
@@ -253,12 +288,19 @@ fn overlap<V: Serving + Send, R: Threads + Wait + time::Clock + Sync>(
     requires newcomer { (pass_view pass).number ≡ 0 }
     ensures { IfOk result (λ r. IsClerkOf office.now.lock r.0) }
 {
-    let (mut first, pass) = office.split(enrolled(rt, office, pass)?);
-    let second = enrolled(rt, office, pass)?;
-    let closed = closes(rt, alloc, office, &mut first, 2)?;
-    let signal = AtomicBool::new(false);
-    let (clerk, have_ended) = two_answer(rt, office, first, second, &signal);
-    Ok((clerk, closed && have_ended))
+    let (mut first, second) = enrolled_two(rt, office, pass)?;
+    match closes(rt, alloc, office, &mut first, 2) {
+        Ok(closed) => {
+            let signal = AtomicBool::new(false);
+            let (clerk, have_ended) = two_answer(rt, office, first, second, &signal);
+            Ok((clerk, closed && have_ended))
+        }
+        Err(fault) => {
+            drop(first);
+            drop(second);
+            Err(fault)
+        }
+    }
 }
 
 /// The same at a new office, with its writer.
@@ -268,8 +310,8 @@ fn overlap_at<W: Write + Drop + Send, R: Threads + Wait + time::Clock + Sync>(
     writer: W,
 ) -> Result<(W, bool), Fail> {
     let (office, pass) = made(alloc, writer)?;
-    let (clerk, done) = overlap(rt, alloc, &office, pass)?;
-    Ok((shut(office, clerk)?, done))
+    let worked = overlap(rt, alloc, &office, pass);
+    shut(office, worked)
 }
 
 #[test]

@@ -1,0 +1,37 @@
+//! What two threads tell one another.
+
+use std::sync::atomic::{AtomicBool, Ordering};
+use std::thread::sleep;
+use std::time::{Clock, Duration};
+
+/// What one who holds something up and the thread beside it tell one another.
+#[derive(Drop)]
+pub struct Signals {
+    /// The first is to wait from now on.
+    pub armed: AtomicBool,
+    /// It has what the other asks for, and waits.
+    pub entered: AtomicBool,
+    /// It may go on.
+    pub answered: AtomicBool,
+}
+
+impl Signals {
+    pub fn new() -> Signals {
+        Signals {
+            armed: AtomicBool::new(false),
+            entered: AtomicBool::new(false),
+            answered: AtomicBool::new(false),
+        }
+    }
+}
+
+/// Waits for a signal, ten seconds at most, and tells whether it came.
+pub fn wait_for<R: Clock>(rt: &R, signal: &AtomicBool) -> bool {
+    for _ in 0..1_000 {
+        if signal.load(Ordering::SeqCst) {
+            return true;
+        }
+        sleep(rt, Duration::from_millis(10));
+    }
+    false
+}
