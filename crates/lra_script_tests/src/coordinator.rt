@@ -3,16 +3,19 @@
 //! Each script is as well run with one allocation failing in turn: a command to which memory is refused changes nothing, and
 //! has the script's answer when it is given again.
 
-ghost use Rattle.std.specs.Prelude.{◌≡◌, ◌<◌, ◌^◌, IfOk, IfSome, true};
+ghost use Rattle.std.specs.Prelude.{◌≡◌, ◌<◌, ◌^◌, IfSome, true};
 ghost use Rattle.lra_commands.specs.Terms.{AreKeepable};
 ghost use Rattle.lra_ids.specs.Addresses.{is_base};
 
 mod desk;
 
 use crate::rows::{LIMITED, OPENED, SCRIPTS, TORN};
+use crate::same::assert_came;
+use crate::words::parted;
 use desk::played;
 use lra_core::{
-    Address, Command, Committed, Coordinator, Instance, Limits, OpenFault, Prepared, Told, Version,
+    Address, Command, Committed, Coordinator, Errand, Instance, Limits, OpenFault, Prepared, Told,
+    Version,
 };
 use lra_ids::{UriFault, address};
 use lra_journal::read_journal;
@@ -20,7 +23,6 @@ use lra_model::ActionStatus;
 use std::alloc::Global;
 use std::io::{self, Write};
 use std::str::from_utf8;
-use std::test::Fail;
 
 const BASE: &str = "http://127.0.0.1:8080/";
 
@@ -35,66 +37,71 @@ pub fn base(alloc: Global) -> Option<Address>
     base.ok().filter(|base| base.is_base())
 }
 
-fn coordinator(alloc: Global, limits: Limits) -> Result<Coordinator, Fail>
+fn coordinator(alloc: Global, limits: Limits) -> Option<Coordinator>
     requires { AreKeepable limits }
 {
-    let instance = Instance::new(7).ok_or("no instance")?;
-    let base = base(alloc).ok_or("no base")?;
-    Ok(Coordinator::new(alloc, instance, base, limits))
+    let instance = Instance::new(7)?;
+    let base = base(alloc)?;
+    Some(Coordinator::new(alloc, instance, base, limits))
 }
 
-/// The version of a coordinator, and what comes of a script there.
-fn played_at(
-    alloc: Global,
-    mut coordinator: Coordinator,
-    script: &str,
-) -> Result<(Version, Vec<u8>), Fail> {
-    let version = coordinator.version();
-    let text = played(alloc, &mut coordinator, script);
+/// What comes of a script at a coordinator. Nothing, where there is none, or it isn't of that version.
+fn come(alloc: Global, place: Option<Coordinator>, version: Version, script: &str) -> Vec<u8> {
+    let Some(mut coordinator) = place else {
+        return Vec::new(alloc);
+    };
+    let mut text = played(alloc, &mut coordinator, script);
+    if coordinator.version() != version {
+        text.clear();
+    }
     drop(coordinator);
-    Ok((version, text?))
+    text
 }
 
 #[test]
-fn scripts_come_to_what_they_say(rt: HostRuntime) -> Result<(), Fail> {
-    let alloc = rt.alloc();
+fn scripts_come_to_what_they_say(rt: HostRuntime) {
     for script in SCRIPTS.split("\n\n") {
-        let (version, text) = played_at(alloc, coordinator(alloc, Limits::usual())?, script)?;
-        assert_eq!(rt; version, Version::Two);
-        assert_eq!(rt; from_utf8(&text)?.trim_end(), script);
+        let place = coordinator(rt.alloc(), Limits::usual());
+        let text = come(rt.alloc(), place, Version::Two, script);
+        assert_came(&rt, text.as_slice(), script);
     }
-    Ok(())
+}
+
+/// A small number.
+fn small(text: &str) -> Option<u16> {
+    text.parse().ok()
 }
 
 /// Limits of a line: clerks, actions, members, entries and depth.
-fn limits(line: &str) -> Result<Limits, Fail>
-    ensures { IfOk result AreKeepable }
+fn limits(line: &str) -> Option<Limits>
+    ensures { IfSome result AreKeepable }
 {
-    let mut words = line.split(' ');
-    let mut next = [0u16; 5];
-    for number in &mut next {
-        *number = words.next().ok_or("a number is missing")?.parse()?;
-    }
-    let [clerks, actions, members, entries, depth] = next;
-    Ok(Limits {
-        clerks: u32::from(clerks),
-        actions: u64::from(actions),
-        members: u64::from(members),
-        entries: u64::from(entries),
-        depth: u64::from(depth),
+    let (clerks, line) = parted(line, " ");
+    let (actions, line) = parted(line, " ");
+    let (members, line) = parted(line, " ");
+    let (entries, depth) = parted(line, " ");
+    Some(Limits {
+        clerks: u32::from(small(clerks)?),
+        actions: u64::from(small(actions)?),
+        members: u64::from(small(members)?),
+        entries: u64::from(small(entries)?),
+        depth: u64::from(small(depth)?),
         ..Limits::usual()
     })
 }
 
+/// A coordinator with the limits of a line.
+fn limited(alloc: Global, line: &str) -> Option<Coordinator> {
+    coordinator(alloc, limits(line)?)
+}
+
 #[test]
-fn limits_are_kept(rt: HostRuntime) -> Result<(), Fail> {
-    let alloc = rt.alloc();
+fn limits_are_kept(rt: HostRuntime) {
     for row in LIMITED.split("\n\n") {
-        let (line, script) = row.split_once('\n').ok_or("no script")?;
-        let (_, text) = played_at(alloc, coordinator(alloc, limits(line)?)?, script)?;
-        assert_eq!(rt; from_utf8(&text)?.trim_end(), script, "{line}");
+        let (line, script) = parted(row, "\n");
+        let text = come(rt.alloc(), limited(rt.alloc(), line), Version::Two, script);
+        assert_came(&rt, text.as_slice(), script);
     }
-    Ok(())
 }
 
 /// Starts of 64 actions, each nested in the one before.
@@ -137,18 +144,24 @@ const NEST_BEGINS: &[u8] =
 const NEST_IS_CANCELLED: &[u8] =
     b"1 0 start 64 0 -> refused TooDeep\n1 1 cancel 1 -> Now(Cancelled)\n+ 1 1 cancel 1 client\n";
 
-const NEST_ENDS: &[u8] =
-    b"audit 2 -> sound 193 entries 64 actions 0 unended 0 closed 64 cancelled\n";
+const NEST_ENDS: &[u8] = b"audit 2 -> sound 193 entries 64 actions 0 unended 0 closed 64 cancelled";
+
+/// A script of a nest. Nothing, where memory is refused.
+fn nest(alloc: Global) -> Vec<u8> {
+    let mut script = Vec::new(alloc);
+    if put_nest(&mut script).is_err() {
+        script.clear();
+    }
+    script
+}
 
 #[test]
-fn a_nest_is_cancelled_at_once(rt: HostRuntime) -> Result<(), Fail> {
-    let alloc = rt.alloc();
-    let mut script = Vec::new(alloc);
-    put_nest(&mut script)?;
-    let script = from_utf8(&script)?;
-    let (_, text) = played_at(alloc, coordinator(alloc, Limits::usual())?, script)?;
-    assert_eq!(rt; from_utf8(&text)?, script);
-    Ok(())
+fn a_nest_is_cancelled_at_once(rt: HostRuntime) {
+    let script = nest(rt.alloc());
+    let script = from_utf8(script.as_slice()).unwrap_or("no text");
+    let place = coordinator(rt.alloc(), Limits::usual());
+    let text = come(rt.alloc(), place, Version::Two, script);
+    assert_came(&rt, text.as_slice(), script);
 }
 
 /// A coordinator that goes on from a journal, with so many entries at most.
@@ -168,64 +181,73 @@ fn open_once(alloc: Global, journal: &str, entries: u32) -> Result<Coordinator, 
 
 /// The same, once more where memory was refused.
 fn open(alloc: Global, journal: &str, entries: u32) -> Result<Coordinator, OpenFault> {
-    let opened = open_once(alloc, journal, entries);
-    if matches!(opened, Err(OpenFault::Memory)) {
-        drop(opened);
-        return open_once(alloc, journal, entries);
+    match open_once(alloc, journal, entries) {
+        Err(OpenFault::Memory) => open_once(alloc, journal, entries),
+        opened => opened,
     }
-    opened
 }
 
-#[test]
-fn journals_are_opened(rt: HostRuntime) -> Result<(), Fail> {
-    let alloc = rt.alloc();
-    for row in OPENED.split('|') {
-        let (line, journal) = row.split_once('\n').ok_or("no journal")?;
-        let (entries, wanted) = line.split_once(' ').ok_or("no fault")?;
-        match open(alloc, journal, entries.parse()?).err() {
-            None => panic!(rt; "{line}"),
-            Some(OpenFault::Unsound { line, rule }) => {
-                let (number, code) = wanted.split_once(' ').ok_or("no rule")?;
-                assert_eq!(rt; (line, rule.name()), (number.parse()?, code));
-            }
-            Some(fault) => {
-                assert_eq!(rt; fault, OpenFault::Full);
-                assert_eq!(rt; wanted, "Full");
-            }
+/// Whether a journal isn't opened for this: a line and a rule, or too many entries.
+fn is_refused(alloc: Global, journal: &str, entries: u32, wanted: &str) -> bool {
+    match open(alloc, journal, entries) {
+        Ok(coordinator) => {
+            drop(coordinator);
+            false
         }
+        Err(OpenFault::Unsound { line, rule }) => {
+            let (number, code) = parted(wanted, " ");
+            number.parse() == Ok(line) && rule.name() == code
+        }
+        Err(fault) => fault == OpenFault::Full && wanted == "Full",
     }
-    Ok(())
+}
+
+/// Whether the journal of a row is refused as the row says.
+fn row_is_refused(alloc: Global, row: &str) -> bool {
+    let (line, journal) = parted(row, "\n");
+    let (entries, wanted) = parted(line, " ");
+    match small(entries) {
+        Some(entries) => is_refused(alloc, journal, u32::from(entries), wanted),
+        None => false,
+    }
 }
 
 #[test]
-fn what_a_torn_block_lacks_is_added(rt: HostRuntime) -> Result<(), Fail> {
-    let alloc = rt.alloc();
-    let [journal, script] = TORN;
-    let (version, text) = played_at(alloc, open(alloc, journal, 100)?, script)?;
-    assert_eq!(rt; version, Version::One);
-    assert_eq!(rt; from_utf8(&text)?, script);
-    Ok(())
+fn journals_are_opened(rt: HostRuntime) {
+    for row in OPENED.split('|') {
+        assert!(rt; row_is_refused(rt.alloc(), row), "{row}");
+    }
 }
 
-/// Prepares the close of action 1. Where something is to be written, gives its text, and commits it if that is wanted.
-fn close(
-    alloc: Global,
-    coordinator: &mut Coordinator,
-    commits: bool,
-) -> Result<Option<Vec<u8>>, Fail> {
-    match coordinator.prepare(1, 5, &Command::Close { action: 1 })? {
-        Prepared::Told(_) => Ok(None),
-        Prepared::Block(block) => {
-            let text = block.text().to_vec(alloc);
+#[test]
+fn what_a_torn_block_lacks_is_added(rt: HostRuntime) {
+    let [journal, script] = TORN;
+    let place = open(rt.alloc(), journal, 100).ok();
+    let text = come(rt.alloc(), place, Version::One, script);
+    assert_came(&rt, text.as_slice(), script);
+}
+
+/// Spends the errand of a command, where there is one.
+fn spend(errand: Option<Errand>) {
+    if let Some(errand) = errand {
+        errand.discard();
+    }
+}
+
+/// Prepares the close of action 1, and commits it if that is wanted: whether what is to be written is this, or nothing is.
+fn close(coordinator: &mut Coordinator, commits: bool) -> &'static str {
+    match coordinator.prepare(1, 5, &Command::Close { action: 1 }) {
+        Err(_) => "refused",
+        Ok(Prepared::Told(_)) => "nothing",
+        Ok(Prepared::Block(block)) => {
+            let is_right = block.text() == b"1 5 close 1 client\n1 5 end 1 Closed\n".as_slice();
             if commits {
                 let Committed { told: _, errand } = coordinator.commit(block);
-                if let Some(errand) = errand {
-                    errand.discard();
-                }
+                spend(errand);
             } else {
                 drop(block);
             }
-            Ok(Some(text?))
+            if is_right { "block" } else { "another block" }
         }
     }
 }
@@ -235,37 +257,30 @@ fn has_status(coordinator: &Coordinator, status: ActionStatus) -> bool {
     coordinator.status(1, 1) == Ok(Told::ActionIs(status))
 }
 
-/// Whether action 1 is active, and its close is to write what it should.
-fn is_to_close(alloc: Global, coordinator: &mut Coordinator, commits: bool) -> Result<bool, Fail> {
-    let is_active = has_status(coordinator, ActionStatus::Active);
-    let text = close(alloc, coordinator, commits)?.ok_or("nothing to write")?;
-    let wanted = b"1 5 close 1 client\n1 5 end 1 Closed\n";
-    Ok(is_active && text.as_slice() == wanted.as_slice())
-}
-
 /// Starts an action, prepares its close, and then commits it. Whether it was to be written both times, whether it is done, and
 /// whether nothing more is to be written.
-fn close_once(alloc: Global, coordinator: &mut Coordinator) -> Result<[bool; 4], Fail> {
-    coordinator.enrol(0)?;
-    coordinator.start(1, 0, None, 0)?;
-    let is_prepared = is_to_close(alloc, coordinator, false)?;
-    let is_committed = is_to_close(alloc, coordinator, true)?;
+fn close_once(coordinator: &mut Coordinator) -> [bool; 5] {
+    let is_started = coordinator.enrol(0).is_ok() && coordinator.start(1, 0, None, 0).is_ok();
+    let is_prepared = has_status(coordinator, ActionStatus::Active)
+        && close(coordinator, false) == "block";
+    let is_committed = has_status(coordinator, ActionStatus::Active)
+        && close(coordinator, true) == "block";
     let is_closed = has_status(coordinator, ActionStatus::Closed);
-    let again = close(alloc, coordinator, true)?;
-    Ok([is_prepared, is_committed, is_closed, again.is_none()])
+    let is_over = close(coordinator, true) == "nothing";
+    [is_started, is_prepared, is_committed, is_closed, is_over]
 }
 
 /// The same at a new coordinator.
-fn close_anew(alloc: Global) -> Result<[bool; 4], Fail> {
-    let mut coordinator = coordinator(alloc, Limits::usual())?;
-    let done = close_once(alloc, &mut coordinator);
+fn close_anew(alloc: Global) -> [bool; 5] {
+    let Some(mut coordinator) = coordinator(alloc, Limits::usual()) else {
+        return [false; 5];
+    };
+    let done = close_once(&mut coordinator);
     drop(coordinator);
     done
 }
 
 #[test]
-fn what_is_prepared_is_written_by_commit_alone(rt: HostRuntime) -> Result<(), Fail> {
-    let done = close_anew(rt.alloc())?;
-    assert_eq!(rt; done, [true, true, true, true]);
-    Ok(())
+fn what_is_prepared_is_written_by_commit_alone(rt: HostRuntime) {
+    assert_eq!(rt; close_anew(rt.alloc()), [true; 5]);
 }

@@ -2,8 +2,7 @@
 
 use lra_core::Errand;
 use std::alloc::{AllocError, Global};
-use std::io::Write;
-use std::test::Fail;
+use std::io::{self, Write};
 
 /// How many errands a script holds at most.
 const ASKS: usize = 16;
@@ -32,7 +31,7 @@ impl Held {
     }
 
     /// Takes down what it is.
-    fn put(&self, text: &mut Vec<u8>) -> Result<(), Fail> {
+    fn put(&self, text: &mut Vec<u8>) -> io::Result<()> {
         if let Some(errand) = &self.errand {
             let (ask, member) = (errand.ask(), errand.member());
             let (kind, address) = (errand.kind().name(), errand.address());
@@ -42,7 +41,7 @@ impl Held {
     }
 
     /// Takes down what it has beside what was told of it when it was asked.
-    fn show(&self, text: &mut Vec<u8>) -> Result<(), Fail> {
+    fn show(&self, text: &mut Vec<u8>) -> io::Result<()> {
         if let Some(errand) = &self.errand {
             let (action, direction) = (errand.action(), errand.direction().name());
             let (uri, parent) = (errand.action_uri(), errand.parent_uri());
@@ -73,17 +72,16 @@ impl Errands {
     }
 
     /// Holds an errand, and takes down what it is.
-    pub fn hold(&mut self, errand: Errand, text: &mut Vec<u8>) -> Result<(), Fail> {
+    pub fn hold(&mut self, errand: Errand, text: &mut Vec<u8>) -> Option<()> {
         let held = Held::new(errand);
-        held.put(text)?;
-        self.held.push(held)?;
-        Ok(())
+        let done = held.put(text);
+        self.held.push(held).ok()?;
+        done.ok()
     }
 
     /// Holds an errand that was handed back.
-    pub fn hold_again(&mut self, errand: Errand) -> Result<(), Fail> {
-        self.held.push(Held::new(errand))?;
-        Ok(())
+    pub fn hold_again(&mut self, errand: Errand) -> Option<()> {
+        self.held.push(Held::new(errand)).ok()
     }
 
     /// Takes the errand of an ask, where it is held.
@@ -97,19 +95,19 @@ impl Errands {
     }
 
     /// Lets the errand of an ask go.
-    pub fn discard(&mut self, ask: u64) -> Result<(), Fail> {
-        let errand = self.take(ask).ok_or("no errand is held")?;
+    pub fn discard(&mut self, ask: u64) -> Option<()> {
+        let errand = self.take(ask)?;
         errand.discard();
-        Ok(())
+        Some(())
     }
 
     /// Takes down what an errand has beside what was told of it when it was asked.
-    pub fn show(&self, ask: u64, text: &mut Vec<u8>) -> Result<(), Fail> {
+    pub fn show(&self, ask: u64, text: &mut Vec<u8>) -> Option<()> {
         for held in &self.held {
             if held.ask == ask {
-                held.show(text)?;
+                held.show(text).ok()?;
             }
         }
-        Ok(())
+        Some(())
     }
 }

@@ -10,6 +10,8 @@ mod office;
 #[cfg(test)]
 mod rows;
 #[cfg(test)]
+mod same;
+#[cfg(test)]
 mod spelling;
 #[cfg(test)]
 mod words;

@@ -3,15 +3,16 @@
 //! Each is as well run with one allocation failing in turn: a command to which memory is refused changes nothing, and has the
 //! script's answer when it is given again.
 
-ghost use Rattle.std.specs.Prelude.{◌≡◌, IfOk, IfSome};
+ghost use Rattle.std.specs.Prelude.{◌≡◌, IfSome};
 ghost use Rattle.lra_office.specs.Clerks.{IsClerkOf};
 ghost use Rattle.lra_ticket.specs.Locks.{lock_id, pass_id, pass_view};
 
 use crate::coordinator::base;
 use crate::errands::Errands;
 use crate::rows::{REOPENED, SCRIPTS};
+use crate::same::assert_same;
 use crate::spelling::spell_journal;
-use crate::words::Words;
+use crate::words::{Words, asks, parted, uris};
 use lra_commands::{Order, Query};
 use lra_core::{Errand, Instance, Limits, Refusal, Told};
 use lra_journal::whole;
@@ -21,9 +22,7 @@ use lra_ticket::Pass;
 use std::alloc::{AllocError, Global};
 use std::io::{self, Write};
 use std::process::Abort;
-use std::str::from_utf8;
 use std::sync::{Mutex, Wait};
-use std::test::Fail;
 
 /// How many bytes come of a script at most.
 const ROOM: usize = 8_192;
@@ -63,7 +62,7 @@ struct Player<'a, V: Serving, R> {
     journal: &'a Mutex<Vec<u8>>,
     held: Errands,
     /// The commands, each with its answer.
-    text: Vec<u8>,
+    text: &'a mut Vec<u8>,
     ghost there: { IsClerkOf office.lock clerk },
 }
 
@@ -74,45 +73,59 @@ impl<V: Serving, R: Wait> Player<'_, V, R> {
         self.text.reserve(ROOM)
     }
 
-    /// Gives the commands of a script.
-    fn play(&mut self, script: &str) -> Result<(), Fail> {
+    /// Gives the commands of a script, up to one that is none, or one that changed something when it was refused memory.
+    fn play(&mut self, script: &str) -> Option<()> {
         if self.make_room().is_err() {
-            self.make_room()?;
+            self.make_room().ok()?;
         }
         for line in script.lines() {
             if is_given(line) {
-                let (command, _) = line.split_once(" -> ").ok_or("no answer is wanted")?;
-                write!(self.text, "{command} -> ")?;
-                self.give(command)?;
+                self.give_line(line)?;
             }
         }
-        Ok(())
+        Some(())
     }
 
-    fn give(&mut self, line: &str) -> Result<(), Fail> {
+    /// Gives the command of a line, and takes down what comes of it.
+    fn give_line(&mut self, line: &str) -> Option<()> {
+        let (command, _) = line.split_once(" -> ")?;
+        write!(self.text, "{command} -> ").ok()?;
+        self.give(command)
+    }
+
+    fn give(&mut self, line: &str) -> Option<()> {
         let mut words = Words { left: line };
         let first = words.next();
         if first == "discard" {
             return self.discard(words.number()?);
         }
-        if first == "awaited" {
-            return self.query(words.query()?);
+        if asks(first) {
+            return self.query(words.query(first)?);
         }
         let moment = words.number()?;
+        self.give_at(moment, words)
+    }
+
+    /// Gives the clerk's command.
+    fn give_at(&mut self, moment: u64, mut words: Words<'_>) -> Option<()> {
         let verb = words.next();
         if verb == "ask" {
             return self.ask(moment);
         }
         if verb == "reply" {
-            let ask = words.number()?;
-            let outcome = Outcome::from_name(words.next().as_bytes()).ok_or("no outcome")?;
-            return self.record(moment, ask, outcome);
+            return self.reply(moment, words);
         }
         if verb == "join" {
             let action = words.number()?;
             return self.join(moment, action, words.left);
         }
         self.order(moment, &words.order(verb)?)
+    }
+
+    fn reply(&mut self, moment: u64, mut words: Words<'_>) -> Option<()> {
+        let ask = words.number()?;
+        let outcome = Outcome::from_name(words.next().as_bytes())?;
+        self.record(moment, ask, outcome)
     }
 
     /// What there is now that a refusal is to keep.
@@ -126,29 +139,24 @@ impl<V: Serving, R: Wait> Player<'_, V, R> {
         (self.journal.lock(self.rt).len(), statuses)
     }
 
-    /// That refused memory has changed nothing.
-    fn require_seen(&mut self, seen: Seen) -> Result<(), Fail> {
-        if self.seen() != seen {
-            return Err("refused memory has changed something")?;
-        }
-        Ok(())
+    /// Whether refused memory has changed nothing.
+    fn is_as(&mut self, seen: Seen) -> bool {
+        self.seen() == seen
     }
 
-    fn put(&mut self, answer: Result<Told, OfficeRefusal>) -> Result<(), Fail> {
+    fn put(&mut self, answer: Result<Told, OfficeRefusal>) -> Option<()> {
         match answer {
-            Ok(told) => writeln!(self.text, "{told:?}")?,
-            Err(OfficeRefusal::Refused(refusal)) => writeln!(self.text, "refused {refusal:?}")?,
-            Err(OfficeRefusal::Worn) => return Err("the lock is worn")?,
+            Ok(told) => writeln!(self.text, "{told:?}").ok(),
+            Err(OfficeRefusal::Refused(refusal)) => {
+                writeln!(self.text, "refused {refusal:?}").ok()
+            }
+            Err(OfficeRefusal::Worn) => None,
         }
-        Ok(())
     }
 
-    /// Has a member join. The addresses are read again where memory was refused.
-    fn join(&mut self, moment: u64, action: u64, addresses: &str) -> Result<(), Fail> {
-        let uris = match (Words { left: addresses }).uris(self.alloc) {
-            Ok(uris) => uris,
-            Err(_) => (Words { left: addresses }).uris(self.alloc)?,
-        };
+    /// Has a member join.
+    fn join(&mut self, moment: u64, action: u64, addresses: &str) -> Option<()> {
+        let uris = uris(self.alloc, addresses)?;
         let order = Order::Join {
             action,
             uris: &uris,
@@ -159,61 +167,59 @@ impl<V: Serving, R: Wait> Player<'_, V, R> {
     }
 
     /// Gives an order, twice where memory was refused.
-    fn order(&mut self, moment: u64, order: &Order<'_>) -> Result<(), Fail> {
+    fn order(&mut self, moment: u64, order: &Order<'_>) -> Option<()> {
         let seen = self.seen();
         let mut answer = named(self.rt, &self.office, &mut self.clerk, moment, order);
         if answer == Err(NO_MEMORY) {
-            self.require_seen(seen)?;
+            if !self.is_as(seen) {
+                return None;
+            }
             answer = named(self.rt, &self.office, &mut self.clerk, moment, order);
         }
         self.put(answer)
     }
 
     /// Asks what writes nothing, and takes down what is told.
-    fn query(&mut self, query: Query) -> Result<(), Fail> {
+    fn query(&mut self, query: Query) -> Option<()> {
         match self.office.query(self.rt, &mut self.clerk, query) {
-            Ok(known) => {
-                writeln!(self.text, "{known:?}")?;
-                Ok(())
-            }
+            Ok(known) => writeln!(self.text, "{known:?}").ok(),
             Err(refusal) => self.put(Err(refusal)),
         }
     }
 
-    /// Asks, and holds the errand. Twice where memory was refused.
-    fn ask(&mut self, moment: u64) -> Result<(), Fail> {
+    /// Asks, twice where memory was refused.
+    fn asked(&mut self, moment: u64) -> Result<Option<Errand>, OfficeRefusal> {
         let seen = self.seen();
         match self.office.next_ask(self.rt, &mut self.clerk, moment) {
-            Err(NO_MEMORY) => {
-                self.require_seen(seen)?;
-                let asked = self.office.next_ask(self.rt, &mut self.clerk, moment);
-                self.hold(asked)
+            Err(NO_MEMORY) if self.is_as(seen) => {
+                self.office.next_ask(self.rt, &mut self.clerk, moment)
             }
-            asked => self.hold(asked),
+            asked => asked,
         }
     }
 
-    /// Takes down what was asked, and holds the errand.
-    fn hold(&mut self, asked: Result<Option<Errand>, OfficeRefusal>) -> Result<(), Fail> {
-        match asked {
+    /// Asks, and holds the errand.
+    fn ask(&mut self, moment: u64) -> Option<()> {
+        match self.asked(moment) {
             Err(refusal) => self.put(Err(refusal)),
             Ok(None) => self.put(Ok(Told::Idle)),
-            Ok(Some(errand)) => self.held.hold(errand, &mut self.text),
+            Ok(Some(errand)) => self.held.hold(errand, self.text),
         }
     }
 
-    fn discard(&mut self, ask: u64) -> Result<(), Fail> {
+    fn discard(&mut self, ask: u64) -> Option<()> {
         self.held.discard(ask)?;
-        writeln!(self.text, "discarded")?;
-        Ok(())
+        writeln!(self.text, "discarded").ok()
     }
 
     /// Records what came of an ask, twice where memory was refused. An errand that is handed back stays held.
-    fn record(&mut self, moment: u64, ask: u64, outcome: Outcome) -> Result<(), Fail> {
+    fn record(&mut self, moment: u64, ask: u64, outcome: Outcome) -> Option<()> {
         let seen = self.seen();
         let mut answer = self.record_once(moment, ask, outcome)?;
         if answer == Err(NO_MEMORY) {
-            self.require_seen(seen)?;
+            if !self.is_as(seen) {
+                return None;
+            }
             answer = self.record_once(moment, ask, outcome)?;
         }
         self.put(answer)
@@ -224,22 +230,20 @@ impl<V: Serving, R: Wait> Player<'_, V, R> {
         moment: u64,
         ask: u64,
         outcome: Outcome,
-    ) -> Result<Result<Told, OfficeRefusal>, Fail> {
-        let Some(errand) = self.held.take(ask) else {
-            return Err("no errand is held")?;
-        };
+    ) -> Option<Result<Told, OfficeRefusal>> {
+        let errand = self.held.take(ask)?;
         if !suits(errand.kind(), outcome) {
             errand.discard();
-            return Err("the outcome doesn't suit")?;
+            return None;
         }
         match self
             .office
             .record(self.rt, &mut self.clerk, moment, errand, outcome)
         {
-            Ok(told) => Ok(Ok(told)),
+            Ok(told) => Some(Ok(told)),
             Err((refusal, errand)) => {
                 self.held.hold_again(errand)?;
-                Ok(Err(refusal))
+                Some(Err(refusal))
             }
         }
     }
@@ -273,14 +277,16 @@ fn named<V: Serving, R: Wait>(
 
 /// Whether a line of a script is a command that the clerk gives, discards an errand, or only asks.
 fn is_given(line: &str) -> bool {
-    line.starts_with("1 ") || line.starts_with("discard ") || line.starts_with("awaited ")
+    line.starts_with("1 ") || line.starts_with("discard ") || asks(parted(line, " ").0)
 }
 
-/// What is to come of a script: the commands that are given, with their answers; and the journal, which is the lines that they
+/// Adds what is to come of a script: the commands that are given, with their answers; and the journal, which is the lines that they
 /// append, after a header.
-fn wanted(alloc: Global, script: &str) -> Result<(Vec<u8>, Vec<u8>), AllocError> {
-    let mut answers = Vec::with_capacity(alloc, ROOM)?;
-    let mut journal = Vec::with_capacity(alloc, ROOM)?;
+fn put_wanted(
+    script: &str,
+    answers: &mut Vec<u8>,
+    journal: &mut Vec<u8>,
+) -> Result<(), AllocError> {
     journal.extend_from_slice(b"lra-journal 2 7\n")?;
     for line in script.lines() {
         if is_given(line) {
@@ -292,15 +298,16 @@ fn wanted(alloc: Global, script: &str) -> Result<(Vec<u8>, Vec<u8>), AllocError>
             journal.push(b'\n')?;
         }
     }
-    Ok((answers, journal))
+    Ok(())
 }
 
 /// Room for what comes of a script, so that taking it down takes no memory.
-fn room(alloc: Global) -> Result<Vec<u8>, AllocError> {
-    match Vec::with_capacity(alloc, ROOM) {
-        Ok(room) => Ok(room),
-        Err(_) => Vec::with_capacity(alloc, ROOM),
+fn room(alloc: Global) -> Vec<u8> {
+    let mut room = Vec::new(alloc);
+    if room.reserve(ROOM).is_err() {
+        let _ = room.reserve(ROOM);
     }
+    room
 }
 
 /// Enrols the first clerk of an office, the second time where memory was refused.
@@ -321,17 +328,11 @@ fn enrolled<V: Serving, R: Wait>(
     }
 }
 
-/// An office and its clerk after a script that the clerk gives, and the answers to its commands.
-fn given<V: Serving, R: Wait>(
-    mut player: Player<'_, V, R>,
-    script: &str,
-) -> Result<(Office<V>, Clerk<V>, Vec<u8>), Fail>
-    ensures { IfOk result (λ r. IsClerkOf r.0.lock r.1) }
+/// An office and its clerk after a script that the clerk gives.
+fn given<V: Serving, R: Wait>(mut player: Player<'_, V, R>, script: &str) -> (Office<V>, Clerk<V>)
+    ensures { IsClerkOf result.0.lock result.1 }
 {
-    if let Err(fail) = player.play(script) {
-        drop(player);
-        return Err(fail);
-    }
+    let _ = player.play(script);
     let Player {
         rt: _,
         alloc: _,
@@ -339,25 +340,57 @@ fn given<V: Serving, R: Wait>(
         clerk,
         journal: _,
         held,
-        text,
+        text: _,
     } = player;
     drop(held);
-    Ok((office, clerk, text))
+    (office, clerk)
 }
 
-/// The same by a clerk that is enrolled first, at this moment.
-fn played_at<V: Serving, R: Wait>(
+/// Adds the journal by the coordinator of an office, which is shut. It takes no memory where there is room.
+fn shut<W: Write + Drop>(office: Office<Desk<W>>, clerk: Clerk<Desk<W>>, kept: &mut Vec<u8>)
+    requires { IsClerkOf office.lock clerk }
+{
+    match office.shut(clerk) {
+        Ok((coordinator, scribe)) => {
+            let _ = spell_journal(&coordinator, kept);
+            drop(coordinator);
+            drop(scribe);
+        }
+        Err((office, clerk)) => {
+            drop(office);
+            drop(clerk);
+        }
+    }
+}
+
+/// The moment of a script's first line, which enrols its clerk.
+fn enrolment(script: &str) -> Option<u64> {
+    let mut words = Words { left: script };
+    words.next();
+    words.number()
+}
+
+/// What comes of a script at an office, beside what its writer takes: the answers to its commands, and the journal by its
+/// coordinator.
+#[derive(Drop)]
+struct Came<'a> {
+    text: &'a mut Vec<u8>,
+    kept: &'a mut Vec<u8>,
+}
+
+/// Plays a script at an office, whose first clerk enrols at this moment.
+fn play_at<W: Write + Drop, R: Wait>(
     rt: &R,
     alloc: Global,
-    office: Office<V>,
-    pass: Pass<V>,
-    journal: &Mutex<Vec<u8>>,
-    script: &str,
+    office: Office<Desk<W>>,
+    pass: Pass<Desk<W>>,
     moment: u64,
-) -> Result<(Office<V>, Clerk<V>, Vec<u8>), Fail>
+    script: &str,
+    journal: &Mutex<Vec<u8>>,
+    came: Came<'_>,
+)
     requires lock { pass_id pass ≡ lock_id office.lock }
     requires newcomer { (pass_view pass).number ≡ 0 }
-    ensures { IfOk result (λ r. IsClerkOf r.0.lock r.1) }
 {
     match enrolled(rt, &office, pass, moment) {
         Some(clerk) => {
@@ -368,127 +401,72 @@ fn played_at<V: Serving, R: Wait>(
                 clerk,
                 journal,
                 held: Errands::new(alloc),
-                text: Vec::new(alloc),
+                text: came.text,
             };
-            given(player, script)
+            let (office, clerk) = given(player, script);
+            shut(office, clerk, came.kept);
         }
-        None => {
-            drop(office);
-            Err("a clerk can be enrolled")?
-        }
+        None => drop(office),
     }
 }
 
-/// Adds the journal by the coordinator of an office, which is shut. It takes no memory where there is room.
-fn shut<W: Write + Drop>(
-    office: Office<Desk<W>>,
-    clerk: Clerk<Desk<W>>,
-    kept: &mut Vec<u8>,
-) -> Result<(), Fail>
-    requires { IsClerkOf office.lock clerk }
-{
-    match office.shut(clerk) {
-        Ok((coordinator, scribe)) => {
-            let spelled = spell_journal(&coordinator, kept);
-            drop(coordinator);
-            drop(scribe);
-            Ok(spelled?)
-        }
-        Err((office, clerk)) => {
-            drop(office);
-            drop(clerk);
-            Err("the lock is free")?
-        }
-    }
-}
-
-/// The answers to the commands of a script at a new office, whose coordinator's journal is added to `kept`. Nothing, where no
-/// office could be made.
-fn played_once<R: Wait>(
+/// Plays a script at a new office: whether one could be made.
+fn play_once<R: Wait>(
     rt: &R,
     alloc: Global,
     script: &str,
-    taken: &Mutex<Vec<u8>>,
-    kept: &mut Vec<u8>,
-) -> Result<Option<Vec<u8>>, Fail> {
+    journal: &Mutex<Vec<u8>>,
+    came: Came<'_>,
+) -> Option<()> {
     let moment = enrolment(script)?;
-    let instance = Instance::new(7).ok_or("no instance")?;
-    let Some(base) = base(alloc) else {
-        return Ok(None);
-    };
-    let writer = Shared { rt, taken };
+    let instance = Instance::new(7)?;
+    let base = base(alloc)?;
+    let writer = Shared { rt, taken: journal };
     match Office::create(alloc, instance, base, Limits::usual(), writer) {
         Ok((office, pass)) => {
-            let (office, clerk, text) = played_at(rt, alloc, office, pass, taken, script, moment)?;
-            shut(office, clerk, kept)?;
-            Ok(Some(text))
+            play_at(rt, alloc, office, pass, moment, script, journal, came);
+            Some(())
         }
         Err((_, writer)) => {
             drop(writer);
-            Ok(None)
+            None
         }
     }
 }
 
-/// The same, with memory for the office the second time.
-fn played_twice<R: Wait>(
+/// The same, with memory for the office the second time. What the writer took.
+fn play<R: Wait>(
     rt: &R,
     alloc: Global,
     script: &str,
-    taken: &Mutex<Vec<u8>>,
+    text: &mut Vec<u8>,
     kept: &mut Vec<u8>,
-) -> Result<Vec<u8>, Fail> {
-    if let Some(text) = played_once(rt, alloc, script, taken, kept)? {
-        return Ok(text);
+) -> Vec<u8> {
+    let journal = Mutex::new(room(alloc));
+    if play_once(rt, alloc, script, &journal, Came { text, kept }).is_none() {
+        journal.lock(rt).clear();
+        play_once(rt, alloc, script, &journal, Came { text, kept });
     }
-    taken.lock(rt).clear();
-    let text = played_once(rt, alloc, script, taken, kept)?.ok_or("an office can be made")?;
-    Ok(text)
+    journal.into_inner()
 }
 
-/// What comes of a script: the answers to its commands, what the office's writer took, and the journal by the office's
-/// coordinator.
-fn played<R: Wait>(rt: &R, alloc: Global, script: &str) -> Result<[Vec<u8>; 3], Fail> {
-    let mut kept = room(alloc)?;
-    let taken = Mutex::new(room(alloc)?);
-    let text = played_twice(rt, alloc, script, &taken, &mut kept)?;
-    Ok([text, taken.into_inner(), kept])
-}
-
-/// The moment of a script's first line, which enrols its clerk.
-fn enrolment(script: &str) -> Result<u64, Fail> {
-    let mut words = Words { left: script };
-    words.next();
-    words.number()
-}
-
-/// What came of a script is what it says.
-fn assert_played<R: Abort>(
-    rt: &R,
-    came: &[Vec<u8>; 3],
-    answers: &[u8],
-    lines: &[u8],
-) -> Result<(), Fail> {
-    let [text, taken, kept] = came;
-    assert_eq!(rt; from_utf8(text)?, from_utf8(answers)?);
-    let lines = from_utf8(lines)?;
-    assert_eq!(rt; from_utf8(taken)?, lines);
-    assert_eq!(rt; from_utf8(kept)?, lines);
-    Ok(())
+/// What comes of a script is what it says.
+fn assert_script<R: Abort + Wait>(rt: &R, alloc: Global, script: &str) {
+    let (mut text, mut kept) = (room(alloc), room(alloc));
+    let taken = play(rt, alloc, script, &mut text, &mut kept);
+    let (mut answers, mut lines) = (room(alloc), room(alloc));
+    let is_put = put_wanted(script, &mut answers, &mut lines).is_ok();
+    assert!(rt; is_put);
+    assert_same(rt, text.as_slice(), answers.as_slice());
+    assert_same(rt, taken.as_slice(), lines.as_slice());
+    assert_same(rt, kept.as_slice(), lines.as_slice());
 }
 
 #[test]
-fn scripts_come_to_what_they_say(rt: HostRuntime) -> Result<(), Fail> {
-    let alloc = rt.alloc();
+fn scripts_come_to_what_they_say(rt: HostRuntime) {
     for script in SCRIPTS.split("\n\n") {
-        let came = played(&rt, alloc, script)?;
-        let (answers, lines) = match wanted(alloc, script) {
-            Ok(wanted) => wanted,
-            Err(_) => wanted(alloc, script)?,
-        };
-        assert_played(&rt, &came, &answers, &lines)?;
+        assert_script(&rt, rt.alloc(), script);
     }
-    Ok(())
 }
 
 /// A journal that an office goes on from at a moment, and what is written then.
@@ -499,6 +477,15 @@ struct Reopening<'a> {
     written: &'a str,
 }
 
+/// What a renewal is refused by, in a word.
+fn refusal_word(renewed: Result<Told, OfficeRefusal>) -> &'static str {
+    match renewed {
+        Ok(_) => "not refused",
+        Err(OfficeRefusal::Refused(refusal)) => refusal.name(),
+        Err(OfficeRefusal::Worn) => "worn",
+    }
+}
+
 /// What a renewal is refused by at the office of a journal, whose coordinator's journal is added to `kept`. Nothing, where memory was
 /// refused.
 fn goes_on<R: Wait>(
@@ -507,45 +494,38 @@ fn goes_on<R: Wait>(
     row: Reopening<'_>,
     taken: &Mutex<Vec<u8>>,
     kept: &mut Vec<u8>,
-) -> Result<Option<Refusal>, Fail> {
-    let Ok(journal) = Vec::from_slice(alloc, row.journal.as_bytes()) else {
-        return Ok(None);
-    };
+) -> Option<&'static str> {
+    let journal = Vec::from_slice(alloc, row.journal.as_bytes()).ok()?;
     let Some(base) = base(alloc) else {
         drop(journal);
-        return Ok(None);
+        return None;
     };
     let writer = Shared { rt, taken };
     match Office::reopen(alloc, journal, base, Limits::usual(), writer, row.moment) {
         Ok((office, mut clerk)) => {
             let renewed = office.renew(rt, &mut clerk, row.moment, 1, 5);
-            shut(office, clerk, kept)?;
-            let Err(OfficeRefusal::Refused(refusal)) = renewed else {
-                return Err("a renewal is refused")?;
-            };
-            Ok(Some(refusal))
+            shut(office, clerk, kept);
+            Some(refusal_word(renewed))
         }
         Err((fault, writer)) => {
             let is_starved = fault == ReopenFault::Memory && writer.is_none();
             drop(writer);
             if is_starved {
-                return Ok(None);
+                None
+            } else {
+                Some("not reopened")
             }
-            Err("the journal is sound")?
         }
     }
 }
 
-/// Takes back what was written where memory was refused: nothing, or all.
-fn take_back<R: Wait>(rt: &R, taken: &Mutex<Vec<u8>>, written: &str) -> Result<(), Fail> {
+/// Takes back what was written where memory was refused: whether that is nothing, or all.
+fn take_back<R: Wait>(rt: &R, taken: &Mutex<Vec<u8>>, written: &str) -> bool {
     let mut before = taken.lock(rt);
     let is_part = !before.is_empty() && before.as_slice() != written.as_bytes();
     before.clear();
     drop(before);
-    if is_part {
-        return Err("a part was written")?;
-    }
-    Ok(())
+    !is_part
 }
 
 /// What a renewal is refused by, once more where memory was refused. Then nothing had been written, or all.
@@ -555,46 +535,55 @@ fn goes_on_twice<R: Wait>(
     row: Reopening<'_>,
     taken: &Mutex<Vec<u8>>,
     kept: &mut Vec<u8>,
-) -> Result<Refusal, Fail> {
-    if let Some(refusal) = goes_on(rt, alloc, row, taken, kept)? {
-        return Ok(refusal);
+) -> &'static str {
+    if let Some(word) = goes_on(rt, alloc, row, taken, kept) {
+        return word;
     }
-    take_back(rt, taken, row.written)?;
-    let refusal = goes_on(rt, alloc, row, taken, kept)?.ok_or("memory is refused once")?;
-    Ok(refusal)
+    if !take_back(rt, taken, row.written) {
+        return "a part was written";
+    }
+    goes_on(rt, alloc, row, taken, kept).unwrap_or("memory is refused twice")
 }
 
-/// The same, with the journal by the coordinator, and what was written.
-fn gone_on<R: Wait>(
-    rt: &R,
-    alloc: Global,
-    row: Reopening<'_>,
-) -> Result<(Refusal, Vec<u8>, Vec<u8>), Fail> {
-    let mut kept = room(alloc)?;
-    let taken = Mutex::new(room(alloc)?);
-    let refusal = goes_on_twice(rt, alloc, row, &taken, &mut kept)?;
-    Ok((refusal, kept, taken.into_inner()))
+/// Whether a journal by a coordinator is the whole lines of that from which it went on, and what was written then.
+fn goes_on_from(kept: &[u8], row: Reopening<'_>) -> bool {
+    let journal = row.journal.as_bytes();
+    let (lines, _) = journal.split_at(whole(journal));
+    kept.strip_prefix(lines) == Some(row.written.as_bytes())
+}
+
+/// What comes of a journal that is reopened is what its row says.
+fn assert_reopened<R: Abort + Wait>(rt: &R, alloc: Global, row: Reopening<'_>, wanted: &str) {
+    let mut kept = room(alloc);
+    let taken = Mutex::new(room(alloc));
+    let word = goes_on_twice(rt, alloc, row, &taken, &mut kept);
+    let taken = taken.into_inner();
+    assert!(rt; word == wanted, "{word}");
+    assert_same(rt, taken.as_slice(), row.written.as_bytes());
+    assert!(rt; goes_on_from(kept.as_slice(), row));
+}
+
+/// The reopening of a row, and what the renewal is to be refused by.
+fn reopened_by(row: &str) -> Option<(Reopening<'_>, &str)> {
+    let (line, row) = parted(row, "\n");
+    let (moment, wanted) = parted(line, " ");
+    let (journal, written) = parted(row, ">");
+    let moment = (Words { left: moment }).number()?;
+    let row = Reopening {
+        moment,
+        journal,
+        written,
+    };
+    Some((row, wanted))
 }
 
 #[test]
-fn a_journal_is_gone_on_from_in_its_version(rt: HostRuntime) -> Result<(), Fail> {
+fn a_journal_is_gone_on_from_in_its_version(rt: HostRuntime) {
     for row in REOPENED.split('|') {
-        let (line, row) = row.split_once('\n').ok_or("no journal")?;
-        let (moment, wanted) = line.split_once(' ').ok_or("no refusal")?;
-        let (journal, written) = row.split_once('>').ok_or("nothing is written")?;
-        let row = Reopening {
-            moment: moment.parse()?,
-            journal,
-            written,
-        };
-        let (refusal, kept, taken) = gone_on(&rt, rt.alloc(), row)?;
-        assert_eq!(rt; refusal.name(), wanted);
-        assert_eq!(rt; from_utf8(&taken)?, written);
-        let (lines, _) = journal.as_bytes().split_at(whole(journal.as_bytes()));
-        assert_eq!(rt;
-            kept.as_slice().strip_prefix(lines),
-            Some(written.as_bytes())
-        );
+        let reopening = reopened_by(row);
+        assert!(rt; reopening.is_some());
+        if let Some((row, wanted)) = reopening {
+            assert_reopened(&rt, rt.alloc(), row, wanted);
+        }
     }
-    Ok(())
 }

@@ -35,6 +35,10 @@ awaited 1 1 -> Awaits { place: 1, awaited: Member { member: 2, ask: Some(2) } }
 1 23 reply 2 done -> Recorded
 + 1 23 reply 2 done
 awaited 1 1 -> AwaitsNothing
+listed members 1 0 -> Row { place: 0, row: Member { member: 1, status: Completing, ask: Some(1) } }
+listed members 1 1 -> Row { place: 1, row: Member { member: 2, status: Completed, ask: None } }
+listed members 1 2 -> NoMore
+listed members 2 0 -> refused NoSuchAction
 1 24 reply 1 accepted -> Recorded
 + 1 24 reply 1 accepted
 awaited 1 0 -> Awaits { place: 0, awaited: Member { member: 1, ask: None } }
@@ -128,6 +132,15 @@ errand 1 -> 2 completion http://127.0.0.1:8080/lra-coordinator/00000000-0000-800
 + 1 7 ask 2 1 compensate
 awaited 1 0 -> Awaits { place: 0, awaited: Action { action: 2 } }
 awaited 2 0 -> Awaits { place: 0, awaited: Member { member: 1, ask: Some(2) } }
+listed nested 1 0 -> Row { place: 0, row: Action { action: 2, status: Cancelling, parent: Some(1) } }
+listed nested 1 1 -> NoMore
+listed nested 2 0 -> NoMore
+listed nested 3 0 -> refused NoSuchAction
+listed actions * 0 -> Row { place: 0, row: Action { action: 1, status: Cancelling, parent: None } }
+listed actions * 1 -> Row { place: 1, row: Action { action: 2, status: Cancelling, parent: Some(1) } }
+listed actions * 2 -> NoMore
+listed actions Cancelling 1 -> Row { place: 1, row: Action { action: 2, status: Cancelling, parent: Some(1) } }
+listed actions Closed 0 -> NoMore
 1 8 reply 2 done -> Recorded
 + 1 8 reply 2 done
 + 1 8 end 2 Cancelled
@@ -409,8 +422,7 @@ lra-journal 1 7
 + 2 9 end 1 Closed
 2 9 restart -> Restarted
 + 2 9 restart
-2 9 renew 1 5 -> refused OldJournal
-",
+2 9 renew 1 5 -> refused OldJournal",
 ];
 
 /// Between `|`: a moment and what a renewal is then refused by, the journal that is reopened, and after `>` what is written of it.

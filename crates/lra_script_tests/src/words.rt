@@ -1,10 +1,8 @@
 //! The words of a script's line.
 
-use lra_commands::{Order, Query};
-use lra_model::{Ending, Uris};
+use lra_commands::{Listing, Order, Query};
+use lra_model::{ActionStatus, Ending, Uris};
 use std::alloc::{AllocError, Global};
-use std::mem;
-use std::test::Fail;
 
 /// The words of a line that are still to come.
 #[derive(Drop)]
@@ -12,31 +10,35 @@ pub struct Words<'a> {
     pub left: &'a str,
 }
 
+/// What stands before the first such sign, and behind it: all and nothing, where there is none.
+pub fn parted<'a>(row: &'a str, sign: &str) -> (&'a str, &'a str) {
+    row.split_once(sign).unwrap_or((row, ""))
+}
+
+/// Whether a line with such a first word only asks.
+pub fn asks(first: &str) -> bool {
+    first == "awaited" || first == "listed"
+}
+
 impl<'a> Words<'a> {
     /// The next word; nothing where none is left.
     pub fn next(&mut self) -> &'a str {
-        match self.left.split_once(' ') {
-            Some((word, left)) => {
-                self.left = left;
-                word
-            }
-            None => mem::replace(&mut self.left, ""),
-        }
+        let (word, left) = parted(self.left, " ");
+        self.left = left;
+        word
     }
 
-    pub fn number(&mut self) -> Result<u64, Fail> {
-        let number = self.next().parse()?;
-        Ok(number)
+    pub fn number(&mut self) -> Option<u64> {
+        self.next().parse().ok()
     }
 
-    /// A number, or `*` for none.
-    fn optional(&mut self) -> Result<Option<u64>, Fail> {
+    /// A number, or none, for which `*` stands.
+    fn optional(&mut self) -> Option<Option<u64>> {
         let word = self.next();
         if word == "*" {
-            return Ok(None);
+            return Some(None);
         }
-        let number = word.parse()?;
-        Ok(Some(number))
+        Some(Some(word.parse().ok()?))
     }
 
     /// An address, or `*` for none.
@@ -48,7 +50,7 @@ impl<'a> Words<'a> {
         Ok(Some(String::from_str(alloc, word)?))
     }
 
-    pub fn uris(mut self, alloc: Global) -> Result<Uris, AllocError> {
+    fn uris(mut self, alloc: Global) -> Result<Uris, AllocError> {
         let mut uris = Uris {
             compensate: None,
             complete: None,
@@ -72,50 +74,80 @@ impl<'a> Words<'a> {
         Ok(())
     }
 
-    /// A query of what an action waits for, from a place on.
-    pub fn query(&mut self) -> Result<Query, Fail> {
-        let action = self.number()?;
+    /// A query, from a place on, of a line with such a first word: of what an action waits for, or of the next row of a listing.
+    pub fn query(&mut self, first: &str) -> Option<Query> {
+        if first == "awaited" {
+            let action = self.number()?;
+            let place = self.number()?;
+            return Some(Query::Awaited { action, place });
+        }
+        let of = self.listing()?;
         let place = self.number()?;
-        Ok(Query::Awaited { action, place })
+        Some(Query::Row { of, place })
+    }
+
+    /// Which rows are listed: the members of an action, those nested in it, or all actions of a status.
+    fn listing(&mut self) -> Option<Listing> {
+        let kind = self.next();
+        if kind == "actions" {
+            let status = self.status()?;
+            return Some(Listing::Actions { status });
+        }
+        let action = self.number()?;
+        if kind == "nested" {
+            return Some(Listing::Nested { action });
+        }
+        Some(Listing::Members { action })
+    }
+
+    /// An action's status, or any, for which `*` stands.
+    fn status(&mut self) -> Option<Option<ActionStatus>> {
+        let word = self.next();
+        if word == "*" {
+            return Some(None);
+        }
+        Some(Some(ActionStatus::from_name(word.as_bytes())?))
     }
 
     /// An order of any kind but that to join.
-    pub fn order(&mut self, verb: &str) -> Result<Order<'static>, Fail> {
-        if let Some(order) = bare(verb) {
-            return Ok(order);
+    pub fn order(&mut self, verb: &str) -> Option<Order<'static>> {
+        if verb == "tick" {
+            return Some(Order::Tick);
+        }
+        if verb == "restart" {
+            return Some(Order::Restart);
         }
         if verb == "start" {
             return self.start();
         }
         let number = self.number()?;
-        if let Some(order) = of_one(verb, number) {
-            return Ok(order);
-        }
         if verb == "report" {
             return self.report(number);
         }
-        let order = of_two(verb, number, self.number()?).ok_or("no command")?;
-        Ok(order)
+        if verb == "leave" || verb == "renew" {
+            return Some(of_two(verb, number, self.number()?));
+        }
+        of_one(verb, number)
     }
 
-    fn start(&mut self) -> Result<Order<'static>, Fail> {
+    fn start(&mut self) -> Option<Order<'static>> {
         let parent = self.optional()?;
         let limit = self.number()?;
-        Ok(Order::Start { parent, limit })
+        Some(Order::Start { parent, limit })
     }
 
-    fn report(&mut self, member: u64) -> Result<Order<'static>, Fail> {
-        let ending = Ending::from_name(self.next().as_bytes()).ok_or("no ending")?;
-        Ok(Order::Report { member, ending })
+    fn report(&mut self, member: u64) -> Option<Order<'static>> {
+        let ending = Ending::from_name(self.next().as_bytes())?;
+        Some(Order::Report { member, ending })
     }
 }
 
-/// An order that names nothing.
-fn bare(verb: &str) -> Option<Order<'static>> {
-    if verb == "tick" {
-        return Some(Order::Tick);
+/// The addresses of a member, read again where memory was refused.
+pub fn uris(alloc: Global, addresses: &str) -> Option<Uris> {
+    match (Words { left: addresses }).uris(alloc) {
+        Err(_) => (Words { left: addresses }).uris(alloc).ok(),
+        Ok(uris) => Some(uris),
     }
-    (verb == "restart").then_some(Order::Restart)
 }
 
 /// An order that names an action or a member alone.
@@ -132,16 +164,16 @@ fn of_one(verb: &str, number: u64) -> Option<Order<'static>> {
     (verb == "member").then_some(Order::MemberStatus { member: number })
 }
 
-/// An order of an action and another number.
-fn of_two(verb: &str, action: u64, number: u64) -> Option<Order<'static>> {
+/// An order to leave an action, or else to renew it.
+fn of_two(verb: &str, action: u64, number: u64) -> Order<'static> {
     if verb == "leave" {
-        return Some(Order::Leave {
+        return Order::Leave {
             action,
             member: number,
-        });
+        };
     }
-    (verb == "renew").then_some(Order::Renew {
+    Order::Renew {
         action,
         limit: number,
-    })
+    }
 }

@@ -5,14 +5,13 @@ ghost use Rattle.lra_core.specs.Prepares.{is_suited};
 
 use crate::errands::Errands;
 use crate::spelling::spell_entries;
-use crate::words::Words;
+use crate::words::{Words, asks, uris};
 use lra_auditor::{Summary, Verdict, check};
 use lra_commands::{Order, Query};
 use lra_core::{Command, Coordinator, Errand, Prepared, Refusal, Told, Version};
-use lra_model::{Outcome, suits};
+use lra_model::{Entry, Memory, Outcome, suits};
 use std::alloc::{AllocError, Global};
-use std::io::Write;
-use std::test::Fail;
+use std::io::{self, Write};
 
 /// How many bytes come of a script at most.
 const ROOM: usize = 32_768;
@@ -39,8 +38,8 @@ struct Desk<'a> {
 }
 
 /// Gives a coordinator each command of a script, whose lines are `COMMAND -> ANSWER`, or `+ ` and a line of the journal. What came
-/// of them is the script itself, where all is as it says.
-pub fn played(alloc: Global, coordinator: &mut Coordinator, script: &str) -> Result<Vec<u8>, Fail> {
+/// of them is the script itself, where all is as it says, and ends at a line that is none.
+pub fn played(alloc: Global, coordinator: &mut Coordinator, script: &str) -> Vec<u8> {
     let mut desk = Desk {
         alloc,
         coordinator,
@@ -51,13 +50,8 @@ pub fn played(alloc: Global, coordinator: &mut Coordinator, script: &str) -> Res
         spelled: Vec::new(alloc),
         has_changed: false,
     };
-    let done = desk.play(script);
-    let text = desk.into_text();
-    if let Err(fail) = done {
-        drop(text);
-        return Err(fail);
-    }
-    Ok(text)
+    desk.play(script);
+    desk.into_text()
 }
 
 impl Desk<'_> {
@@ -76,34 +70,42 @@ impl Desk<'_> {
         self.spelled.reserve(ROOM)
     }
 
-    /// Gives each command. One that is refused memory is given again. At the end the entries are those whose lines were taken down.
-    fn play(&mut self, script: &str) -> Result<(), Fail> {
-        if self.make_room().is_err() {
-            self.make_room()?;
+    /// Gives each command. One that is refused memory is given again. At the end the entries are those whose lines were taken down, or
+    /// else this is what came.
+    fn play(&mut self, script: &str) {
+        if self.make_room().is_err() && self.make_room().is_err() {
+            return;
         }
-        spell_entries(self.coordinator, &mut self.journal)?;
-        self.give_all(script)?;
+        let is_spelled = spell_entries(self.coordinator, &mut self.journal).is_ok();
+        if !is_spelled || self.give_all(script).is_none() {
+            return;
+        }
         if self.has_changed || !self.has_journal() {
-            return Err("an entry or a status isn't as it was, or as it is to be")?;
+            let _ = writeln!(
+                self.text,
+                "an entry or a status isn't as it was, or as it is to be"
+            );
         }
-        Ok(())
     }
 
-    fn give_all(&mut self, script: &str) -> Result<(), Fail> {
+    fn give_all(&mut self, script: &str) -> Option<()> {
         for line in script.lines() {
-            if line.starts_with("+ ") {
-                continue;
+            if !line.starts_with("+ ") {
+                self.give_line(line)?;
             }
-            let (command, _) = line.split_once(" -> ").ok_or("no answer is wanted")?;
-            write!(self.text, "{command} -> ")?;
-            self.give(command)?;
         }
-        Ok(())
+        Some(())
     }
 
-    /// Gives the command of a line.
-    fn give(&mut self, line: &str) -> Result<(), Fail> {
-        let mut words = Words { left: line };
+    /// Gives the command of a line, and takes down what comes of it.
+    fn give_line(&mut self, line: &str) -> Option<()> {
+        let (command, _) = line.split_once(" -> ")?;
+        write!(self.text, "{command} -> ").ok()?;
+        self.give(command)
+    }
+
+    fn give(&mut self, command: &str) -> Option<()> {
+        let mut words = Words { left: command };
         let first = words.next();
         if first == "audit" {
             return self.audit(words.next());
@@ -114,14 +116,14 @@ impl Desk<'_> {
         if first == "discard" {
             return self.discard(words.number()?);
         }
-        if first == "awaited" {
-            return self.query(words.query()?);
+        if asks(first) {
+            return self.query(words.query(first)?);
         }
-        self.give_by(first.parse()?, words)
+        self.give_by(first.parse().ok()?, words)
     }
 
     /// Gives the command of a clerk, or one of none.
-    fn give_by(&mut self, by: u32, mut words: Words<'_>) -> Result<(), Fail> {
+    fn give_by(&mut self, by: u32, mut words: Words<'_>) -> Option<()> {
         let moment = words.number()?;
         let verb = words.next();
         if verb == "enrol" {
@@ -140,9 +142,9 @@ impl Desk<'_> {
         self.order(by, moment, &words.order(verb)?)
     }
 
-    fn reply(&mut self, by: u32, moment: u64, mut words: Words<'_>) -> Result<(), Fail> {
+    fn reply(&mut self, by: u32, moment: u64, mut words: Words<'_>) -> Option<()> {
         let ask = words.number()?;
-        let outcome = Outcome::from_name(words.next().as_bytes()).ok_or("no outcome")?;
+        let outcome = Outcome::from_name(words.next().as_bytes())?;
         self.record(by, moment, ask, outcome)
     }
 
@@ -168,34 +170,27 @@ impl Desk<'_> {
         self.has_changed = self.has_changed || self.kept() != kept || !self.has_journal();
     }
 
-    fn put_told(&mut self, told: Told) -> Result<(), Fail> {
-        writeln!(self.text, "{told:?}")?;
-        Ok(())
+    fn put_told(&mut self, told: Told) -> Option<()> {
+        writeln!(self.text, "{told:?}").ok()
     }
 
-    fn put_refusal(&mut self, refusal: Refusal) -> Result<(), Fail> {
-        writeln!(self.text, "refused {refusal:?}")?;
-        Ok(())
+    fn put_refusal(&mut self, refusal: Refusal) -> Option<()> {
+        writeln!(self.text, "refused {refusal:?}").ok()
     }
 
-    fn put_answer(&mut self, answer: Result<Told, Refusal>) -> Result<(), Fail> {
+    fn put_answer(&mut self, answer: Result<Told, Refusal>) -> Option<()> {
         match answer {
             Ok(told) => self.put_told(told),
             Err(refusal) => self.put_refusal(refusal),
         }
     }
 
-    fn put_lines(&mut self) -> Result<(), Fail> {
-        for line in self.lines.as_slice().split(|byte| *byte == b'\n') {
-            if !line.is_empty() {
-                self.text.extend_from_slice(b"+ ")?;
-                self.text.extend_from_slice(line)?;
-                self.text.push(b'\n')?;
-            }
-        }
-        self.journal.extend_from_slice(self.lines.as_slice())?;
+    /// Takes down the lines that a command has appended.
+    fn put_lines(&mut self) -> Option<()> {
+        put_lines(self.lines.as_slice(), &mut self.text).ok()?;
+        self.journal.extend_from_slice(self.lines.as_slice()).ok()?;
         self.lines.clear();
-        Ok(())
+        Some(())
     }
 
     /// Takes down the lines that a command would append, twice where memory was refused.
@@ -227,7 +222,7 @@ impl Desk<'_> {
         }
     }
 
-    fn enrol(&mut self, moment: u64) -> Result<(), Fail> {
+    fn enrol(&mut self, moment: u64) -> Option<()> {
         self.look(0, moment, &Command::Enrol);
         let kept = self.kept();
         let mut answer = self.coordinator.enrol(moment);
@@ -240,11 +235,8 @@ impl Desk<'_> {
     }
 
     /// Has a member join. The addresses are read again where memory was refused.
-    fn join(&mut self, by: u32, moment: u64, action: u64, addresses: &str) -> Result<(), Fail> {
-        let uris = match (Words { left: addresses }).uris(self.alloc) {
-            Ok(uris) => uris,
-            Err(_) => (Words { left: addresses }).uris(self.alloc)?,
-        };
+    fn join(&mut self, by: u32, moment: u64, action: u64, addresses: &str) -> Option<()> {
+        let uris = uris(self.alloc, addresses)?;
         let order = Order::Join {
             action,
             uris: &uris,
@@ -255,7 +247,7 @@ impl Desk<'_> {
     }
 
     /// Gives an order, twice where memory was refused.
-    fn order(&mut self, by: u32, moment: u64, order: &Order<'_>) -> Result<(), Fail> {
+    fn order(&mut self, by: u32, moment: u64, order: &Order<'_>) -> Option<()> {
         self.look(by, moment, &order.command());
         let kept = self.kept();
         let mut answer = named(self.coordinator, by, moment, order);
@@ -268,71 +260,71 @@ impl Desk<'_> {
     }
 
     /// Asks what writes nothing, and takes down what is told.
-    fn query(&mut self, query: Query) -> Result<(), Fail> {
+    fn query(&mut self, query: Query) -> Option<()> {
         match self.coordinator.query(query) {
-            Ok(known) => writeln!(self.text, "{known:?}")?,
-            Err(refusal) => self.put_refusal(refusal)?,
+            Ok(known) => writeln!(self.text, "{known:?}").ok(),
+            Err(refusal) => self.put_refusal(refusal),
         }
-        Ok(())
     }
 
-    /// Asks, holds the errand, and takes down what it is.
-    fn ask(&mut self, by: u32, moment: u64) -> Result<(), Fail> {
-        self.look(by, moment, &Command::NextAsk);
+    /// Asks, twice where memory was refused.
+    fn asked(&mut self, by: u32, moment: u64) -> Result<Option<Errand>, Refusal> {
         let kept = self.kept();
         match self.coordinator.next_ask(by, moment) {
             Err(Refusal::Memory) => {
                 self.look_back(kept);
-                let asked = self.coordinator.next_ask(by, moment);
-                self.hold(asked)?;
+                self.coordinator.next_ask(by, moment)
             }
-            asked => self.hold(asked)?,
+            asked => asked,
+        }
+    }
+
+    /// Asks, holds the errand, and takes down what it is.
+    fn ask(&mut self, by: u32, moment: u64) -> Option<()> {
+        self.look(by, moment, &Command::NextAsk);
+        match self.asked(by, moment) {
+            Err(refusal) => self.put_refusal(refusal)?,
+            Ok(None) => self.put_told(Told::Idle)?,
+            Ok(Some(errand)) => self.held.hold(errand, &mut self.text)?,
         }
         self.put_lines()
     }
 
-    /// Takes down what was asked, and holds the errand.
-    fn hold(&mut self, asked: Result<Option<Errand>, Refusal>) -> Result<(), Fail> {
-        match asked {
-            Err(refusal) => self.put_refusal(refusal),
-            Ok(None) => self.put_told(Told::Idle),
-            Ok(Some(errand)) => self.held.hold(errand, &mut self.text),
-        }
-    }
-
-    fn discard(&mut self, ask: u64) -> Result<(), Fail> {
+    fn discard(&mut self, ask: u64) -> Option<()> {
         self.held.discard(ask)?;
-        writeln!(self.text, "discarded")?;
-        Ok(())
+        writeln!(self.text, "discarded").ok()
     }
 
-    /// Records what came of an ask, twice where memory was refused.
-    fn record(&mut self, by: u32, moment: u64, ask: u64, outcome: Outcome) -> Result<(), Fail> {
-        let Some(errand) = self.held.take(ask) else {
-            return Err("no errand is held")?;
-        };
-        self.look_at_record(by, moment, &errand, outcome);
+    /// Records what came of an errand, twice where memory was refused.
+    fn recorded(
+        &mut self,
+        by: u32,
+        moment: u64,
+        errand: Errand,
+        outcome: Outcome,
+    ) -> Result<Told, (Refusal, Errand)> {
         let kept = self.kept();
         match recorded(self.coordinator, by, moment, errand, outcome) {
             Err((Refusal::Memory, errand)) => {
                 self.look_back(kept);
-                let answer = recorded(self.coordinator, by, moment, errand, outcome);
-                self.put_record(answer)?;
+                recorded(self.coordinator, by, moment, errand, outcome)
             }
-            answer => self.put_record(answer)?,
+            answer => answer,
         }
-        self.put_lines()
     }
 
-    /// Takes down the answer to a record. An errand that is handed back stays held.
-    fn put_record(&mut self, answer: Result<Told, (Refusal, Errand)>) -> Result<(), Fail> {
-        match answer {
-            Ok(told) => self.put_told(told),
+    /// Records what came of an ask, and takes down the answer. An errand that is handed back stays held.
+    fn record(&mut self, by: u32, moment: u64, ask: u64, outcome: Outcome) -> Option<()> {
+        let errand = self.held.take(ask)?;
+        self.look_at_record(by, moment, &errand, outcome);
+        match self.recorded(by, moment, errand, outcome) {
+            Ok(told) => self.put_told(told)?,
             Err((refusal, errand)) => {
                 self.held.hold_again(errand)?;
-                self.put_refusal(refusal)
+                self.put_refusal(refusal)?;
             }
         }
+        self.put_lines()
     }
 
     /// Takes down the lines that a record would append.
@@ -343,49 +335,64 @@ impl Desk<'_> {
     }
 
     /// Takes down what an audit of the history says, as of a journal of this version.
-    fn audit(&mut self, version: &str) -> Result<(), Fail> {
-        let version = Version::from_name(version.as_bytes()).ok_or("no version")?;
-        let entries = self.coordinator.entries();
-        let verdict = match check(self.alloc, version, entries) {
-            Ok(verdict) => verdict,
-            Err(_) => check(self.alloc, version, entries)?,
-        };
-        let done = self.put_verdict(&verdict);
+    fn audit(&mut self, version: &str) -> Option<()> {
+        let version = Version::from_name(version.as_bytes())?;
+        let verdict = checked(self.alloc, version, self.coordinator.entries());
+        let done = put_checked(&verdict, &mut self.text);
         drop(verdict);
         done
     }
+}
 
-    fn put_verdict(&mut self, verdict: &Verdict) -> Result<(), Fail> {
-        match verdict {
-            Verdict::Unsound { line, rule } => {
-                let rule = rule.name();
-                writeln!(self.text, "unsound line {line} {rule}")?;
-                Ok(())
-            }
-            Verdict::Sound(summary) => self.put_summary(summary),
+/// Takes down lines of the journal.
+fn put_lines(lines: &[u8], text: &mut Vec<u8>) -> Result<(), AllocError> {
+    for line in lines.split(|byte| *byte == b'\n') {
+        if !line.is_empty() {
+            text.extend_from_slice(b"+ ")?;
+            text.extend_from_slice(line)?;
+            text.push(b'\n')?;
         }
     }
+    Ok(())
+}
 
-    fn put_summary(&mut self, summary: &Summary) -> Result<(), Fail> {
-        let (entries, actions) = (summary.entries, summary.actions);
-        let (unended, closed) = (summary.unended, summary.closed);
-        let cancelled = summary.cancelled;
-        write!(
-            self.text,
-            "sound {entries} entries {actions} actions {unended} unended"
-        )?;
-        write!(self.text, " {closed} closed {cancelled} cancelled")?;
-        self.put_failed(summary)
+/// What an audit says, made again where memory was refused.
+fn checked(alloc: Global, version: Version, entries: &[Entry]) -> Result<Verdict, Memory> {
+    match check(alloc, version, entries) {
+        Err(_) => check(alloc, version, entries),
+        checked => checked,
     }
+}
 
-    fn put_failed(&mut self, summary: &Summary) -> Result<(), Fail> {
-        for end in summary.failed.as_slice() {
-            let (action, status, member) = (end.action, end.status.name(), end.member);
-            write!(self.text, " failed {action} {status} {member}")?;
+fn put_checked(checked: &Result<Verdict, Memory>, text: &mut Vec<u8>) -> Option<()> {
+    match checked {
+        Ok(Verdict::Unsound { line, rule }) => {
+            let rule = rule.name();
+            writeln!(text, "unsound line {line} {rule}").ok()
         }
-        writeln!(self.text)?;
-        Ok(())
+        Ok(Verdict::Sound(summary)) => put_summary(summary, text).ok(),
+        Err(_) => None,
     }
+}
+
+fn put_summary(summary: &Summary, text: &mut Vec<u8>) -> io::Result<()> {
+    let (entries, actions) = (summary.entries, summary.actions);
+    let (unended, closed) = (summary.unended, summary.closed);
+    let cancelled = summary.cancelled;
+    write!(
+        text,
+        "sound {entries} entries {actions} actions {unended} unended"
+    )?;
+    write!(text, " {closed} closed {cancelled} cancelled")?;
+    put_failed(summary, text)
+}
+
+fn put_failed(summary: &Summary, text: &mut Vec<u8>) -> io::Result<()> {
+    for end in summary.failed.as_slice() {
+        let (action, status, member) = (end.action, end.status.name(), end.member);
+        write!(text, " failed {action} {status} {member}")?;
+    }
+    writeln!(text)
 }
 
 /// Records what came of an ask, where its outcome suits.

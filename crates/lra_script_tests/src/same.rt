@@ -1,0 +1,17 @@
+//! What came, beside what was wanted.
+
+use std::process::Abort;
+use std::str::from_utf8;
+
+/// These texts are the same.
+pub fn assert_same(rt: &impl Abort, came: &[u8], wanted: &[u8]) {
+    let came = from_utf8(came).unwrap_or("no text");
+    let wanted = from_utf8(wanted).unwrap_or("no text is wanted");
+    assert_eq!(rt; came, wanted);
+}
+
+/// What came of a script is what it says. A line's end is behind its last line.
+pub fn assert_came(rt: &impl Abort, came: &[u8], script: &str) {
+    let came = from_utf8(came).unwrap_or("no text");
+    assert_eq!(rt; came.strip_suffix("\n").unwrap_or("no line"), script);
+}
