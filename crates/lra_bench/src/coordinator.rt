@@ -6,27 +6,26 @@ mod reopening;
 mod sample;
 
 use anyhow::Result;
-use sample::{Cost, Sample};
+use sample::Sample;
 
 /// How many members, in how many runs: the shortest counts, since what else the machine does only makes a run longer.
 const SIZES: [(u64, u32); 4] = [(1_000, 20), (10_000, 10), (100_000, 5), (400_000, 3)];
 
 /// Prints what a kind of command took with so many members, beside what it took with the fewest.
-fn print_cost(rt: &HostRuntime, name: &str, members: u64, cost: Cost, first: Cost) -> Result<()> {
-    let time = cost.nanoseconds();
-    let ratio = time / first.nanoseconds();
-    let [ours, writing] = cost.rates();
+fn print_time(rt: &HostRuntime, name: &str, members: u64, time: f64, first: f64) -> Result<()> {
+    let ratio = time / first;
+    let rate = 1e9 / time;
     println!(rt;
-        "{name:<15}{members:>7} members: {time:7.0} ns, ratio {ratio:.2}; {ours:9.0} a second, their lines alone {writing:9.0}"
+        "{name:<15}{members:>7} members: {time:7.0} ns, ratio {ratio:.2}; {rate:9.0} a second"
     )?;
     Ok(())
 }
 
 fn print_sample(rt: &HostRuntime, members: u64, sample: &Sample, first: &Sample) -> Result<()> {
-    print_cost(rt, "join", members, sample.join, first.join)?;
-    print_cost(rt, "close", members, sample.close, first.close)?;
-    print_cost(rt, "ask and record", members, sample.ask, first.ask)?;
-    print_cost(rt, "tick", members, sample.tick, first.tick)
+    print_time(rt, "join", members, sample.join, first.join)?;
+    print_time(rt, "close", members, sample.close, first.close)?;
+    print_time(rt, "ask and record", members, sample.ask, first.ask)?;
+    print_time(rt, "tick", members, sample.tick, first.tick)
 }
 
 /// Prints what going on from a journal takes, and then a line for each kind of command at each size. The journal comes first:

@@ -5,9 +5,10 @@ ghost use Rattle.lra_ticket.specs.Locks.{lock_id, pass_id};
 use crate::stopwatch::Stopwatch;
 use anyhow::{Context, Result};
 use lra_model::{Entry, Memory};
-use lra_ticket::example::{EntryLock, EntryPass};
+use lra_ticket::{Kept, Pass, TicketLock};
 use std::alloc::Global;
 use std::io::Print;
+use std::marker::Send;
 use std::sync::{Mutex, Wait};
 use std::thread;
 use std::thread::Threads;
@@ -17,12 +18,17 @@ use std::time::{Clock, Duration};
 const HANDOVERS: u64 = 1_000_000;
 
 // Takes the lock and gives it back, this many times. It ends early where no ticket is left.
-fn hand_over<R: Wait>(rt: &R, lock: &EntryLock, mut pass: EntryPass, times: u64) -> EntryPass
+fn hand_over<V: Kept, R: Wait>(
+    rt: &R,
+    lock: &TicketLock<V>,
+    mut pass: Pass<V>,
+    times: u64,
+) -> Pass<V>
     requires { pass_id pass ≡ lock_id lock.now }
 {
     for _ in 0..times {
         match lock.take(rt, pass) {
-            Ok((held, entries)) => pass = lock.give(held, entries),
+            Ok((held, value)) => pass = lock.give(held, value),
             Err((back, _)) => return back,
         }
     }
@@ -37,12 +43,12 @@ fn lock_and_unlock<R: Wait>(rt: &R, lock: &Mutex<Vec<Entry>>, times: u64) {
 }
 
 // As many passes as there are threads.
-fn passes(
+fn passes<V: Kept>(
     alloc: Global,
-    lock: &EntryLock,
-    mut pass: EntryPass,
+    lock: &TicketLock<V>,
+    mut pass: Pass<V>,
     threads: u64,
-) -> Result<Vec<EntryPass>, Memory>
+) -> Result<Vec<Pass<V>>, Memory>
     requires { pass_id pass ≡ lock_id lock.now }
     ensures { IfOk result (λ all. All (λ p. pass_id p ≡ lock_id lock.now) all.items) }
 {
@@ -57,10 +63,10 @@ fn passes(
 }
 
 // Each pass takes the lock this many times, in a thread of its own.
-fn hand_over_all<R: Threads + Wait + Sync>(
+fn hand_over_all<V: Kept + Send, R: Threads + Wait + Sync>(
     rt: &R,
-    lock: &EntryLock,
-    jobs: Vec<EntryPass>,
+    lock: &TicketLock<V>,
+    jobs: Vec<Pass<V>>,
     times: u64,
 ) -> Result<Vec<()>, Memory>
     requires { All (λ p. pass_id p ≡ lock_id lock.now) jobs.items }
@@ -68,19 +74,20 @@ fn hand_over_all<R: Threads + Wait + Sync>(
     thread::map_vec(
         rt,
         jobs,
-        &|pass: EntryPass| -> ()
+        &|pass: Pass<V>| -> ()
             requires { pass_id pass ≡ lock_id lock.now }
         {
-            hand_over(rt, lock, pass, times);
+            let pass = hand_over(rt, lock, pass, times);
+            drop(pass);
         },
     )
 }
 
-fn time_tickets<R: Threads + Wait + Clock + Sync>(
+fn time_tickets<V: Kept + Send, R: Threads + Wait + Clock + Sync>(
     rt: &R,
     alloc: Global,
-    lock: &EntryLock,
-    pass: EntryPass,
+    lock: &TicketLock<V>,
+    pass: Pass<V>,
     threads: u64,
 ) -> Result<Duration>
     requires { pass_id pass ≡ lock_id lock.now }
@@ -96,10 +103,15 @@ fn through_tickets<R: Threads + Wait + Clock + Sync>(
     alloc: Global,
     threads: u64,
 ) -> Result<Duration> {
-    let (lock, pass) = EntryLock::new(alloc, Vec::new(alloc))?;
-    let time = time_tickets(rt, alloc, &lock, pass, threads);
-    drop(lock);
-    time
+    let entries: Vec<Entry> = Vec::new(alloc);
+    match TicketLock::new(alloc, entries) {
+        Ok((lock, pass)) => {
+            let time = time_tickets(rt, alloc, &lock, pass, threads);
+            drop(lock);
+            time
+        }
+        Err(memory) => Err(memory.into()),
+    }
 }
 
 fn time_mutex<R: Threads + Wait + Clock + Sync>(

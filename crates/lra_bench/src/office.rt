@@ -6,9 +6,9 @@ ghost use Rattle.lra_core.specs.Prepares.{is_suited};
 ghost use Rattle.lra_office.specs.Clerks.{IsClerkOf};
 ghost use Rattle.lra_ticket.specs.Locks.{lock_id, pass_id, pass_view};
 
-use crate::coordinator::desk::{Desk as Alone, limits};
+use crate::coordinator::desk::{Desk as Alone, Gives, limits};
 use crate::lock::a_second;
-use crate::setting::{base, instance};
+use crate::setting::{base, instance, uris};
 use crate::stopwatch::Stopwatch;
 use anyhow::{Context, Result, bail, ensure};
 use lra_core::{Command, Committed, Told};
@@ -31,57 +31,14 @@ const COMMANDS: u64 = 6;
 /// How often the same is measured: the shortest time counts.
 const TIMES: u32 = 3;
 
-/// One who does commands.
-trait Gives {
-    fn give_any(&mut self, command: &Command<'_>) -> Result<Committed>
-        requires { is_suited command.now ≡ true };
-
-    /// Gives a command that gives no errand.
-    final fn give(&mut self, command: &Command<'_>) -> Result<Told>
-        requires { is_suited command.now ≡ true }
-    {
-        let Committed { told, errand } = self.give_any(command)?;
-        if let Some(errand) = errand {
-            errand.discard();
-        }
-        Ok(told)
-    }
-
-    /// An action that is started, joined and closed, and whoever is to be asked then.
-    final fn round(&mut self, uris: &Uris) -> Result<()> {
-        let start = Command::Start {
-            parent: None,
-            limit: 0,
-        };
-        let Told::Action(action) = self.give(&start)? else {
-            bail!("no action was started");
-        };
-        self.give(&Command::Join { action, uris })?;
-        self.give(&Command::Status { action })?;
-        self.give(&Command::Close { action })?;
-        self.ask()
-    }
-
-    /// Asks who is to be asked, and takes down that it is done.
-    final fn ask(&mut self) -> Result<()> {
-        let Committed { told: _, errand } = self.give_any(&Command::NextAsk)?;
-        let errand = errand.context("no one is to be asked")?;
-        let recorded = self.give(&Command::Record {
-            errand: &errand,
-            outcome: Outcome::Done,
-        });
-        errand.discard();
-        recorded?;
-        Ok(())
-    }
-}
-
-impl Gives for Alone {
-    fn give_any(&mut self, command: &Command<'_>) -> Result<Committed>
-        requires { is_suited command.now ≡ true }
-    {
-        Alone::give_any(self, command)
-    }
+/// An action that is started, joined and closed, and whoever is to be asked then.
+fn round<G: Gives>(giver: &mut G, uris: &Uris) -> Result<()> {
+    let action = giver.start(0)?;
+    giver.join(action, uris)?;
+    giver.status(action)?;
+    giver.close(action)?;
+    ensure!(giver.ask(Outcome::Done)?, "no one is to be asked");
+    Ok(())
 }
 
 /// A coordinator that threads share behind a Mutex, and its text.
@@ -102,7 +59,7 @@ impl<R: Wait> Gives for Shared<'_, R> {
 /// So many rounds; false where one of them fails.
 fn does_rounds<G: Gives>(giver: &mut G, uris: &Uris, rounds: u64) -> bool {
     for _ in 0..rounds {
-        if giver.round(uris).is_err() {
+        if round(giver, uris).is_err() {
             return false;
         }
     }
@@ -206,35 +163,15 @@ fn passes<V: Serving>(
     Ok(all)
 }
 
-/// So many rounds by each of these passes, in a thread of its own, and whether all of them were done.
-fn do_all<V: Serving + Send, R: Threads + Wait + Sync>(
-    rt: &R,
-    office: &Office<V>,
-    jobs: Vec<Pass<V>>,
-    uris: &Uris,
-    rounds: u64,
-) -> Result<bool, AllocError>
-    requires { All (λ p. (pass_id p ≡ lock_id office.now.lock) × ((pass_view p).number ≡ 0)) jobs.items }
-{
-    let done = thread::map_vec(
-        rt,
-        jobs,
-        &|pass: Pass<V>| -> bool
-            requires { (pass_id pass ≡ lock_id office.now.lock) × ((pass_view pass).number ≡ 0) }
-        { does_rounds_at(rt, office, pass, uris, rounds) },
-    )?;
-    Ok(!done.contains(&false))
-}
-
-/// The time of a watch, where all was done.
-fn time_of<R: Clock>(rt: &R, watch: Stopwatch, are_done: bool) -> Result<Duration> {
+/// The time since a watch was started, where all was done.
+fn time_of<R: Clock>(rt: &R, watch: Stopwatch, are_done: &[bool]) -> Result<Duration> {
     let time = watch.elapsed(rt).context("the clock can't be read")?;
-    ensure!(are_done, "a command isn't done");
+    ensure!(!are_done.contains(&false), "a command isn't done");
     Ok(time)
 }
 
-/// How long so many rounds take by so many threads together, each with a clerk of its own.
-fn time_rounds<V: Serving + Send, R: Threads + Wait + Clock + Sync>(
+/// How long so many rounds take by each of these passes, in a thread of its own.
+fn time_all<V: Serving + Send, R: Threads + Wait + Clock + Sync>(
     rt: &R,
     office: &Office<V>,
     jobs: Vec<Pass<V>>,
@@ -244,19 +181,16 @@ fn time_rounds<V: Serving + Send, R: Threads + Wait + Clock + Sync>(
     requires { All (λ p. (pass_id p ≡ lock_id office.now.lock) × ((pass_view p).number ≡ 0)) jobs.items }
 {
     let watch = Stopwatch::start(rt);
-    let are_done = do_all(rt, office, jobs, uris, rounds)?;
-    time_of(rt, watch, are_done)
-}
-
-/// The addresses of whoever joins an action.
-fn uris(alloc: Global) -> Result<Uris> {
-    Ok(Uris {
-        compensate: Some(format!(in alloc; "http://booking.test/compensate")?),
-        complete: Some(format!(in alloc; "http://booking.test/complete")?),
-        status: None,
-        forget: None,
-        after: None,
-    })
+    let are_done = thread::map_vec(
+        rt,
+        jobs,
+        &|pass: Pass<V>| -> bool
+            requires { (pass_id pass ≡ lock_id office.now.lock) × ((pass_view pass).number ≡ 0) }
+        { does_rounds_at(rt, office, pass, uris, rounds) },
+    )?;
+    let time = time_of(rt, watch, are_done.as_slice());
+    drop(are_done);
+    time
 }
 
 /// How long the rounds take at an office, where whoever has its first pass is enrolled first.
@@ -275,7 +209,7 @@ fn time_clerks<V: Serving + Send, R: Threads + Wait + Clock + Sync>(
         bail!("no clerk is enrolled");
     };
     let jobs = passes(alloc, office, clerk, threads)?;
-    time_rounds(rt, office, jobs, uris, ROUNDS / threads.max(1))
+    time_all(rt, office, jobs, uris, ROUNDS / threads.max(1))
 }
 
 /// How long the rounds take at an office with this writer.
@@ -295,24 +229,6 @@ fn time_office<W: Write + Drop + Send, R: Threads + Wait + Clock + Sync>(
     time
 }
 
-/// So many rounds by each of so many threads at a coordinator that they share, and whether all of them were done.
-fn do_all_shared<R: Threads + Wait + Sync>(
-    rt: &R,
-    alloc: Global,
-    desk: &Mutex<Alone>,
-    uris: &Uris,
-    threads: u64,
-    rounds: u64,
-) -> Result<bool, AllocError> {
-    let done = thread::map_indices(
-        rt,
-        alloc,
-        threads as usize,
-        &|_| does_rounds(&mut Shared { rt, desk }, uris, rounds),
-    )?;
-    Ok(!done.contains(&false))
-}
-
 /// How long the rounds take at a coordinator that threads share.
 fn time_shared<R: Threads + Wait + Clock + Sync>(
     rt: &R,
@@ -321,9 +237,17 @@ fn time_shared<R: Threads + Wait + Clock + Sync>(
     uris: &Uris,
     threads: u64,
 ) -> Result<Duration> {
+    let rounds = ROUNDS / threads.max(1);
     let watch = Stopwatch::start(rt);
-    let are_done = do_all_shared(rt, alloc, desk, uris, threads, ROUNDS / threads.max(1))?;
-    time_of(rt, watch, are_done)
+    let are_done = thread::map_indices(
+        rt,
+        alloc,
+        threads as usize,
+        &|_| does_rounds(&mut Shared { rt, desk }, uris, rounds),
+    )?;
+    let time = time_of(rt, watch, are_done.as_slice());
+    drop(are_done);
+    time
 }
 
 /// A coordinator with its clerk.
@@ -351,8 +275,8 @@ fn time_mutex<R: Threads + Wait + Clock + Sync>(
 /// How long the rounds take at a coordinator that one thread has to itself.
 fn time_with<R: Clock>(rt: &R, desk: &mut Alone, uris: &Uris) -> Result<Duration> {
     let watch = Stopwatch::start(rt);
-    let are_done = does_rounds(desk, uris, ROUNDS);
-    time_of(rt, watch, are_done)
+    let are_done = [does_rounds(desk, uris, ROUNDS)];
+    time_of(rt, watch, &are_done)
 }
 
 fn time_alone<R: Clock>(rt: &R, alloc: Global, uris: &Uris) -> Result<Duration> {

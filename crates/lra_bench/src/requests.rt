@@ -8,14 +8,14 @@ ghost use Rattle.lra_ids.specs.Addresses.{is_base};
 
 use crate::front::Still;
 use crate::pieces::Pieces;
-use crate::setting::{base, counter, instance};
+use crate::setting::{base, counter, instance, uris};
 use crate::wire::read_stream;
 use anyhow::{Result, bail, ensure};
 use lra_commands::{Counter, CounterFault};
-use lra_core::{Address, Bench, Instance};
+use lra_core::{Address, Bench};
 use lra_front::{StreamEnd, serve_stream};
 use lra_ids::spell_action;
-use lra_model::{Memory, Uris};
+use lra_model::Uris;
 use std::alloc::Global;
 use std::io;
 use std::io::Write;
@@ -30,9 +30,9 @@ const STREAMS: u64 = 20;
 /// The shortest of so many runs counts: what else the machine does only makes a run longer.
 const RUNS: u32 = 5;
 
-const COMPENSATE: &str = "http://participant.test/undo";
-
-const COMPLETE: &str = "http://participant.test/done";
+/// With which addresses each member joins.
+const BODY: &str =
+    "{\"compensate\":\"http://participant.test/undo\",\"complete\":\"http://participant.test/done\"}";
 
 /// Takes all bytes, and keeps how many they were.
 #[derive(Drop)]
@@ -51,72 +51,57 @@ impl Write for Tally {
     }
 }
 
-/// Appends a request.
-fn push(text: &mut String, request: String) -> Result<()> {
-    let pushed = text.push_str(request.as_str());
-    drop(request);
-    pushed?;
-    Ok(())
-}
-
-/// A member's request to join, with this body.
-fn push_join(alloc: Global, text: &mut String, path: &str, body: &str) -> Result<()> {
-    let len = body.len();
-    let join = format!(in alloc;
-        "PUT {path} HTTP/1.1\r\nHost: 127.0.0.1:8080\r\nContent-Length: {len}\r\n\r\n{body}"
-    )?;
-    push(text, join)
-}
-
 /// The requests for one action: it is started, has a member, is looked at and is closed.
-fn push_action(alloc: Global, text: &mut String, path: &str) -> Result<()> {
-    let start =
-        "POST /lra-coordinator HTTP/1.1\r\nHost: 127.0.0.1:8080\r\nContent-Length: 15\r\n\r\n{\"limit\":60000}";
-    text.push_str(start)?;
-    let body = format!(in alloc;
-        "{{\"compensate\":\"{COMPENSATE}\",\"complete\":\"{COMPLETE}\"}}"
+fn push_action(text: &mut Vec<u8>, path: &str) -> io::Result<()> {
+    let len = BODY.len();
+    text.write_all(
+        b"POST /lra-coordinator HTTP/1.1\r\nHost: 127.0.0.1:8080\r\nContent-Length: 15\r\n\r\n{\"limit\":60000}",
     )?;
-    let joined = push_join(alloc, text, path, body.as_str());
-    drop(body);
-    joined?;
-    let status = format!(in alloc; "GET {path} HTTP/1.1\r\nHost: 127.0.0.1:8080\r\n\r\n")?;
-    push(text, status)?;
-    let close = format!(in alloc; "PUT {path}/close HTTP/1.1\r\nHost: 127.0.0.1:8080\r\n\r\n")?;
-    push(text, close)
+    write!(
+        text,
+        "PUT {path} HTTP/1.1\r\nHost: 127.0.0.1:8080\r\nContent-Length: {len}\r\n\r\n{BODY}"
+    )?;
+    write!(text, "GET {path} HTTP/1.1\r\nHost: 127.0.0.1:8080\r\n\r\n")?;
+    write!(
+        text,
+        "PUT {path}/close HTTP/1.1\r\nHost: 127.0.0.1:8080\r\n\r\n"
+    )
 }
 
 /// The same, for the action with this URI.
-fn push_action_at(alloc: Global, text: &mut String, uri: &str) -> Result<()> {
+fn push_action_at(text: &mut Vec<u8>, uri: &str) -> Result<()> {
     let Some(path) = uri.strip_prefix("http://127.0.0.1:8080") else {
         bail!("no path");
     };
-    push_action(alloc, text, path)
+    push_action(text, path)?;
+    Ok(())
 }
 
-/// The requests of the stream with that place, to a coordinator of this instance and base.
-fn stream(alloc: Global, instance: Instance, base: &Address, place: u64) -> Result<String>
+/// The requests of the stream with that place, to a coordinator of this base.
+fn push_stream(alloc: Global, text: &mut Vec<u8>, base: &Address, place: u64) -> Result<()>
     requires place { place < STREAMS }
     requires base { is_base base.now ≡ true }
 {
-    let mut text = String::new(alloc);
+    let instance = instance()?;
     for n in 1..=ACTIONS {
         let uri = spell_action(alloc, instance, place * ACTIONS + n, base)?;
-        let pushed = push_action_at(alloc, &mut text, uri.as_str());
+        let pushed = push_action_at(text, uri.as_str());
         drop(uri);
         pushed?;
     }
-    Ok(text)
+    Ok(())
 }
 
 /// All streams of a run.
-fn streams(alloc: Global) -> Result<Vec<String>> {
-    let instance = instance()?;
-    let base = base(alloc)?;
-    let mut streams = Vec::new(alloc);
+fn push_streams(alloc: Global, streams: &mut Vec<Vec<u8>>, base: &Address) -> Result<()>
+    requires { is_base base.now ≡ true }
+{
     for place in 0..STREAMS {
-        streams.push(stream(alloc, instance, &base, place)?)?;
+        let mut text = Vec::new(alloc);
+        push_stream(alloc, &mut text, base, place)?;
+        streams.push(text)?;
     }
-    Ok(streams)
+    Ok(())
 }
 
 /// What is timed.
@@ -131,27 +116,24 @@ enum Work {
 }
 
 /// Answers a stream that comes in pieces of this size, and tells whether it was answered to its end.
-fn answer(alloc: Global, counter: &mut Bench, stream: &str, size: usize) -> bool {
+fn answer(alloc: Global, counter: &mut Bench, stream: &[u8], size: usize) -> bool {
     let mut clock = Still { moment: 0 };
     let mut tally = Tally { bytes: 0 };
-    let reader = Pieces {
-        rest: stream.as_bytes(),
-        size,
-    };
+    let reader = Pieces { rest: stream, size };
     serve_stream(alloc, reader, &mut tally, counter, &mut clock) == StreamEnd::Done
 }
 
-fn answer_all(alloc: Global, counter: &mut Bench, streams: &[String], size: usize) -> Result<()> {
+fn answer_all(alloc: Global, counter: &mut Bench, streams: &[Vec<u8>], size: usize) -> Result<()> {
     for stream in streams {
-        let is_done = answer(alloc, counter, stream.as_str(), size);
+        let is_done = answer(alloc, counter, stream.as_slice(), size);
         ensure!(is_done, "the stream ended early");
     }
     Ok(())
 }
 
-fn read_all(alloc: Global, streams: &[String], size: usize) -> Result<()> {
+fn read_all(alloc: Global, streams: &[Vec<u8>], size: usize) -> Result<()> {
     for stream in streams {
-        read_stream(alloc, stream.as_bytes(), size)?;
+        read_stream(alloc, stream.as_slice(), size)?;
     }
     Ok(())
 }
@@ -165,17 +147,6 @@ fn give_action(counter: &mut Bench, action: u64, uris: &Uris) -> Result<(), Coun
     Ok(())
 }
 
-/// The addresses of each member.
-fn addresses(alloc: Global) -> Result<Uris, Memory> {
-    Ok(Uris {
-        compensate: Some(String::from_str(alloc, COMPENSATE)?),
-        complete: Some(String::from_str(alloc, COMPLETE)?),
-        status: None,
-        forget: None,
-        after: None,
-    })
-}
-
 fn give_each(counter: &mut Bench, uris: &Uris) -> Result<()> {
     for action in 1..=STREAMS * ACTIONS {
         give_action(counter, action, uris)?;
@@ -184,14 +155,14 @@ fn give_each(counter: &mut Bench, uris: &Uris) -> Result<()> {
 }
 
 fn give_all(alloc: Global, counter: &mut Bench) -> Result<()> {
-    let uris = addresses(alloc)?;
+    let uris = uris(alloc)?;
     let given = give_each(counter, &uris);
     drop(uris);
     given
 }
 
 /// Does the work at a counter, of which reading makes no use.
-fn work_at(alloc: Global, counter: &mut Bench, streams: &[String], work: Work) -> Result<()> {
+fn work_at(alloc: Global, counter: &mut Bench, streams: &[Vec<u8>], work: Work) -> Result<()> {
     match work {
         Work::Answer(size) => answer_all(alloc, counter, streams, size),
         Work::Command => give_all(alloc, counter),
@@ -200,7 +171,7 @@ fn work_at(alloc: Global, counter: &mut Bench, streams: &[String], work: Work) -
 }
 
 /// Does the work at the counter of a new coordinator.
-fn work_anew(alloc: Global, streams: &[String], work: Work) -> Result<()> {
+fn work_anew(alloc: Global, streams: &[Vec<u8>], work: Work) -> Result<()> {
     let mut counter = counter(alloc)?;
     let done = work_at(alloc, &mut counter, streams, work);
     drop(counter);
@@ -208,7 +179,7 @@ fn work_anew(alloc: Global, streams: &[String], work: Work) -> Result<()> {
 }
 
 /// Seconds that it takes, the least of some runs.
-fn time(rt: &HostRuntime, streams: &[String], work: Work) -> Result<f64> {
+fn time(rt: &HostRuntime, streams: &[Vec<u8>], work: Work) -> Result<f64> {
     let alloc = rt.alloc();
     let mut least = f64::MAX;
     for _ in 0..RUNS {
@@ -220,7 +191,7 @@ fn time(rt: &HostRuntime, streams: &[String], work: Work) -> Result<f64> {
 }
 
 /// Prints a line for pieces of this size. The commands alone take so many seconds.
-fn print_rates(rt: &HostRuntime, streams: &[String], size: usize, commands: f64) -> Result<()> {
+fn print_rates(rt: &HostRuntime, streams: &[Vec<u8>], size: usize, commands: f64) -> Result<()> {
     let requests = (STREAMS * ACTIONS * 4) as f64;
     let answers = time(rt, streams, Work::Answer(size))?;
     let reading = time(rt, streams, Work::Read(size))?;
@@ -235,16 +206,25 @@ fn print_rates(rt: &HostRuntime, streams: &[String], size: usize, commands: f64)
 }
 
 /// Prints a line for each size of the pieces.
-fn print_all(rt: &HostRuntime, streams: &[String]) -> Result<()> {
+fn print_all(rt: &HostRuntime, streams: &[Vec<u8>]) -> Result<()> {
     let commands = time(rt, streams, Work::Command)?;
     print_rates(rt, streams, 4096, commands)?;
     print_rates(rt, streams, 64, commands)
 }
 
+/// Makes the streams in an empty list, and prints what it takes to answer them.
+fn print_with(rt: &HostRuntime, streams: &mut Vec<Vec<u8>>) -> Result<()> {
+    let base = base(rt.alloc())?;
+    let pushed = push_streams(rt.alloc(), streams, &base);
+    drop(base);
+    pushed?;
+    print_all(rt, streams.as_slice())
+}
+
 /// Prints what it takes to answer requests.
 pub fn run(rt: &HostRuntime) -> Result<()> {
-    let streams = streams(rt.alloc())?;
-    let printed = print_all(rt, streams.as_slice());
+    let mut streams = Vec::new(rt.alloc());
+    let printed = print_with(rt, &mut streams);
     drop(streams);
     printed
 }

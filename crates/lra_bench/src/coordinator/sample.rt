@@ -1,16 +1,10 @@
 //! What some commands take on top of what a coordinator holds.
 
-ghost use Rattle.std.specs.Prelude.{All};
-ghost use Rattle.lra_journal.specs.Line.{HasAddressWords};
-
-use super::desk::Desk;
-use crate::setting::instance;
+use super::desk::{Desk, Gives};
 use anyhow::Result;
-use lra_journal::{Version, read_journal, write_entry, write_header};
-use lra_model::{Entry, Memory, Outcome, Uris};
-use std::alloc::Global;
+use lra_model::{Outcome, Uris};
 use std::num::nearest_u64_to_f64;
-use std::time::{Duration, Instant};
+use std::time::Instant;
 
 /// How often the same is timed on one coordinator.
 const TIMES: u32 = 4;
@@ -21,115 +15,40 @@ const ACTIONS: u64 = 25;
 /// How many members join each of the actions that are closed.
 const JOINING: u64 = 3;
 
-/// How often lines are written alone: the shortest counts.
-const WRITINGS: u32 = 5;
-
-/// What so many commands took, and what it took to write their lines alone.
-#[derive(Clone, Copy)]
-pub struct Cost {
-    commands: f64,
-    time: Duration,
-    writing: Duration,
-}
-
-impl Cost {
-    /// The time that a command took.
-    pub fn nanoseconds(&self) -> f64 {
-        self.time.as_secs_f64() * 1e9 / self.commands
-    }
-
-    /// How many commands there are a second, and how many where their lines are written alone.
-    pub fn rates(&self) -> [f64; 2] {
-        let ours = self.commands / self.time.as_secs_f64();
-        let writing = self.commands / self.writing.as_secs_f64();
-        [ours, writing]
-    }
-
-    fn least(self, other: Cost) -> Cost {
-        Cost {
-            commands: self.commands,
-            time: self.time.min(other.time),
-            writing: self.writing.min(other.writing),
-        }
-    }
-}
-
-/// The costs of each kind of command.
+/// The nanoseconds of a command of each kind.
 #[derive(Clone, Copy)]
 pub struct Sample {
-    pub join: Cost,
-    pub close: Cost,
-    pub ask: Cost,
-    pub tick: Cost,
+    pub join: f64,
+    pub close: f64,
+    pub ask: f64,
+    pub tick: f64,
 }
 
 impl Sample {
     fn least(self, other: Sample) -> Sample {
         Sample {
-            join: self.join.least(other.join),
-            close: self.close.least(other.close),
-            ask: self.ask.least(other.ask),
-            tick: self.tick.least(other.tick),
+            join: self.join.min(other.join),
+            close: self.close.min(other.close),
+            ask: self.ask.min(other.ask),
+            tick: self.tick.min(other.tick),
         }
     }
 }
 
-/// Writes entries to memory, as they are.
-fn write_all(entries: &[Entry], text: &mut Vec<u8>) -> Result<(), Memory>
-    requires { All (λ e. HasAddressWords e.deed) entries.now }
-{
-    for entry in entries {
-        write_entry(entry, text)?;
+/// The nanoseconds of one of so many commands, since their start.
+fn nanoseconds(rt: &HostRuntime, start: Instant, commands: u64) -> Result<f64> {
+    let time = start.elapsed(rt)?;
+    Ok(time.as_secs_f64() * 1e9 / nearest_u64_to_f64(commands))
+}
+
+/// Starts the actions, and tells the first one's number.
+fn start_all(desk: &mut Desk, limit: u64) -> Result<u64> {
+    desk.clear();
+    let first = desk.start(limit)?;
+    for _ in 1..ACTIONS {
+        desk.start(limit)?;
     }
-    Ok(())
-}
-
-/// How long it takes to write entries to memory, in place of what stands there.
-fn time_entries(rt: &HostRuntime, entries: &[Entry], text: &mut Vec<u8>) -> Result<Duration>
-    requires { All (λ e. HasAddressWords e.deed) entries.now }
-{
-    let mut least = Duration::MAX;
-    for _ in 0..WRITINGS {
-        text.clear();
-        let start = Instant::now(rt)?;
-        write_all(entries, text)?;
-        least = least.min(start.elapsed(rt)?);
-    }
-    Ok(least)
-}
-
-/// The same of the entries that lines stand for, in a text that is empty.
-fn time_lines(rt: &HostRuntime, lines: &[u8], text: &mut Vec<u8>) -> Result<Duration> {
-    write_header(Version::Two, instance()?, text)?;
-    text.extend_from_slice(lines)?;
-    let (_, _, entries) = read_journal(rt.alloc(), text.as_slice())?;
-    let time = time_entries(rt, entries.as_slice(), text);
-    drop(entries);
-    time
-}
-
-/// How long it takes to write the same lines to memory without any check.
-fn time_writing(rt: &HostRuntime, lines: &[u8]) -> Result<Duration> {
-    let mut text = Vec::new(rt.alloc());
-    let time = time_lines(rt, lines, &mut text);
-    drop(text);
-    time
-}
-
-/// What is timed.
-#[derive(Clone, Copy)]
-enum Work {
-    Join,
-    Close,
-    Ask,
-    Tick,
-}
-
-/// The actions of a sample, from the first on, and the addresses of those who join them.
-#[derive(Drop)]
-struct Ground {
-    first: u64,
-    uris: Vec<Uris>,
+    Ok(first)
 }
 
 /// The addresses of those who join.
@@ -140,90 +59,66 @@ fn push_uris(desk: &mut Desk, uris: &mut Vec<Uris>) -> Result<()> {
     Ok(())
 }
 
-impl Ground {
-    /// Starts the actions.
-    fn new(alloc: Global, desk: &mut Desk, limit: u64) -> Result<Ground> {
-        let first = desk.start(limit)?;
-        for _ in 1..ACTIONS {
-            desk.start(limit)?;
-        }
-        let mut uris = Vec::new(alloc);
-        push_uris(desk, &mut uris)?;
-        Ok(Ground { first, uris })
+/// Members with these addresses join the actions from the first on.
+fn time_joins(rt: &HostRuntime, desk: &mut Desk, first: u64, uris: &[Uris]) -> Result<f64> {
+    let start = Instant::now(rt)?;
+    for (place, uris) in uris.iter().enumerate() {
+        desk.join(first.wrapping_add(place as u64 / JOINING), uris)?;
     }
-
-    fn join(&self, desk: &mut Desk) -> Result<u64> {
-        for (place, uris) in self.uris.iter().enumerate() {
-            desk.join(self.first.wrapping_add(place as u64 / JOINING), uris)?;
-        }
-        Ok(ACTIONS * JOINING)
-    }
-
-    fn close(&self, desk: &mut Desk) -> Result<u64> {
-        for place in 0..ACTIONS {
-            desk.close(self.first.wrapping_add(place))?;
-        }
-        Ok(ACTIONS)
-    }
-
-    fn tick(&self, desk: &mut Desk) -> Result<u64> {
-        for _ in 0..ACTIONS {
-            desk.tick()?;
-        }
-        Ok(ACTIONS)
-    }
-
-    /// Does the work, and tells how many commands it took.
-    fn work(&self, desk: &mut Desk, work: Work) -> Result<u64> {
-        match work {
-            Work::Join => self.join(desk),
-            Work::Close => self.close(desk),
-            Work::Ask => desk.ask_all(Outcome::Done),
-            Work::Tick => self.tick(desk),
-        }
-    }
-
-    fn time(&self, rt: &HostRuntime, desk: &mut Desk, work: Work) -> Result<Cost> {
-        desk.clear();
-        let start = Instant::now(rt)?;
-        let commands = self.work(desk, work)?;
-        let time = start.elapsed(rt)?;
-        Ok(Cost {
-            commands: nearest_u64_to_f64(commands),
-            time,
-            writing: time_writing(rt, desk.text())?,
-        })
-    }
-
-    /// The costs of joining, of closing, and of asking.
-    fn time_closing(&self, rt: &HostRuntime, desk: &mut Desk) -> Result<[Cost; 3]> {
-        let join = self.time(rt, desk, Work::Join)?;
-        let close = self.time(rt, desk, Work::Close)?;
-        let ask = self.time(rt, desk, Work::Ask)?;
-        Ok([join, close, ask])
-    }
+    nanoseconds(rt, start, ACTIONS * JOINING)
 }
 
-/// What it takes members to join actions, to be asked to complete, and to be told of the end.
-fn time_closing(rt: &HostRuntime, desk: &mut Desk) -> Result<[Cost; 3]> {
-    let ground = Ground::new(rt.alloc(), desk, 0)?;
-    let costs = ground.time_closing(rt, desk);
-    drop(ground);
-    costs
+/// The actions from the first on close.
+fn time_closes(rt: &HostRuntime, desk: &mut Desk, first: u64) -> Result<f64> {
+    let start = Instant::now(rt)?;
+    for place in 0..ACTIONS {
+        desk.close(first.wrapping_add(place))?;
+    }
+    nanoseconds(rt, start, ACTIONS)
+}
+
+fn time_asks(rt: &HostRuntime, desk: &mut Desk) -> Result<f64> {
+    let start = Instant::now(rt)?;
+    let asked = desk.ask_all(Outcome::Done)?;
+    nanoseconds(rt, start, asked)
+}
+
+fn time_ticks(rt: &HostRuntime, desk: &mut Desk) -> Result<f64> {
+    let start = Instant::now(rt)?;
+    for _ in 0..ACTIONS {
+        desk.tick()?;
+    }
+    nanoseconds(rt, start, ACTIONS)
+}
+
+/// What it takes members to join actions, and those to close: the addresses are made before.
+fn time_closing(rt: &HostRuntime, desk: &mut Desk, uris: &mut Vec<Uris>) -> Result<[f64; 2]> {
+    let first = start_all(desk, 0)?;
+    push_uris(desk, uris)?;
+    let join = time_joins(rt, desk, first, uris.as_slice())?;
+    let close = time_closes(rt, desk, first)?;
+    Ok([join, close])
+}
+
+/// The same with addresses of its own.
+fn time_members(rt: &HostRuntime, desk: &mut Desk) -> Result<[f64; 2]> {
+    let mut uris = Vec::new(rt.alloc());
+    let times = time_closing(rt, desk, &mut uris);
+    drop(uris);
+    times
 }
 
 /// What it takes actions to be cancelled by their limits.
-fn time_late(rt: &HostRuntime, desk: &mut Desk) -> Result<Cost> {
-    let late = Ground::new(rt.alloc(), desk, 1)?;
+fn time_late(rt: &HostRuntime, desk: &mut Desk) -> Result<f64> {
+    start_all(desk, 1)?;
     desk.wait();
-    let cost = late.time(rt, desk, Work::Tick);
-    drop(late);
-    cost
+    time_ticks(rt, desk)
 }
 
 /// One sample: members join actions and are asked to complete, and told of the end; other actions are cancelled by their limits.
 fn take_sample(rt: &HostRuntime, desk: &mut Desk) -> Result<Sample> {
-    let [join, close, ask] = time_closing(rt, desk)?;
+    let [join, close] = time_members(rt, desk)?;
+    let ask = time_asks(rt, desk)?;
     let tick = time_late(rt, desk)?;
     Ok(Sample {
         join,
