@@ -20,6 +20,7 @@ use Rattle.lra_commands.specs.Queries.{tell}
 use Rattle.lra_core.specs.declared.block.Committed.{Committed}
 use Rattle.lra_office.specs.declared.fault.OfficeRefusal.TheVariants.{Refused}
 use Rattle.lra_office.specs.Serves.{IsServed, IsDone, IsKeptBy}
+use Rattle.lra_office.specs.Stops.{HasStopped}
 use Rattle.lra_office.specs.inner.Given.{IsNumberOf}
 use Rattle.lra_office.specs.Orders.{IsMet, grown_view, met_view, IsGrown, IsAnswered, IsNotGiven}
 use Rattle.lra_office.proofs.Written.{add_nothing, add_served}
@@ -70,6 +71,19 @@ pub not_grown : {O : Type 0} (set : O → Setting) (v w u : View O) (o : O) (J K
     → IsServed (set o) J c (Err r) K → u ≡ given w K → IsNotGiven (set v.origin) v c (Refused r) u
 not_grown set v w u o J K c r same met h s e = subst (λ x. IsNotGiven (set x) v c (Refused r) u) same
     (J, met, s.0, given_after v w u J K [] h e (s.1 ∙ sym (append-nil J)) ∙ nothing_added v J)
+
+-- ---- a value whose scribe has stopped
+
+-- it was given back as it is: so it is of the origin, and has the history, that are known since
+pub stopped_at : {X O : Type 0} (origin : X → O) (history : X → History) (lawful : X → Type 0) (has_stopped : X → Bool) (x y : X) (v w u : View O) → origin x ≡ v.origin → HasTaken v (history x) w
+    → lawful y → origin y ≡ origin x → u ≡ given w (history y) → has_stopped y ≡ true → HasStopped origin history lawful has_stopped u
+stopped_at origin history lawful has_stopped x y v w u same h kept still e s = record {
+  value = y;
+  lawful_now = kept;
+  same_origin = still ∙ same ∙ sym (ap (λ (z : View _). z.origin) e ∙ ap (λ (z : View _). z.origin) h.2);
+  same_history = sym (ap (λ (z : View _). z.seen) e);
+  stopped = s;
+}
 
 -- ---- a query under the lock
 

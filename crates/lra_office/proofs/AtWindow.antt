@@ -1,5 +1,5 @@
 -- A window keeps what a counter keeps.
-use Rattle.std.proofs.Common.{◌≡◌, ℕ, [], Ok, Err, inl, inr, Result, refl, sym, ap, ◌∙◌, subst}
+use Rattle.std.proofs.Common.{◌≡◌, ℕ, Bool, [], Ok, Err, inl, inr, Result, refl, sym, ap, ◌∙◌, subst}
 use Rattle.std.proofs.lemmas.List.{append_cancel_left, append-nil}
 use mathlib.Core.List.{IsPrefix}
 use Rattle.lra_model.specs.History.{History}
@@ -11,6 +11,7 @@ use Rattle.lra_commands.specs.declared.counter.Order.{Order}
 use Rattle.lra_commands.specs.declared.counter.CounterFault.{CounterFault}
 use Rattle.lra_commands.specs.declared.counter.CounterFault.TheVariants as counter
 use Rattle.lra_commands.specs.declared.refusal.Refusal.{Refusal}
+use Rattle.lra_commands.specs.declared.refusal.Refusal.TheVariants.{Stopped}
 use Rattle.lra_commands.specs.declared.limits.Terms.{Terms}
 use Rattle.lra_commands.specs.Calls.{Call}
 use Rattle.lra_commands.specs.Counters.{Setting, Sight, terms_of, call_of, IsRefusedAt, IsGivenAt, IsGivenSince, IsSeenAfter, KeepsHistory}
@@ -18,6 +19,7 @@ use Rattle.lra_commands.proofs.Stopping.{refused_at}
 use Rattle.lra_office.specs.declared.fault.OfficeRefusal.{OfficeRefusal}
 use Rattle.lra_office.specs.declared.fault.OfficeRefusal.TheVariants as office
 use Rattle.lra_office.specs.Serves.{IsHeldBack}
+use Rattle.lra_office.specs.Stops.{HasStopped, KeepsInTurn}
 use Rattle.lra_office.specs.Orders.{IsMet, IsGrown, IsNotGiven}
 use Rattle.lra_office.specs.inner.Given.{fault_of}
 
@@ -75,3 +77,20 @@ window_refused set v w n k m o r own number h = record {
   same = record { setting = ap set (refused_origin (set v.origin) v w (call_of n m o) r h); number = number };
   seen = refused_seen (set v.origin) v w (call_of n m o) r (sym own) h;
 }
+
+-- ---- where it says that the scribe has stopped
+
+fault_stopped : (r : OfficeRefusal) → fault_of r ≡ counter.Refused Stopped → r ≡ office.Refused Stopped
+fault_stopped (office.Refused q) e = let same : q ≡ Stopped = cc in ap office.Refused same
+fault_stopped office.Worn e = absurd cc
+
+module _ {X O : Type 0} (set : O → Setting) (origin : X → O) (history : X → History) (lawful : X → Type 0) (has_stopped : X → Bool) where
+  pub keeps_done : (before after : Sight) (m : ℕ) (o : Order) (t : Told) → KeepsHistory before m o (Ok t) after → KeepsInTurn set origin history lawful has_stopped before m o (Ok t) after
+  keeps_done before after m o t h = record { keeps = h; stops = λ e. absurd cc }
+
+  pub keeps_refused : (before : Sight) (m k : ℕ) (o : Order) (r : OfficeRefusal) (f : CounterFault) (w : View O) → KeepsHistory before m o (Err (fault_of r)) (sight (set w.origin) k w.seen)
+      → (r ≡ office.Refused Stopped → HasStopped origin history lawful has_stopped w) → f ≡ fault_of r → KeepsInTurn set origin history lawful has_stopped before m o (Err f) (sight (set w.origin) k w.seen)
+  keeps_refused before m k o r f w h stopped is = record {
+    keeps = subst (λ (x : CounterFault). KeepsHistory before m o (Err x) (sight (set w.origin) k w.seen)) (sym is) h;
+    stops = λ e. let same : f ≡ counter.Refused Stopped = cc in (w, refl, refl, stopped (fault_stopped r (sym is ∙ same)));
+  }

@@ -1,5 +1,5 @@
 -- Whose entries a call writes, and that the lock takes them.
-use Rattle.std.proofs.Common.{◌≡◌, ◌≢◌, ℕ, ◌+◌, Bool, List, [], ◌∷◌, ◌++◌, length, Result, Ok, Err, refl, sym, ap, ◌∙◌, subst, append-nil, cond, arith, ne_eqb}
+use Rattle.std.proofs.Common.{◌≡◌, ◌≢◌, ℕ, ◌+◌, Bool, List, [], ◌∷◌, length, Result, Ok, Err, refl, sym, ap, ◌∙◌, subst, append-nil, cond, arith, ne_eqb}
 use Rattle.std.specs.List.{All}
 use Rattle.std.proofs.lemmas.List.Elements.{All-from_recursion, All-nil}
 use Rattle.lra_model.specs.declared.entry.Entry.{Entry}
@@ -9,7 +9,6 @@ use Rattle.lra_laws.proofs.Clerks.{none_by_next}
 use Rattle.lra_ticket.specs.History.{entries_by, block_after, first_by, number_after, MayAdd}
 use Rattle.lra_ticket.proofs.Histories.{block_after-append}
 use Rattle.lra_commands.specs.declared.command.Command.TheVariants as command
-use Rattle.lra_commands.specs.declared.limits.Terms.{Terms}
 use Rattle.lra_commands.specs.declared.refusal.Refusal.{Refusal}
 use Rattle.lra_commands.specs.Calls.{Command}
 use Rattle.lra_commands.specs.Answers.{growth}

@@ -2,6 +2,7 @@ pub mod Origins
 pub mod Desks
 pub mod Kept
 pub mod Serves
+pub mod Stops
 pub mod Orders
 pub mod Clerks
 pub mod Windows

@@ -1,5 +1,5 @@
 -- What a clerk learns when it gives a call to an office.
-use Rattle.std.specs.Prelude.{◌≡◌, ℕ, List, ◌++◌, Option, Result, Ok, Err, MatchResult}
+use Rattle.std.specs.Prelude.{◌≡◌, ◌≢◌, ℕ, List, [], ◌++◌, Option, Result, Ok, Err, MatchResult}
 use mathlib.Core.List.{IsPrefix}
 use Rattle.lra_model.specs.declared.entry.Entry.{Entry}
 use Rattle.lra_model.specs.History.{History}
@@ -25,11 +25,13 @@ use Rattle.lra_office.specs.declared.fault.TryRefusal.{TryRefusal}
 use Rattle.lra_office.specs.declared.fault.TryRefusal.TheVariants as try
 use Rattle.lra_office.specs.Serves.{IsHeldBack, IsDone, IsKeptBy}
 
--- the history that a call met: it begins with all that was seen before, has nothing more under the number, and can be a coordinator's
+-- the history that a call met: it begins with all that was seen before, has nothing more under the number, where there is one something, and can be a
+-- coordinator's
 pub record IsMet {O : Type 0} (g : Setting) (v : View O) (J : History) : Type 0 where
   pub begins : IsPrefix v.seen J
   pub seen_own : entries_by v.number v.seen ≡ v.mine
   pub own : entries_by v.number J ≡ v.mine
+  pub enrolled : v.number ≢ 0 → v.mine ≢ []
   pub kept : IsKeptBy g J
 
 -- what is known after a call that met a history was done, and appended a block

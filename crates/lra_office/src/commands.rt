@@ -1,10 +1,13 @@
 //! The commands of clerks, by name.
 
-ghost use Rattle.std.specs.Prelude.{◌≡◌, true};
+ghost use Rattle.std.specs.Prelude.{◌≡◌, true, IfErr};
 ghost use Rattle.lra_model.specs.Words.{outcome_suits};
 ghost use Rattle.lra_commands.specs.declared.command.Command.TheVariants as Command;
+ghost use Rattle.lra_commands.specs.declared.refusal.Refusal.TheVariants.{Stopped};
 ghost use Rattle.lra_core.specs.Prepares.{is_suited};
 ghost use Rattle.lra_office.specs.Clerks.{clerk_view, IsClerkOf};
+ghost use Rattle.lra_office.specs.Stops.{HasStopped};
+ghost use Rattle.lra_office.specs.declared.fault.OfficeRefusal.TheVariants.{Refused};
 ghost use Rattle.lra_office.specs.Orders.{IsTold, IsErrand, IsRecorded};
 ghost use Rattle.lra_office.specs.inner.Given.{IsNumberOf};
 
@@ -32,6 +35,7 @@ impl<V: Serving> Office<V> {
         ensures clerk { IsClerkOf self.now.lock clerk.new }
         ensures number { clerk.new.number ≡ clerk.old.number }
         ensures told { IsTold (V.setting (clerk_view clerk.old).origin) (clerk_view clerk.old) (record { by = clerk.old.number; moment = moment; command = command.now }) result (clerk_view clerk.new) }
+        ensures stopped { IfErr result (λ r. r ≡ Refused Stopped → HasStopped V.origin V.history V.lawful V.has_stopped (clerk_view clerk.new)) }
     {
         let Committed { told, errand } = self.serve(rt, clerk, moment, command)?;
         if let Some(errand) = errand {
@@ -54,6 +58,7 @@ impl<V: Serving> Office<V> {
         ensures clerk { IsClerkOf self.now.lock clerk.new }
         ensures number { clerk.new.number ≡ clerk.old.number }
         ensures told { IsTold (V.setting (clerk_view clerk.old).origin) (clerk_view clerk.old) (record { by = clerk.old.number; moment = moment; command = Command.Start parent limit }) result (clerk_view clerk.new) }
+        ensures stopped { IfErr result (λ r. r ≡ Refused Stopped → HasStopped V.origin V.history V.lawful V.has_stopped (clerk_view clerk.new)) }
     {
         self.tell(rt, clerk, moment, &Command::Start { parent, limit })
     }
@@ -71,6 +76,7 @@ impl<V: Serving> Office<V> {
         ensures clerk { IsClerkOf self.now.lock clerk.new }
         ensures number { clerk.new.number ≡ clerk.old.number }
         ensures told { IsTold (V.setting (clerk_view clerk.old).origin) (clerk_view clerk.old) (record { by = clerk.old.number; moment = moment; command = Command.Join action uris.entry }) result (clerk_view clerk.new) }
+        ensures stopped { IfErr result (λ r. r ≡ Refused Stopped → HasStopped V.origin V.history V.lawful V.has_stopped (clerk_view clerk.new)) }
     {
         self.tell(rt, clerk, moment, &Command::Join { action, uris })
     }
@@ -88,6 +94,7 @@ impl<V: Serving> Office<V> {
         ensures clerk { IsClerkOf self.now.lock clerk.new }
         ensures number { clerk.new.number ≡ clerk.old.number }
         ensures told { IsTold (V.setting (clerk_view clerk.old).origin) (clerk_view clerk.old) (record { by = clerk.old.number; moment = moment; command = Command.Leave action member }) result (clerk_view clerk.new) }
+        ensures stopped { IfErr result (λ r. r ≡ Refused Stopped → HasStopped V.origin V.history V.lawful V.has_stopped (clerk_view clerk.new)) }
     {
         self.tell(rt, clerk, moment, &Command::Leave { action, member })
     }
@@ -104,6 +111,7 @@ impl<V: Serving> Office<V> {
         ensures clerk { IsClerkOf self.now.lock clerk.new }
         ensures number { clerk.new.number ≡ clerk.old.number }
         ensures told { IsTold (V.setting (clerk_view clerk.old).origin) (clerk_view clerk.old) (record { by = clerk.old.number; moment = moment; command = Command.Close action }) result (clerk_view clerk.new) }
+        ensures stopped { IfErr result (λ r. r ≡ Refused Stopped → HasStopped V.origin V.history V.lawful V.has_stopped (clerk_view clerk.new)) }
     {
         self.tell(rt, clerk, moment, &Command::Close { action })
     }
@@ -120,6 +128,7 @@ impl<V: Serving> Office<V> {
         ensures clerk { IsClerkOf self.now.lock clerk.new }
         ensures number { clerk.new.number ≡ clerk.old.number }
         ensures told { IsTold (V.setting (clerk_view clerk.old).origin) (clerk_view clerk.old) (record { by = clerk.old.number; moment = moment; command = Command.Cancel action }) result (clerk_view clerk.new) }
+        ensures stopped { IfErr result (λ r. r ≡ Refused Stopped → HasStopped V.origin V.history V.lawful V.has_stopped (clerk_view clerk.new)) }
     {
         self.tell(rt, clerk, moment, &Command::Cancel { action })
     }
@@ -135,6 +144,7 @@ impl<V: Serving> Office<V> {
         ensures clerk { IsClerkOf self.now.lock clerk.new }
         ensures number { clerk.new.number ≡ clerk.old.number }
         ensures told { IsTold (V.setting (clerk_view clerk.old).origin) (clerk_view clerk.old) (record { by = clerk.old.number; moment = moment; command = Command.Tick }) result (clerk_view clerk.new) }
+        ensures stopped { IfErr result (λ r. r ≡ Refused Stopped → HasStopped V.origin V.history V.lawful V.has_stopped (clerk_view clerk.new)) }
     {
         self.tell(rt, clerk, moment, &Command::Tick)
     }
@@ -152,6 +162,7 @@ impl<V: Serving> Office<V> {
         ensures clerk { IsClerkOf self.now.lock clerk.new }
         ensures number { clerk.new.number ≡ clerk.old.number }
         ensures told { IsTold (V.setting (clerk_view clerk.old).origin) (clerk_view clerk.old) (record { by = clerk.old.number; moment = moment; command = Command.Report member ending }) result (clerk_view clerk.new) }
+        ensures stopped { IfErr result (λ r. r ≡ Refused Stopped → HasStopped V.origin V.history V.lawful V.has_stopped (clerk_view clerk.new)) }
     {
         self.tell(rt, clerk, moment, &Command::Report { member, ending })
     }
@@ -167,6 +178,7 @@ impl<V: Serving> Office<V> {
         ensures clerk { IsClerkOf self.now.lock clerk.new }
         ensures number { clerk.new.number ≡ clerk.old.number }
         ensures told { IsTold (V.setting (clerk_view clerk.old).origin) (clerk_view clerk.old) (record { by = clerk.old.number; moment = moment; command = Command.Restart }) result (clerk_view clerk.new) }
+        ensures stopped { IfErr result (λ r. r ≡ Refused Stopped → HasStopped V.origin V.history V.lawful V.has_stopped (clerk_view clerk.new)) }
     {
         self.tell(rt, clerk, moment, &Command::Restart)
     }
@@ -184,6 +196,7 @@ impl<V: Serving> Office<V> {
         ensures clerk { IsClerkOf self.now.lock clerk.new }
         ensures number { clerk.new.number ≡ clerk.old.number }
         ensures told { IsTold (V.setting (clerk_view clerk.old).origin) (clerk_view clerk.old) (record { by = clerk.old.number; moment = moment; command = Command.Renew action limit }) result (clerk_view clerk.new) }
+        ensures stopped { IfErr result (λ r. r ≡ Refused Stopped → HasStopped V.origin V.history V.lawful V.has_stopped (clerk_view clerk.new)) }
     {
         self.tell(rt, clerk, moment, &Command::Renew { action, limit })
     }
@@ -199,6 +212,7 @@ impl<V: Serving> Office<V> {
         ensures clerk { IsClerkOf self.now.lock clerk.new }
         ensures number { clerk.new.number ≡ clerk.old.number }
         ensures told { IsTold (V.setting (clerk_view clerk.old).origin) (clerk_view clerk.old) (record { by = clerk.old.number; moment = 0; command = Command.Status action }) result (clerk_view clerk.new) }
+        ensures stopped { IfErr result (λ r. r ≡ Refused Stopped → HasStopped V.origin V.history V.lawful V.has_stopped (clerk_view clerk.new)) }
     {
         self.tell(rt, clerk, 0, &Command::Status { action })
     }
@@ -214,6 +228,7 @@ impl<V: Serving> Office<V> {
         ensures clerk { IsClerkOf self.now.lock clerk.new }
         ensures number { clerk.new.number ≡ clerk.old.number }
         ensures told { IsTold (V.setting (clerk_view clerk.old).origin) (clerk_view clerk.old) (record { by = clerk.old.number; moment = 0; command = Command.MemberStatus member }) result (clerk_view clerk.new) }
+        ensures stopped { IfErr result (λ r. r ≡ Refused Stopped → HasStopped V.origin V.history V.lawful V.has_stopped (clerk_view clerk.new)) }
     {
         self.tell(rt, clerk, 0, &Command::MemberStatus { member })
     }
@@ -229,6 +244,7 @@ impl<V: Serving> Office<V> {
         ensures clerk { IsClerkOf self.now.lock clerk.new }
         ensures number { clerk.new.number ≡ clerk.old.number }
         ensures errand { IsErrand (V.setting (clerk_view clerk.old).origin) (clerk_view clerk.old) (record { by = clerk.old.number; moment = moment; command = Command.NextAsk }) result (clerk_view clerk.new) }
+        ensures stopped { IfErr result (λ r. r ≡ Refused Stopped → HasStopped V.origin V.history V.lawful V.has_stopped (clerk_view clerk.new)) }
     {
         let Committed { told: _, errand } = self.serve(rt, clerk, moment, &Command::NextAsk)?;
         Ok(errand)
@@ -248,6 +264,7 @@ impl<V: Serving> Office<V> {
         ensures clerk { IsClerkOf self.now.lock clerk.new }
         ensures number { clerk.new.number ≡ clerk.old.number }
         ensures recorded { IsRecorded (V.setting (clerk_view clerk.old).origin) (clerk_view clerk.old) clerk.old.number moment errand outcome result (clerk_view clerk.new) }
+        ensures stopped { IfErr result (λ r. r.0 ≡ Refused Stopped → HasStopped V.origin V.history V.lawful V.has_stopped (clerk_view clerk.new)) }
     {
         match self.tell(
             rt,

@@ -2,8 +2,11 @@
 
 ghost use Rattle.std.specs.Prelude.{◌≡◌, ℕ, IfOk, IfErr};
 ghost use Rattle.lra_commands.specs.declared.command.Told.TheVariants.{Clerk as ToldClerk};
+ghost use Rattle.lra_commands.specs.declared.refusal.Refusal.TheVariants.{Stopped};
 ghost use Rattle.lra_ticket.specs.Locks.{lock_id, pass_id, pass_view};
 ghost use Rattle.lra_office.specs.Clerks.{clerk_view, IsClerkOf};
+ghost use Rattle.lra_office.specs.Stops.{HasStopped};
+ghost use Rattle.lra_office.specs.declared.fault.OfficeRefusal.TheVariants.{Refused};
 ghost use Rattle.lra_office.specs.Enrolled.{enrolment, IsEnrolled};
 ghost use Rattle.lra_office.specs.Orders.{IsNotGiven};
 
@@ -42,6 +45,7 @@ impl<V: Serving> Office<V> {
         ensures enrolled { IfOk result (λ clerk. IsEnrolled (V.setting (pass_view pass).origin) (pass_view pass) moment clerk.number (clerk_view clerk)) }
         ensures same_lock { IfErr result (λ refused. pass_id refused.0 ≡ lock_id self.now.lock) }
         ensures refused { IfErr result (λ refused. IsNotGiven (V.setting (pass_view pass).origin) (pass_view pass) (enrolment moment) refused.1 (pass_view refused.0)) }
+        ensures stopped { IfErr result (λ refused. refused.1 ≡ Refused Stopped → HasStopped V.origin V.history V.lawful V.has_stopped (pass_view refused.0)) }
     {
         let (pass, committed) = self.give(rt, pass, 0, moment, &Command::Enrol)?;
         let number = told_number(told_alone(committed));

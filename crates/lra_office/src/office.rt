@@ -3,8 +3,11 @@
 ghost use Rattle.std.specs.Prelude.{◌≡◌, ◌≢◌, ◌⊎◌, true, IfOk, IfErr, Ok, Err};
 ghost use Rattle.lra_ticket.specs.Locks.{lock_id, pass_id, pass_view};
 ghost use Rattle.lra_commands.specs.Calls.{is_fitting};
+ghost use Rattle.lra_commands.specs.declared.refusal.Refusal.TheVariants.{Stopped};
 ghost use Rattle.lra_core.specs.Prepares.{is_suited};
 ghost use Rattle.lra_office.specs.Clerks.{clerk_view, IsClerkOf};
+ghost use Rattle.lra_office.specs.Stops.{HasStopped};
+ghost use Rattle.lra_office.specs.declared.fault.OfficeRefusal.TheVariants.{Refused};
 ghost use Rattle.lra_office.specs.inner.Given.{IsGiven};
 ghost use Rattle.lra_office.specs.inner.Given.{IsNumberOf};
 
@@ -41,6 +44,7 @@ impl<V: Serving> Office<V> {
         ensures refused_lock { IfErr result (λ r. pass_id r.0 ≡ lock_id self.now.lock) }
         ensures given { IfOk result (λ r. IsGiven (V.setting (pass_view pass).origin) (pass_view pass) (record { by = by; moment = moment; command = command.now }) (Ok r.1) (pass_view r.0)) }
         ensures refused { IfErr result (λ r. IsGiven (V.setting (pass_view pass).origin) (pass_view pass) (record { by = by; moment = moment; command = command.now }) (Err r.1) (pass_view r.0)) }
+        ensures stopped { IfErr result (λ r. r.1 ≡ Refused Stopped → HasStopped V.origin V.history V.lawful V.has_stopped (pass_view r.0)) }
     {
         let (held, mut value) = match self.lock.take(rt, pass) {
             Ok(taken) => taken,
@@ -68,6 +72,7 @@ impl<V: Serving> Office<V> {
         ensures clerk { IsClerkOf self.now.lock clerk.new }
         ensures number { clerk.new.number ≡ clerk.old.number }
         ensures given { IsGiven (V.setting (clerk_view clerk.old).origin) (clerk_view clerk.old) (record { by = clerk.old.number; moment = moment; command = command.now }) result (clerk_view clerk.new) }
+        ensures stopped { IfErr result (λ r. r ≡ Refused Stopped → HasStopped V.origin V.history V.lawful V.has_stopped (clerk_view clerk.new)) }
     {
         let Some(pass) = clerk.pass.take() else {
             unreachable!();

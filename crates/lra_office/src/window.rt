@@ -93,14 +93,15 @@ fn fault_of(refusal: OfficeRefusal) -> CounterFault
 }
 
 impl<V: Serving, R: Wait, L: WhichLock> Counter for Window<'_, V, R, L> {
-    ghost use Rattle.lra_commands.specs.Counters.{Sight, KeepsHistory};
+    ghost use Rattle.lra_commands.specs.Counters.{Sight};
     ghost use Rattle.lra_office.specs.Clerks.{clerk_view};
+    ghost use Rattle.lra_office.specs.Stops.{KeepsInTurn};
 
     ghost sight = { λ w. record { setting = V.setting (clerk_view w.clerk).origin; number = w.clerk.number; seen = (clerk_view w.clerk).seen } };
 
-    ghost gives = { KeepsHistory };
+    ghost gives = { KeepsInTurn V.setting V.origin V.history V.lawful V.has_stopped };
 
-    ghost keeps = { λ before after moment o reply given. given };
+    ghost keeps = { λ before after moment o reply given. given.keeps };
 
     fn instance(&self) -> Instance {
         self.office.instance

@@ -207,37 +207,37 @@ written_none g v J by is met stranger =
     turned false h = refl
 
 -- a refusal ends a worker, or says that what it records isn't asked
-abbrev EndsOr : Bool → History → Refusal → Type 0
-EndsOr x mine r = EndsWorker mine (office.Refused r) ⊎ ((r ≡ refusal.NotAsked) × (x ≡ true))
+abbrev EndsOr : Bool → Refusal → Type 0
+EndsOr x r = EndsWorker (office.Refused r) ⊎ ((r ≡ refusal.NotAsked) × (x ≡ true))
 
-held : {O : Type 0} (gives : ℕ → AskKind → Outcome → Type 0) (g : Setting) (v : View O) (J : History) (c : Call) (r : Refusal) → IsWorkersCommand gives v.seen c.command → c.by ≡ v.number → IsMet g v J
-    → IsHeldBack (terms_of g) J c r → EndsOr (unasked J c.command) v.mine r
-held gives g v J c r own is met (inr (stopped, h)) = inl (subst (λ (q : Refusal). EndsWorker v.mine (office.Refused q)) (sym stopped) tt)
-held gives g v J c r own is met (inl (inr (memory, h))) = inl (subst (λ (q : Refusal). EndsWorker v.mine (office.Refused q)) (sym memory) tt)
-held gives g v J c r own is met (inl (inl answered)) =
+held : {O : Type 0} (gives : ℕ → AskKind → Outcome → Type 0) (g : Setting) (v : View O) (J : History) (c : Call) (r : Refusal) → IsWorkersCommand gives v.seen c.command → c.by ≡ v.number → v.number ≢ 0 → IsMet g v J
+    → IsHeldBack (terms_of g) J c r → EndsOr (unasked J c.command) r
+held gives g v J c r own is known met (inr (stopped, h)) = inl (subst (λ (q : Refusal). EndsWorker (office.Refused q)) (sym stopped) tt)
+held gives g v J c r own is known met (inl (inr (memory, h))) = inl (subst (λ (q : Refusal). EndsWorker (office.Refused q)) (sym memory) tt)
+held gives g v J c r own is known met (inl (inl answered)) =
     by_cause (why gives v.seen (terms_of g) J c.by c.moment c.command r own (roomy (terms_of g) J c met.kept.lawful.within (adds_none gives v.seen (terms_of g) J (moment_of J c) c.command own)) answered)
   where
-    by_cause : Why (not (is_among (clerks J) c.by)) (unasked J c.command) r → EndsOr (unasked J c.command) v.mine r
-    by_cause (inl (e, stranger)) = inl (subst (λ (q : Refusal). EndsWorker v.mine (office.Refused q)) (sym e) (written_none g v J c.by is met stranger))
+    by_cause : Why (not (is_among (clerks J) c.by)) (unasked J c.command) r → EndsOr (unasked J c.command) r
+    by_cause (inl (e, stranger)) = absurd (met.enrolled known (written_none g v J c.by is met stranger))
     by_cause (inr (inl late)) = inr late
-    by_cause (inr (inr e)) = inl (subst (λ (q : Refusal). EndsWorker v.mine (office.Refused q)) (sym e) tt)
+    by_cause (inr (inr e)) = inl (subst (λ (q : Refusal). EndsWorker (office.Refused q)) (sym e) tt)
 
--- a worker's call that isn't done ends it, unless what it records isn't asked
-pub ends : {O : Type 0} (gives : ℕ → AskKind → Outcome → Type 0) (g : Setting) (v w : View O) (c : Call) (r : OfficeRefusal) → IsNotGiven g v c r w → c.by ≡ v.number → IsWorkersCommand gives v.seen c.command → r ≢ office.Refused refusal.NotAsked
-    → EndsWorker v.mine r
-ends gives g v w c office.Worn h is own other = tt
-ends gives g v w c (office.Refused r) (J, met, back, after) is own other = either (held gives g v J c r own is met back)
+-- the call of a clerk that isn't done ends its worker, unless what it records isn't asked
+pub ends : {O : Type 0} (gives : ℕ → AskKind → Outcome → Type 0) (g : Setting) (v w : View O) (c : Call) (r : OfficeRefusal) → IsNotGiven g v c r w → c.by ≡ v.number → v.number ≢ 0 → IsWorkersCommand gives v.seen c.command
+    → r ≢ office.Refused refusal.NotAsked → EndsWorker r
+ends gives g v w c office.Worn h is known own other = tt
+ends gives g v w c (office.Refused r) (J, met, back, after) is known own other = either (held gives g v J c r own is known met back)
   where
-    either : EndsOr (unasked J c.command) v.mine r → EndsWorker v.mine (office.Refused r)
+    either : EndsOr (unasked J c.command) r → EndsWorker (office.Refused r)
     either (inl e) = e
     either (inr (late, x)) = absurd (other (ap office.Refused late))
 
 -- what isn't recorded isn't refused so
-pub never_late : {O : Type 0} (gives : ℕ → AskKind → Outcome → Type 0) (g : Setting) (v w : View O) (c : Call) (r : OfficeRefusal) → IsNotGiven g v c r w → c.by ≡ v.number → IsWorkersCommand gives v.seen c.command → ((J : History) → unasked J c.command ≡ false)
-    → EndsWorker v.mine r
-never_late gives g v w c office.Worn h is own never = tt
-never_late gives g v w c (office.Refused r) (J, met, back, after) is own never = either (held gives g v J c r own is met back)
+pub never_late : {O : Type 0} (gives : ℕ → AskKind → Outcome → Type 0) (g : Setting) (v w : View O) (c : Call) (r : OfficeRefusal) → IsNotGiven g v c r w → c.by ≡ v.number → v.number ≢ 0 → IsWorkersCommand gives v.seen c.command
+    → ((J : History) → unasked J c.command ≡ false) → EndsWorker r
+never_late gives g v w c office.Worn h is known own never = tt
+never_late gives g v w c (office.Refused r) (J, met, back, after) is known own never = either (held gives g v J c r own is known met back)
   where
-    either : EndsOr (unasked J c.command) v.mine r → EndsWorker v.mine (office.Refused r)
+    either : EndsOr (unasked J c.command) r → EndsWorker (office.Refused r)
     either (inl e) = e
     either (inr (late, x)) = let n = never J in absurd cc

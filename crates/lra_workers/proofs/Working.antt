@@ -1,6 +1,6 @@
 -- Calls that a worker gives, one after another.
 use Rattle.std.proofs.Common.{◌≡◌, ◌≢◌, ℕ, suc, false, refl, sym, ◌∙◌, ap, subst, inl, inr, Option, Some, None}
-use Rattle.std.specs.Prelude.{Result, Ok, Err, IfOk, IfSome, MatchResult}
+use Rattle.std.specs.Prelude.{Result, Ok, Err, IfOk, IfErr, IfSome, MatchResult}
 use Rattle.lra_model.specs.declared.asks.AskKind.{AskKind}
 use Rattle.lra_model.specs.declared.asks.Outcome.{Outcome}
 use Rattle.lra_model.specs.History.{History}
@@ -14,14 +14,14 @@ use Rattle.lra_commands.specs.Given.{IsOfAsk}
 use Rattle.lra_commands.specs.Calls.{IsCall}
 use Rattle.lra_core.specs.Laws.{ErrandsAreOfAsks}
 use Rattle.lra_core.specs.Performs.{IsRecording, RecordsAs}
-use Rattle.lra_commands.specs.declared.refusal.Refusal.TheVariants.{NotAsked}
+use Rattle.lra_commands.specs.declared.refusal.Refusal.TheVariants.{NotAsked, Stopped}
 use Rattle.lra_office.specs.declared.fault.OfficeRefusal.{OfficeRefusal}
 use Rattle.lra_office.specs.declared.fault.OfficeRefusal.TheVariants as office
 use Rattle.lra_office.specs.Orders.{IsGrown, IsNotGiven, IsErrand}
 use Rattle.lra_workers.specs.declared.worker.WorkerEnd.{WorkerEnd}
 use Rattle.lra_workers.specs.declared.worker.WorkerEnd.TheVariants as worker
 use Rattle.lra_workers.proofs.Refusing.{unasked, ends, never_late}
-use Rattle.lra_workers.specs.Work.{Post, post, IsWorkersCommand, Fails, Does, WorksIn, Works, WorksUpTo, EndsWork}
+use Rattle.lra_workers.specs.Work.{Post, post, IsWorkersCommand, Fails, Does, WorksIn, Works, WorksUpTo, TellsWhy, EndsWork}
 
 -- an errand that was given is of an ask in what is seen then
 pub given_of_ask : {O : Type 0} → ErrandsAreOfAsks → (g : Setting) (v w : View O) (c : Call) (t : Told) (o : Option Asking) (e : Asking) → IsCall c → IsGrown g v c t o w → o ≡ Some e → IsOfAsk w.seen e
@@ -81,10 +81,10 @@ module _ {O K : Type 0} (setting : O → Setting) (gives : ℕ → AskKind → O
   fails v w k l c r by own clocked given = record { call = c; own = record { by = by; command = own }; clocked = clocked; given = given }
 
   -- an errand was asked for
-  pub asked : (s : Post O K) (v w : View O) (k l : K) (c : Call) (r : Result (Option Asking) OfficeRefusal) → IsErrand (setting v.origin) v c r w → Works setting gives tells s (post v k) → c.by ≡ v.number → IsWorkersCommand gives v.seen c.command
+  pub asked : (s : Post O K) (v w : View O) (k l : K) (c : Call) (r : Result (Option Asking) OfficeRefusal) → IsErrand (setting v.origin) v c r w → Works setting gives tells s (post v k) → c.by ≡ v.number → v.number ≢ 0 → IsWorkersCommand gives v.seen c.command
       → ((J : History) → unasked J c.command ≡ false) → tells k c.moment l → MatchResult r (λ _. Works setting gives tells s (post w l)) (λ x. WorksUpTo setting gives tells s x (post w l))
-  asked s v w k l c (Ok e) h before by own never clocked = works_on s (post v k) (post w l) before (does v w k l c h.0 e by own clocked h.1)
-  asked s v w k l c (Err x) h before by own never clocked = (post v k, before, fails v w k l c x by own clocked h, never_late gives (setting v.origin) v w c x h by own never)
+  asked s v w k l c (Ok e) h before by known own never clocked = works_on s (post v k) (post w l) before (does v w k l c h.0 e by own clocked h.1)
+  asked s v w k l c (Err x) h before by known own never clocked = (post v k, before, fails v w k l c x by own clocked h, never_late gives (setting v.origin) v w c x h by known own never)
 
   -- what came of an errand was recorded
   pub records : (v w : View O) (k l : K) (c : Call) (number at : ℕ) (a : Asking) (o : Outcome) (t : Told) (e : Option Asking) → RecordsAs c number at a o → v.number ≡ number → IsOfAsk v.seen a → gives a.ask a.kind o → tells k at l
@@ -99,7 +99,17 @@ module _ {O K : Type 0} (setting : O → Setting) (gives : ℕ → AskKind → O
       fails v w k l c r (h.by ∙ sym is) (recording_is_own gives v.seen a o c.command h.command of has) (subst (λ (m : ℕ). tells k m l) (sym h.moment) clocked) given
 
   -- a record that is refused is passed over, or ends the work
-  pub passed : (s u t : Post O K) (x : OfficeRefusal) (r : Result (Unit {0}) WorkerEnd) → Works setting gives tells s u → Fails setting gives tells u x t
+  pub passed : (s u t : Post O K) (x : OfficeRefusal) (r : Result (Unit {0}) WorkerEnd) → Works setting gives tells s u → u.view.number ≢ 0 → Fails setting gives tells u x t
       → MatchResult r (λ _. x ≡ office.Refused NotAsked) (λ end. (x ≢ office.Refused NotAsked) × (end ≡ worker.Refused x)) → MatchResult r (λ _. Works setting gives tells s t) (λ end. EndsWork setting gives tells s end t)
-  passed s u t x (Ok _) before f h = works_late s u t before (subst (λ (y : OfficeRefusal). Fails setting gives tells u y t) h f)
-  passed s u t x (Err e) before f h = subst (λ (end : WorkerEnd). EndsWork setting gives tells s end t) (sym h.1) (u, before, f, ends gives (setting u.view.origin) u.view t.view f.call x f.given f.own.by f.own.command h.0)
+  passed s u t x (Ok _) before known f h = works_late s u t before (subst (λ (y : OfficeRefusal). Fails setting gives tells u y t) h f)
+  passed s u t x (Err e) before known f h = subst (λ (end : WorkerEnd). EndsWork setting gives tells s end t) (sym h.1) (u, before, f, ends gives (setting u.view.origin) u.view t.view f.call x f.given f.own.by known f.own.command h.0)
+
+-- what a refusal that ends a worker tells is told by the end
+pub refusal_tells : (is_shut : Type 0) (holds : ℕ → Type 0) (has_stopped : Type 0) (J : History) (x : OfficeRefusal) (r : Result (Unit {0}) WorkerEnd)
+    → MatchResult r (λ _. x ≡ office.Refused NotAsked) (λ end. (x ≢ office.Refused NotAsked) × (end ≡ worker.Refused x)) → (x ≡ office.Refused Stopped → has_stopped) → IfErr r (TellsWhy is_shut holds has_stopped J)
+refusal_tells is_shut holds has_stopped J x (Ok _) h told = tt
+refusal_tells is_shut holds has_stopped J x (Err e) h told = subst (TellsWhy is_shut holds has_stopped J) (sym h.1) told
+
+-- a clerk's number isn't 0
+pub known_number : (n m : ℕ) → n ≡ m → m ≢ 0 → n ≢ 0
+known_number n m e h z = h (sym e ∙ z)

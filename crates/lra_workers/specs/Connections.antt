@@ -1,7 +1,10 @@
 -- What one who answers connections does at an office.
-use Rattle.std.specs.Prelude.{◌≡◌, ℕ, zero, suc, ◌<◌, List, Option}
+use Rattle.std.specs.Prelude.{◌≡◌, ℕ, zero, suc, ◌<◌, List, Option, Result}
 use Rattle.lra_ticket.specs.declared.kept.Kept.{Ghosts}
-use Rattle.lra_commands.specs.Counters.{Setting, Sight, KeepsHistory}
+use Rattle.lra_commands.specs.declared.command.Told.{Told}
+use Rattle.lra_commands.specs.declared.counter.Order.{Order}
+use Rattle.lra_commands.specs.declared.counter.CounterFault.{CounterFault}
+use Rattle.lra_commands.specs.Counters.{Setting, Sight}
 use Rattle.lra_front.specs.declared.stream.StreamEnd.{StreamEnd}
 use Rattle.lra_front.specs.Streams.{standing, ServesStream}
 use Rattle.lra_office.specs.declared.clerk.Clerk.{Clerk}
@@ -13,7 +16,7 @@ use Rattle.lra_workers.specs.declared.connections.ServeEnd.TheVariants.{Done, Io
 abbrev pub clerk_sight : {X O : Type 0} {g : Ghosts X O} → (O → Setting) → Clerk X O g → Sight
 clerk_sight setting c = record { setting = setting (clerk_view c).origin; number = c.number; seen = (clerk_view c).seen }
 
-module _ {K : Type 0} (tells : K → ℕ → K → Type 0) where
+module _ {K : Type 0} (gives : Sight → ℕ → Order → Result Told CounterFault → Sight → Type 0) (tells : K → ℕ → K → Type 0) where
   -- a connection is answered: a stream of whatever bytes came, from a counter and a clock on to what is known of both afterwards
   pub record Connection (v : Sight) (k : K) (w : Sight) (l : K) : Type 0 where
     pub bytes : Option (List ℕ)
@@ -21,7 +24,7 @@ module _ {K : Type 0} (tells : K → ℕ → K → Type 0) where
     pub before : Option (List ℕ)
     pub after : Option (List ℕ)
     pub end : StreamEnd
-    pub serves : ServesStream KeepsHistory tells (standing bytes v k before) end (standing rest w l after)
+    pub serves : ServesStream gives tells (standing bytes v k before) end (standing rest w l after)
 
   -- so many connections are answered, one after another
   unfoldable pub ConnectionsIn : ℕ → Sight → K → Sight → K → Type 0

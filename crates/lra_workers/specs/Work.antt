@@ -1,5 +1,5 @@
 -- What a worker does at an office.
-use Rattle.std.specs.Prelude.{◌≡◌, ◌⊎◌, ℕ, zero, suc, [], Option, ⊤}
+use Rattle.std.specs.Prelude.{◌≡◌, ◌⊎◌, ℕ, zero, suc, Option, ⊤}
 use Rattle.lra_model.specs.declared.asks.AskKind.{AskKind}
 use Rattle.lra_model.specs.declared.asks.Outcome.{Outcome}
 use Rattle.lra_model.specs.History.{History}
@@ -10,7 +10,7 @@ use Rattle.lra_commands.specs.Errands.{Asking}
 use Rattle.lra_commands.specs.Calls.{Call, Command}
 use Rattle.lra_commands.specs.Counters.{Setting}
 use Rattle.lra_commands.specs.Given.{IsOfAsk}
-use Rattle.lra_commands.specs.declared.refusal.Refusal.TheVariants.{NoSuchClerk, NotAsked, Full, Memory, Stopped}
+use Rattle.lra_commands.specs.declared.refusal.Refusal.TheVariants.{NotAsked, Full, Memory, Stopped}
 use Rattle.lra_commands.specs.declared.refusal.Resource.TheVariants.{Entries}
 use Rattle.lra_office.specs.declared.fault.OfficeRefusal.{OfficeRefusal}
 use Rattle.lra_office.specs.declared.fault.OfficeRefusal.TheVariants as office
@@ -40,15 +40,20 @@ pub record IsWorkersCall {O : Type 0} (gives : ℕ → AskKind → Outcome → T
   pub by : c.by ≡ v.number
   pub command : IsWorkersCommand gives v.seen c.command
 
--- what ends a worker that has these entries under its number: no ticket is left, a growth is refused, the scribe has stopped, or the journal has no
--- room for more entries; or it has none at all, not even that it enrolled, and there is no such clerk
-abbrev pub EndsWorker : History → OfficeRefusal → Type 0
-EndsWorker mine office.Worn = ⊤
-EndsWorker mine (office.Refused Memory) = ⊤
-EndsWorker mine (office.Refused Stopped) = ⊤
-EndsWorker mine (office.Refused (Full Entries)) = ⊤
-EndsWorker mine (office.Refused NoSuchClerk) = mine ≡ []
-EndsWorker mine (office.Refused _) = ⊥
+-- what ends a worker: no ticket is left, a growth is refused, the scribe has stopped, or the journal has no room for more entries
+abbrev pub EndsWorker : OfficeRefusal → Type 0
+EndsWorker office.Worn = ⊤
+EndsWorker (office.Refused Memory) = ⊤
+EndsWorker (office.Refused Stopped) = ⊤
+EndsWorker (office.Refused (Full Entries)) = ⊤
+EndsWorker (office.Refused _) = ⊥
+
+-- what is known beside, where a worker ends that has seen a history: its gate let no further turn be made; or it held the errand of an ask in that
+-- history back; or the scribe has stopped, where the refusal says so
+abbrev pub TellsWhy : Type 0 → (ℕ → Type 0) → Type 0 → History → WorkerEnd → Type 0
+TellsWhy is_shut holds has_stopped J Ended = is_shut
+TellsWhy is_shut holds has_stopped J Held = (e : Asking) × IsOfAsk J e × holds e.ask
+TellsWhy is_shut holds has_stopped J (Refused r) = r ≡ office.Refused Stopped → has_stopped
 
 module _ {O K : Type 0} (setting : O → Setting) (gives : ℕ → AskKind → Outcome → Type 0) (tells : K → ℕ → K → Type 0) where
   -- a worker gives a call, at the moment that its clock tells, and it is refused or no ticket is left
@@ -78,7 +83,7 @@ module _ {O K : Type 0} (setting : O → Setting) (gives : ℕ → AskKind → O
 
   -- it gives such calls, up to one that fails for one of those reasons
   abbrev pub WorksUpTo : Post O K → OfficeRefusal → Post O K → Type 0
-  WorksUpTo s r t = (u : Post O K) × Works s u × Fails u r t × EndsWorker u.view.mine r
+  WorksUpTo s r t = (u : Post O K) × Works s u × Fails u r t × EndsWorker r
 
   -- it gives such calls, and ends
   abbrev pub EndsWork : Post O K → WorkerEnd → Post O K → Type 0

@@ -1,14 +1,15 @@
 //! A worker's turns.
 
-ghost use Rattle.std.specs.Prelude.{◌≡◌, ◌≢◌, true, ℕ, IfOk, IfSome, IfErr, MatchResult};
+ghost use Rattle.std.specs.Prelude.{◌≡◌, ◌≢◌, true, false, ℕ, IfOk, IfSome, IfErr, MatchResult};
 ghost use Rattle.lra_model.specs.declared.asks.AskKind.{AskKind};
 ghost use Rattle.lra_model.specs.declared.asks.Outcome.{Outcome as OutcomeValue};
 ghost use Rattle.lra_commands.specs.Given.{IsOfAsk};
 ghost use Rattle.lra_office.specs.Clerks.{clerk_view, IsClerkOf};
-ghost use Rattle.lra_commands.specs.declared.refusal.Refusal.TheVariants.{NotAsked};
-ghost use Rattle.lra_office.specs.declared.fault.OfficeRefusal.TheVariants as office;
+ghost use Rattle.lra_commands.specs.declared.refusal.Refusal.TheVariants.{NotAsked, Stopped};
+ghost use Rattle.lra_office.specs.declared.fault.OfficeRefusal.TheVariants as fault;
 ghost use Rattle.lra_workers.specs.declared.worker.WorkerEnd.TheVariants as worker;
-ghost use Rattle.lra_workers.specs.Work.{Post, post, Works, WorksUpTo, EndsWork};
+ghost use Rattle.lra_office.specs.Stops.{HasStopped};
+ghost use Rattle.lra_workers.specs.Work.{Post, post, Works, WorksUpTo, TellsWhy, EndsWork};
 
 use crate::gate::{Gate, Go};
 use lra_commands::{Refusal, Told};
@@ -46,6 +47,7 @@ fn fire<V: Serving, R: Wait, C: Courier, K: Clock>(
     ensures number { clerk.new.number ≡ clerk.old.number }
     ensures work { (s : Post V.Origin K) → Works V.setting C.gives K.tells s (post (clerk_view clerk.old) clock.old)
         → MatchResult result (λ _. Works V.setting C.gives K.tells s (post (clerk_view clerk.new) clock.new)) (λ r. WorksUpTo V.setting C.gives K.tells s r (post (clerk_view clerk.new) clock.new)) }
+    ensures stopped { IfErr result (λ r. r ≡ fault.Refused Stopped → HasStopped V.origin V.history V.lawful V.has_stopped (clerk_view clerk.new)) }
 {
     for _ in rt.forever() {
         let moment = clock.now();
@@ -57,18 +59,23 @@ fn fire<V: Serving, R: Wait, C: Courier, K: Clock>(
 }
 
 /// Whether a gate lets an ask's errand be carried, before it has said too often that it isn't yet.
-fn is_let_go<G: Gate>(gate: &mut G, ask: u64) -> bool {
-    for _ in 0..HOLDS {
+fn is_let_go<G: Gate>(gate: &mut G, ask: u64) -> bool
+    ensures { result ≡ false → G.holds gate.new ask }
+{
+    for _ in 1..HOLDS {
         if gate.hold(ask) == Go::Carry {
             return true;
         }
     }
-    false
+    match gate.hold(ask) {
+        Go::Carry => true,
+        Go::NotYet => false,
+    }
 }
 
 /// How a worker goes on whose record is refused: an ask that isn't outstanding any more is passed over.
 fn after_refusal(refusal: OfficeRefusal) -> Result<(), WorkerEnd>
-    ensures { MatchResult result (λ _. refusal ≡ office.Refused NotAsked) (λ end. (refusal ≢ office.Refused NotAsked) × (end ≡ worker.Refused refusal)) }
+    ensures { MatchResult result (λ _. refusal ≡ fault.Refused NotAsked) (λ end. (refusal ≢ fault.Refused NotAsked) × (end ≡ worker.Refused refusal)) }
 {
     if refusal == OfficeRefusal::Refused(Refusal::NotAsked) {
         Ok(())
@@ -90,6 +97,7 @@ fn next_errand<V: Serving, R: Wait, C: Courier, K: Clock>(
     ensures of_ask { IfOk result (λ errand. IfSome errand (λ e. IsOfAsk (clerk_view clerk.new).seen e)) }
     ensures work { (s : Post V.Origin K) → Works V.setting C.gives K.tells s (post (clerk_view clerk.old) clock.old)
         → MatchResult result (λ _. Works V.setting C.gives K.tells s (post (clerk_view clerk.new) clock.new)) (λ r. WorksUpTo V.setting C.gives K.tells s r (post (clerk_view clerk.new) clock.new)) }
+    ensures stopped { IfErr result (λ r. r ≡ fault.Refused Stopped → HasStopped V.origin V.history V.lawful V.has_stopped (clerk_view clerk.new)) }
 {
     errands_are_of_asks();
     let moment = clock.now();
@@ -113,6 +121,7 @@ fn record<V: Serving, R: Wait, C: Courier, G: Gate, K: Clock>(
     ensures number { clerk.new.number ≡ clerk.old.number }
     ensures work { (s : Post V.Origin K) → Works V.setting C.gives K.tells s (post (clerk_view clerk.old) clock.old)
         → MatchResult result (λ _. Works V.setting C.gives K.tells s (post (clerk_view clerk.new) clock.new)) (λ end. EndsWork V.setting C.gives K.tells s end (post (clerk_view clerk.new) clock.new)) }
+    ensures why { IfErr result (TellsWhy (G.is_shut gate.new) (G.holds gate.new) (HasStopped V.origin V.history V.lawful V.has_stopped (clerk_view clerk.new)) (clerk_view clerk.new).seen) }
 {
     let ask = errand.ask();
     let moment = clock.now();
@@ -144,6 +153,7 @@ fn carry<V: Serving, R: Wait, C: Courier, G: Gate, K: Clock>(
     ensures number { clerk.new.number ≡ clerk.old.number }
     ensures work { (s : Post V.Origin K) → Works V.setting C.gives K.tells s (post (clerk_view clerk.old) clock.old)
         → MatchResult result (λ _. Works V.setting C.gives K.tells s (post (clerk_view clerk.new) clock.new)) (λ end. EndsWork V.setting C.gives K.tells s end (post (clerk_view clerk.new) clock.new)) }
+    ensures why { IfErr result (TellsWhy (G.is_shut gate.new) (G.holds gate.new) (HasStopped V.origin V.history V.lawful V.has_stopped (clerk_view clerk.new)) (clerk_view clerk.new).seen) }
 {
     if !is_let_go(gate, errand.ask()) {
         errand.discard();
@@ -167,6 +177,7 @@ fn take_turn<V: Serving, R: Wait, C: Courier, G: Gate, K: Clock>(
     ensures number { clerk.new.number ≡ clerk.old.number }
     ensures work { (s : Post V.Origin K) → Works V.setting C.gives K.tells s (post (clerk_view clerk.old) clock.old)
         → MatchResult result (λ _. Works V.setting C.gives K.tells s (post (clerk_view clerk.new) clock.new)) (λ end. EndsWork V.setting C.gives K.tells s end (post (clerk_view clerk.new) clock.new)) }
+    ensures why { IfErr result (TellsWhy (G.is_shut gate.new) (G.holds gate.new) (HasStopped V.origin V.history V.lawful V.has_stopped (clerk_view clerk.new)) (clerk_view clerk.new).seen) }
 {
     if let Err(refusal) = fire::<V, R, C, K>(rt, office, clerk, clock) {
         return Err(WorkerEnd::Refused(refusal));
@@ -192,6 +203,7 @@ pub fn run_worker<V: Serving, R: Wait, C: Courier, G: Gate, K: Clock>(
     ensures clerk { IsClerkOf office.now.lock result.0 }
     ensures number { result.0.number ≡ clerk.number }
     ensures work { EndsWork V.setting C.gives K.tells (post (clerk_view clerk) clock.old) result.1 (post (clerk_view result.0) clock.new) }
+    ensures why { TellsWhy (G.is_shut gate.new) (G.holds gate.new) (HasStopped V.origin V.history V.lawful V.has_stopped (clerk_view result.0)) (clerk_view result.0).seen result.1 }
 {
     let mut clerk = clerk;
     for _ in rt.forever() {

@@ -6,7 +6,7 @@ use Rattle.lra_office.specs.Clerks.{clerk_view}
 use Rattle.lra_office.specs.declared.fault.OfficeRefusal.{OfficeRefusal}
 use Rattle.lra_workers.specs.Work.{post, Works, WorksUpTo}
 use Rattle.lra_workers.proofs.Refusing.{never_late}
-use Rattle.lra_workers.proofs.Working.{works_on, does, fails}
+use Rattle.lra_workers.proofs.Working.{works_on, does, fails, known_number}
 use Rattle.lra_workers.proofs.worker.fire.Goals as goal
 
 pub returns-in_err-tick-clause-work : goal.returns-in_err-tick-clause-work
@@ -16,7 +16,7 @@ returns-in_err-tick-clause-work g c = λ s before.
     let f = fails g.V.Serving.setting g.C.Courier.gives g.K.Clock.tells (clerk_view c.loop.clerk) (clerk_view c.tick.new.clerk) c.loop.clock c.now-moment.new.self
     _ c.in_err-tick.field-0.0 (sym c.loop.invariant.clerk.number) tt c.now-moment.ensures c.in_err-tick.ensures.told in
     let last = never_late g.C.Courier.gives (g.V.Serving.setting (clerk_view c.loop.clerk).origin) (clerk_view c.loop.clerk) (clerk_view c.tick.new.clerk) _ c.in_err-tick.field-0.0 c.in_err-tick.ensures.told
-    (sym c.loop.invariant.clerk.number) tt (λ J. refl) in
+    (sym c.loop.invariant.clerk.number) (known_number _ _ c.loop.invariant.clerk.number c.loop.invariant.clerk.enrolled) tt (λ J. refl) in
     let told : WorksUpTo g.V.Serving.setting g.C.Courier.gives g.K.Clock.tells s c.in_err-tick.field-0.0 now = (post (clerk_view c.loop.clerk) c.loop.clock, c.loop.invariant.work s before, f, last) in
     subst (λ (r : Result (Unit {0}) OfficeRefusal). MatchResult r (λ _. Works g.V.Serving.setting g.C.Courier.gives g.K.Clock.tells s now) (λ x. WorksUpTo g.V.Serving.setting g.C.Courier.gives g.K.Clock.tells s x now))
     (sym (p.1 ∙ ap Err p.2)) told

@@ -1,6 +1,6 @@
 use Rattle.std.proofs.Common.{refl, sym, arith}
 use Rattle.lra_office.specs.Clerks.{clerk_view}
-use Rattle.lra_workers.proofs.Working.{asked, asked_of_ask}
+use Rattle.lra_workers.proofs.Working.{asked, asked_of_ask, known_number}
 use Rattle.lra_workers.proofs.worker.next_errand.Goals as goal
 
 pub returns-clause-of_ask : goal.returns-clause-of_ask
@@ -11,4 +11,4 @@ returns-clause-of_ask g c =
 pub returns-clause-work : goal.returns-clause-work
 returns-clause-work g c = λ s before.
     asked g.V.Serving.setting g.C.Courier.gives g.K.Clock.tells s (clerk_view c.args.clerk.now) (clerk_view c.next_ask.new.clerk) c.args.clock.now c.now-moment.new.self
-    _ c.next_ask.result c.next_ask.ensures.errand before (sym c.requires.number) tt (λ J. refl) c.now-moment.ensures
+    _ c.next_ask.result c.next_ask.ensures.errand before (sym c.requires.number) (known_number _ _ c.requires.number c.requires.enrolled) tt (λ J. refl) c.now-moment.ensures

@@ -1,7 +1,8 @@
-use Rattle.std.proofs.Common.{subst}
+use Rattle.std.proofs.Common.{◌≡◌, subst}
 use Rattle.lra_ticket.specs.Locks.{held_view, pass_view}
+use Rattle.lra_commands.specs.declared.refusal.Refusal.TheVariants.{Stopped}
 use Rattle.lra_office.specs.Serves.{IsKeptBy}
-use Rattle.lra_office.proofs.AtLock.{extends, may_add, grown, not_grown}
+use Rattle.lra_office.proofs.AtLock.{extends, may_add, grown, not_grown, stopped_at}
 use Rattle.lra_office.proofs.office.Office.give.Goals as goal
 
 pub give-pass-requires-clause-extends : goal.give-pass-requires-clause-extends
@@ -18,11 +19,17 @@ pub returns-in-Ok-served-clause-given : goal.returns-in-Ok-served-clause-given
 returns-in-Ok-served-clause-given g c =
     let suits = c.in-Ok.ensures.value in
     grown g.V.Serving.setting (pass_view c.args.pass) (held_view c.in-Ok.taken.0) (pass_view c.give-pass.result) _ _ _ _ c.in-Ok-served.committed suits.same_origin
-    (record { begins = suits.begins; seen_own = suits.seen_own; own = suits.own; kept = g.met.V.Serving.tells c.in-Ok.taken.1 suits.lawful_now }) c.in-Ok.ensures.view c.in-Ok-served.ensures.served
+    (record { begins = suits.begins; seen_own = suits.seen_own; own = suits.own; enrolled = suits.enrolled; kept = g.met.V.Serving.tells c.in-Ok.taken.1 suits.lawful_now }) c.in-Ok.ensures.view c.in-Ok-served.ensures.served
     (subst (λ o. IsKeptBy (g.V.Serving.setting o) (g.V.Kept.history c.serve-served.new.self)) c.serve-served.ensures.origin (g.met.V.Serving.tells c.serve-served.new.self c.serve-served.ensures.lawful)) c.give-pass.ensures.view
 
 pub returns-in-Err-served-clause-refused : goal.returns-in-Err-served-clause-refused
 returns-in-Err-served-clause-refused g c =
     let suits = c.in-Ok.ensures.value in
     not_grown g.V.Serving.setting (pass_view c.args.pass) (held_view c.in-Ok.taken.0) (pass_view c.give-pass.result) _ _ _ _ c.in-Err-served.refusal suits.same_origin
-    (record { begins = suits.begins; seen_own = suits.seen_own; own = suits.own; kept = g.met.V.Serving.tells c.in-Ok.taken.1 suits.lawful_now }) c.in-Ok.ensures.view c.in-Err-served.ensures.served c.give-pass.ensures.view
+    (record { begins = suits.begins; seen_own = suits.seen_own; own = suits.own; enrolled = suits.enrolled; kept = g.met.V.Serving.tells c.in-Ok.taken.1 suits.lawful_now }) c.in-Ok.ensures.view c.in-Err-served.ensures.served c.give-pass.ensures.view
+
+pub returns-in-Err-served-clause-stopped : goal.returns-in-Err-served-clause-stopped
+returns-in-Err-served-clause-stopped g c = λ e.
+    let same : c.in-Err-served.refusal ≡ Stopped = cc in
+    stopped_at g.V.Kept.origin g.V.Kept.history g.V.Kept.lawful g.V.Serving.has_stopped c.in-Ok.taken.1 c.serve-served.new.self (pass_view c.args.pass) (held_view c.in-Ok.taken.0) (pass_view c.give-pass.result) c.in-Ok.ensures.value.same_origin c.in-Ok.ensures.view
+    c.serve-served.ensures.lawful c.serve-served.ensures.origin c.give-pass.ensures.view (c.in-Err-served.ensures.stopped same)

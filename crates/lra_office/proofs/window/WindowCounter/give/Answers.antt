@@ -1,10 +1,8 @@
-use Rattle.std.proofs.Common.{Err, subst, sym}
-use Rattle.lra_commands.specs.declared.counter.CounterFault.{CounterFault}
+use Rattle.std.proofs.Common.{subst}
 use Rattle.lra_commands.specs.Calls.{Command}
-use Rattle.lra_commands.specs.Counters.{KeepsHistory}
 use Rattle.lra_office.specs.Clerks.{clerk_view}
 use Rattle.lra_office.specs.Orders.{IsGrown, IsNotGiven}
-use Rattle.lra_office.proofs.AtWindow.{window_told, window_refused}
+use Rattle.lra_office.proofs.AtWindow.{window_told, window_refused, keeps_done, keeps_refused}
 use Rattle.lra_office.proofs.window.WindowCounter.give.Goals as goal
 
 pub returns-in-Ok : goal.returns-in-Ok
@@ -12,7 +10,8 @@ returns-in-Ok g c =
     let old = c.args.self.now.clerk in
     let new = c.tell.new.clerk in
     let h = subst (λ (x : Command). IsGrown (g.V.Serving.setting (clerk_view old).origin) (clerk_view old) (record { by = old.number; moment = c.args.moment; command = x }) c.in-Ok.told c.in-Ok.ensures.told.0 (clerk_view new)) c.command.ensures c.in-Ok.ensures.told.1 in
-    window_told g.V.Serving.setting (clerk_view old) (clerk_view new) old.number new.number c.args.moment c.args.order.now c.in-Ok.told c.in-Ok.ensures.told.0 c.args.self.now.there.number c.tell.ensures.number h
+    keeps_done g.V.Serving.setting g.V.Kept.origin g.V.Kept.history g.V.Kept.lawful g.V.Serving.has_stopped _ _ c.args.moment c.args.order.now c.in-Ok.told
+    (window_told g.V.Serving.setting (clerk_view old) (clerk_view new) old.number new.number c.args.moment c.args.order.now c.in-Ok.told c.in-Ok.ensures.told.0 c.args.self.now.there.number c.tell.ensures.number h)
 
 pub returns-in-Err : goal.returns-in-Err
 returns-in-Err g c =
@@ -20,5 +19,5 @@ returns-in-Err g c =
     let new = c.tell.new.clerk in
     let h = subst (λ (x : Command). IsNotGiven (g.V.Serving.setting (clerk_view old).origin) (clerk_view old) (record { by = old.number; moment = c.args.moment; command = x }) c.in-Err.refusal (clerk_view new)) c.command.ensures c.in-Err.ensures.told in
     let keeps = window_refused g.V.Serving.setting (clerk_view old) (clerk_view new) old.number new.number c.args.moment c.args.order.now c.in-Err.refusal c.args.self.now.there.number c.tell.ensures.number h in
-    subst (λ (f : CounterFault). KeepsHistory (record { setting = g.V.Serving.setting (clerk_view old).origin; number = old.number; seen = (clerk_view old).seen }) c.args.moment c.args.order.now (Err f)
-    (record { setting = g.V.Serving.setting (clerk_view new).origin; number = new.number; seen = (clerk_view new).seen })) (sym c.fault_of.ensures) keeps
+    keeps_refused g.V.Serving.setting g.V.Kept.origin g.V.Kept.history g.V.Kept.lawful g.V.Serving.has_stopped _ c.args.moment new.number c.args.order.now c.in-Err.refusal c.fault_of.result (clerk_view new)
+    keeps c.in-Err.ensures.stopped c.fault_of.ensures
