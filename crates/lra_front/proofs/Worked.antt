@@ -1,5 +1,5 @@
 -- Paths and replies worked out by hand.
-use Rattle.std.proofs.Common.{◌≡◌, ◌++◌, codes, Some, None, false, refl}
+use Rattle.std.proofs.Common.{◌≡◌, ◌++◌, ℕ, List, [], ◌∷◌, map, codes, Some, None, false, refl}
 use Rattle.std.specs.Fmt.{digits}
 use Rattle.matchit.proofs.OnLiterals.{matchit_on_literals}
 use Rattle.serde_json.proofs.OnLiterals.{serde_json_on_literals}
@@ -11,37 +11,16 @@ use Rattle.lra_front.specs.Replies.{reply_bytes, line_end}
 
 -- ---- paths
 
-actions : place_of (codes "/lra-coordinator") ≡ Some place.Actions
-unfolding place_of matchit_on_literals
-actions = refl
+unfoldable targets : List (List ℕ)
+targets =
+    codes "/lra-coordinator" ∷ codes "/lra-coordinator/close" ∷ codes "/lra-coordinator/x/close" ∷ codes "/lra-recovery/x"
+    ∷ codes "/lra-coordinator/" ∷ codes "/lra-coordinator?x=1" ∷ codes "/lra-recovery/x?" ∷ codes "/lra-coordinator/x?y/close" ∷ []
 
-an_action : place_of (codes "/lra-coordinator/close") ≡ Some place.Action
-unfolding place_of matchit_on_literals
-an_action = refl
-
-close : place_of (codes "/lra-coordinator/x/close") ≡ Some place.Close
-unfolding place_of matchit_on_literals
-close = refl
-
-a_member : place_of (codes "/lra-recovery/x") ≡ Some place.Member
-unfolding place_of matchit_on_literals
-a_member = refl
-
-no_id : place_of (codes "/lra-coordinator/") ≡ None
-unfolding place_of matchit_on_literals
-no_id = refl
-
-query : place_of (codes "/lra-coordinator?x=1") ≡ None
-unfolding place_of matchit_on_literals
-query = refl
-
-query_after_id : place_of (codes "/lra-recovery/x?") ≡ None
-unfolding place_of matchit_on_literals
-query_after_id = refl
-
-query_amid : place_of (codes "/lra-coordinator/x?y/close") ≡ None
-unfolding place_of matchit_on_literals
-query_amid = refl
+-- no ID, and a query at the end, after the ID, and amid the path
+places : map place_of targets
+    ≡ Some place.Actions ∷ Some place.Action ∷ Some place.Close ∷ Some place.Member ∷ None ∷ None ∷ None ∷ None ∷ []
+unfolding targets place_of matchit_on_literals
+places = refl
 
 id_of_close : id_in (codes "/lra-coordinator/x-y/close") ≡ codes "x-y"
 unfolding id_in

@@ -1,6 +1,6 @@
 //! What a request is answered, and the reply that tells it.
 
-ghost use Rattle.std.specs.Prelude.{◌≡◌, if◌then◌else◌, ℕ, List, [], map, length, decimal, IfOk, IsTrue, string_bytes, Err};
+ghost use Rattle.std.specs.Prelude.{◌≡◌, ◌+◌, ◌≤◌, ◌++◌, if◌then◌else◌, ℕ, List, [], map, length, decimal, vec_len, vec_capacity, IfOk, IsTrue, string_bytes, Err};
 ghost use Rattle.std.specs.Ordering.{nat_cmp};
 ghost use Rattle.std.specs.declared.cmp.Ordering.TheVariants.{Greater};
 ghost use Rattle.std.specs.Cmp.Lexicographic.{slice_cmp};
@@ -191,6 +191,25 @@ impl Answer {
         self.body(alloc, uri)?.to_string(alloc)
     }
 
+    /// Adds the fields that go with it, where it names that URI.
+    fn add_fields<'a>(self, uri: &'a str, fields: &mut Vec<(&'a str, &'a str)>)
+        requires { vec_len fields.old + 2 ≤ vec_capacity fields.old }
+        ensures fields { map seen fields.new.items ≡ map seen fields.old.items ++ spec.own_fields uri.now self }
+        ensures room { (vec_len fields.new ≤ vec_len fields.old + 2) × (vec_capacity fields.new ≡ vec_capacity fields.old) }
+    {
+        match self {
+            Answer::Started(_) => {
+                fields.push_reserved(("Location", uri));
+                fields.push_reserved(("Long-Running-Action", uri));
+            }
+            Answer::Joined(_) => fields.push_reserved(("Long-Running-Action-Recovery", uri)),
+            Answer::Denied(Denial::BadMethod(place)) => {
+                fields.push_reserved(("Allow", place.allowed()));
+            }
+            _ => {}
+        }
+    }
+
     /// All fields of its reply, where it names that URI, with a body of that length in digits.
     fn fields<'a>(
         self,
@@ -203,19 +222,11 @@ impl Answer {
             → map seen fields.items ≡ spec.fields_of uri.now self text close) }
     {
         let mut fields: Vec<(&'a str, &'a str)> = Vec::with_capacity(alloc, 5)?;
-        fields.push(("Content-Type", "application/json"))?;
-        fields.push(("Content-Length", digits))?;
-        match self {
-            Answer::Started(_) => {
-                fields.push(("Location", uri))?;
-                fields.push(("Long-Running-Action", uri))?;
-            }
-            Answer::Joined(_) => fields.push(("Long-Running-Action-Recovery", uri))?,
-            Answer::Denied(Denial::BadMethod(place)) => fields.push(("Allow", place.allowed()))?,
-            _ => {}
-        }
+        fields.push_reserved(("Content-Type", "application/json"));
+        fields.push_reserved(("Content-Length", digits));
+        self.add_fields(uri, &mut fields);
         if close {
-            fields.push(("Connection", "close"))?;
+            fields.push_reserved(("Connection", "close"));
         }
         Ok(fields)
     }

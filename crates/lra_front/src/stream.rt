@@ -87,7 +87,14 @@ fn refuse<W: Write, C: Counter>(
     }
 }
 
-/// Answers a request, and closes the stream after it where it asks for that or is the last that is taken.
+/// Whether the stream is closed after a request: where it asks for that, or is the last that is taken.
+fn closes_after(request: &RequestRead, last: bool) -> bool
+    ensures { result ≡ spec.closes_after last (request_of request.now) }
+{
+    request.close || last
+}
+
+/// Answers a request, and closes the stream where it is closed after it.
 fn exchange<W: Write, C: Counter, K: Clock>(
     page: &mut Vec<u8>,
     routes: &Routes,
@@ -99,7 +106,7 @@ fn exchange<W: Write, C: Counter, K: Clock>(
 ) -> Served
     ensures { Exchanges C.gives K.tells last (request_of request.now) (C.sight counter.old) (C.sight counter.new) clock.old clock.new (W.contents writer.old) (W.contents writer.new) result }
 {
-    let close = request.close || last;
+    let close = closes_after(request, last);
     let head = request.method.as_str() == Method::HEAD.as_str();
     let moment = clock.now();
     let answer = routes.respond(*page.allocator(), counter, moment, request);
@@ -192,5 +199,9 @@ pub fn serve_stream<R: Read + Drop, W: Write, C: Counter, K: Clock>(
         return StreamEnd::Refused(WireFault::Memory);
     };
     let mut page = Vec::new(alloc);
-    serve_inbox(&mut page, &routes, &mut inbox, writer, counter, clock)
+    let end = serve_inbox(&mut page, &routes, &mut inbox, writer, counter, clock);
+    drop(page);
+    drop(inbox);
+    drop(routes);
+    end
 }

@@ -38,6 +38,17 @@ fn reopen_fault(fault: ReopenFault) -> ServeFault
     }
 }
 
+/// The instance of a new journal: the moment.
+fn instance_at(moment: u64) -> Result<Instance, ServeFault>
+    ensures instance { IfOk result (λ instance. instance ≡ moment) }
+    ensures fault { IfErr result IsOfNoScript }
+{
+    match Instance::new(moment) {
+        Some(instance) => Ok(instance),
+        None => Err(ServeFault::Address),
+    }
+}
+
 /// An office with a new journal, whose instance is the moment.
 fn begin<W: Write + Drop, R: Wait>(
     rt: &R,
@@ -50,9 +61,7 @@ fn begin<W: Write + Drop, R: Wait>(
     ensures opened { IfOk result (λ opened. IsBegun (new_origin moment base usual (W.contents writer)) moment opened.0 opened.1) }
     ensures fault { IfErr result IsOfNoScript }
 {
-    let Some(instance) = Instance::new(moment) else {
-        return Err(ServeFault::Address);
-    };
+    let instance = instance_at(moment)?;
     match Office::create(alloc, instance, base, Limits::usual(), writer) {
         Ok((office, pass)) => match office.clerk(rt, pass, moment) {
             Ok(clerk) => Ok((office, clerk)),

@@ -1,7 +1,6 @@
 //! The clerks of a service.
 
-ghost use Rattle.std.specs.Prelude.{◌≡◌, [], All, IfOk, IfErr, OnOk};
-ghost use Rattle.lra_office.specs.Clerks.{IsClerkOf};
+ghost use Rattle.std.specs.Prelude.{All, IfOk, IfErr, OnOk};
 ghost use Rattle.lra_service.specs.Faults.{IsOfNoScript};
 ghost use Rattle.lra_service.specs.inner.Opened.{IsAt};
 
@@ -32,22 +31,29 @@ pub(crate) fn enrol_fault(refusal: OfficeRefusal) -> ServeFault
     }
 }
 
-/// Enrols another clerk beside one.
-fn hire<V: Serving, R: Wait>(
+/// Gives a clerk its duty, and enrols another beside it.
+fn engage<V: Serving, R: Wait>(
     rt: &R,
     office: &Office<V>,
     clerk: Clerk<V>,
+    duty: Duty,
     moment: u64,
-) -> Result<(Clerk<V>, Clerk<V>), ServeFault>
-    requires { IsAt V.setting office.now clerk }
-    ensures first { IfOk result (λ clerks. IsAt V.setting office.now clerks.0) }
-    ensures second { IfOk result (λ clerks. IsAt V.setting office.now clerks.1) }
+    jobs: &mut Vec<(Duty, Clerk<V>)>,
+) -> Result<Clerk<V>, ServeFault>
+    requires clerk { IsAt V.setting office.now clerk }
+    requires hired { All (λ job. IsAt V.setting office.now job.1) jobs.old.items }
+    ensures other { IfOk result (λ other. IsAt V.setting office.now other) }
+    ensures hired { OnOk result (All (λ job. IsAt V.setting office.now job.1) jobs.new.items) }
     ensures fault { IfErr result IsOfNoScript }
 {
     let (clerk, pass) = office.split(clerk);
+    jobs.push((duty, clerk))?;
     match office.clerk(rt, pass, moment) {
-        Ok(other) => Ok((clerk, other)),
-        Err((_, refusal)) => Err(enrol_fault(refusal)),
+        Ok(other) => Ok(other),
+        Err((pass, refusal)) => {
+            drop(pass);
+            Err(enrol_fault(refusal))
+        }
     }
 }
 
@@ -61,21 +67,17 @@ fn add_all<V: Serving, R: Wait>(
     jobs: &mut Vec<(Duty, Clerk<V>)>,
 ) -> Result<(), ServeFault>
     requires first { IsAt V.setting office.now first }
-    requires none { jobs.old.items ≡ [] }
+    requires hired { All (λ job. IsAt V.setting office.now job.1) jobs.old.items }
     ensures hired { OnOk result (All (λ job. IsAt V.setting office.now job.1) jobs.new.items) }
     ensures fault { IfErr result IsOfNoScript }
 {
     let mut next = first;
     for _ in 1..workers {
-        let (carrying, other) = hire(rt, office, next, moment)?;
-        let (answering, other) = hire(rt, office, other, moment)?;
-        jobs.push((Duty::Carry, carrying))?;
-        jobs.push((Duty::Answer, answering))?;
-        next = other;
+        let other = engage(rt, office, next, Duty::Carry, moment, jobs)?;
+        next = engage(rt, office, other, Duty::Answer, moment, jobs)?;
     }
-    let (carrying, answering) = hire(rt, office, next, moment)?;
-    jobs.push((Duty::Carry, carrying))?;
-    jobs.push((Duty::Answer, answering))?;
+    let last = engage(rt, office, next, Duty::Carry, moment, jobs)?;
+    jobs.push((Duty::Answer, last))?;
     Ok(())
 }
 
@@ -93,6 +95,11 @@ pub(crate) fn hire_all<V: Serving, R: Wait>(
     ensures fault { IfErr result IsOfNoScript }
 {
     let mut jobs = Vec::new(alloc);
-    add_all(rt, office, first, moment, workers, &mut jobs)?;
-    Ok(jobs)
+    match add_all(rt, office, first, moment, workers, &mut jobs) {
+        Ok(()) => Ok(jobs),
+        Err(fault) => {
+            drop(jobs);
+            Err(fault)
+        }
+    }
 }

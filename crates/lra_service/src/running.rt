@@ -6,17 +6,17 @@ ghost use Rattle.lra_ids.specs.Addresses.{is_base};
 ghost use Rattle.lra_office.specs.Wholes.{whole_lines};
 ghost use Rattle.lra_reports.specs.Report.{ReportsAudit};
 ghost use Rattle.lra_service.specs.Ends.{serving_line, IsSaid, IsRefused, IsOfAddress};
-ghost use Rattle.lra_service.specs.Faults.{base_text};
+ghost use Rattle.lra_service.specs.Faults.{base_text, IsOfNoScript};
+ghost use Rattle.lra_service.specs.Places.{IsFound};
 ghost use Rattle.lra_service.specs.inner.Opened.{IsOpenAt};
 
 use crate::base::{base_of, bind};
 use crate::clock::milliseconds;
-use crate::disk::JournalFile;
-use crate::entrance::Entrance;
+use crate::disk::{FilePen, JournalFile};
 use crate::fault::ServeFault;
 use crate::file::NamedFile;
 use crate::opening::open_office;
-use crate::place::{Place, find_journal, ready_file};
+use crate::place::{Found, Place, find_journal, ready_file};
 use crate::post::hire_all;
 use crate::shift::{Shift, work};
 use lra_durable::{Keeper, Progress};
@@ -31,7 +31,6 @@ use std::marker::{Send, Sync};
 use std::net::{Net, TcpListener, TcpStream};
 use std::rt::Files;
 use std::sync::Wait;
-use std::sync::atomic::{AtomicBool, AtomicU64};
 use std::thread::Threads;
 use std::time::Clock;
 
@@ -61,9 +60,36 @@ struct Service<'a, R, P> {
     rt: &'a R,
     alloc: Global,
     address: &'a str,
+    /// The base of the identifiers that are served there.
+    base: &'a Address,
     /// Where the journal is kept.
     place: &'a P,
     workers: u32,
+}
+
+/// A journal's file as a disk, what adds to it, and the moment at which it was ready.
+#[derive(Drop)]
+struct Stand {
+    progress: Progress<JournalFile>,
+    pen: FilePen,
+    moment: u64,
+}
+
+/// A journal's file as a disk, all of whose bytes are kept.
+fn stand_on(file: File, moment: u64) -> Result<Stand, ServeFault>
+    ensures { IfErr result (λ fault. fault ≡ ServeFault.File) }
+{
+    let Ok((pen, syncer)) = JournalFile::parts(file) else {
+        return Err(ServeFault::File);
+    };
+    match Progress::<JournalFile>::open(&pen, syncer) {
+        Ok(progress) => Ok(Stand {
+            progress,
+            pen,
+            moment,
+        }),
+        Err(_) => Err(ServeFault::File),
+    }
 }
 
 impl<
@@ -73,30 +99,30 @@ impl<
     /// Says that it serves, and serves connections until none can come any more.
     fn serve_office<K: Write + Drop + Send, W: Write>(
         &self,
-        listener: TcpListener,
-        progress: &Progress<JournalFile>,
+        shift: &Shift<'_, R>,
         office: &Office<Desk<K>>,
         clerk: Clerk<Desk<K>>,
-        moment: u64,
         writer: &mut W,
     ) -> Result<(), ServeFault>
-        requires { IsOpenAt (P.had self.now.place.now) (base_text self.now.address.now) moment office.now clerk }
+        requires { IsOpenAt (P.had self.now.place.now) (base_text self.now.address.now) shift.now.moment office.now clerk }
         ensures said { OnOk result (Appends (W.contents writer.old) (W.contents writer.new) (serving_line self.now.address.now)) }
         ensures fault { IfErr result (IsSaid self.now.address.now (W.contents writer.old) (W.contents writer.new)) }
     {
-        let jobs = hire_all(self.rt, self.alloc, office, clerk, moment, self.workers)?;
-        self.say(writer)?;
-        let shift = Shift {
-            rt: self.rt,
-            alloc: self.alloc,
-            door: Entrance::new(self.rt, progress, listener),
-            progress,
-            moment,
-            answering: AtomicU64::new(u64::from(self.workers)),
-            has_ended: AtomicBool::new(false),
-        };
-        work(&shift, office, jobs)?;
-        Ok(())
+        let jobs = hire_all(
+            self.rt,
+            self.alloc,
+            office,
+            clerk,
+            shift.moment,
+            self.workers,
+        )?;
+        match self.say(writer) {
+            Ok(()) => Ok(work(shift, office, jobs)?),
+            Err(fault) => {
+                drop(jobs);
+                Err(fault)
+            }
+        }
     }
 
     /// Says that it serves.
@@ -114,79 +140,146 @@ impl<
         Ok(())
     }
 
-    /// Opens the office of a journal, and serves.
-    fn serve_journal<K: Write + Drop + Send, W: Write>(
+    /// The office of a journal, and its first clerk.
+    fn open<K: Write + Drop>(
         &self,
-        base: Address,
-        listener: TcpListener,
-        progress: &Progress<JournalFile>,
         journal: Vec<u8>,
         keeper: K,
         moment: u64,
+    ) -> Result<(Office<Desk<K>>, Clerk<Desk<K>>), ServeFault>
+        requires base { is_base self.now.base.now ≡ true }
+        requires text { self.now.base.now ≡ base_text self.now.address.now }
+        requires journal { IfSome (P.had self.now.place.now) (λ had. journal.items ≡ had) }
+        ensures opened { IfOk result (λ opened. IsOpenAt (P.had self.now.place.now) (base_text self.now.address.now) moment opened.0 opened.1) }
+        ensures fault { IfErr result IsOfNoScript }
+    {
+        let Ok(base) = self.base.copy() else {
+            return Err(ServeFault::Run(RunFault::Memory));
+        };
+        open_office(self.rt, self.alloc, base, journal, keeper, moment)
+    }
+
+    /// Opens the office of a journal, and serves.
+    fn serve_journal<K: Write + Drop + Send, W: Write>(
+        &self,
+        shift: &Shift<'_, R>,
+        journal: Vec<u8>,
+        keeper: K,
         writer: &mut W,
     ) -> Result<(), ServeFault>
-        requires base { is_base base ≡ true }
-        requires text { base ≡ base_text self.now.address.now }
+        requires base { is_base self.now.base.now ≡ true }
+        requires text { self.now.base.now ≡ base_text self.now.address.now }
         requires journal { IfSome (P.had self.now.place.now) (λ had. journal.items ≡ had) }
         ensures said { OnOk result (Appends (W.contents writer.old) (W.contents writer.new) (serving_line self.now.address.now)) }
         ensures fault { IfErr result (IsSaid self.now.address.now (W.contents writer.old) (W.contents writer.new)) }
     {
-        let (office, clerk) = open_office(self.rt, self.alloc, base, journal, keeper, moment)?;
-        self.serve_office(listener, progress, &office, clerk, moment, writer)
+        let (office, clerk) = self.open(journal, keeper, shift.moment)?;
+        let served = self.serve_office(shift, &office, clerk, writer);
+        drop(office);
+        served
     }
 
-    /// The same, of a journal whose file has just its whole lines.
-    fn serve_file<W: Write>(
+    /// The same, on a disk, at a listener.
+    fn serve_at<W: Write>(
         &self,
-        base: Address,
         listener: TcpListener,
-        file: File,
+        stand: Stand,
         journal: Vec<u8>,
         writer: &mut W,
-    ) -> Result<(), ServeFault>
-        requires base { is_base base ≡ true }
-        requires text { base ≡ base_text self.now.address.now }
-        requires file { P.contents file ≡ option_map whole_lines (P.had self.now.place.now) }
+    ) -> ServeFault
+        requires base { is_base self.now.base.now ≡ true }
+        requires text { self.now.base.now ≡ base_text self.now.address.now }
         requires journal { IfSome (P.had self.now.place.now) (λ had. journal.items ≡ had) }
-        ensures said { OnOk result (Appends (W.contents writer.old) (W.contents writer.new) (serving_line self.now.address.now)) }
-        ensures fault { IfErr result (IsSaid self.now.address.now (W.contents writer.old) (W.contents writer.new)) }
+        ensures { IsSaid self.now.address.now (W.contents writer.old) (W.contents writer.new) result }
+    {
+        let Stand {
+            progress,
+            pen,
+            moment,
+        } = stand;
+        let keeper = Keeper::new(self.rt, &progress, pen);
+        let shift = Shift::new(
+            self.rt,
+            self.alloc,
+            &progress,
+            listener,
+            moment,
+            self.workers,
+        );
+        let served = self.serve_journal(&shift, journal, keeper, writer);
+        drop(shift);
+        let has_failed = progress.has_failed(self.rt);
+        drop(progress);
+        match served {
+            Ok(()) if has_failed => ServeFault::File,
+            Ok(()) => ServeFault::Address,
+            Err(fault) => fault,
+        }
+    }
+
+    /// The disk of a file that has just its journal's whole lines.
+    fn stand(&self, file: File) -> Result<Stand, ServeFault>
+        requires { P.contents file ≡ option_map whole_lines (P.had self.now.place.now) }
+        ensures { IfErr result IsOfNoScript }
     {
         let Some(moment) = milliseconds(self.rt) else {
             return Err(ServeFault::Address);
         };
-        let Ok((pen, syncer)) = JournalFile::parts(file) else {
-            return Err(ServeFault::File);
-        };
-        let Ok(progress) = Progress::<JournalFile>::open(&pen, syncer) else {
-            return Err(ServeFault::File);
-        };
-        let keeper = Keeper::new(self.rt, &progress, pen);
-        self.serve_journal(base, listener, &progress, journal, keeper, moment, writer)?;
-        if progress.has_failed(self.rt) {
-            return Err(ServeFault::File);
-        }
-        Ok(())
+        stand_on(file, moment)
     }
 
-    /// The same, of what the place has, once its lock is taken and its journal is audited.
-    fn serve_place<W: Write>(&self, base: Address, writer: &mut W) -> Result<u8, ServeFault>
-        requires base { is_base base ≡ true }
-        requires text { base ≡ base_text self.now.address.now }
+    /// Serves a sound journal that was found so. That has ended by a fault.
+    fn serve_found<W: Write>(
+        &self,
+        found: Found<File>,
+        journal: Vec<u8>,
+        writer: &mut W,
+    ) -> Result<u8, ServeFault>
+        requires base { is_base self.now.base.now ≡ true }
+        requires text { self.now.base.now ≡ base_text self.now.address.now }
+        requires found { IsFound P.contents (P.had self.now.place.now) found }
+        requires journal { IfSome (P.had self.now.place.now) (λ had. journal.items ≡ had) }
+        ensures unsound { IfOk result (IsRefused (P.had self.now.place.now) (W.contents writer.old) (W.contents writer.new)) }
+        ensures fault { IfErr result (IsSaid self.now.address.now (W.contents writer.old) (W.contents writer.new)) }
+    {
+        let listener = bind(self.alloc, self.rt, self.base)?;
+        let file = ready_file(self.place, found, &journal)?;
+        let stand = self.stand(file)?;
+        Err(self.serve_at(listener, stand, journal, writer))
+    }
+
+    /// Audits what was found: nothing is told where it can be served.
+    fn refuse<W: Write>(&self, journal: &[u8], writer: &mut W) -> Option<Result<u8, ServeFault>>
+        requires { IfSome (P.had self.now.place.now) (λ had. journal.now ≡ had) }
+        ensures sound { result ≡ None → W.contents writer.new ≡ W.contents writer.old }
+        ensures unsound { IfSome result (λ told. IfOk told (IsRefused (P.had self.now.place.now) (W.contents writer.old) (W.contents writer.new))) }
+        ensures fault { IfSome result (λ told. IfErr told (IsSaid self.now.address.now (W.contents writer.old) (W.contents writer.new))) }
+    {
+        if journal.is_empty() {
+            return None;
+        }
+        let front = whole(journal);
+        match audit_front(self.alloc, &journal[..front], writer) {
+            Ok(status) if status != 0 => Some(Ok(status)),
+            Ok(_) => None,
+            Err(fault) => Some(Err(fault)),
+        }
+    }
+
+    /// Serves what the place has, once its lock is taken and its journal is audited.
+    fn serve_place<W: Write>(&self, writer: &mut W) -> Result<u8, ServeFault>
+        requires base { is_base self.now.base.now ≡ true }
+        requires text { self.now.base.now ≡ base_text self.now.address.now }
         ensures unsound { IfOk result (IsRefused (P.had self.now.place.now) (W.contents writer.old) (W.contents writer.new)) }
         ensures fault { IfErr result (IsSaid self.now.address.now (W.contents writer.old) (W.contents writer.new)) }
     {
         let (found, journal) = find_journal(self.alloc, self.place)?;
-        if !journal.is_empty() {
-            let front = whole(&journal);
-            let status = audit_front(self.alloc, &journal[..front], writer)?;
-            if status != 0 {
-                return Ok(status);
-            }
+        if let Some(told) = self.refuse(&journal, writer) {
+            drop(found);
+            drop(journal);
+            return told;
         }
-        let listener = bind(self.alloc, self.rt, &base)?;
-        let file = ready_file(self.place, found, &journal)?;
-        self.serve_file(base, listener, file, journal, writer)?;
-        Err(ServeFault::Address)
+        self.serve_found(found, journal, writer)
     }
 }
 
@@ -216,10 +309,11 @@ pub fn serve_from<
         rt,
         alloc,
         address,
+        base: &base,
         place,
         workers,
     };
-    service.serve_place(base, writer)
+    service.serve_place(writer)
 }
 
 /// The same, of the system's file of a name.

@@ -1,6 +1,6 @@
 //! The threads of a service.
 
-ghost use Rattle.std.specs.Prelude.{All};
+ghost use Rattle.std.specs.Prelude.{◌≡◌, All};
 ghost use Rattle.lra_service.specs.inner.Opened.{IsAt};
 
 use crate::clock::SystemClock;
@@ -25,16 +25,40 @@ use std::time::Clock;
 /// What the threads of a service share.
 #[derive(Drop)]
 pub(crate) struct Shift<'a, R> {
-    pub(crate) rt: &'a R,
-    pub(crate) alloc: Global,
-    pub(crate) door: Entrance<'a, R, JournalFile>,
-    pub(crate) progress: &'a Progress<JournalFile>,
+    rt: &'a R,
+    alloc: Global,
+    door: Entrance<'a, R, JournalFile>,
+    progress: &'a Progress<JournalFile>,
     /// The moment at which it began, in milliseconds.
     pub(crate) moment: u64,
     /// How many answer connections.
-    pub(crate) answering: AtomicU64,
+    answering: AtomicU64,
     /// No one answers any more.
-    pub(crate) has_ended: AtomicBool,
+    has_ended: AtomicBool,
+}
+
+impl<'a, R: Wait + Clock> Shift<'a, R> {
+    /// One that begins, with so many who answer connections.
+    pub(crate) fn new(
+        rt: &'a R,
+        alloc: Global,
+        progress: &'a Progress<JournalFile>,
+        listener: TcpListener,
+        moment: u64,
+        workers: u32,
+    ) -> Shift<'a, R>
+        ensures { result.moment ≡ moment }
+    {
+        Shift {
+            rt,
+            alloc,
+            door: Entrance::new(rt, progress, listener),
+            progress,
+            moment,
+            answering: AtomicU64::new(u64::from(workers)),
+            has_ended: AtomicBool::new(false),
+        }
+    }
 }
 
 impl<R: Wait + Clock + Net<Stream = TcpStream, Listener = TcpListener>> Shift<'_, R> {
