@@ -1,3 +1,4 @@
+pub mod FrontLemmas
 pub mod FieldLemmas
 pub mod InboxLemmas
 pub mod SearchLemmas

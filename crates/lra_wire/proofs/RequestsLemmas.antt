@@ -39,7 +39,7 @@ same_head : (bytes : List ℕ) (h k : RequestHead) (r q : List ℕ) → HasHead 
 same_head bytes h k r q x y = request_unique bytes h k r q x.reads y.reads
 
 -- a request is no refusal
-exclusive : (bytes : List ℕ) (request : Request) (rest : List ℕ) (fault : WireFault) → ¬ (IsOutside fault) → IsRequest bytes request rest → RefusesRequest bytes fault → ⊥
+pub exclusive : (bytes : List ℕ) (request : Request) (rest : List ℕ) (fault : WireFault) → ¬ (IsOutside fault) → IsRequest bytes request rest → RefusesRequest bytes fault → ⊥
 exclusive bytes request rest fault inside is refused = go (classes bytes fault inside refused)
   where
     behind : (b : Behind bytes fault) → ((body_length_of (fields_of b.head) ≡ Err fault) ⊎ ((fault ≡ Cut) × (size : ℕ) × (body_length_of (fields_of b.head) ≡ Ok size) × (length b.rest < size))) → ⊥
@@ -57,7 +57,7 @@ exclusive bytes request rest fault inside is refused = go (classes bytes fault i
     go (inr b) = behind b b.refused
 
 -- one request, and one rest
-same_request : (bytes : List ℕ) (a b : Request) (r q : List ℕ) → IsRequest bytes a r → IsRequest bytes b q → (a ≡ b) × (r ≡ q)
+pub same_request : (bytes : List ℕ) (a b : Request) (r q : List ℕ) → IsRequest bytes a r → IsRequest bytes b q → (a ≡ b) × (r ≡ q)
 same_request bytes a b r q x y =
     let same = same_head bytes x.head y.head (a.body ++ r) (b.body ++ q) x.found y.found in
     let f : ◌≡◌ {A = Result ℕ WireFault} (Ok (length a.body)) (Ok (length b.body)) = sym x.length ∙ ap (λ h. body_length_of (fields_of h)) same.0 ∙ y.length in
@@ -71,7 +71,7 @@ same_request bytes a b r q x y =
     (λ i. record { method = method i; target = target i; minor = minor i; close = close i; body = body i }, rest)
 
 -- a head has a method at least
-some_bytes : (head : RequestHead) (rest : List ℕ) → IsRequestHead head → print_request head ++ rest ≢ []
+pub some_bytes : (head : RequestHead) (rest : List ℕ) → IsRequestHead head → print_request head ++ rest ≢ []
 unfolding print_request
 some_bytes head rest is e = omega (arith, is.method.0, simp length-append at (ap length e))
 

@@ -9,6 +9,7 @@ mod chunks;
 mod fault;
 mod fields;
 mod framing;
+mod front;
 mod head;
 mod inbox;
 mod request;
@@ -16,6 +17,7 @@ mod response;
 mod write;
 
 pub use fault::WireFault;
+pub use front::{Front, end_fault, one_front, request_front};
 pub use inbox::Inbox;
 pub use request::{RequestRead, one_reading, read_request};
 pub use response::{ResponseRead, read_response};

@@ -168,7 +168,7 @@ fn last_head(
 }
 
 /// The head at the front of the bytes, or none where more bytes may complete it.
-fn head_at(
+pub(crate) fn head_at(
     bytes: &[u8],
     headers: &mut [HeaderSpan; MAX_FIELDS],
 ) -> Result<Option<RequestSpans>, WireFault>
@@ -202,7 +202,7 @@ fn has_host(bytes: &[u8], minor: u8, fields: &[HeaderSpan]) -> bool
 }
 
 /// How long the body is (RFC 9112, section 6.3).
-fn body_length(bytes: &[u8], fields: &[HeaderSpan]) -> Result<usize, WireFault>
+pub(crate) fn body_length(bytes: &[u8], fields: &[HeaderSpan]) -> Result<usize, WireFault>
     requires { All (IsHeaderWithin (length bytes.now)) fields.now }
     ensures { result ≡ body_length_of (map (header_bytes bytes.now) fields.now) }
 {
@@ -221,7 +221,7 @@ fn body_length(bytes: &[u8], fields: &[HeaderSpan]) -> Result<usize, WireFault>
 }
 
 /// The request whose head is at the front of the bytes, without its body.
-fn request_at(
+pub(crate) fn request_at(
     alloc: Global,
     bytes: &[u8],
     headers: &[HeaderSpan],
