@@ -4,6 +4,6 @@ mod Bodies
 mod Wishing
 mod Responding
 mod Streaming
-mod Transcribed
+pub mod Transcribed
 mod InTurn
 mod Worked

@@ -53,7 +53,7 @@ closes_one : (n : ℕ) (turn : Turn) → closes_after (last_of n) turn.request �
 closes_one zero turn h = tt
 closes_one (suc n) turn h = h
 
-closes_more : (n : ℕ) (turn : Turn) (turns : List Turn) → closes_after false turn.request ≡ false → ClosesLast n turns → ClosesLast (suc n) (turn ∷ turns)
+pub closes_more : (n : ℕ) (turn : Turn) (turns : List Turn) → closes_after false turn.request ≡ false → ClosesLast n turns → ClosesLast (suc n) (turn ∷ turns)
 closes_more n turn [] goes h = absurd h
 closes_more n turn (next ∷ turns) goes h = (goes, h)
 
@@ -65,7 +65,7 @@ before_more n turn (next ∷ turns) goes h = (goes, h)
 
 module _ (K : Type 0) (gives : Sight → ℕ → Order → Result Told CounterFault → Sight → Type 0) (tells : K → ℕ → K → Type 0)
     (keeps : (before after : Sight) (moment : ℕ) (o : Order) (reply : Result Told CounterFault) → gives before moment o reply after → KeepsHistory before moment o reply after) where
-  same_setting : (v u : Sight) (m : ℕ) (r : Request) (a : Answer) → Responds gives v m r u a → u.setting ≡ v.setting
+  pub same_setting : (v u : Sight) (m : ℕ) (r : Request) (a : Answer) → Responds gives v m r u a → u.setting ≡ v.setting
   same_setting v u m r a (Ok w, asks, h) = (keeps v u m h.order h.reply h.given).same.setting
   same_setting v u m r a (Err d, asks, h) = ap (λ x. x.setting) h.1
 

@@ -49,7 +49,7 @@ pub enum Served {
 }
 
 /// What is answered to a fault of reading: nothing where the stream was cut or failed.
-fn fault_answer(fault: WireFault) -> Option<Answer>
+pub fn fault_answer(fault: WireFault) -> Option<Answer>
     ensures { result ≡ spec.fault_answer fault }
 {
     match fault {

@@ -1,0 +1,285 @@
+-- What keeps a history served.
+use Rattle.std.proofs.Common.{◌≡◌, ℕ, ◌+◌, ◌-◌, ◌<◌, ◌≤◌, Bool, true, false, cond, ◌||◌, ◌==◌, List, [], ◌∷◌, ◌++◌, length, take, drop, flat_map, refl, ap, sym, ◌∙◌, subst, arith, append_assoc, append-nil, length-append, length-drop, Option, Some, None, inl, inr}
+use Rattle.std.specs.Prelude.{nat_le, is_some, IsTrue}
+use Rattle.std.proofs.lemmas.Bool.Decides.{nat_tests}
+use Rattle.std.specs.Option.{option_map}
+use Rattle.std.proofs.lemmas.List.{take-append-drop, flat_map_more}
+use Rattle.lra_wire.specs.declared.fault.WireFault.{WireFault}
+use Rattle.lra_wire.specs.declared.fault.WireFault.TheVariants.{BadHead, Chunked, BadLength, TooLarge, Cut, Io, Memory}
+use Rattle.lra_wire.specs.Fronts.{RefusesFront}
+use Rattle.lra_wire.specs.declared.request.RequestRead.{RequestRead}
+use Rattle.lra_wire.specs.Request.{Request, IsRequest, RefusesRequest, request_of}
+use Rattle.lra_commands.specs.Counters.{Setting}
+use Rattle.lra_front.specs.declared.stream.StreamEnd.{StreamEnd}
+use Rattle.lra_front.specs.declared.stream.StreamEnd.TheVariants.{Done, Refused, WriteFault}
+use Rattle.lra_front.specs.Replies.{reply_bytes}
+use Rattle.lra_front.specs.Streams.{is_head, closes_after}
+use Rattle.lra_front.specs.Transcripts.{Turn, Spells, replies, EndsAfter}
+use Rattle.lra_steps.specs.History.{History, IsServed, IsOpenSo, Replies, StandsAt, setting_of, room_of, is_last, turn_reply, end_reply, took, finished, ordered, answered, ended_by, went}
+use Rattle.lra_steps.specs.Steps.{IsFree, Ends}
+use Rattle.lra_steps.specs.inner.Ends.{EndsWithout}
+use Rattle.lra_steps.proofs.TurnLemmas.{Spells-more, StandsAt-more, Spells-next, replies-push, stays-push, closes-push}
+
+-- ---- bytes come
+
+-- there is room while the stream goes on
+room_open : (closed : Bool) (ended : Option StreamEnd) (n m : ℕ) → 0 < m → m ≤ cond (closed || is_some ended) 0 (73728 - n) → (ended ≡ None) × (m + n ≤ 73728)
+room_open true ended n m some h = absurd (omega (arith, some, h))
+room_open false (Some end) n m some h = absurd (omega (arith, some, h))
+room_open false None n m some h = (refl, omega (arith, some, h))
+
+open_took : (o : Option StreamEnd) (h : History) (more : List ℕ) → IsOpenSo o h → IsOpenSo o (took h more)
+open_took None h more s = s
+open_took (Some end) h more s = s
+
+replied_took : (c : Setting) (o : Option StreamEnd) (h : History) (more : List ℕ) → o ≡ None → Replies c o h → Replies c o (took h more)
+replied_took c None h more e r = r
+replied_took c (Some end) h more e r = absurd cc
+
+pub served_took : (h : History) (more : List ℕ) → IsServed h → length more ≤ room_of h → IsServed (took h more)
+served_took h [] s fits = subst IsServed (λ i. record h { taken = sym (append-nil h.taken) i; kept = sym (append-nil h.kept) i }) s
+served_took h (b ∷ more) s fits =
+    let room = room_open h.closed h.ended (length h.kept) (length (b ∷ more)) (omega arith) fits in
+    record {
+      behind = s.behind ++ b ∷ more;
+      spelled = Spells-more h.taken h.turns s.behind (b ∷ more) s.spelled;
+      standing = StandsAt-more h.stands s.behind h.kept (b ∷ more) s.standing;
+      open_so = open_took h.ended h (b ∷ more) s.open_so;
+      replied = λ version limits. replied_took (setting_of h version limits) h.ended h (b ∷ more) room.0 (s.replied version limits);
+      bound = omega (arith, room.1, length-append h.kept (b ∷ more));
+    }
+
+-- ---- no more bytes come
+
+open_finished : (o : Option StreamEnd) (h : History) → IsOpenSo o h → IsOpenSo o (finished h)
+open_finished None h s = s
+open_finished (Some end) h s = (s.0, λ e. refl)
+
+replied_finished : (c : Setting) (o : Option StreamEnd) (h : History) → Replies c o h → Replies c o (finished h)
+replied_finished c None h r = r
+replied_finished c (Some end) h r = r
+
+pub served_finished : (h : History) → IsServed h → IsServed (finished h)
+served_finished h s = record {
+  behind = s.behind;
+  spelled = s.spelled;
+  standing = s.standing;
+  open_so = open_finished h.ended h s.open_so;
+  replied = λ version limits. replied_finished (setting_of h version limits) h.ended h (s.replied version limits);
+  bound = s.bound;
+}
+
+-- ---- a request is read
+
+open_ordered : (o : Option StreamEnd) (h : History) (request : Request) (rest : List ℕ) → o ≡ None → IsOpenSo o h → IsOpenSo o (ordered h request rest)
+open_ordered None h request rest e s = s
+open_ordered (Some end) h request rest e s = absurd cc
+
+replied_ordered : (c : Setting) (o : Option StreamEnd) (h : History) (request : Request) (rest : List ℕ) → o ≡ None → Replies c o h → Replies c o (ordered h request rest)
+replied_ordered c None h request rest e r = r
+replied_ordered c (Some end) h request rest e r = absurd cc
+
+-- where none stands, the requests that were answered are all that was read
+all_read : (h : History) → IsServed h → h.stands ≡ None → Spells h.taken h.turns h.kept
+all_read h s none = let here : s.behind ≡ h.kept = subst (λ (o : Option Request). StandsAt o s.behind h.kept) none s.standing in subst (Spells h.taken h.turns) here s.spelled
+
+pub served_ordered : (h : History) (request : Request) (n : ℕ) → IsServed h → IsFree h → IsRequest h.kept request (drop n h.kept) → IsServed (ordered h request (drop n h.kept))
+served_ordered h request n s free is = record {
+  behind = h.kept;
+  spelled = all_read h s free.1;
+  standing = is;
+  open_so = open_ordered h.ended h request (drop n h.kept) free.0 s.open_so;
+  replied = λ version limits. replied_ordered (setting_of h version limits) h.ended h request (drop n h.kept) free.0 (s.replied version limits);
+  bound = omega (arith, s.bound, length-drop n h.kept);
+}
+
+-- ---- it is answered
+
+-- while a request stands the stream goes on
+pub goes_on : (o : Option StreamEnd) (h : History) (request : Request) → IsOpenSo o h → h.stands ≡ Some request → o ≡ None
+goes_on None h request s e = refl
+goes_on (Some end) h request s e = let none : None ≡ Some request = sym s.0 ∙ e in absurd cc
+
+open_answered : (b : Bool) (h : History) (turn : Turn) → closes_after (is_last h) turn.request ≡ b → IsOpenSo None h → IsOpenSo (cond b (Some Done) None) (answered h turn)
+open_answered true h turn e s = (refl, λ f. absurd cc)
+open_answered false h turn e s = stays-push 999 h.turns turn s e
+
+replied_answered : (c : Setting) (b : Bool) (h : History) (turn : Turn) → c.instance ≡ h.instance → c.base ≡ h.base → closes_after (is_last h) turn.request ≡ b → IsOpenSo None h
+    → Replies c None h → Replies c (cond b (Some Done) None) (answered h turn)
+replied_answered c b h turn i p e s r = go b e
+  where
+    text : List ℕ
+    text = turn_reply h.instance h.base (is_last h) turn
+
+    whole : h.sent ++ (h.out ++ text) ≡ replies c 999 (h.turns ++ turn ∷ [])
+    whole =
+        sym (append_assoc h.sent h.out text) ∙ ap (λ xs. xs ++ text) r
+        ∙ ap (λ j. replies c 999 h.turns ++ turn_reply j h.base (is_last h) turn) (sym i)
+        ∙ ap (λ q. replies c 999 h.turns ++ turn_reply c.instance q (is_last h) turn) (sym p)
+        ∙ sym (replies-push c 999 h.turns turn)
+
+    go : (b : Bool) → closes_after (is_last h) turn.request ≡ b → Replies c (cond b (Some Done) None) (answered h turn)
+    go true e = (whole, inr (closes-push 999 h.turns turn s e))
+    go false e = whole
+
+pub served_answered : (h : History) (turn : Turn) → IsServed h → h.stands ≡ Some turn.request → IsServed (answered h turn)
+served_answered h turn s stands =
+    let none = goes_on h.ended h turn.request s.open_so stands in
+    let so : IsOpenSo None h = subst (λ (o : Option StreamEnd). IsOpenSo o h) none s.open_so in
+    record {
+      behind = h.kept;
+      spelled = Spells-next h.taken h.turns s.behind turn h.kept s.spelled (subst (λ (o : Option Request). StandsAt o s.behind h.kept) stands s.standing);
+      standing = refl;
+      open_so = open_answered (closes_after (is_last h) turn.request) h turn refl so;
+      replied = λ version limits.
+          let c = setting_of h version limits in
+          replied_answered c (closes_after (is_last h) turn.request) h turn refl refl refl so (subst (λ (o : Option StreamEnd). Replies c o h) none (s.replied version limits));
+      bound = s.bound;
+    }
+
+-- ---- it ends
+
+refuses : (bytes : List ℕ) (fault : WireFault) → RefusesFront bytes fault → RefusesRequest bytes fault
+refuses bytes BadHead h = h
+refuses bytes Chunked h = h
+refuses bytes BadLength h = h
+refuses bytes TooLarge h = h
+refuses bytes Memory h = h
+refuses bytes Cut h = absurd h
+refuses bytes Io h = absurd h
+
+ends_after : (c : Setting) (end : StreamEnd) (h : History) → c.instance ≡ h.instance → c.base ≡ h.base → IsOpenSo None h → h.sent ++ h.out ≡ replies c 999 h.turns → Ends end h
+    → EndsAfter c 999 h.turns h.kept (h.sent ++ (h.out ++ end_reply h.instance h.base end)) end
+ends_after c Done h i p s r e = (ap (λ xs. h.sent ++ xs) (append-nil h.out) ∙ r, inl (e.1, s))
+ends_after c (Refused fault) h i p s r e = (
+  sym (append_assoc h.sent h.out (end_reply h.instance h.base (Refused fault))) ∙ ap (λ xs. xs ++ end_reply h.instance h.base (Refused fault)) r
+      ∙ ap (λ j. replies c 999 h.turns ++ end_reply j h.base (Refused fault)) (sym i) ∙ ap (λ q. replies c 999 h.turns ++ end_reply c.instance q (Refused fault)) (sym p),
+  why e,
+  s,
+)
+  where
+    why : Ends (Refused fault) h → RefusesRequest h.kept fault
+    why (inl f) = refuses h.kept fault f.1
+    why (inr f) = subst (λ (f : WireFault). RefusesRequest h.kept f) (sym f.1) f.2
+ends_after c WriteFault h i p s r e = absurd e
+
+cut_last : (end : StreamEnd) (h : History) → Ends end h → end ≡ Refused Cut → IsTrue h.closed
+cut_last Done h e f = absurd cc
+cut_last (Refused fault) h (inl e) f =
+    let same : fault ≡ Cut = cc in
+    let cut : RefusesFront h.kept Cut = subst (λ (x : WireFault). RefusesFront h.kept x) same e.1 in
+    absurd cut
+cut_last (Refused fault) h (inr e) f = e.0
+cut_last WriteFault h e f = absurd e
+
+pub served_ended : (h : History) (end : StreamEnd) → IsServed h → IsFree h → Ends end h → IsServed (ended_by h end)
+served_ended h end s free e =
+    let so : IsOpenSo None h = subst (λ (o : Option StreamEnd). IsOpenSo o h) free.0 s.open_so in
+    record {
+      behind = s.behind;
+      spelled = s.spelled;
+      standing = s.standing;
+      open_so = (free.1, cut_last end h e);
+      replied = λ version limits.
+          let c = setting_of h version limits in
+          ends_after c end h refl refl so (subst (λ (o : Option StreamEnd). Replies c o h) free.0 (s.replied version limits)) e;
+      bound = s.bound;
+    }
+
+-- ---- bytes are handed out
+
+open_went : (o : Option StreamEnd) (h : History) (n : ℕ) → IsOpenSo o h → IsOpenSo o (went h n)
+open_went None h n s = s
+open_went (Some end) h n s = s
+
+all_out : (h : History) (n : ℕ) → h.sent ++ h.out ≡ (h.sent ++ take n h.out) ++ drop n h.out
+all_out h n = ap (λ xs. h.sent ++ xs) (sym (take-append-drop n h.out)) ∙ sym (append_assoc h.sent (take n h.out) (drop n h.out))
+
+replied_went : (c : Setting) (o : Option StreamEnd) (h : History) (n : ℕ) → Replies c o h → Replies c o (went h n)
+replied_went c None h n r = sym (all_out h n) ∙ r
+replied_went c (Some end) h n r = subst (λ (xs : List ℕ). EndsAfter c 999 h.turns h.kept xs end) (all_out h n) r
+
+pub served_went : (h : History) (n : ℕ) → IsServed h → IsServed (went h n)
+served_went h n s = record {
+  behind = s.behind;
+  spelled = s.spelled;
+  standing = s.standing;
+  open_so = open_went h.ended h n s.open_so;
+  replied = λ version limits. replied_went (setting_of h version limits) h.ended h n (s.replied version limits);
+  bound = s.bound;
+}
+
+-- ---- what the fields say
+
+dropped : (front more : List ℕ) → drop (length front) (front ++ more) ≡ more
+dropped [] more = refl
+dropped (b ∷ front) more = dropped front more
+
+-- a piece came
+pub took_is : (h : History) (more kept : List ℕ) (old new : List (List ℕ)) (place : ℕ) → h.taken ≡ flat_map (λ t. t) old
+    → place ≡ length h.kept → kept ≡ h.kept ++ more → new ≡ old ++ drop place kept ∷ []
+    → record h { taken = flat_map (λ t. t) new; kept = kept } ≡ took h more
+took_is h more kept old new place t p k n =
+    let last : drop place kept ≡ more = ap (λ x. drop x kept) p ∙ ap (drop (length h.kept)) k ∙ dropped h.kept more in
+    let all : flat_map (λ t. t) new ≡ h.taken ++ more =
+    ap (flat_map (λ t. t)) (n ∙ ap (λ x. old ++ x ∷ []) last) ∙ sym (flat_map_more (λ (t : List ℕ). t) [] old more) ∙ ap (λ xs. xs ++ more) (sym t) in
+    λ i. record h { taken = all i; kept = k i }
+
+-- bytes were handed out
+pub went_is : (h : History) (count : ℕ) (out : List ℕ) (old new : List (List ℕ)) → h.sent ≡ flat_map (λ t. t) old → new ≡ old ++ take count h.out ∷ [] → out ≡ drop count h.out
+    → record h { sent = flat_map (λ t. t) new; out = out } ≡ went h count
+went_is h count out old new s n o =
+    let all : flat_map (λ t. t) new ≡ h.sent ++ take count h.out =
+    ap (flat_map (λ t. t)) n ∙ sym (flat_map_more (λ (t : List ℕ). t) [] old (take count h.out)) ∙ ap (λ xs. xs ++ take count h.out) (sym s) in
+    λ i. record h { sent = all i; out = o i }
+
+-- a request was read
+pub ordered_is : (h : History) (n : ℕ) (kept : List ℕ) (request : Request) → kept ≡ drop n h.kept → record h { kept = kept; stands = Some request } ≡ ordered h request (drop n h.kept)
+ordered_is h n kept request k = λ i. record h { kept = k i; stands = Some request }
+
+-- none stands
+pub none_stands : (o : Option RequestRead) → is_some o ≡ false → option_map request_of o ≡ None
+none_stands None e = refl
+none_stands (Some request) e = absurd cc
+
+-- it ended
+pub ended_is : (h : History) (end : StreamEnd) (out : List ℕ) → out ≡ h.out ++ end_reply h.instance h.base end → record h { out = out; ended = Some end } ≡ ended_by h end
+ended_is h end out o = λ i. record h { out = o i; ended = Some end }
+
+pub ends_without : (h : History) (end : StreamEnd) → EndsWithout h.closed h.kept (Some end) → Ends end h
+ends_without h Done e = e
+ends_without h (Refused fault) e = inr e
+ends_without h WriteFault e = absurd e
+
+-- and nothing is replied where no more bytes come
+pub quiet_end : (h : History) (end : StreamEnd) → EndsWithout h.closed h.kept (Some end) → h.out ≡ h.out ++ end_reply h.instance h.base end
+quiet_end h Done e = sym (append-nil h.out)
+quiet_end h (Refused fault) e = sym (append-nil h.out) ∙ ap (λ f. h.out ++ end_reply h.instance h.base (Refused f)) (sym e.1)
+quiet_end h WriteFault e = absurd e
+
+-- how many requests are left, beside a last one
+pub last_is : (left n : ℕ) → left ≡ 999 - n → (left == 0) ≡ nat_le 999 n
+last_is left n e = grind (arith, nat_tests)
+
+-- the reply to a turn, by what its request says
+pub reply_is : (h : History) (turn : Turn) (base : List ℕ) (left : ℕ) (head close : Bool) → base ≡ h.base → left ≡ 999 - length h.turns → head ≡ is_head turn.request
+    → close ≡ closes_after (left == 0) turn.request → reply_bytes h.instance base turn.answer head close ≡ turn_reply h.instance h.base (is_last h) turn
+reply_is h turn base left head close b l d c =
+    ap (λ p. reply_bytes h.instance p turn.answer head close) b ∙ ap (λ x. reply_bytes h.instance h.base turn.answer x close) d
+    ∙ ap (λ x. reply_bytes h.instance h.base turn.answer (is_head turn.request) x) (c ∙ ap (λ x. closes_after x turn.request) (last_is left (length h.turns) l))
+
+closing : (h : History) (turn : Turn) (left : ℕ) (close : Bool) (ended : Option StreamEnd) → left ≡ 999 - length h.turns → close ≡ closes_after (left == 0) turn.request
+    → ended ≡ cond close (Some Done) None → ended ≡ cond (closes_after (is_last h) turn.request) (Some Done) None
+closing h turn left close ended l c e = e ∙ ap (λ x. cond x (Some Done) None) (c ∙ ap (λ x. closes_after x turn.request) (last_is left (length h.turns) l))
+
+-- a request was answered
+pub answered_is : (h : History) (turn : Turn) (left : ℕ) (close : Bool) (turns : List Turn) (ended : Option StreamEnd) (out : List ℕ) → left ≡ 999 - length h.turns
+    → close ≡ closes_after (left == 0) turn.request → turns ≡ h.turns ++ turn ∷ [] → ended ≡ cond close (Some Done) None
+    → out ≡ h.out ++ turn_reply h.instance h.base (is_last h) turn
+    → record h { turns = turns; stands = None; ended = ended; out = out } ≡ answered h turn
+answered_is h turn left close turns ended out l c t e o =
+    let so = closing h turn left close ended l c e in
+    λ i. record h { turns = t i; stands = None; ended = so i; out = o i }
+
+pub left_one : (h : History) (turn : Turn) (left now : ℕ) (turns : List Turn) → left ≡ 999 - length h.turns → now ≡ left - 1 → turns ≡ h.turns ++ turn ∷ [] → now ≡ 999 - length turns
+left_one h turn left now turns l n t = omega (arith, l, n, ap length t, length-append h.turns (turn ∷ []))

@@ -1,0 +1,39 @@
+-- What a step says.
+use Rattle.std.specs.Prelude.{◌≡◌, ◌≢◌, ◌⊎◌, ◌<◌, ◌≤◌, Bool, true, false, List, [], ℕ, length, Some, None, Result, Ok, Err, IsTrue, IsFalse, IsSome}
+use Rattle.std.specs.declared.alloc.AllocError.{AllocError}
+use Rattle.lra_wire.specs.declared.fault.WireFault.TheVariants.{Cut, Memory}
+use Rattle.lra_wire.specs.Fronts.{RefusesFront, IsUnfinished}
+use Rattle.lra_wire.specs.Request.{Request, IsRequest, RefusesRequest}
+use Rattle.lra_front.specs.declared.stream.StreamEnd.{StreamEnd}
+use Rattle.lra_front.specs.declared.stream.StreamEnd.TheVariants.{Done, Refused, WriteFault}
+use Rattle.lra_steps.specs.declared.connection.Step.{Step}
+use Rattle.lra_steps.specs.declared.connection.Step.TheVariants.{Wants, Stands, Waits, Ended}
+use Rattle.lra_steps.specs.History.{History, room_of, took, ordered, ended_by}
+
+-- the connection goes on, and no request stands
+abbrev pub IsFree : History → Type 0
+IsFree h = (h.ended ≡ None) × (h.stands ≡ None)
+
+-- Why it ends: no more bytes come and none are kept, or what is kept is no request and can't become one.
+abbrev pub Ends : StreamEnd → History → Type 0
+Ends Done h = IsTrue h.closed × (h.kept ≡ [])
+Ends (Refused fault) h = ((fault ≢ Memory) × RefusesFront h.kept fault) ⊎ (IsTrue h.closed × (fault ≡ Cut) × RefusesRequest h.kept Cut)
+Ends WriteFault h = ⊥
+
+-- what a step says of the history before it, and what it changes
+abbrev pub StepsTo : Step → History → History → Type 0
+StepsTo Wants old new = IsFree old × IsFalse old.closed × IsUnfinished old.kept × (length old.kept < 73728) × (new ≡ old)
+StepsTo Stands old new = (request : Request) × (rest : List ℕ) × IsFree old × IsRequest old.kept request rest × (new ≡ ordered old request rest)
+StepsTo Waits old new = (old.ended ≡ None) × IsSome old.stands × (new ≡ old)
+StepsTo (Ended end) old new = ((old.ended ≡ Some end) × (new ≡ old)) ⊎ (IsFree old × Ends end old × (new ≡ ended_by old end))
+
+-- where memory is refused nothing changes
+abbrev pub Steps : Result Step AllocError → History → History → Type 0
+Steps (Ok step) old new = StepsTo step old new
+Steps (Err _) old new = new ≡ old
+
+-- the bytes were taken, or there is no room for them
+abbrev pub Takes : Result Bool AllocError → List ℕ → History → History → Type 0
+Takes (Ok true) bytes old new = (length bytes ≤ room_of old) × (new ≡ took old bytes)
+Takes (Ok false) bytes old new = (room_of old < length bytes) × (new ≡ old)
+Takes (Err _) bytes old new = new ≡ old

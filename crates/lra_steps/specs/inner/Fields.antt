@@ -1,0 +1,39 @@
+-- What the fields of a connection say.
+use Rattle.std.specs.Prelude.{◌≡◌, ℕ, ◌-◌, List, map, take, drop, flat_map, length}
+use Rattle.std.specs.Option.{option_map}
+use Rattle.lra_wire.specs.declared.request.RequestRead.{RequestRead}
+use Rattle.lra_wire.specs.Request.{request_of}
+use Rattle.lra_front.specs.Transcripts.{Turn}
+use Rattle.lra_steps.specs.declared.connection.Connection.TheInside.{Inside}
+use Rattle.lra_steps.specs.declared.connection.Reply.{Reply}
+use Rattle.lra_steps.specs.History.{History, IsServed}
+
+-- what stood behind each place, and before it
+abbrev pub backs : List (List ℕ × ℕ) → List (List ℕ)
+backs marks = map (λ m. drop m.1 m.0) marks
+
+abbrev pub fronts : List (List ℕ × ℕ) → List (List ℕ)
+fronts marks = map (λ m. take m.1 m.0) marks
+
+-- a request and what it was replied
+abbrev pub turn_of : RequestRead × Reply → Turn
+turn_of pair = record { request = request_of pair.0; moment = pair.1.moment; answer = pair.1.answer }
+
+abbrev pub history_of : Inside → History
+history_of c = record {
+  instance = c.instance;
+  base = c.base.value;
+  taken = flat_map (λ t. t) (backs c.reads.items);
+  kept = c.kept;
+  closed = c.closed;
+  turns = map turn_of c.turns.items;
+  stands = option_map request_of c.stands;
+  ended = c.ended;
+  sent = flat_map (λ t. t) (fronts c.writes.items);
+  out = c.out;
+}
+
+-- the history is served, and as many requests are left, beside a last one, as are counted
+pub record Holds (c : Inside) : Type 0 where
+  pub served : IsServed (history_of c)
+  pub left : c.left ≡ 999 - length (history_of c).turns

@@ -1,0 +1,288 @@
+//! One connection.
+ghost use Rattle.std.specs.Prelude.{◌≡◌, ◌≤◌, ◌==◌, [], ◌∷◌, ◌++◌, map, take, drop, length, OnOk, OnErr, IfSome, IsTrue, IsSome};
+ghost use Rattle.std.specs.Option.{option_map};
+ghost use Rattle.lra_ids.specs.Addresses.{is_base};
+ghost use Rattle.lra_wire.specs.Fronts.{IsUnfinished};
+ghost use Rattle.lra_wire.specs.Request.{request_of};
+ghost use Rattle.lra_front.specs.Replies.{HasIdentifiers};
+ghost use Rattle.lra_front.specs.Streams as stream;
+ghost use Rattle.lra_steps.specs.History.{IsServed, begun, room_of, took, finished, answered, went};
+ghost use Rattle.lra_steps.specs.Steps.{Steps, Takes};
+ghost use Rattle.lra_steps.specs.inner.Ends.{EndsWithout};
+ghost use Rattle.lra_steps.specs.inner.Fields.{backs, fronts, turn_of};
+
+use crate::log::Log;
+use crate::queue::Queue;
+use crate::reply::{push_fault, push_reply};
+use http::Method;
+use lra_front::{Answer, StreamEnd};
+use lra_ids::{Address, Instance};
+use lra_model::Memory;
+use lra_wire::{RequestRead, WireFault, end_fault, request_front};
+use std::alloc::{AllocError, Global};
+use std::marker::Model;
+use std::snapshot::Snapshot;
+
+/// The most bytes that are kept: those of the largest request, a head of 8,192 bytes and a body of 65,536.
+const MAX_KEPT: usize = 73_728;
+
+/// How many requests are taken at most, beside the last.
+const MOST_OTHERS: u64 = 999;
+
+/// What stands next.
+#[derive(Clone, Copy, Debug, PartialEq, Eq)]
+pub enum Step {
+    /// More bytes are wanted.
+    Wants,
+    /// A request was read, and stands: it is to be answered, once.
+    Stands,
+    /// The request that stands wasn't answered yet.
+    Waits,
+    /// No request comes any more: what is left is to be handed out.
+    Ended(StreamEnd),
+}
+
+/// An answer, and the moment at which it was given.
+#[derive(Clone, Copy)]
+struct Reply {
+    moment: u64,
+    answer: Answer,
+}
+
+/// A connection of HTTP/1.1, as steps. A contract sees its history.
+#[derive(Drop)]
+pub struct Connection {
+    alloc: Global,
+    instance: Instance,
+    kept: Queue,
+    out: Queue,
+    /// The request that stands to be answered.
+    stands: Option<RequestRead>,
+    ended: Option<StreamEnd>,
+    closed: bool,
+    /// How many requests are taken yet, beside the last.
+    left: u64,
+    /// What the URIs in replies begin with. From here on all is for contracts, and takes no memory.
+    base: Snapshot<Address>,
+    /// What was kept after each piece came, and where the piece begins.
+    reads: Log<Queue, usize>,
+    turns: Log<RequestRead, Reply>,
+    /// The output before each time that bytes were handed out, and how many went.
+    writes: Log<Queue, usize>,
+}
+
+impl Model for Connection {
+    ghost use Rattle.lra_steps.specs.History.{History};
+
+    ghost Value = { History };
+
+    ghost use Rattle.lra_steps.specs.inner.Fields.{history_of, Holds};
+
+    ghost view = { history_of };
+
+    ghost invariant = { Holds };
+}
+
+/// What stands behind a place is noted.
+fn note_back(log: &mut Log<Queue, usize>, queue: &Queue, place: usize)
+    ensures { backs log.new.items ≡ backs log.old.items ++ drop place queue.now ∷ [] }
+{
+    *log = log.and(queue, &place);
+}
+
+/// What stands before a place is noted.
+fn note_front(log: &mut Log<Queue, usize>, queue: &Queue, place: usize)
+    ensures { fronts log.new.items ≡ fronts log.old.items ++ take place queue.now ∷ [] }
+{
+    *log = log.and(queue, &place);
+}
+
+/// A request and its answer are noted.
+fn note_turn(log: &mut Log<RequestRead, Reply>, request: &RequestRead, reply: &Reply)
+    ensures { map turn_of log.new.items ≡ map turn_of log.old.items ++ turn_of (request.now, reply.now) ∷ [] }
+{
+    *log = log.and(request, reply);
+}
+
+/// How a connection ends where more of a request is wanted: not at all while bytes may come.
+fn end_without(closed: bool, kept: &[u8]) -> Option<StreamEnd>
+    requires { IsUnfinished kept.now }
+    ensures { EndsWithout closed kept.now result }
+{
+    if !closed {
+        return None;
+    }
+    match end_fault(kept) {
+        None => Some(StreamEnd::Done),
+        Some(fault) => Some(StreamEnd::Refused(fault)),
+    }
+}
+
+/// Whether the head of a reply alone is asked for.
+fn is_head(request: &RequestRead) -> bool
+    ensures { result ≡ stream.is_head (request_of request.now) }
+{
+    request.method.as_str() == Method::HEAD.as_str()
+}
+
+/// Whether the stream is closed after a request: where it asks for that, or is the last that is taken.
+fn closes_after(request: &RequestRead, left: u64) -> bool
+    ensures { result ≡ stream.closes_after (left == 0) (request_of request.now) }
+{
+    request.close || left == 0
+}
+
+impl Connection {
+    /// A connection to the coordinator of that instance and base.
+    pub fn new(alloc: Global, instance: Instance, base: &Address) -> Connection
+        ensures { result ≡ begun instance base.now }
+    {
+        Connection {
+            alloc,
+            instance,
+            kept: Queue::new(alloc),
+            out: Queue::new(alloc),
+            stands: None,
+            ended: None,
+            closed: false,
+            left: MOST_OTHERS,
+            base: Snapshot::of(base),
+            reads: Log::new(),
+            turns: Log::new(),
+            writes: Log::new(),
+        }
+    }
+
+    /// What is true of every connection.
+    pub fn served(&self)
+        ensures { IsServed self.now }
+    {
+        let _closed = self.closed;
+    }
+
+    /// How many bytes may be taken.
+    pub fn room(&self) -> usize
+        ensures { result ≡ room_of self.now }
+    {
+        if self.closed || self.ended.is_some() {
+            0
+        } else {
+            MAX_KEPT - self.kept.as_slice().len()
+        }
+    }
+
+    /// These bytes came, if there is room for them: else they aren't taken.
+    pub fn take(&mut self, bytes: &[u8]) -> Result<bool, Memory>
+        ensures { Takes result bytes.now self.old self.new }
+    {
+        if bytes.len() > self.room() {
+            return Ok(false);
+        }
+        let place = self.kept.as_slice().len();
+        self.kept.push(bytes)?;
+        note_back(&mut self.reads, &self.kept, place);
+        Ok(true)
+    }
+
+    /// No more bytes come.
+    pub fn finish(&mut self)
+        ensures { self.new ≡ finished self.old }
+    {
+        self.closed = true;
+    }
+
+    /// The next step. Where memory is refused nothing changes.
+    pub fn next(&mut self, base: &Address) -> Result<Step, Memory>
+        requires value { base.now ≡ self.old.base }
+        requires base { IsTrue (is_base base.now) }
+        ensures { Steps result self.old self.new }
+    {
+        if let Some(end) = self.ended {
+            return Ok(Step::Ended(end));
+        }
+        if self.stands.is_some() {
+            return Ok(Step::Waits);
+        }
+        match request_front(self.alloc, self.kept.as_slice()) {
+            Ok(Some(front)) => {
+                self.kept.advance(front.len);
+                self.stands = Some(front.request);
+                Ok(Step::Stands)
+            }
+            Ok(None) => match end_without(self.closed, self.kept.as_slice()) {
+                None => Ok(Step::Wants),
+                Some(end) => {
+                    self.ended = Some(end);
+                    Ok(Step::Ended(end))
+                }
+            },
+            Err(fault) => {
+                if fault == WireFault::Memory {
+                    return Err(AllocError);
+                }
+                push_fault(self.alloc, &mut self.out, self.instance, base, fault)?;
+                self.ended = Some(StreamEnd::Refused(fault));
+                Ok(Step::Ended(StreamEnd::Refused(fault)))
+            }
+        }
+    }
+
+    /// The request that stands to be answered.
+    pub fn request(&self) -> Option<&RequestRead>
+        ensures { option_map (λ request. request_of request.now) result ≡ self.now.stands }
+    {
+        match &self.stands {
+            Some(request) => Some(request),
+            None => None,
+        }
+    }
+
+    /// The answer to the request that stands, and the moment at which it was given. Where memory is refused nothing changes.
+    pub fn told(&mut self, base: &Address, moment: u64, answer: Answer) -> Result<(), Memory>
+        requires stands { IsSome self.old.stands }
+        requires numbers { HasIdentifiers answer }
+        requires value { base.now ≡ self.old.base }
+        requires base { IsTrue (is_base base.now) }
+        ensures ok { OnOk result (IfSome self.old.stands (λ request.
+            self.new ≡ answered self.old (record { request = request; moment = moment; answer = answer }))) }
+        ensures err { OnErr result (self.new ≡ self.old) }
+    {
+        let Some(request) = &self.stands else {
+            unreachable!();
+        };
+        let head = is_head(request);
+        let close = closes_after(request, self.left);
+        push_reply(
+            self.alloc,
+            &mut self.out,
+            self.instance,
+            base,
+            answer,
+            head,
+            close,
+        )?;
+        note_turn(&mut self.turns, request, &Reply { moment, answer });
+        self.left = self.left.saturating_sub(1);
+        self.stands = None;
+        if close {
+            self.ended = Some(StreamEnd::Done);
+        }
+        Ok(())
+    }
+
+    /// The bytes that may be handed out.
+    pub fn out(&self) -> &[u8]
+        ensures { result.now ≡ self.now.out }
+    {
+        self.out.as_slice()
+    }
+
+    /// So many of them were handed out.
+    pub fn gone(&mut self, count: usize)
+        requires { count ≤ length self.old.out }
+        ensures { self.new ≡ went self.old count }
+    {
+        note_front(&mut self.writes, &self.out, count);
+        self.out.advance(count);
+    }
+}

@@ -1,0 +1,10 @@
+//! A connection as steps over bytes: it has no socket, no thread and no clock. Its caller moves the bytes, and has each
+//! request answered.
+#![tactic(auto)]
+
+mod connection;
+mod log;
+mod queue;
+mod reply;
+
+pub use connection::{Connection, Step};

@@ -1,0 +1,63 @@
+//! Bytes that go in at the back and leave at the front.
+ghost use Rattle.std.specs.Prelude.{◌≡◌, ◌≤◌, [], ◌++◌, length, drop, OnOk, OnErr};
+
+use std::alloc::{AllocError, Global};
+use std::marker::Model;
+
+/// A contract sees the bytes that are still there. It has memory only while there are some.
+#[derive(Drop)]
+pub(crate) struct Queue {
+    bytes: Vec<u8>,
+    gone: usize,
+}
+
+impl Model for Queue {
+    ghost use Rattle.std.specs.Prelude.{ℕ, List, drop, ◌≤◌, vec_len};
+
+    ghost Value = { List ℕ };
+
+    ghost view = { λ q. drop q.gone q.bytes.items };
+
+    ghost invariant = { λ q. q.gone ≤ vec_len q.bytes };
+}
+
+impl Queue {
+    pub(crate) fn new(alloc: Global) -> Queue
+        ensures { result ≡ [] }
+    {
+        Queue {
+            bytes: Vec::new(alloc),
+            gone: 0,
+        }
+    }
+
+    pub(crate) fn as_slice(&self) -> &[u8]
+        ensures { result.now ≡ self.now }
+    {
+        &self.bytes.as_slice()[self.gone..]
+    }
+
+    /// Appends bytes, behind what is moved to the front of its memory.
+    pub(crate) fn push(&mut self, more: &[u8]) -> Result<(), AllocError>
+        ensures ok { OnOk result (self.new ≡ self.old ++ more.now) }
+        ensures err { OnErr result (self.new ≡ self.old) }
+    {
+        let left = self.bytes.len() - self.gone;
+        self.bytes.copy_within(self.gone.., 0);
+        self.bytes.truncate(left);
+        self.gone = 0;
+        self.bytes.extend_from_slice(more)
+    }
+
+    /// The first bytes leave.
+    pub(crate) fn advance(&mut self, count: usize)
+        requires { count ≤ length self.old }
+        ensures { self.new ≡ drop count self.old }
+    {
+        self.gone += count;
+        if self.gone == self.bytes.len() {
+            self.bytes = Vec::new(*self.bytes.allocator());
+            self.gone = 0;
+        }
+    }
+}
