@@ -57,7 +57,7 @@ pub closes_more : (n : ℕ) (turn : Turn) (turns : List Turn) → closes_after f
 closes_more n turn [] goes h = absurd h
 closes_more n turn (next ∷ turns) goes h = (goes, h)
 
-before_more : (n : ℕ) (turn : Turn) (turns : List Turn) → closes_after false turn.request ≡ false → StaysOpenBefore n turns → StaysOpenBefore (suc n) (turn ∷ turns)
+pub before_more : (n : ℕ) (turn : Turn) (turns : List Turn) → closes_after false turn.request ≡ false → StaysOpenBefore n turns → StaysOpenBefore (suc n) (turn ∷ turns)
 before_more n turn [] goes h = absurd h
 before_more n turn (next ∷ turns) goes h = (goes, h)
 

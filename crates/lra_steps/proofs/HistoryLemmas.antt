@@ -1,6 +1,7 @@
 -- What keeps a history served.
 use Rattle.std.proofs.Common.{◌≡◌, ℕ, ◌+◌, ◌-◌, ◌<◌, ◌≤◌, Bool, true, false, cond, ◌||◌, ◌==◌, List, [], ◌∷◌, ◌++◌, length, take, drop, flat_map, refl, ap, sym, ◌∙◌, subst, arith, append_assoc, append-nil, length-append, length-drop, Option, Some, None, inl, inr}
-use Rattle.std.specs.Prelude.{nat_le, is_some, IsTrue}
+use Rattle.std.specs.declared.alloc.AllocError.{AllocError}
+use Rattle.std.specs.Prelude.{Result, Ok, Err, is_ok, OnOk, OnErr, ◌⊎◌, nat_le, is_some, IsTrue}
 use Rattle.std.proofs.lemmas.Bool.Decides.{nat_tests}
 use Rattle.std.specs.Option.{option_map}
 use Rattle.std.proofs.lemmas.List.{take-append-drop, flat_map_more}
@@ -14,11 +15,11 @@ use Rattle.lra_front.specs.declared.stream.StreamEnd.{StreamEnd}
 use Rattle.lra_front.specs.declared.stream.StreamEnd.TheVariants.{Done, Refused, WriteFault}
 use Rattle.lra_front.specs.Replies.{reply_bytes}
 use Rattle.lra_front.specs.Streams.{is_head, closes_after}
-use Rattle.lra_front.specs.Transcripts.{Turn, Spells, replies, EndsAfter}
-use Rattle.lra_steps.specs.History.{History, IsServed, IsOpenSo, Replies, StandsAt, setting_of, room_of, is_last, turn_reply, end_reply, took, finished, ordered, answered, ended_by, went}
+use Rattle.lra_front.specs.Transcripts.{Turn, Spells, turn_text, replies, IsFront, EndsAfter}
+use Rattle.lra_steps.specs.History.{History, IsServed, IsLasting, IsOpenSo, Replies, StandsAt, setting_of, room_of, is_last, turn_reply, end_reply, took, finished, ordered, answered, lost, ended_by, went}
 use Rattle.lra_steps.specs.Steps.{IsFree, Ends}
 use Rattle.lra_steps.specs.inner.Ends.{EndsWithout}
-use Rattle.lra_steps.proofs.TurnLemmas.{Spells-more, StandsAt-more, Spells-next, replies-push, stays-push, closes-push}
+use Rattle.lra_steps.proofs.TurnLemmas.{Spells-more, StandsAt-more, Spells-next, replies-push, stays-push, closes-push, before-push, reply_some}
 
 -- ---- bytes come
 
@@ -28,9 +29,9 @@ room_open true ended n m some h = absurd (omega (arith, some, h))
 room_open false (Some end) n m some h = absurd (omega (arith, some, h))
 room_open false None n m some h = (refl, omega (arith, some, h))
 
-open_took : (o : Option StreamEnd) (h : History) (more : List ℕ) → IsOpenSo o h → IsOpenSo o (took h more)
-open_took None h more s = s
-open_took (Some end) h more s = s
+open_took : (o : Option StreamEnd) (h : History) (more : List ℕ) → o ≡ None → IsOpenSo o h → IsOpenSo o (took h more)
+open_took None h more e s = s
+open_took (Some end) h more e s = absurd cc
 
 replied_took : (c : Setting) (o : Option StreamEnd) (h : History) (more : List ℕ) → o ≡ None → Replies c o h → Replies c o (took h more)
 replied_took c None h more e r = r
@@ -44,7 +45,7 @@ served_took h (b ∷ more) s fits =
       behind = s.behind ++ b ∷ more;
       spelled = Spells-more h.taken h.turns s.behind (b ∷ more) s.spelled;
       standing = StandsAt-more h.stands s.behind h.kept (b ∷ more) s.standing;
-      open_so = open_took h.ended h (b ∷ more) s.open_so;
+      open_so = open_took h.ended h (b ∷ more) room.0 s.open_so;
       replied = λ version limits. replied_took (setting_of h version limits) h.ended h (b ∷ more) room.0 (s.replied version limits);
       bound = omega (arith, room.1, length-append h.kept (b ∷ more));
     }
@@ -53,11 +54,13 @@ served_took h (b ∷ more) s fits =
 
 open_finished : (o : Option StreamEnd) (h : History) → IsOpenSo o h → IsOpenSo o (finished h)
 open_finished None h s = s
-open_finished (Some end) h s = (s.0, λ e. refl)
+open_finished (Some end) h s = (s.0, inr refl)
 
 replied_finished : (c : Setting) (o : Option StreamEnd) (h : History) → Replies c o h → Replies c o (finished h)
 replied_finished c None h r = r
-replied_finished c (Some end) h r = r
+replied_finished c (Some Done) h r = r
+replied_finished c (Some (Refused fault)) h r = r
+replied_finished c (Some WriteFault) h r = r
 
 pub served_finished : (h : History) → IsServed h → IsServed (finished h)
 served_finished h s = record {
@@ -80,7 +83,7 @@ replied_ordered c None h request rest e r = r
 replied_ordered c (Some end) h request rest e r = absurd cc
 
 -- where none stands, the requests that were answered are all that was read
-all_read : (h : History) → IsServed h → h.stands ≡ None → Spells h.taken h.turns h.kept
+pub all_read : (h : History) → IsServed h → h.stands ≡ None → Spells h.taken h.turns h.kept
 all_read h s none = let here : s.behind ≡ h.kept = subst (λ (o : Option Request). StandsAt o s.behind h.kept) none s.standing in subst (Spells h.taken h.turns) here s.spelled
 
 pub served_ordered : (h : History) (request : Request) (n : ℕ) → IsServed h → IsFree h → IsRequest h.kept request (drop n h.kept) → IsServed (ordered h request (drop n h.kept))
@@ -96,12 +99,12 @@ served_ordered h request n s free is = record {
 -- ---- it is answered
 
 -- while a request stands the stream goes on
-pub goes_on : (o : Option StreamEnd) (h : History) (request : Request) → IsOpenSo o h → h.stands ≡ Some request → o ≡ None
+goes_on : (o : Option StreamEnd) (h : History) (request : Request) → IsOpenSo o h → h.stands ≡ Some request → o ≡ None
 goes_on None h request s e = refl
 goes_on (Some end) h request s e = let none : None ≡ Some request = sym s.0 ∙ e in absurd cc
 
 open_answered : (b : Bool) (h : History) (turn : Turn) → closes_after (is_last h) turn.request ≡ b → IsOpenSo None h → IsOpenSo (cond b (Some Done) None) (answered h turn)
-open_answered true h turn e s = (refl, λ f. absurd cc)
+open_answered true h turn e s = (refl, inl (closes-push 999 h.turns turn s e))
 open_answered false h turn e s = stays-push 999 h.turns turn s e
 
 replied_answered : (c : Setting) (b : Bool) (h : History) (turn : Turn) → c.instance ≡ h.instance → c.base ≡ h.base → closes_after (is_last h) turn.request ≡ b → IsOpenSo None h
@@ -137,9 +140,32 @@ served_answered h turn s stands =
       bound = s.bound;
     }
 
+-- or its reply is lost
+lost_front : (c : Setting) (h : History) (turn : Turn) → IsOpenSo None h → Replies c None h → Replies c (Some WriteFault) (lost h turn)
+lost_front c h turn s r =
+    let text : List ℕ = turn_text c (is_last h) turn in (
+      (text, replies-push c 999 h.turns turn ∙ ap (λ xs. xs ++ text) (sym r), reply_some c.instance c.base turn.answer (is_head turn.request) (closes_after (is_last h) turn.request)),
+      before-push 999 h.turns turn s,
+    )
+
+pub served_lost : (h : History) (turn : Turn) → IsServed h → h.stands ≡ Some turn.request → IsServed (lost h turn)
+served_lost h turn s stands =
+    let none = goes_on h.ended h turn.request s.open_so stands in
+    let so : IsOpenSo None h = subst (λ (o : Option StreamEnd). IsOpenSo o h) none s.open_so in
+    record {
+      behind = h.kept;
+      spelled = Spells-next h.taken h.turns s.behind turn h.kept s.spelled (subst (λ (o : Option Request). StandsAt o s.behind h.kept) stands s.standing);
+      standing = refl;
+      open_so = (refl, inl tt);
+      replied = λ version limits.
+          let c = setting_of h version limits in
+          lost_front c h turn so (subst (λ (o : Option StreamEnd). Replies c o h) none (s.replied version limits));
+      bound = s.bound;
+    }
+
 -- ---- it ends
 
-refuses : (bytes : List ℕ) (fault : WireFault) → RefusesFront bytes fault → RefusesRequest bytes fault
+pub refuses : (bytes : List ℕ) (fault : WireFault) → RefusesFront bytes fault → RefusesRequest bytes fault
 refuses bytes BadHead h = h
 refuses bytes Chunked h = h
 refuses bytes BadLength h = h
@@ -149,7 +175,7 @@ refuses bytes Cut h = absurd h
 refuses bytes Io h = absurd h
 
 ends_after : (c : Setting) (end : StreamEnd) (h : History) → c.instance ≡ h.instance → c.base ≡ h.base → IsOpenSo None h → h.sent ++ h.out ≡ replies c 999 h.turns → Ends end h
-    → EndsAfter c 999 h.turns h.kept (h.sent ++ (h.out ++ end_reply h.instance h.base end)) end
+    → Replies c (Some end) (ended_by h end)
 ends_after c Done h i p s r e = (ap (λ xs. h.sent ++ xs) (append-nil h.out) ∙ r, inl (e.1, s))
 ends_after c (Refused fault) h i p s r e = (
   sym (append_assoc h.sent h.out (end_reply h.instance h.base (Refused fault))) ∙ ap (λ xs. xs ++ end_reply h.instance h.base (Refused fault)) r
@@ -163,14 +189,11 @@ ends_after c (Refused fault) h i p s r e = (
     why (inr f) = subst (λ (f : WireFault). RefusesRequest h.kept f) (sym f.1) f.2
 ends_after c WriteFault h i p s r e = absurd e
 
-cut_last : (end : StreamEnd) (h : History) → Ends end h → end ≡ Refused Cut → IsTrue h.closed
-cut_last Done h e f = absurd cc
-cut_last (Refused fault) h (inl e) f =
-    let same : fault ≡ Cut = cc in
-    let cut : RefusesFront h.kept Cut = subst (λ (x : WireFault). RefusesFront h.kept x) same e.1 in
-    absurd cut
-cut_last (Refused fault) h (inr e) f = e.0
-cut_last WriteFault h e f = absurd e
+lasting : (end : StreamEnd) (h : History) → Ends end h → IsLasting end h.turns h.kept ⊎ IsTrue h.closed
+lasting Done h e = inr e.0
+lasting (Refused fault) h (inl e) = inl e.1
+lasting (Refused fault) h (inr e) = inr e.0
+lasting WriteFault h e = absurd e
 
 pub served_ended : (h : History) (end : StreamEnd) → IsServed h → IsFree h → Ends end h → IsServed (ended_by h end)
 served_ended h end s free e =
@@ -179,7 +202,7 @@ served_ended h end s free e =
       behind = s.behind;
       spelled = s.spelled;
       standing = s.standing;
-      open_so = (free.1, cut_last end h e);
+      open_so = (free.1, lasting end h e);
       replied = λ version limits.
           let c = setting_of h version limits in
           ends_after c end h refl refl so (subst (λ (o : Option StreamEnd). Replies c o h) free.0 (s.replied version limits)) e;
@@ -197,7 +220,9 @@ all_out h n = ap (λ xs. h.sent ++ xs) (sym (take-append-drop n h.out)) ∙ sym 
 
 replied_went : (c : Setting) (o : Option StreamEnd) (h : History) (n : ℕ) → Replies c o h → Replies c o (went h n)
 replied_went c None h n r = sym (all_out h n) ∙ r
-replied_went c (Some end) h n r = subst (λ (xs : List ℕ). EndsAfter c 999 h.turns h.kept xs end) (all_out h n) r
+replied_went c (Some Done) h n r = subst (λ (xs : List ℕ). EndsAfter c 999 h.turns h.kept xs Done) (all_out h n) r
+replied_went c (Some (Refused fault)) h n r = subst (λ (xs : List ℕ). EndsAfter c 999 h.turns h.kept xs (Refused fault)) (all_out h n) r
+replied_went c (Some WriteFault) h n r = (subst (λ (xs : List ℕ). IsFront xs (replies c 999 h.turns)) (all_out h n) r.0, r.1)
 
 pub served_went : (h : History) (n : ℕ) → IsServed h → IsServed (went h n)
 served_went h n s = record {
@@ -268,18 +293,22 @@ reply_is h turn base left head close b l d c =
     ap (λ p. reply_bytes h.instance p turn.answer head close) b ∙ ap (λ x. reply_bytes h.instance h.base turn.answer x close) d
     ∙ ap (λ x. reply_bytes h.instance h.base turn.answer (is_head turn.request) x) (c ∙ ap (λ x. closes_after x turn.request) (last_is left (length h.turns) l))
 
-closing : (h : History) (turn : Turn) (left : ℕ) (close : Bool) (ended : Option StreamEnd) → left ≡ 999 - length h.turns → close ≡ closes_after (left == 0) turn.request
-    → ended ≡ cond close (Some Done) None → ended ≡ cond (closes_after (is_last h) turn.request) (Some Done) None
-closing h turn left close ended l c e = e ∙ ap (λ x. cond x (Some Done) None) (c ∙ ap (λ x. closes_after x turn.request) (last_is left (length h.turns) l))
+closing : (h : History) (turn : Turn) (left : ℕ) (close : Bool) → left ≡ 999 - length h.turns → close ≡ closes_after (left == 0) turn.request
+    → cond close (Some Done) None ≡ cond (closes_after (is_last h) turn.request) (Some Done) None
+closing h turn left close l c = ap (λ x. cond x (Some Done) None) (c ∙ ap (λ x. closes_after x turn.request) (last_is left (length h.turns) l))
 
--- a request was answered
-pub answered_is : (h : History) (turn : Turn) (left : ℕ) (close : Bool) (turns : List Turn) (ended : Option StreamEnd) (out : List ℕ) → left ≡ 999 - length h.turns
-    → close ≡ closes_after (left == 0) turn.request → turns ≡ h.turns ++ turn ∷ [] → ended ≡ cond close (Some Done) None
-    → out ≡ h.out ++ turn_reply h.instance h.base (is_last h) turn
-    → record h { turns = turns; stands = None; ended = ended; out = out } ≡ answered h turn
-answered_is h turn left close turns ended out l c t e o =
-    let so = closing h turn left close ended l c e in
-    λ i. record h { turns = t i; stands = None; ended = so i; out = o i }
+-- the answer to the request that stands was told
+pub served_told : (h : History) (turn : Turn) (base : List ℕ) (left : ℕ) (head close : Bool) (replied : Result (Unit {0}) AllocError) (turns : List Turn) (ended : Option StreamEnd) (out : List ℕ)
+    → IsServed h → h.stands ≡ Some turn.request → base ≡ h.base → left ≡ 999 - length h.turns → head ≡ is_head turn.request → close ≡ closes_after (left == 0) turn.request
+    → turns ≡ h.turns ++ turn ∷ [] → ended ≡ cond (is_ok replied) (cond close (Some Done) None) (Some WriteFault)
+    → OnOk replied (out ≡ h.out ++ reply_bytes h.instance base turn.answer head close) → OnErr replied (out ≡ h.out)
+    → IsServed (record h { turns = turns; stands = None; ended = ended; out = out })
+served_told h turn base left head close (Ok u) turns ended out s stands b l d c t e ok err =
+    let so = e ∙ closing h turn left close l c in
+    let text = ok ∙ ap (λ xs. h.out ++ xs) (reply_is h turn base left head close b l d c) in
+    subst IsServed (sym (λ i. record h { turns = t i; stands = None; ended = so i; out = text i })) (served_answered h turn s stands)
+served_told h turn base left head close (Err f) turns ended out s stands b l d c t e ok err =
+    subst IsServed (sym (λ i. record h { turns = t i; stands = None; ended = e i; out = err i })) (served_lost h turn s stands)
 
 pub left_one : (h : History) (turn : Turn) (left now : ℕ) (turns : List Turn) → left ≡ 999 - length h.turns → now ≡ left - 1 → turns ≡ h.turns ++ turn ∷ [] → now ≡ 999 - length turns
 left_one h turn left now turns l n t = omega (arith, l, n, ap length t, length-append h.turns (turn ∷ []))

@@ -1,13 +1,15 @@
 -- The requests that bytes spell and the replies to them, as more bytes come and one more request is answered.
-use Rattle.std.proofs.Common.{◌≡◌, ℕ, zero, suc, Bool, true, false, ◌||◌, List, [], ◌∷◌, ◌++◌, length, refl, ap, sym, ◌∙◌, subst, arith, append_assoc, append-nil, Option, Some, None}
+use Rattle.std.proofs.Common.{◌≡◌, ◌<◌, ℕ, zero, suc, Bool, true, false, ◌||◌, List, [], ◌∷◌, ◌++◌, length, refl, ap, sym, ◌∙◌, subst, arith, append_assoc, append-nil, Option, Some, None}
 use Rattle.std.specs.Prelude.{nat_le}
 use Rattle.std.proofs.lemmas.Bool.Decides.{nat_tests}
 use Rattle.lra_wire.specs.Request.{Request, IsRequest}
 use Rattle.lra_wire.proofs.FrontLemmas.{request_more}
 use Rattle.lra_commands.specs.Counters.{Setting}
+use Rattle.lra_front.specs.declared.answer.Answer.{Answer}
+use Rattle.lra_front.specs.Replies.{reply_bytes}
 use Rattle.lra_front.specs.Streams.{closes_after}
-use Rattle.lra_front.specs.Transcripts.{Turn, Spells, turn_text, replies, StaysOpen, ClosesLast}
-use Rattle.lra_front.proofs.Transcribed.{closes_more}
+use Rattle.lra_front.specs.Transcripts.{Turn, Spells, turn_text, replies, StaysOpen, StaysOpenBefore, ClosesLast}
+use Rattle.lra_front.proofs.Transcribed.{closes_more, before_more}
 use Rattle.lra_steps.specs.History.{StandsAt}
 
 -- ---- what is spelled
@@ -77,3 +79,15 @@ closes (suc n) (first ∷ turns) turn h e = closes_more n first (turns ++ turn �
 -- or is closed
 pub closes-push : (n : ℕ) (turns : List Turn) (turn : Turn) → StaysOpen n turns → closes_after (nat_le n (length turns)) turn.request ≡ true → ClosesLast n (turns ++ turn ∷ [])
 closes-push n turns turn h e = closes n turns turn h (ap (λ b. closes_after b turn.request) (sym (reaches_is n turns)) ∙ e)
+
+-- or its reply is lost
+pub before-push : (n : ℕ) (turns : List Turn) (turn : Turn) → StaysOpen n turns → StaysOpenBefore n (turns ++ turn ∷ [])
+before-push zero [] turn h = tt
+before-push (suc n) [] turn h = tt
+before-push zero (first ∷ turns) turn h = absurd h
+before-push (suc n) (first ∷ turns) turn h = before_more n first (turns ++ turn ∷ []) h.0 (before-push n turns turn h.1)
+
+-- a reply has some bytes
+pub reply_some : (instance : ℕ) (base : List ℕ) (a : Answer) (head close : Bool) → 0 < length (reply_bytes instance base a head close)
+unfolding reply_bytes
+reply_some instance base a head close = omega arith

@@ -1,9 +1,9 @@
 -- What a connection has done, and what is true of it.
-use Rattle.std.specs.Prelude.{◌≡◌, ℕ, ◌-◌, ◌≤◌, Bool, true, false, ◌||◌, nat_le, List, [], ◌∷◌, ◌++◌, length, take, drop, Option, Some, None, is_some, IsTrue, if◌then◌else◌}
+use Rattle.std.specs.Prelude.{◌≡◌, ◌⊎◌, ℕ, ◌-◌, ◌≤◌, Bool, true, false, ◌||◌, nat_le, List, [], ◌∷◌, ◌++◌, length, take, drop, Option, Some, None, is_some, IsTrue, ⊤, if◌then◌else◌}
 use Rattle.std.specs.Option.{option_map_or}
 use Rattle.lra_model.specs.declared.version.Version.{Version}
 use Rattle.lra_wire.specs.declared.fault.WireFault.{WireFault}
-use Rattle.lra_wire.specs.declared.fault.WireFault.TheVariants.{Cut}
+use Rattle.lra_wire.specs.Fronts.{RefusesFront}
 use Rattle.lra_wire.specs.Request.{Request, IsRequest}
 use Rattle.lra_commands.specs.declared.limits.Limits.{Limits}
 use Rattle.lra_commands.specs.Counters.{Setting}
@@ -11,7 +11,7 @@ use Rattle.lra_front.specs.declared.stream.StreamEnd.{StreamEnd}
 use Rattle.lra_front.specs.declared.stream.StreamEnd.TheVariants.{Done, Refused, WriteFault}
 use Rattle.lra_front.specs.Replies.{reply_bytes}
 use Rattle.lra_front.specs.Streams.{fault_answer, is_head, closes_after}
-use Rattle.lra_front.specs.Transcripts.{Turn, Spells, replies, StaysOpen, EndsAfter}
+use Rattle.lra_front.specs.Transcripts.{Turn, Spells, replies, StaysOpen, StaysOpenBefore, ClosesLast, IsFront, EndsAfter}
 
 -- all that a connection has done
 pub record History : Type 0 where
@@ -40,16 +40,24 @@ abbrev pub StandsAt : Option Request → List ℕ → List ℕ → Type 0
 StandsAt None bytes kept = bytes ≡ kept
 StandsAt (Some request) bytes kept = IsRequest bytes request kept
 
--- The stream stays open after each request so far. At its end no request stands, and it was cut only where no more bytes come.
+-- The end stays whatever bytes follow: the stream is closed after the last request, or what is kept can't become one, or a reply was lost.
+abbrev pub IsLasting : StreamEnd → List Turn → List ℕ → Type 0
+IsLasting Done turns kept = ClosesLast 999 turns
+IsLasting (Refused fault) turns kept = RefusesFront kept fault
+IsLasting WriteFault turns kept = ⊤
+
+-- The stream stays open after each request so far. At its end no request stands, and that end stays, or no more bytes come.
 abbrev pub IsOpenSo : Option StreamEnd → History → Type 0
 IsOpenSo None h = StaysOpen 999 h.turns
-IsOpenSo (Some end) h = (h.stands ≡ None) × (end ≡ Refused Cut → IsTrue h.closed)
+IsOpenSo (Some end) h = (h.stands ≡ None) × (IsLasting end h.turns h.kept ⊎ IsTrue h.closed)
 
 -- What went out and what may is the replies to the requests that were answered, in order, and at the end what that comes to, as of a stream that is
--- served whole.
+-- served whole; where the last reply was lost, a proper front of them.
 abbrev pub Replies : Setting → Option StreamEnd → History → Type 0
 Replies c None h = h.sent ++ h.out ≡ replies c 999 h.turns
-Replies c (Some end) h = EndsAfter c 999 h.turns h.kept (h.sent ++ h.out) end
+Replies c (Some Done) h = EndsAfter c 999 h.turns h.kept (h.sent ++ h.out) Done
+Replies c (Some (Refused fault)) h = EndsAfter c 999 h.turns h.kept (h.sent ++ h.out) (Refused fault)
+Replies c (Some WriteFault) h = IsFront (h.sent ++ h.out) (replies c 999 h.turns) × StaysOpenBefore 999 h.turns
 
 -- True of every connection, after any calls.
 pub record IsServed (h : History) : Type 0 where
@@ -107,6 +115,10 @@ answered h turn = record h {
   ended = if closes_after (is_last h) turn.request then Some Done else None;
   out = h.out ++ turn_reply h.instance h.base (is_last h) turn;
 }
+
+-- the request was answered, and memory for its reply was refused: the connection ends without it
+abbrev pub lost : History → Turn → History
+lost h turn = record h { turns = h.turns ++ turn ∷ []; stands = None; ended = Some WriteFault }
 
 -- the reply of the coordinator to a fault of reading
 abbrev pub fault_reply : ℕ → List ℕ → WireFault → List ℕ

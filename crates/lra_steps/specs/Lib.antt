@@ -1,3 +1,4 @@
 pub mod History
 pub mod Steps
+pub mod Pieces
 pub mod inner

@@ -6,9 +6,10 @@ use Rattle.lra_wire.specs.Fronts.{RefusesFront, IsUnfinished}
 use Rattle.lra_wire.specs.Request.{Request, IsRequest, RefusesRequest}
 use Rattle.lra_front.specs.declared.stream.StreamEnd.{StreamEnd}
 use Rattle.lra_front.specs.declared.stream.StreamEnd.TheVariants.{Done, Refused, WriteFault}
+use Rattle.lra_front.specs.Transcripts.{Turn}
 use Rattle.lra_steps.specs.declared.connection.Step.{Step}
 use Rattle.lra_steps.specs.declared.connection.Step.TheVariants.{Wants, Stands, Waits, Ended}
-use Rattle.lra_steps.specs.History.{History, room_of, took, ordered, ended_by}
+use Rattle.lra_steps.specs.History.{History, room_of, took, ordered, answered, lost, ended_by}
 
 -- the connection goes on, and no request stands
 abbrev pub IsFree : History → Type 0
@@ -37,3 +38,8 @@ abbrev pub Takes : Result Bool AllocError → List ℕ → History → History �
 Takes (Ok true) bytes old new = (length bytes ≤ room_of old) × (new ≡ took old bytes)
 Takes (Ok false) bytes old new = (room_of old < length bytes) × (new ≡ old)
 Takes (Err _) bytes old new = new ≡ old
+
+-- the request was answered, or its reply was lost
+abbrev pub Tells : Result (Unit {0}) AllocError → History → History → Turn → Type 0
+Tells (Ok _) old new turn = new ≡ answered old turn
+Tells (Err _) old new turn = new ≡ lost old turn

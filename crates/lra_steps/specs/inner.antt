@@ -1,3 +1,4 @@
 -- Words that private functions and proofs alone use.
 pub mod Ends
 pub mod Fields
+pub mod Feeding

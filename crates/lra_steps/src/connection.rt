@@ -1,13 +1,14 @@
 //! One connection.
-ghost use Rattle.std.specs.Prelude.{◌≡◌, ◌≤◌, ◌==◌, [], ◌∷◌, ◌++◌, map, take, drop, length, OnOk, OnErr, IfSome, IsTrue, IsSome};
+ghost use Rattle.std.specs.Prelude.{◌≡◌, ◌≤◌, ◌==◌, [], ◌∷◌, ◌++◌, map, take, drop, length, if◌then◌else◌, Some, None, IfSome, IsTrue, IsSome};
 ghost use Rattle.std.specs.Option.{option_map};
 ghost use Rattle.lra_ids.specs.Addresses.{is_base};
 ghost use Rattle.lra_wire.specs.Fronts.{IsUnfinished};
 ghost use Rattle.lra_wire.specs.Request.{request_of};
+ghost use Rattle.lra_front.specs.declared.stream.StreamEnd.TheVariants.{Done, WriteFault};
 ghost use Rattle.lra_front.specs.Replies.{HasIdentifiers};
 ghost use Rattle.lra_front.specs.Streams as stream;
-ghost use Rattle.lra_steps.specs.History.{IsServed, begun, room_of, took, finished, answered, went};
-ghost use Rattle.lra_steps.specs.Steps.{Steps, Takes};
+ghost use Rattle.lra_steps.specs.History.{IsServed, begun, room_of, finished, went};
+ghost use Rattle.lra_steps.specs.Steps.{Steps, Takes, Tells};
 ghost use Rattle.lra_steps.specs.inner.Ends.{EndsWithout};
 ghost use Rattle.lra_steps.specs.inner.Fields.{backs, fronts, turn_of};
 
@@ -132,6 +133,19 @@ fn closes_after(request: &RequestRead, left: u64) -> bool
     request.close || left == 0
 }
 
+/// How a connection ends with a reply: where it is lost, or the stream is closed after it.
+fn end_after(replied: bool, close: bool) -> Option<StreamEnd>
+    ensures { result ≡ (if replied then (if close then Some Done else None) else Some WriteFault) }
+{
+    if !replied {
+        Some(StreamEnd::WriteFault)
+    } else if close {
+        Some(StreamEnd::Done)
+    } else {
+        None
+    }
+}
+
 impl Connection {
     /// A connection to the coordinator of that instance and base.
     pub fn new(alloc: Global, instance: Instance, base: &Address) -> Connection
@@ -237,22 +251,22 @@ impl Connection {
         }
     }
 
-    /// The answer to the request that stands, and the moment at which it was given. Where memory is refused nothing changes.
+    /// The answer to the request that stands, and the moment at which it was given. Where memory for its reply is refused, the
+    /// reply is lost and the connection ends: the request doesn't stand any more in any case.
     pub fn told(&mut self, base: &Address, moment: u64, answer: Answer) -> Result<(), Memory>
         requires stands { IsSome self.old.stands }
         requires numbers { HasIdentifiers answer }
         requires value { base.now ≡ self.old.base }
         requires base { IsTrue (is_base base.now) }
-        ensures ok { OnOk result (IfSome self.old.stands (λ request.
-            self.new ≡ answered self.old (record { request = request; moment = moment; answer = answer }))) }
-        ensures err { OnErr result (self.new ≡ self.old) }
+        ensures { IfSome self.old.stands (λ request.
+            Tells result self.old self.new (record { request = request; moment = moment; answer = answer })) }
     {
         let Some(request) = &self.stands else {
             unreachable!();
         };
         let head = is_head(request);
         let close = closes_after(request, self.left);
-        push_reply(
+        let replied = push_reply(
             self.alloc,
             &mut self.out,
             self.instance,
@@ -260,14 +274,12 @@ impl Connection {
             answer,
             head,
             close,
-        )?;
+        );
         note_turn(&mut self.turns, request, &Reply { moment, answer });
         self.left = self.left.saturating_sub(1);
         self.stands = None;
-        if close {
-            self.ended = Some(StreamEnd::Done);
-        }
-        Ok(())
+        self.ended = end_after(replied.is_ok(), close);
+        replied
     }
 
     /// The bytes that may be handed out.

@@ -6,5 +6,7 @@ mod connection;
 mod log;
 mod queue;
 mod reply;
+mod serve;
 
 pub use connection::{Connection, Step};
+pub use serve::{answer_request, serve_pieces};

@@ -1,0 +1,195 @@
+-- Requests answered one after another, of bytes that come in pieces.
+use Rattle.std.proofs.Common.{◌≡◌, ℕ, ◌+◌, ◌-◌, ◌<◌, List, [], ◌∷◌, ◌++◌, length, take, drop, get_or, flat_map, Option, Some, None, Result, Ok, Err, inl, inr, refl, sym, ap, ◌∙◌, subst, arith, append_assoc}
+use Rattle.std.specs.declared.alloc.AllocError.{AllocError}
+use Rattle.std.specs.Prelude.{◌⊎◌, IfSome, IsTrue, IsFalse}
+use Rattle.std.proofs.lemmas.Bool.{both_ways}
+use Rattle.std.proofs.lemmas.List.{take-append-drop, take-take, drop-take, take_more, append-nil}
+use Rattle.std.proofs.lemmas.List.Concat.{flat_map-append}
+use Rattle.lra_wire.specs.Request.{Request}
+use Rattle.lra_wire.proofs.FrontLemmas.{refused_more, request_takes}
+use Rattle.lra_commands.specs.declared.command.Told.{Told}
+use Rattle.lra_commands.specs.declared.counter.Order.{Order}
+use Rattle.lra_commands.specs.declared.counter.CounterFault.{CounterFault}
+use Rattle.lra_commands.specs.Counters.{Setting, Sight, KeepsHistory}
+use Rattle.lra_front.specs.declared.stream.StreamEnd.{StreamEnd}
+use Rattle.lra_front.specs.declared.stream.StreamEnd.TheVariants.{Done, Refused, WriteFault}
+use Rattle.lra_front.specs.Serving.{Responds}
+use Rattle.lra_front.specs.Transcripts.{Turn, Chain, Spells, EndsAfter}
+use Rattle.lra_front.proofs.Transcribed.{same_setting}
+use Rattle.lra_steps.specs.declared.connection.Step.TheVariants.{Stands, Ended}
+use Rattle.lra_steps.specs.History.{History, IsServed, IsLasting, IsOpenSo, Replies, setting_of, ordered, took, finished, went}
+use Rattle.lra_steps.specs.Steps.{StepsTo, Tells}
+use Rattle.lra_steps.specs.Pieces.{Answers, ServesBytes}
+use Rattle.lra_steps.specs.inner.Feeding.{Follows}
+use Rattle.lra_steps.proofs.TurnLemmas.{Spells-more}
+use Rattle.lra_steps.proofs.HistoryLemmas.{all_read, refuses}
+
+-- ---- pieces
+
+-- the next bytes of a piece stand behind the first
+pub taken_more : (old before now piece : List ℕ) (m n : ℕ) → before ≡ old ++ take m piece → now ≡ before ++ take ((m + n) - m) (drop m piece) → now ≡ old ++ take (m + n) piece
+taken_more old before now piece m n b e =
+    let next = drop m (take (m + n) piece) in
+    let k : (m + n) - m ≡ n = omega arith in
+    e ∙ ap (λ i. before ++ take i (drop m piece)) k ∙ ap (λ xs. before ++ xs) (sym (drop-take m n piece))
+    ∙ ap (λ xs. xs ++ next) b ∙ append_assoc old (take m piece) next
+    ∙ ap (λ xs. old ++ (xs ++ next)) (sym (take-take m (m + n) piece (omega arith))) ∙ ap (λ xs. old ++ xs) (take-append-drop m (take (m + n) piece))
+
+-- and the rest behind those
+pub taken_rest : (old now piece : List ℕ) (n : ℕ) → now ≡ old ++ take n piece → now ++ drop n piece ≡ old ++ piece
+taken_rest old now piece n e = ap (λ xs. xs ++ drop n piece) e ∙ append_assoc old (take n piece) (drop n piece) ∙ ap (λ xs. old ++ xs) (take-append-drop n piece)
+
+-- one piece more
+pub next_piece : {X : Type 0} (f : X → List ℕ) (xs : List X) (i : ℕ) (x : X) → i < length xs → x ≡ get_or xs i x → flat_map f (take (i + 1) xs) ≡ flat_map f (take i xs) ++ f x
+next_piece f xs i x h e =
+    ap (flat_map f) (take_more xs i x h) ∙ flat_map-append f (take i xs) (get_or xs i x ∷ [])
+    ∙ ap (λ ys. flat_map f (take i xs) ++ ys) (append-nil (f (get_or xs i x)) ∙ ap f (sym e))
+
+-- the bytes up to a place in a piece, then the rest of the piece, and the pieces behind it
+pub up_to : {X : Type 0} (f : X → List ℕ) (xs : List X) (i : ℕ) (x : X) (before now back : List ℕ) → i < length xs → x ≡ get_or xs i x
+    → before ≡ flat_map f (take i xs) → now ++ back ≡ before ++ f x → now ++ (back ++ flat_map f (drop (i + 1) xs)) ≡ flat_map f xs
+up_to f xs i x before now back h e b n =
+    let tail = flat_map f (drop (i + 1) xs) in
+    sym (append_assoc now back tail) ∙ ap (λ ys. ys ++ tail) (n ∙ ap (λ ys. ys ++ f x) b ∙ sym (next_piece f xs i x h e))
+    ∙ sym (flat_map-append f (take (i + 1) xs) (drop (i + 1) xs)) ∙ ap (flat_map f) (take-append-drop (i + 1) xs)
+
+-- what was handed out, and all that may be
+pub handed_all : (h : History) (before sent now : List ℕ) → sent ≡ before ++ h.sent → now ≡ sent ++ h.out → now ≡ before ++ (went h (length h.out)).sent
+handed_all h before sent now s n =
+    n ∙ ap (λ xs. xs ++ h.out) s ∙ append_assoc before h.sent h.out ∙ ap (λ xs. before ++ (h.sent ++ xs)) (sym (all_taken h.out))
+  where
+    all_taken : (xs : List ℕ) → take (length xs) xs ≡ xs
+    all_taken [] = refl
+    all_taken (x ∷ xs) = ap (λ ys. x ∷ ys) (all_taken xs)
+
+pub none_left : (xs : List ℕ) → drop (length xs) xs ≡ []
+none_left [] = refl
+none_left (x ∷ xs) = none_left xs
+
+-- ---- the end
+
+-- it is that of all bytes, where more follow
+ends_more : (c : Setting) (end : StreamEnd) (h : History) (back : List ℕ) → IsLasting end h.turns h.kept ⊎ IsTrue h.closed → IsFalse h.closed ⊎ (back ≡ []) → Replies c (Some end) h
+    → EndsAfter c 999 h.turns (h.kept ++ back) (h.sent ++ h.out) end
+ends_more c WriteFault h back why over r = inl r
+ends_more c Done h back why (inr none) r =
+    subst (λ (xs : List ℕ). EndsAfter c 999 h.turns xs (h.sent ++ h.out) Done) (sym (ap (λ xs. h.kept ++ xs) none ∙ append-nil h.kept)) r
+ends_more c (Refused fault) h back why (inr none) r =
+    subst (λ (xs : List ℕ). EndsAfter c 999 h.turns xs (h.sent ++ h.out) (Refused fault)) (sym (ap (λ xs. h.kept ++ xs) none ∙ append-nil h.kept)) r
+ends_more c Done h back (inr shut) (inl goes) r = absurd (both_ways h.closed goes shut)
+ends_more c (Refused fault) h back (inr shut) (inl goes) r = absurd (both_ways h.closed goes shut)
+ends_more c Done h back (inl stays) (inl goes) r = (r.0, inr stays)
+ends_more c (Refused fault) h back (inl stays) (inl goes) r = (r.0, refuses (h.kept ++ back) fault (refused_more h.kept back fault stays), r.2)
+
+-- a turn more, and what stays as it was
+record Turned (h new : History) (turn : Turn) : Type 0 where
+  turns : new.turns ≡ h.turns ++ turn ∷ []
+  none : new.stands ≡ None
+  instance : new.instance ≡ h.instance
+  base : new.base ≡ h.base
+  taken : new.taken ≡ h.taken
+  kept : new.kept ≡ h.kept
+  sent : new.sent ≡ h.sent
+  closed : new.closed ≡ h.closed
+
+turned : (h new : History) (turn : Turn) (result : Result (Unit {0}) AllocError) → Tells result h new turn → Turned h new turn
+turned h new turn (Ok u) e = subst (λ (g : History). Turned h g turn) (sym e) (record { turns = refl; none = refl; instance = refl; base = refl; taken = refl; kept = refl; sent = refl; closed = refl })
+turned h new turn (Err f) e = subst (λ (g : History). Turned h g turn) (sym e) (record { turns = refl; none = refl; instance = refl; base = refl; taken = refl; kept = refl; sent = refl; closed = refl })
+
+-- ---- answers
+
+module _ (K : Type 0) (gives : Sight → ℕ → Order → Result Told CounterFault → Sight → Type 0) (tells : K → ℕ → K → Type 0) where
+  -- a turn more
+  chain-push : (v w x : Sight) (k l m : K) (turns : List Turn) (turn : Turn) → Chain gives tells v k turns w l → tells l turn.moment m
+      → Responds gives w turn.moment turn.request x turn.answer → Chain gives tells v k (turns ++ turn ∷ []) x m
+  chain-push v w x k l m [] turn c t r =
+      (x, m, subst (λ (j : K). tells j turn.moment m) c.1 t, subst (λ (u : Sight). Responds gives u turn.moment turn.request x turn.answer) c.0 r, (refl, refl))
+  chain-push v w x k l m (first ∷ turns) turn c t r = (c.0, c.1, c.2, c.3, chain-push c.0 w x c.1 l m turns turn c.4 t r)
+
+  module _ (keeps : (before after : Sight) (moment : ℕ) (o : Order) (reply : Result Told CounterFault) → gives before moment o reply after → KeepsHistory before moment o reply after) where
+    -- a request was read and answered, and what stays as it was
+    pub record Passes (h new : History) (w x : Sight) (l m : K) : Type 0 where
+      pub follows : (v : Sight) (k : K) → Follows gives tells v k h w l → Follows gives tells v k new x m
+      pub setting : x.setting ≡ w.setting
+      pub none : new.stands ≡ None
+      pub base : new.base ≡ h.base
+      pub taken : new.taken ≡ h.taken
+      pub sent : new.sent ≡ h.sent
+      pub closed : new.closed ≡ h.closed
+      pub shorter : length new.kept < length h.kept
+
+    pub passes : (h mid new : History) (w x : Sight) (l m : K) (result : Result (Unit {0}) AllocError) → StepsTo Stands h mid
+        → IfSome mid.stands (λ request. Answers gives tells request w x l m mid new result) → Passes h new w x l m
+    passes h mid new w x l m result s all =
+        let request : Request = s.0 in
+        let a : Answers gives tells request w x l m (ordered h request s.1) new result = subst (λ (g : History). IfSome g.stands (λ request. Answers gives tells request w x l m g new result)) s.4 all in
+        let turn : Turn = record { request = request; moment = a.moment; answer = a.answer } in
+        let t : Turned (ordered h request s.1) new turn = turned (ordered h request s.1) new turn result a.told in
+        let same = same_setting K gives tells keeps w x a.moment request a.answer a.responds in
+        record {
+          follows = λ v k f. record {
+            chain = subst (λ (ts : List Turn). Chain gives tells v k ts x m) (sym t.turns) (chain-push v w x k l m h.turns turn f.chain a.clocked a.responds);
+            setting = same ∙ f.setting;
+            instance = t.instance ∙ f.instance;
+            base = t.base ∙ f.base;
+            none = t.none;
+          };
+          setting = same;
+          none = t.none;
+          base = t.base;
+          taken = t.taken;
+          sent = t.sent;
+          closed = t.closed;
+          shorter = omega (arith, request_takes h.kept request s.1 s.3, ap length t.kept);
+        }
+
+  -- bytes came, or went
+  pub follows_took : (v w : Sight) (k l : K) (h : History) (more : List ℕ) (new : History) → new ≡ took h more → Follows gives tells v k h w l → Follows gives tells v k new w l
+  follows_took v w k l h more new e f =
+      subst (λ (g : History). Follows gives tells v k g w l) (sym e) (record { chain = f.chain; setting = f.setting; instance = f.instance; base = f.base; none = f.none })
+
+  pub follows_went : (v w : Sight) (k l : K) (h : History) (count : ℕ) (new : History) → new ≡ went h count → Follows gives tells v k h w l → Follows gives tells v k new w l
+  follows_went v w k l h count new e f =
+      subst (λ (g : History). Follows gives tells v k g w l) (sym e) (record { chain = f.chain; setting = f.setting; instance = f.instance; base = f.base; none = f.none })
+
+  pub follows_finished : (v w : Sight) (k l : K) (h new : History) → new ≡ finished h → Follows gives tells v k h w l → Follows gives tells v k new w l
+  follows_finished v w k l h new e f =
+      subst (λ (g : History). Follows gives tells v k g w l) (sym e) (record { chain = f.chain; setting = f.setting; instance = f.instance; base = f.base; none = f.none })
+
+  -- how it ended, and what stays as it was
+  pub record Finishes (end : StreamEnd) (h new : History) (w : Sight) (l : K) : Type 0 where
+    pub follows : (v : Sight) (k : K) → Follows gives tells v k h w l → Follows gives tells v k new w l
+    pub ended : new.ended ≡ Some end
+    pub taken : new.taken ≡ h.taken
+    pub sent : new.sent ≡ h.sent
+    pub closed : new.closed ≡ h.closed
+
+  pub finishes : (end : StreamEnd) (h new : History) (w : Sight) (l : K) → StepsTo (Ended end) h new → Finishes end h new w l
+  finishes end h new w l (inl s) = subst (λ (g : History). Finishes end h g w l) (sym s.1) (record { follows = λ v k f. f; ended = s.0; taken = refl; sent = refl; closed = refl })
+  finishes end h new w l (inr s) = subst (λ (g : History). Finishes end h g w l) (sym s.2) (record {
+    follows = λ v k f. record { chain = f.chain; setting = f.setting; instance = f.instance; base = f.base; none = f.none };
+    ended = refl;
+    taken = refl;
+    sent = refl;
+    closed = refl;
+  })
+
+  -- All that was answered and handed out is what a stream of all bytes does.
+  pub serves : (v w : Sight) (k l : K) (h : History) (end : StreamEnd) (all back before out : List ℕ) → IsServed h → Follows gives tells v k h w l → h.ended ≡ Some end → h.out ≡ []
+      → IsFalse h.closed ⊎ (back ≡ []) → h.taken ++ back ≡ all → out ≡ before ++ h.sent → ServesBytes gives tells all before v k end out w l
+  serves v w k l h end all back before out s f ended none over whole written =
+      let c : Setting = setting_of h v.setting.version v.setting.limits in
+      let here : c ≡ v.setting = λ i. record { version = v.setting.version; instance = f.instance i; base = f.base i; limits = v.setting.limits } in
+      let r : Replies c (Some end) h = subst (λ (o : Option StreamEnd). Replies c o h) ended (s.replied v.setting.version v.setting.limits) in
+      let so : IsOpenSo (Some end) h = subst (λ (o : Option StreamEnd). IsOpenSo o h) ended s.open_so in
+      let q : EndsAfter c 999 h.turns (h.kept ++ back) h.sent end =
+      subst (λ (xs : List ℕ). EndsAfter c 999 h.turns (h.kept ++ back) xs end) (ap (λ xs. h.sent ++ xs) none ∙ append-nil h.sent) (ends_more c end h back so.1 over r) in
+      record {
+        turns = h.turns;
+        rest = h.kept ++ back;
+        out = h.sent;
+        spelled = subst (λ (xs : List ℕ). Spells xs h.turns (h.kept ++ back)) whole (Spells-more h.taken h.turns h.kept back (all_read h s f.none));
+        chain = f.chain;
+        written = ap Some written;
+        ends = subst (λ (z : Setting). EndsAfter z 999 h.turns (h.kept ++ back) h.sent end) here q;
+      }
