@@ -2,6 +2,7 @@
 mod bench;
 mod counter;
 mod memory;
+mod steps;
 
 use crate::pieces::{Pieces, Sink};
 use crate::rows::{parted, repeated, written_out};
