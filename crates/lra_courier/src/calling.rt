@@ -1,6 +1,7 @@
 //! Errands over the connections that a dialler opens.
 
-ghost use Rattle.std.specs.Prelude.{◌≡◌, IfOk, IfErr, IsTrue};
+ghost use Rattle.std.specs.Prelude.{◌≡◌, true, IfOk, IfErr, IsTrue};
+ghost use Rattle.lra_ids.specs.Addresses.{is_address};
 ghost use Rattle.lra_model.specs.Words.{outcome_suits};
 ghost use Rattle.lra_courier.specs.Exchanges.{ComesOf};
 ghost use Rattle.lra_courier.specs.Calls.{Reaches, Lacks, Calls};
@@ -12,6 +13,7 @@ use crate::fault::{CallFault, SendFault};
 use crate::socket::socket_text;
 use crate::writing::own_address;
 use lra_core::Errand;
+use lra_ids::Address;
 use lra_model::Outcome;
 use std::alloc::Global;
 
@@ -35,8 +37,21 @@ impl<D: Dialler> DiallingCourier<D> {
         ensures calls { Calls D.gives D.Stream.contents D.Stream.remaining self.now.dialler callback.now result }
         ensures suits { IfOk result (λ outcome. IsTrue (outcome_suits callback.now.kind outcome)) }
     {
-        match self.reach(callback.address) {
-            Ok(stream) => callback.converse(self.alloc, stream),
+        match own_address(self.alloc, callback.address) {
+            Ok(to) => self.call_at(&to, callback),
+            Err(fault) => Err(CallFault::Send(fault)),
+        }
+    }
+
+    /// The same, where the callback's address has been read.
+    fn call_at(&self, to: &Address, callback: &Callback<'_>) -> Result<Outcome, CallFault>
+        requires to { to.now ≡ callback.now.address }
+        requires address { is_address to.now ≡ true }
+        ensures calls { Calls D.gives D.Stream.contents D.Stream.remaining self.now.dialler callback.now result }
+        ensures suits { IfOk result (λ outcome. IsTrue (outcome_suits callback.now.kind outcome)) }
+    {
+        match self.reach(to) {
+            Ok(stream) => callback.converse_at(self.alloc, to, stream),
             Err(fault) => Err(fault),
         }
     }
@@ -53,15 +68,12 @@ impl<D: Dialler> DiallingCourier<D> {
     }
 
     /// A connection to the socket of an address.
-    fn reach(&self, address: &str) -> Result<D::Stream, CallFault>
-        ensures ok { IfOk result (λ stream. Reaches D.gives self.now.dialler address.now stream) }
-        ensures err { IfErr result (λ fault. Lacks D.gives self.now.dialler address.now fault) }
+    fn reach(&self, to: &Address) -> Result<D::Stream, CallFault>
+        requires { is_address to.now ≡ true }
+        ensures ok { IfOk result (λ stream. Reaches D.gives self.now.dialler to.now stream) }
+        ensures err { IfErr result (λ fault. Lacks D.gives self.now.dialler to.now fault) }
     {
-        let to = match own_address(self.alloc, address) {
-            Ok(to) => to,
-            Err(fault) => return Err(CallFault::Send(fault)),
-        };
-        let Ok(socket) = socket_text(self.alloc, &to) else {
+        let Ok(socket) = socket_text(self.alloc, to) else {
             return Err(CallFault::Send(SendFault::Memory));
         };
         match self.dialler.dial(socket.as_str()) {

@@ -1,12 +1,14 @@
 //! A whole callback over one stream.
 
-ghost use Rattle.std.specs.Prelude.{IfOk, IsTrue, IsFalse};
+ghost use Rattle.std.specs.Prelude.{◌≡◌, IfOk, IsTrue, IsFalse};
 ghost use Rattle.lra_model.specs.Words.{outcome_suits};
 ghost use Rattle.lra_wire.specs.Inbox.{stream_of, is_spent};
 ghost use Rattle.lra_courier.specs.Exchanges.{Answers, Converses};
 
 use crate::callback::Callback;
 use crate::fault::CallFault;
+use crate::writing::{own_address, write};
+use lra_ids::Address;
 use lra_model::Outcome;
 use lra_wire::{Inbox, WireFault};
 use std::alloc::Global;
@@ -40,6 +42,25 @@ impl<'a> Callback<'a> {
         self.answer(alloc, &mut inbox)
     }
 
+    // Writes the request to a stream, reads the response from what the stream then has left, and tells what it comes to, where
+    // the member's address has been read.
+    pub(crate) fn converse_at<S: Read + Write + Drop>(
+        &self,
+        alloc: Global,
+        to: &Address,
+        stream: S,
+    ) -> Result<Outcome, CallFault>
+        requires { to.now ≡ self.now.address }
+        ensures converses { (sent : S) × Converses (S.contents stream) (S.contents sent) (S.remaining sent) self.now result }
+        ensures suits { IfOk result (λ outcome. IsTrue (outcome_suits self.now.kind outcome)) }
+    {
+        let mut stream = stream;
+        match write(alloc, &mut stream, self, to) {
+            Ok(()) => self.answer_of(alloc, stream),
+            Err(fault) => Err(CallFault::Send(fault)),
+        }
+    }
+
     /// Writes the request to a stream, reads the response from what the stream then has left, and tells what it comes to.
     pub fn converse<S: Read + Write + Drop>(
         &self,
@@ -49,10 +70,10 @@ impl<'a> Callback<'a> {
         ensures converses { (sent : S) × Converses (S.contents stream) (S.contents sent) (S.remaining sent) self.now result }
         ensures suits { IfOk result (λ outcome. IsTrue (outcome_suits self.now.kind outcome)) }
     {
-        let mut stream = stream;
-        match self.send(alloc, &mut stream) {
-            Ok(()) => self.answer_of(alloc, stream),
-            Err(fault) => Err(CallFault::Send(fault)),
-        }
+        let to = match own_address(alloc, self.address) {
+            Ok(to) => to,
+            Err(fault) => return Err(CallFault::Send(fault)),
+        };
+        self.converse_at(alloc, &to, stream)
     }
 }

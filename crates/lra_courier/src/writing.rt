@@ -33,8 +33,8 @@ pub(crate) fn own_address(alloc: Global, text: &str) -> Result<Address, SendFaul
     }
 }
 
-// Writes the request.
-fn write<W: Write>(
+// Writes the request of a callback, whose address this is.
+pub(crate) fn write<W: Write>(
     alloc: Global,
     writer: &mut W,
     callback: &Callback<'_>,

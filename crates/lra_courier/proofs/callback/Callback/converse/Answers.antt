@@ -1,9 +1,10 @@
-use Rattle.std.proofs.Common.{refl}
-use Rattle.lra_courier.proofs.ExchangeLemmas.{conversed}
+use Rattle.std.proofs.Common.{Err, ap}
+use Rattle.lra_courier.specs.Callbacks.{Calling}
+use Rattle.lra_courier.proofs.SendLemmas.{unwritten}
 use Rattle.lra_courier.proofs.callback.Callback.converse.Goals as goal
 
-pub returns-in-Ok-clause-converses : goal.returns-in-Ok-clause-converses
-returns-in-Ok-clause-converses g c = (c.send.new.writer, conversed _ _ _ _ _ _ c.in-Ok.ensures refl c.answer_of.ensures.answers)
-
 pub returns-in-Err-clause-converses : goal.returns-in-Err-clause-converses
-returns-in-Err-clause-converses g c = (c.send.new.writer, c.in-Err.ensures)
+returns-in-Err-clause-converses g c = (
+  c.args.stream,
+  unwritten _ _ c.args.self.now c.in-Err.fault (ap (λ (v : Calling). v.address) c.self.view_is) c.in-Err.ensures.io (λ e. c.in-Err.ensures.err (ap Err e)),
+)

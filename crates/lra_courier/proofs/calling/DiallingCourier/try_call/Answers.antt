@@ -1,21 +1,12 @@
-use Rattle.std.proofs.Common.{inl, inr, refl, ap, subst, List, ℕ}
+use Rattle.std.proofs.Common.{Err, inl, refl, ap}
 use Rattle.lra_courier.specs.Callbacks.{Calling}
-use Rattle.lra_courier.specs.Calls.{Reaches, Lacks}
+use Rattle.lra_courier.proofs.SendLemmas.{unread}
 use Rattle.lra_courier.proofs.calling.DiallingCourier.try_call.Goals as goal
-
-pub returns-in-Ok-clause-calls : goal.returns-in-Ok-clause-calls
-returns-in-Ok-clause-calls g c = inr (record {
-  stream = c.in-Ok.stream;
-  sent = c.converse.ensures.converses.0;
-  reached = subst (λ (address : List ℕ). Reaches g.D.Dialler.gives c.args.self.now.dialler address c.in-Ok.stream)
-      (ap (λ (v : Calling). v.address) c.callback.view_is) c.in-Ok.ensures.ok;
-  converses = c.converse.ensures.converses.1;
-})
 
 pub returns-in-Err-clause-calls : goal.returns-in-Err-clause-calls
 returns-in-Err-clause-calls g c = inl (
   _,
   refl,
-  subst (λ (address : List ℕ). Lacks g.D.Dialler.gives c.args.self.now.dialler address c.in-Err.fault)
-      (ap (λ (v : Calling). v.address) c.callback.view_is) c.in-Err.ensures.err,
+  unread g.D.Dialler.gives c.args.self.now.dialler _ c.args.callback.now.address c.in-Err.fault (ap (λ (v : Calling). v.address) c.callback.view_is) c.in-Err.ensures.io
+      (λ e. c.in-Err.ensures.err (ap Err e)),
 )
