@@ -1,5 +1,7 @@
 //! Clerks of an office.
 
+ghost use Rattle.std.specs.Prelude.{◌≡◌, Some, None, IsSome};
+
 use lra_ticket::{Kept, Pass};
 
 /// One that gives commands to an office under its number: its right to ask for the lock, and so what it has seen of the
@@ -9,4 +11,18 @@ pub struct Clerk<V: Kept> {
     pub(crate) number: u32,
     /// It is away while a command is done.
     pub(crate) pass: Option<Pass<V>>,
+}
+
+impl<V: Kept> Clerk<V> {
+    /// Its pass, which is away until it is put back.
+    pub(crate) fn take_pass(&mut self) -> Pass<V>
+        requires { IsSome self.old.pass }
+        ensures taken { self.old.pass ≡ Some result }
+        ensures number { self.new.number ≡ self.old.number }
+    {
+        let Some(pass) = self.pass.take() else {
+            unreachable!();
+        };
+        pass
+    }
 }

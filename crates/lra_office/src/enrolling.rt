@@ -47,11 +47,13 @@ impl<V: Serving> Office<V> {
         ensures refused { IfErr result (λ refused. IsNotGiven (V.setting (pass_view pass).origin) (pass_view pass) (enrolment moment) refused.1 (pass_view refused.0)) }
         ensures stopped { IfErr result (λ refused. refused.1 ≡ Refused Stopped → HasStopped V.origin V.history V.lawful V.has_stopped (pass_view refused.0)) }
     {
-        let (pass, committed) = self.give(rt, pass, 0, moment, &Command::Enrol)?;
-        let number = told_number(told_alone(committed));
-        Ok(Clerk {
-            number,
-            pass: Some(pass),
-        })
+        let (pass, given) = self.give(rt, pass, 0, moment, &Command::Enrol);
+        match given {
+            Ok(committed) => Ok(Clerk {
+                number: told_number(told_alone(committed)),
+                pass: Some(pass),
+            }),
+            Err(refusal) => Err((pass, refusal)),
+        }
     }
 }

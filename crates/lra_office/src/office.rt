@@ -1,6 +1,6 @@
 //! The office: one coordinator for many threads.
 
-ghost use Rattle.std.specs.Prelude.{◌≡◌, ◌≢◌, ◌⊎◌, true, IfOk, IfErr, Ok, Err};
+ghost use Rattle.std.specs.Prelude.{◌≡◌, true, IfErr};
 ghost use Rattle.lra_ticket.specs.Locks.{lock_id, pass_id, pass_view};
 ghost use Rattle.lra_commands.specs.Calls.{is_fitting};
 ghost use Rattle.lra_commands.specs.declared.refusal.Refusal.TheVariants.{Stopped};
@@ -36,25 +36,23 @@ impl<V: Serving> Office<V> {
         by: u32,
         moment: u64,
         command: &Command<'_>,
-    ) -> Result<(Pass<V>, Committed), (Pass<V>, OfficeRefusal)>
+    ) -> (Pass<V>, Result<Committed, OfficeRefusal>)
         requires lock { pass_id pass ≡ lock_id self.now.lock }
         requires suited { is_suited command.now ≡ true }
         requires number { IsNumberOf command.now by (pass_view pass).number }
-        ensures lock { IfOk result (λ r. pass_id r.0 ≡ lock_id self.now.lock) }
-        ensures refused_lock { IfErr result (λ r. pass_id r.0 ≡ lock_id self.now.lock) }
-        ensures given { IfOk result (λ r. IsGiven (V.setting (pass_view pass).origin) (pass_view pass) (record { by = by; moment = moment; command = command.now }) (Ok r.1) (pass_view r.0)) }
-        ensures refused { IfErr result (λ r. IsGiven (V.setting (pass_view pass).origin) (pass_view pass) (record { by = by; moment = moment; command = command.now }) (Err r.1) (pass_view r.0)) }
-        ensures stopped { IfErr result (λ r. r.1 ≡ Refused Stopped → HasStopped V.origin V.history V.lawful V.has_stopped (pass_view r.0)) }
+        ensures lock { pass_id result.0 ≡ lock_id self.now.lock }
+        ensures given { IsGiven (V.setting (pass_view pass).origin) (pass_view pass) (record { by = by; moment = moment; command = command.now }) result.1 (pass_view result.0) }
+        ensures stopped { IfErr result.1 (λ r. r ≡ Refused Stopped → HasStopped V.origin V.history V.lawful V.has_stopped (pass_view result.0)) }
     {
         let (held, mut value) = match self.lock.take(rt, pass) {
             Ok(taken) => taken,
-            Err((pass, Worn)) => return Err((pass, OfficeRefusal::Worn)),
+            Err((pass, Worn)) => return (pass, Err(OfficeRefusal::Worn)),
         };
         let served = value.serve(by, moment, command);
         let pass = self.lock.give(held, value);
         match served {
-            Ok(committed) => Ok((pass, committed)),
-            Err(refusal) => Err((pass, OfficeRefusal::Refused(refusal))),
+            Ok(committed) => (pass, Ok(committed)),
+            Err(refusal) => (pass, Err(OfficeRefusal::Refused(refusal))),
         }
     }
 
@@ -74,18 +72,9 @@ impl<V: Serving> Office<V> {
         ensures given { IsGiven (V.setting (clerk_view clerk.old).origin) (clerk_view clerk.old) (record { by = clerk.old.number; moment = moment; command = command.now }) result (clerk_view clerk.new) }
         ensures stopped { IfErr result (λ r. r ≡ Refused Stopped → HasStopped V.origin V.history V.lawful V.has_stopped (clerk_view clerk.new)) }
     {
-        let Some(pass) = clerk.pass.take() else {
-            unreachable!();
-        };
-        match self.give(rt, pass, clerk.number, moment, command) {
-            Ok((pass, committed)) => {
-                clerk.pass = Some(pass);
-                Ok(committed)
-            }
-            Err((pass, refusal)) => {
-                clerk.pass = Some(pass);
-                Err(refusal)
-            }
-        }
+        let pass = clerk.take_pass();
+        let (pass, given) = self.give(rt, pass, clerk.number, moment, command);
+        clerk.pass = Some(pass);
+        given
     }
 }

@@ -1,6 +1,6 @@
 //! What clerks ask, which writes nothing.
 
-ghost use Rattle.std.specs.Prelude.{◌≡◌, IfOk, IfErr, Ok, Err};
+ghost use Rattle.std.specs.Prelude.{◌≡◌};
 ghost use Rattle.lra_ticket.specs.Locks.{lock_id, pass_id, pass_view};
 ghost use Rattle.lra_office.specs.Clerks.{clerk_view, IsClerkOf};
 ghost use Rattle.lra_office.specs.Orders.{IsQueried};
@@ -20,22 +20,20 @@ impl<V: Serving> Office<V> {
         rt: &R,
         pass: Pass<V>,
         query: Query,
-    ) -> Result<(Pass<V>, Known), (Pass<V>, OfficeRefusal)>
+    ) -> (Pass<V>, Result<Known, OfficeRefusal>)
         requires { pass_id pass ≡ lock_id self.now.lock }
-        ensures lock { IfOk result (λ r. pass_id r.0 ≡ lock_id self.now.lock) }
-        ensures refused_lock { IfErr result (λ r. pass_id r.0 ≡ lock_id self.now.lock) }
-        ensures known { IfOk result (λ r. IsQueried (V.setting (pass_view pass).origin) (pass_view pass) query (Ok r.1) (pass_view r.0)) }
-        ensures refused { IfErr result (λ r. IsQueried (V.setting (pass_view pass).origin) (pass_view pass) query (Err r.1) (pass_view r.0)) }
+        ensures lock { pass_id result.0 ≡ lock_id self.now.lock }
+        ensures known { IsQueried (V.setting (pass_view pass).origin) (pass_view pass) query result.1 (pass_view result.0) }
     {
         let (held, value) = match self.lock.take(rt, pass) {
             Ok(taken) => taken,
-            Err((pass, Worn)) => return Err((pass, OfficeRefusal::Worn)),
+            Err((pass, Worn)) => return (pass, Err(OfficeRefusal::Worn)),
         };
         let known = value.query(query);
         let pass = self.lock.give(held, value);
         match known {
-            Ok(known) => Ok((pass, known)),
-            Err(refusal) => Err((pass, OfficeRefusal::Refused(refusal))),
+            Ok(known) => (pass, Ok(known)),
+            Err(refusal) => (pass, Err(OfficeRefusal::Refused(refusal))),
         }
     }
 
@@ -52,18 +50,9 @@ impl<V: Serving> Office<V> {
         ensures number { clerk.new.number ≡ clerk.old.number }
         ensures known { IsQueried (V.setting (clerk_view clerk.old).origin) (clerk_view clerk.old) query result (clerk_view clerk.new) }
     {
-        let Some(pass) = clerk.pass.take() else {
-            unreachable!();
-        };
-        match self.ask(rt, pass, query) {
-            Ok((pass, known)) => {
-                clerk.pass = Some(pass);
-                Ok(known)
-            }
-            Err((pass, refusal)) => {
-                clerk.pass = Some(pass);
-                Err(refusal)
-            }
-        }
+        let pass = clerk.take_pass();
+        let (pass, known) = self.ask(rt, pass, query);
+        clerk.pass = Some(pass);
+        known
     }
 }

@@ -1,6 +1,6 @@
 //! Commands that don't wait for the lock.
 
-ghost use Rattle.std.specs.Prelude.{◌≡◌, true, IfOk, IfErr, Ok, Err};
+ghost use Rattle.std.specs.Prelude.{◌≡◌, true, IfErr};
 ghost use Rattle.lra_commands.specs.declared.command.Command.TheVariants as Command;
 ghost use Rattle.lra_commands.specs.declared.refusal.Refusal.TheVariants.{Stopped};
 ghost use Rattle.lra_core.specs.Prepares.{is_suited};
@@ -48,28 +48,27 @@ impl<V: Serving> Office<V> {
         by: u32,
         moment: u64,
         command: &Command<'_>,
-    ) -> Result<(Pass<V>, Told), (Pass<V>, TryRefusal)>
+    ) -> (Pass<V>, Result<Told, TryRefusal>)
         requires lock { pass_id pass ≡ lock_id self.now.lock }
         requires suited { is_suited command.now ≡ true }
         requires number { IsNumberOf command.now by (pass_view pass).number }
-        ensures lock { IfOk result (λ r. pass_id r.0 ≡ lock_id self.now.lock) }
-        ensures refused_lock { IfErr result (λ r. pass_id r.0 ≡ lock_id self.now.lock) }
-        ensures given { IfOk result (λ r. IsTried (V.setting (pass_view pass).origin) (pass_view pass) (record { by = by; moment = moment; command = command.now }) (Ok r.1) (pass_view r.0)) }
-        ensures refused { IfErr result (λ r. IsTried (V.setting (pass_view pass).origin) (pass_view pass) (record { by = by; moment = moment; command = command.now }) (Err r.1) (pass_view r.0)) }
-        ensures stopped { IfErr result (λ r. r.1 ≡ Refused Stopped → HasStopped V.origin V.history V.lawful V.has_stopped (pass_view r.0)) }
+        ensures lock { pass_id result.0 ≡ lock_id self.now.lock }
+        ensures tried { IsTried (V.setting (pass_view pass).origin) (pass_view pass) (record { by = by; moment = moment; command = command.now }) result.1 (pass_view result.0) }
+        ensures stopped { IfErr result.1 (λ r. r ≡ Refused Stopped → HasStopped V.origin V.history V.lawful V.has_stopped (pass_view result.0)) }
     {
         let (held, mut value) = match self.lock.try_take(pass) {
             Ok(taken) => taken,
-            Err((pass, fault)) => return Err((pass, refusal_of(fault))),
+            Err((pass, fault)) => return (pass, Err(refusal_of(fault))),
         };
         let served = value.serve(by, moment, command);
         let pass = self.lock.give(held, value);
         match served {
-            Ok(committed) => Ok((pass, told_alone(committed))),
-            Err(refusal) => Err((pass, TryRefusal::Refused(refusal))),
+            Ok(committed) => (pass, Ok(told_alone(committed))),
+            Err(refusal) => (pass, Err(TryRefusal::Refused(refusal))),
         }
     }
 
+    /// Does a command of a clerk, if the lock is free.
     fn try_tell(
         &self,
         clerk: &mut Clerk<V>,
@@ -84,19 +83,10 @@ impl<V: Serving> Office<V> {
         ensures tried { IsTried (V.setting (clerk_view clerk.old).origin) (clerk_view clerk.old) (record { by = clerk.old.number; moment = moment; command = command.now }) result (clerk_view clerk.new) }
         ensures stopped { IfErr result (λ r. r ≡ Refused Stopped → HasStopped V.origin V.history V.lawful V.has_stopped (clerk_view clerk.new)) }
     {
-        let Some(pass) = clerk.pass.take() else {
-            unreachable!();
-        };
-        match self.try_give(pass, clerk.number, moment, command) {
-            Ok((pass, told)) => {
-                clerk.pass = Some(pass);
-                Ok(told)
-            }
-            Err((pass, refusal)) => {
-                clerk.pass = Some(pass);
-                Err(refusal)
-            }
-        }
+        let pass = clerk.take_pass();
+        let (pass, tried) = self.try_give(pass, clerk.number, moment, command);
+        clerk.pass = Some(pass);
+        tried
     }
 
     /// Tells the status of an action, if the lock is free.

@@ -15,8 +15,8 @@ returns-in-Ok-known-clause-known g c =
     answered g.V.Serving.setting (pass_view c.args.pass) (held_view c.in-Ok.taken.0) (pass_view c.give-pass.result) _ _ c.args.query _ suits.same_origin
     (record { begins = suits.begins; seen_own = suits.seen_own; own = suits.own; enrolled = suits.enrolled; kept = g.met.V.Serving.tells c.in-Ok.taken.1 suits.lawful_now }) c.in-Ok.ensures.view (sym c.in-Ok-known.is ∙ c.query-known.ensures) c.give-pass.ensures.view
 
-pub returns-in-Err-known-clause-refused : goal.returns-in-Err-known-clause-refused
-returns-in-Err-known-clause-refused g c =
+pub returns-in-Err-known-clause-known : goal.returns-in-Err-known-clause-known
+returns-in-Err-known-clause-known g c =
     let suits = c.in-Ok.ensures.value in
     answered g.V.Serving.setting (pass_view c.args.pass) (held_view c.in-Ok.taken.0) (pass_view c.give-pass.result) _ _ c.args.query _ suits.same_origin
     (record { begins = suits.begins; seen_own = suits.seen_own; own = suits.own; enrolled = suits.enrolled; kept = g.met.V.Serving.tells c.in-Ok.taken.1 suits.lawful_now }) c.in-Ok.ensures.view (sym c.in-Err-known.is ∙ c.query-known.ensures) c.give-pass.ensures.view

@@ -22,8 +22,8 @@ returns-in-Ok-served-clause-given g c =
     (record { begins = suits.begins; seen_own = suits.seen_own; own = suits.own; enrolled = suits.enrolled; kept = g.met.V.Serving.tells c.in-Ok.taken.1 suits.lawful_now }) c.in-Ok.ensures.view c.in-Ok-served.ensures.served
     (subst (λ o. IsKeptBy (g.V.Serving.setting o) (g.V.Kept.history c.serve-served.new.self)) c.serve-served.ensures.origin (g.met.V.Serving.tells c.serve-served.new.self c.serve-served.ensures.lawful)) c.give-pass.ensures.view
 
-pub returns-in-Err-served-clause-refused : goal.returns-in-Err-served-clause-refused
-returns-in-Err-served-clause-refused g c =
+pub returns-in-Err-served-clause-given : goal.returns-in-Err-served-clause-given
+returns-in-Err-served-clause-given g c =
     let suits = c.in-Ok.ensures.value in
     not_grown g.V.Serving.setting (pass_view c.args.pass) (held_view c.in-Ok.taken.0) (pass_view c.give-pass.result) _ _ _ _ c.in-Err-served.refusal suits.same_origin
     (record { begins = suits.begins; seen_own = suits.seen_own; own = suits.own; enrolled = suits.enrolled; kept = g.met.V.Serving.tells c.in-Ok.taken.1 suits.lawful_now }) c.in-Ok.ensures.view c.in-Err-served.ensures.served c.give-pass.ensures.view

@@ -18,8 +18,8 @@ give-pass-requires-clause-own g c =
     may_add (tried (pass_view c.args.pass)) (held_view c.in-Ok.taken.0) _ _ _ c.args.by c.args.moment c.args.command.now c.serve-served.result c.in-Ok.ensures.view
     (g.met.V.Serving.tells c.in-Ok.taken.1 suits.lawful_now) c.requires.number c.serve-served.ensures.served
 
-pub returns-in-Ok-served-clause-given : goal.returns-in-Ok-served-clause-given
-returns-in-Ok-served-clause-given g c =
+pub returns-in-Ok-served-clause-tried : goal.returns-in-Ok-served-clause-tried
+returns-in-Ok-served-clause-tried g c =
     let suits = c.in-Ok.ensures.value in
     let call : Call = record { by = c.args.by; moment = c.args.moment; command = c.args.command.now } in (
       c.in-Ok-served.committed.errand,
@@ -29,8 +29,8 @@ returns-in-Ok-served-clause-given g c =
           (subst (λ o. IsKeptBy (g.V.Serving.setting o) (g.V.Kept.history c.serve-served.new.self)) c.serve-served.ensures.origin (g.met.V.Serving.tells c.serve-served.new.self c.serve-served.ensures.lawful)) c.give-pass.ensures.view),
     )
 
-pub returns-in-Err-served-clause-refused : goal.returns-in-Err-served-clause-refused
-returns-in-Err-served-clause-refused g c =
+pub returns-in-Err-served-clause-tried : goal.returns-in-Err-served-clause-tried
+returns-in-Err-served-clause-tried g c =
     let suits = c.in-Ok.ensures.value in
     not_grown g.V.Serving.setting (tried (pass_view c.args.pass)) (held_view c.in-Ok.taken.0) (pass_view c.give-pass.result) _ _ _ _ c.in-Err-served.refusal suits.same_origin
     (record { begins = suits.begins; seen_own = suits.seen_own; own = suits.own; enrolled = suits.enrolled; kept = g.met.V.Serving.tells c.in-Ok.taken.1 suits.lawful_now }) c.in-Ok.ensures.view c.in-Err-served.ensures.served c.give-pass.ensures.view
