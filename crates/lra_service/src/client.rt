@@ -1,6 +1,6 @@
 //! A client's stream, with its time-outs.
 
-ghost use Rattle.std.specs.Prelude.{ℕ, IfOk};
+ghost use Rattle.std.specs.Prelude.{◌≡◌, ◌≤◌, ℕ, IfOk};
 ghost use Rattle.std.specs.Io.{ReadsAtMost, WritesAtMost};
 ghost use Rattle.lra_durable.specs.Leaves.{MayLeave};
 
@@ -8,7 +8,7 @@ use lra_courier::{seconds_on, time_until};
 use lra_durable::{Disk, Progress, Tally, send};
 use std::cell::Cell;
 use std::io::{self, Error, ErrorKind, Read, Write};
-use std::net::TcpStream;
+use std::net::{Shutdown, TcpStream};
 use std::sync::Wait;
 use std::time::{Clock, Duration, Instant};
 
@@ -33,6 +33,59 @@ enum Turn {
     Asks(Instant),
     /// The client's, to take a reply, of which some bytes have gone out.
     Takes(Instant),
+    /// Nobody's: the stream couldn't be set up.
+    Over,
+}
+
+/// What a stream is called for: to be read, or to be written.
+trait Call {
+    ghost use Rattle.std.specs.Prelude.{◌≡◌, ◌≤◌, IfOk};
+
+    // How many bytes that is at most.
+    ghost most: { Self → ℕ };
+
+    /// Calls the stream once, which waits so long at most.
+    fn once(&mut self, stream: &TcpStream, wait: Duration) -> io::Result<usize>
+        ensures count { IfOk result (λ count. count ≤ most self.old) }
+        ensures most { most self.new ≡ most self.old };
+}
+
+/// Fills a buffer.
+#[derive(Drop)]
+struct Fill<'a>(&'a mut [u8]);
+
+impl Call for Fill<'_> {
+    ghost use Rattle.std.specs.Prelude.{length};
+
+    ghost most = { λ fill. length fill.0.now };
+
+    fn once(&mut self, stream: &TcpStream, wait: Duration) -> io::Result<usize> {
+        stream.set_read_timeout(Some(wait))?;
+        let mut stream = stream;
+        stream.read(self.0)
+    }
+}
+
+/// Gives bytes away.
+#[derive(Drop)]
+struct Give<'a>(&'a [u8]);
+
+impl Call for Give<'_> {
+    ghost use Rattle.std.specs.Prelude.{length};
+
+    ghost most = { λ give. length give.0.now };
+
+    fn once(&mut self, stream: &TcpStream, wait: Duration) -> io::Result<usize> {
+        stream.set_write_timeout(Some(wait))?;
+        let mut stream = stream;
+        stream.write(self.0)
+    }
+}
+
+/// Sets a stream up, so that what is written is sent at once, and tells until when its first request has to begin.
+fn set_up<R: Clock>(rt: &R, stream: &TcpStream) -> io::Result<Instant> {
+    stream.set_nodelay(true)?;
+    seconds_on(rt, IDLE_SECS)
 }
 
 /// A client's stream. Past its time-outs reads and writes fail. Nothing is written to it but by [`send`], with the journal's count in hand.
@@ -44,15 +97,20 @@ pub(crate) struct Client<'a, R> {
 }
 
 impl<'a, R: Wait + Clock> Client<'a, R> {
-    /// One that has just come in.
-    pub(crate) fn new(rt: &'a R, stream: TcpStream) -> io::Result<Client<'a, R>> {
-        stream.set_nodelay(true)?;
-        let end = seconds_on(rt, IDLE_SECS)?;
-        Ok(Client {
+    /// One that has just come in. Where it can't be set up it is ended: nothing is read or written.
+    pub(crate) fn new(rt: &'a R, stream: TcpStream) -> Client<'a, R> {
+        let turn = match set_up(rt, &stream) {
+            Ok(end) => Turn::Begins(end),
+            Err(_) => {
+                let _ = stream.shutdown(Shutdown::Both);
+                Turn::Over
+            }
+        };
+        Client {
             rt,
             stream,
-            turn: Cell::new(Turn::Begins(end)),
-        })
+            turn: Cell::new(turn),
+        }
     }
 
     /// Whether a request has begun that isn't answered yet.
@@ -77,21 +135,38 @@ impl<'a, R: Wait + Clock> Client<'a, R> {
     ) -> io::Result<usize>
         ensures { ReadsAtMost result buffer.new }
     {
-        let (Turn::Begins(end) | Turn::Asks(end) | Turn::Takes(end)) = self.turn.get();
+        let end = self.request_end()?;
+        let count = self.wait_for(progress, end, &mut Fill(buffer))?;
+        self.begin_request()?;
+        Ok(count)
+    }
+
+    /// Calls the stream, a time-out at a time, until it has given or taken bytes or has ended.
+    fn wait_for<D: Disk, C: Call>(
+        &self,
+        progress: &Progress<D>,
+        end: Instant,
+        call: &mut C,
+    ) -> io::Result<usize>
+        ensures count { IfOk result (λ count. count ≤ C.most call.old) }
+        ensures most { C.most call.new ≡ C.most call.old }
+    {
         for _ in self.rt.forever() {
             let wait = self.wait_until(progress, end)?;
-            self.stream.set_read_timeout(Some(wait))?;
-            let mut stream = &self.stream;
-            match stream.read(buffer) {
+            match call.once(&self.stream, wait) {
                 Err(error) if error.kind() == ErrorKind::WouldBlock => {}
-                Err(error) => return Err(error),
-                Ok(count) => {
-                    self.begin_request()?;
-                    return Ok(count);
-                }
+                told => return told,
             }
         }
         unreachable!()
+    }
+
+    /// Until when the client has to go on with its request.
+    fn request_end(&self) -> io::Result<Instant> {
+        match self.turn.get() {
+            Turn::Begins(end) | Turn::Asks(end) | Turn::Takes(end) => Ok(end),
+            Turn::Over => Err(Error::from(ErrorKind::NotConnected)),
+        }
     }
 
     /// The first bytes of a request have come, or more of them.
@@ -135,7 +210,8 @@ impl<'a, R: Wait + Clock> Client<'a, R> {
     fn reply_end(&self) -> io::Result<Instant> {
         match self.turn.get() {
             Turn::Takes(end) => Ok(end),
-            _ => seconds_on(self.rt, REPLY_SECS),
+            Turn::Begins(_) | Turn::Asks(_) => seconds_on(self.rt, REPLY_SECS),
+            Turn::Over => Err(Error::from(ErrorKind::NotConnected)),
         }
     }
 }
@@ -151,20 +227,9 @@ impl<R: Wait + Clock, D: Disk> Write for Mouth<'_, '_, R, D> {
     fn write(&mut self, bytes: &[u8]) -> io::Result<usize> {
         let client = self.client;
         let end = client.reply_end()?;
-        for _ in client.rt.forever() {
-            let wait = client.wait_until(self.progress, end)?;
-            client.stream.set_write_timeout(Some(wait))?;
-            let mut stream = &client.stream;
-            match stream.write(bytes) {
-                Err(error) if error.kind() == ErrorKind::WouldBlock => {}
-                Err(error) => return Err(error),
-                Ok(count) => {
-                    client.has_written(bytes.len() - count, end)?;
-                    return Ok(count);
-                }
-            }
-        }
-        unreachable!()
+        let count = client.wait_for(self.progress, end, &mut Give(bytes))?;
+        client.has_written(bytes.len() - count, end)?;
+        Ok(count)
     }
 
     fn flush(&mut self) -> io::Result<()> {

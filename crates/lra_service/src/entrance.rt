@@ -66,16 +66,14 @@ impl<'a, R: Wait + Clock, D: Disk> Entrance<'a, R, D> {
 impl<'a, R: Wait + Clock, D: Disk> Door for Entrance<'a, R, D> {
     type Line = Session<'a, R, D>;
 
-    /// Waits for a connection. One that can't be accepted, as where too many files are open, is waited out.
+    /// Waits for a connection. One that can't be accepted, as where too many files are open, is waited out; one whose socket can't be
+    /// set up has ended when it is handed out.
     fn open<S: Wait>(&self, rt: &S) -> io::Result<Session<'a, R, D>> {
         for _ in rt.forever() {
             if let Some(stream) = self.accept()? {
-                if let Ok(session) = Session::new(self.rt, self.progress, stream) {
-                    return Ok(session);
-                }
-            } else {
-                sleep(self.rt, Duration::from_millis(PAUSE));
+                return Ok(Session::new(self.rt, self.progress, stream));
             }
+            sleep(self.rt, Duration::from_millis(PAUSE));
         }
         unreachable!()
     }

@@ -60,8 +60,6 @@ struct Service<'a, R, P> {
     rt: &'a R,
     alloc: Global,
     address: &'a str,
-    /// The base of the identifiers that are served there.
-    base: &'a Address,
     /// Where the journal is kept.
     place: &'a P,
     workers: u32,
@@ -143,19 +141,17 @@ impl<
     /// The office of a journal, and its first clerk.
     fn open<K: Write + Drop>(
         &self,
+        base: Address,
         journal: Vec<u8>,
         keeper: K,
         moment: u64,
     ) -> Result<(Office<Desk<K>>, Clerk<Desk<K>>), ServeFault>
-        requires base { is_base self.now.base.now ≡ true }
-        requires text { self.now.base.now ≡ base_text self.now.address.now }
+        requires base { is_base base ≡ true }
+        requires text { base ≡ base_text self.now.address.now }
         requires journal { IfSome (P.had self.now.place.now) (λ had. journal.items ≡ had) }
         ensures opened { IfOk result (λ opened. IsOpenAt (P.had self.now.place.now) (base_text self.now.address.now) moment opened.0 opened.1) }
         ensures fault { IfErr result IsOfNoScript }
     {
-        let Ok(base) = self.base.copy() else {
-            return Err(ServeFault::Run(RunFault::Memory));
-        };
         open_office(self.rt, self.alloc, base, journal, keeper, moment)
     }
 
@@ -163,17 +159,18 @@ impl<
     fn serve_journal<K: Write + Drop + Send, W: Write>(
         &self,
         shift: &Shift<'_, R>,
+        base: Address,
         journal: Vec<u8>,
         keeper: K,
         writer: &mut W,
     ) -> Result<(), ServeFault>
-        requires base { is_base self.now.base.now ≡ true }
-        requires text { self.now.base.now ≡ base_text self.now.address.now }
+        requires base { is_base base ≡ true }
+        requires text { base ≡ base_text self.now.address.now }
         requires journal { IfSome (P.had self.now.place.now) (λ had. journal.items ≡ had) }
         ensures said { OnOk result (Appends (W.contents writer.old) (W.contents writer.new) (serving_line self.now.address.now)) }
         ensures fault { IfErr result (IsSaid self.now.address.now (W.contents writer.old) (W.contents writer.new)) }
     {
-        let (office, clerk) = self.open(journal, keeper, shift.moment)?;
+        let (office, clerk) = self.open(base, journal, keeper, shift.moment)?;
         let served = self.serve_office(shift, &office, clerk, writer);
         drop(office);
         served
@@ -184,11 +181,12 @@ impl<
         &self,
         listener: TcpListener,
         stand: Stand,
+        base: Address,
         journal: Vec<u8>,
         writer: &mut W,
     ) -> ServeFault
-        requires base { is_base self.now.base.now ≡ true }
-        requires text { self.now.base.now ≡ base_text self.now.address.now }
+        requires base { is_base base ≡ true }
+        requires text { base ≡ base_text self.now.address.now }
         requires journal { IfSome (P.had self.now.place.now) (λ had. journal.items ≡ had) }
         ensures { IsSaid self.now.address.now (W.contents writer.old) (W.contents writer.new) result }
     {
@@ -206,7 +204,7 @@ impl<
             moment,
             self.workers,
         );
-        let served = self.serve_journal(&shift, journal, keeper, writer);
+        let served = self.serve_journal(&shift, base, journal, keeper, writer);
         drop(shift);
         let has_failed = progress.has_failed(self.rt);
         drop(progress);
@@ -228,24 +226,44 @@ impl<
         stand_on(file, moment)
     }
 
+    /// A listener at a base's host and port, and the disk of a journal that was found so.
+    fn make_ready(
+        &self,
+        base: &Address,
+        found: Found<File>,
+        journal: &[u8],
+    ) -> Result<(TcpListener, Stand), ServeFault>
+        requires found { IsFound P.contents (P.had self.now.place.now) found }
+        requires journal { IfSome (P.had self.now.place.now) (λ had. journal.now ≡ had) }
+        ensures { IfErr result IsOfNoScript }
+    {
+        let listener = bind(self.alloc, self.rt, base)?;
+        let file = ready_file(self.place, found, journal)?;
+        Ok((listener, self.stand(file)?))
+    }
+
     /// Serves a sound journal that was found so. That has ended by a fault.
     fn serve_found<W: Write>(
         &self,
+        base: Address,
         found: Found<File>,
         journal: Vec<u8>,
         writer: &mut W,
-    ) -> Result<u8, ServeFault>
-        requires base { is_base self.now.base.now ≡ true }
-        requires text { self.now.base.now ≡ base_text self.now.address.now }
+    ) -> ServeFault
+        requires base { is_base base ≡ true }
+        requires text { base ≡ base_text self.now.address.now }
         requires found { IsFound P.contents (P.had self.now.place.now) found }
         requires journal { IfSome (P.had self.now.place.now) (λ had. journal.items ≡ had) }
-        ensures unsound { IfOk result (IsRefused (P.had self.now.place.now) (W.contents writer.old) (W.contents writer.new)) }
-        ensures fault { IfErr result (IsSaid self.now.address.now (W.contents writer.old) (W.contents writer.new)) }
+        ensures { IsSaid self.now.address.now (W.contents writer.old) (W.contents writer.new) result }
     {
-        let listener = bind(self.alloc, self.rt, self.base)?;
-        let file = ready_file(self.place, found, &journal)?;
-        let stand = self.stand(file)?;
-        Err(self.serve_at(listener, stand, journal, writer))
+        match self.make_ready(&base, found, &journal) {
+            Ok((listener, stand)) => self.serve_at(listener, stand, base, journal, writer),
+            Err(fault) => {
+                drop(base);
+                drop(journal);
+                fault
+            }
+        }
     }
 
     /// Audits what was found: nothing is told where it can be served.
@@ -267,9 +285,9 @@ impl<
     }
 
     /// Serves what the place has, once its lock is taken and its journal is audited.
-    fn serve_place<W: Write>(&self, writer: &mut W) -> Result<u8, ServeFault>
-        requires base { is_base self.now.base.now ≡ true }
-        requires text { self.now.base.now ≡ base_text self.now.address.now }
+    fn serve_place<W: Write>(&self, base: Address, writer: &mut W) -> Result<u8, ServeFault>
+        requires base { is_base base ≡ true }
+        requires text { base ≡ base_text self.now.address.now }
         ensures unsound { IfOk result (IsRefused (P.had self.now.place.now) (W.contents writer.old) (W.contents writer.new)) }
         ensures fault { IfErr result (IsSaid self.now.address.now (W.contents writer.old) (W.contents writer.new)) }
     {
@@ -277,9 +295,10 @@ impl<
         if let Some(told) = self.refuse(&journal, writer) {
             drop(found);
             drop(journal);
+            drop(base);
             return told;
         }
-        self.serve_found(found, journal, writer)
+        Err(self.serve_found(base, found, journal, writer))
     }
 }
 
@@ -309,11 +328,10 @@ pub fn serve_from<
         rt,
         alloc,
         address,
-        base: &base,
         place,
         workers,
     };
-    service.serve_place(writer)
+    service.serve_place(base, writer)
 }
 
 /// The same, of the system's file of a name.

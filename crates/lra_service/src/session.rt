@@ -23,19 +23,15 @@ pub struct Session<'a, R, D: Disk> {
 }
 
 impl<'a, R: Wait + Clock, D: Disk> Session<'a, R, D> {
-    /// A connection that has just come in.
-    pub fn new(
-        rt: &'a R,
-        progress: &'a Progress<D>,
-        stream: TcpStream,
-    ) -> io::Result<Session<'a, R, D>>
-        ensures { IfOk result (λ session. (session.rt ≡ rt.entry) × (session.progress ≡ progress.entry)) }
+    /// A connection that has just come in. Where its socket can't be set up, it is one that has ended.
+    pub fn new(rt: &'a R, progress: &'a Progress<D>, stream: TcpStream) -> Session<'a, R, D>
+        ensures { (result.rt ≡ rt.entry) × (result.progress ≡ progress.entry) }
     {
-        Ok(Session {
+        Session {
             rt,
             progress,
-            client: Client::new(rt, stream)?,
-        })
+            client: Client::new(rt, stream),
+        }
     }
 }
 
