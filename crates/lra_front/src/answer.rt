@@ -22,6 +22,9 @@ use serde_json::{Value, json};
 use std::alloc::Global;
 use std::io::Write;
 
+/// How many fields a reply has at most.
+const MOST_FIELDS: usize = 5;
+
 /// What a request is answered.
 #[derive(Clone, Copy, Debug, PartialEq, Eq)]
 pub enum Answer {
@@ -221,7 +224,7 @@ impl Answer {
         ensures { IfOk result (λ fields. (text : List ℕ) → digits.now ≡ decimal (length text)
             → map seen fields.items ≡ spec.fields_of uri.now self text close) }
     {
-        let mut fields: Vec<(&'a str, &'a str)> = Vec::with_capacity(alloc, 5)?;
+        let mut fields: Vec<(&'a str, &'a str)> = Vec::with_capacity(alloc, MOST_FIELDS)?;
         fields.push_reserved(("Content-Type", "application/json"));
         fields.push_reserved(("Content-Length", digits));
         self.add_fields(uri, &mut fields);
