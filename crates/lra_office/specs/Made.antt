@@ -9,7 +9,7 @@ use Rattle.lra_ticket.specs.Locks.{lock_id, pass_id, pass_view}
 use Rattle.lra_commands.specs.declared.limits.Limits.{Limits}
 use Rattle.lra_office.specs.declared.fault.StartFault.{StartFault}
 use Rattle.lra_office.specs.declared.fault.StartFault.TheVariants.{Stopped, Memory}
-use Rattle.lra_office.specs.declared.office.Office.{Office}
+use Rattle.lra_office.specs.declared.office.OfficeOf.{OfficeOf}
 use Rattle.lra_office.specs.Origins.{Origin}
 use Rattle.lra_office.specs.Windows.{IsOfficeOf}
 
@@ -18,7 +18,7 @@ abbrev pub new_origin : ℕ → List ℕ → Limits → Option (List ℕ) → Or
 new_origin instance base limits had = record { setting = record { version = Two; instance = instance; base = base; limits = limits }; front = []; had = had }
 
 -- a new office of an origin, and its first pass, which has no number yet and has seen that there is no entry
-pub record IsFirst {X : Type 0} {g : Ghosts X Origin} (o : Origin) (office : Office X Origin) (pass : Pass X Origin g) : Type 0 where
+pub record IsFirst {X : Type 0} {g : Ghosts X Origin} (o : Origin) (office : OfficeOf X Origin) (pass : Pass X Origin g) : Type 0 where
   pub lock : pass_id pass ≡ lock_id office.lock
   pub view : pass_view pass ≡ first_view 0 o []
   pub copies : IsOfficeOf o.setting office

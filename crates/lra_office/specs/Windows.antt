@@ -2,10 +2,10 @@
 use Rattle.std.specs.Prelude.{◌≡◌, true}
 use Rattle.lra_ids.specs.Addresses.{is_base}
 use Rattle.lra_commands.specs.Counters.{Setting}
-use Rattle.lra_office.specs.declared.office.Office.{Office}
+use Rattle.lra_office.specs.declared.office.OfficeOf.{OfficeOf}
 
 -- an office keeps a copy of its origin's instance and base
-pub record IsOfficeOf {X O : Type 0} (g : Setting) (o : Office X O) : Type 0 where
+pub record IsOfficeOf {X O : Type 0} (g : Setting) (o : OfficeOf X O) : Type 0 where
   pub instance : o.instance ≡ g.instance
   pub base : o.base ≡ g.base
   pub is_base : is_base g.base ≡ true

@@ -12,7 +12,7 @@ ghost use Rattle.lra_office.specs.Orders.{IsNotGiven};
 
 use crate::clerk::Clerk;
 use crate::fault::OfficeRefusal;
-use crate::office::Office;
+use crate::office::OfficeOf;
 use crate::serving::Serving;
 use crate::trying::told_alone;
 use lra_commands::Told;
@@ -31,7 +31,7 @@ pub(crate) fn told_number(told: Told) -> u32
     number
 }
 
-impl<V: Serving> Office<V> {
+impl<V: Serving> OfficeOf<V> {
     /// Enrols a clerk, under a number that no entry bore. Refused where there are too many clerks or entries.
     pub fn clerk<R: Wait>(
         &self,

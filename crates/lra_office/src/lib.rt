@@ -21,6 +21,6 @@ pub use clerk::Clerk;
 pub use desk::Desk;
 pub use fault::{OfficeRefusal, ReopenFault, StartFault, TryRefusal};
 pub use laws::journals_are_sound;
-pub use office::Office;
+pub use office::{Office, OfficeOf};
 pub use serving::Serving;
 pub use window::{WhichLock, Window};

@@ -12,6 +12,7 @@ ghost use Rattle.lra_office.specs.inner.Given.{IsGiven};
 ghost use Rattle.lra_office.specs.inner.Given.{IsNumberOf};
 
 use crate::clerk::Clerk;
+use crate::desk::Desk;
 use crate::fault::OfficeRefusal;
 use crate::serving::Serving;
 use lra_core::{Command, Committed};
@@ -19,15 +20,18 @@ use lra_ids::{Address, Instance};
 use lra_ticket::{Pass, TicketLock, Worn};
 use std::sync::Wait;
 
-/// One coordinator for many threads, its journal behind one lock.
+/// An office of whatever serves behind its lock: it stands for many threads. [`Office`] is the one of a desk.
 #[derive(Drop)]
-pub struct Office<V: Serving> {
+pub struct OfficeOf<V: Serving> {
     pub(crate) lock: TicketLock<V>,
     pub(crate) instance: Instance,
     pub(crate) base: Address,
 }
 
-impl<V: Serving> Office<V> {
+/// One coordinator for many threads, its journal behind one lock.
+pub type Office<W> = OfficeOf<Desk<W>>;
+
+impl<V: Serving> OfficeOf<V> {
     /// Waits for the lock, and does a command under the number of the pass.
     pub(crate) fn give<R: Wait>(
         &self,

@@ -9,11 +9,11 @@ ghost use Rattle.lra_ticket.specs.Views.{newcomer, moved};
 ghost use Rattle.lra_office.specs.Clerks.{clerk_view, IsClerkOf};
 
 use crate::clerk::Clerk;
-use crate::office::Office;
+use crate::office::OfficeOf;
 use crate::serving::Serving;
 use lra_ticket::Pass;
 
-impl<V: Serving> Office<V> {
+impl<V: Serving> OfficeOf<V> {
     /// A second pass, for a clerk to be enrolled by: it has seen as much as the clerk.
     pub fn split(&self, clerk: Clerk<V>) -> (Clerk<V>, Pass<V>)
         requires { IsClerkOf self.now.lock clerk }
@@ -78,14 +78,14 @@ impl<V: Serving> Office<V> {
     }
 
     /// Ends the office, if no one else holds its lock or waits for it, and gives what it kept.
-    pub fn into_kept(self, clerk: Clerk<V>) -> Result<V, (Office<V>, Clerk<V>)>
+    pub fn into_kept(self, clerk: Clerk<V>) -> Result<V, (OfficeOf<V>, Clerk<V>)>
         requires { IsClerkOf self.lock clerk }
         ensures value { IfOk result (λ x. Suits V.origin V.history V.lawful (clerk_view clerk) x) }
         ensures same { IfErr result (λ e. e.0 ≡ self) }
         ensures clerk { IfErr result (λ e. IsClerkOf self.lock e.1 × (e.1.number ≡ clerk.number)) }
         ensures missed { IfErr result (λ e. HasMissed (clerk_view clerk) (clerk_view e.1)) }
     {
-        let Office {
+        let OfficeOf {
             lock,
             instance,
             base,
@@ -97,7 +97,7 @@ impl<V: Serving> Office<V> {
         match lock.close(pass) {
             Ok(value) => Ok(value),
             Err((lock, pass)) => Err((
-                Office {
+                OfficeOf {
                     lock,
                     instance,
                     base,

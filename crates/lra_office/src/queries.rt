@@ -7,13 +7,13 @@ ghost use Rattle.lra_office.specs.Orders.{IsQueried};
 
 use crate::clerk::Clerk;
 use crate::fault::OfficeRefusal;
-use crate::office::Office;
+use crate::office::OfficeOf;
 use crate::serving::Serving;
 use lra_commands::{Known, Query};
 use lra_ticket::{Pass, Worn};
 use std::sync::Wait;
 
-impl<V: Serving> Office<V> {
+impl<V: Serving> OfficeOf<V> {
     /// Waits for the lock, and asks.
     fn ask<R: Wait>(
         &self,

@@ -12,12 +12,12 @@ use lra_core::Coordinator;
 use lra_scribe::Scribe;
 use std::io::Write;
 
-impl<W: Write + Drop> Office<Desk<W>> {
+impl<W: Write + Drop> Office<W> {
     /// Ends the office, if no one else holds its lock or waits for it, and gives the coordinator and the scribe of its journal.
     pub fn shut(
         self,
         clerk: Clerk<Desk<W>>,
-    ) -> Result<(Coordinator, Scribe<W>), (Office<Desk<W>>, Clerk<Desk<W>>)>
+    ) -> Result<(Coordinator, Scribe<W>), (Office<W>, Clerk<Desk<W>>)>
         requires { IsClerkOf self.lock clerk }
         ensures shut { IfOk result (λ kept. IsShut W.contents (clerk_view clerk) kept.0 kept.1) }
         ensures same { IfErr result (λ left. left.0 ≡ self) }

@@ -13,7 +13,7 @@ ghost use Rattle.lra_office.specs.inner.Given.{IsNumberOf, refusal_of};
 
 use crate::clerk::Clerk;
 use crate::fault::TryRefusal;
-use crate::office::Office;
+use crate::office::OfficeOf;
 use crate::serving::Serving;
 use lra_commands::Told;
 use lra_core::{Command, Committed};
@@ -40,7 +40,7 @@ pub(crate) fn told_alone(committed: Committed) -> Told
     told
 }
 
-impl<V: Serving> Office<V> {
+impl<V: Serving> OfficeOf<V> {
     /// Does a command under the number of the pass, if the lock is free.
     fn try_give(
         &self,

@@ -10,7 +10,7 @@ ghost use Rattle.lra_office.specs.inner.Given.{fault_of};
 
 use crate::clerk::Clerk;
 use crate::fault::OfficeRefusal;
-use crate::office::Office;
+use crate::office::OfficeOf;
 use crate::serving::Serving;
 use lra_commands::{Counter, CounterFault, Known, Order, Query, Told};
 use lra_ids::{Address, Instance};
@@ -33,7 +33,7 @@ impl WhichLock for Brand {
 /// An office with one of its clerks: where orders are given as at a counter of one's own.
 pub struct Window<'a, V: Serving, R, L: WhichLock> {
     rt: &'a R,
-    office: &'a Office<V>,
+    office: &'a OfficeOf<V>,
     clerk: Clerk<V>,
     of: PhantomData<L>,
     ghost there: { IsClerkOf office.now.lock clerk },
@@ -43,7 +43,7 @@ pub struct Window<'a, V: Serving, R, L: WhichLock> {
 
 impl<'a, V: Serving, R, L: WhichLock> Window<'a, V, R, L> {
     /// A window of an office, for a clerk of it.
-    pub fn new(rt: &'a R, office: &'a Office<V>, clerk: Clerk<V>) -> Window<'a, V, R, L>
+    pub fn new(rt: &'a R, office: &'a OfficeOf<V>, clerk: Clerk<V>) -> Window<'a, V, R, L>
         requires there { IsClerkOf office.now.lock clerk }
         requires made { IsOfficeOf (V.setting (clerk_view clerk).origin) office.now }
         requires here { lock_id office.now.lock ≡ L.lock }

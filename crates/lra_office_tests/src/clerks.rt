@@ -9,7 +9,7 @@ use crate::signals::{Signals, wait_for};
 use lra_core::Told;
 use lra_journal::read_journal;
 use lra_model::{ActionStatus, Entry};
-use lra_office::{Clerk, Office, OfficeRefusal, Serving, TryRefusal};
+use lra_office::{Clerk, OfficeOf, OfficeRefusal, Serving, TryRefusal};
 use lra_ticket::Pass;
 use std::alloc::Global;
 use std::io::{self, Write};
@@ -21,7 +21,7 @@ use std::thread::{Threads, join};
 use std::time::Clock;
 
 /// Whether a clerk is answered as one who is alone.
-fn acts_alone<V: Serving, R: Wait>(rt: &R, office: &Office<V>, clerk: &mut Clerk<V>) -> bool
+fn acts_alone<V: Serving, R: Wait>(rt: &R, office: &OfficeOf<V>, clerk: &mut Clerk<V>) -> bool
     requires { IsClerkOf office.now.lock clerk.old }
     ensures { IsClerkOf office.now.lock clerk.new }
 {
@@ -35,7 +35,7 @@ fn acts_alone<V: Serving, R: Wait>(rt: &R, office: &Office<V>, clerk: &mut Clerk
 /// The only clerk of an office, and whether it is answered as one who is alone.
 fn alone<V: Serving, R: Wait>(
     rt: &R,
-    office: &Office<V>,
+    office: &OfficeOf<V>,
     pass: Pass<V>,
 ) -> Result<(Clerk<V>, bool), Fail>
     requires lock { pass_id pass ≡ lock_id office.now.lock }
@@ -76,7 +76,7 @@ fn started(told: Result<Told, OfficeRefusal>) -> Option<u64> {
 /// Starts an action, and tells its number.
 fn starts<V: Serving, R: Wait>(
     rt: &R,
-    office: &Office<V>,
+    office: &OfficeOf<V>,
     mut clerk: Clerk<V>,
 ) -> Option<(Clerk<V>, u64)>
     requires { IsClerkOf office.now.lock clerk }
@@ -94,7 +94,7 @@ fn starts<V: Serving, R: Wait>(
 /// Enrols a clerk, which starts an action.
 fn enrols_and_starts<V: Serving, R: Wait>(
     rt: &R,
-    office: &Office<V>,
+    office: &OfficeOf<V>,
     pass: Pass<V>,
 ) -> Option<(Clerk<V>, u64)>
     requires lock { pass_id pass ≡ lock_id office.now.lock }
@@ -113,7 +113,7 @@ fn enrols_and_starts<V: Serving, R: Wait>(
 /// A clerk and one that is enrolled in a second thread, each of which has started an action, and the number of the second one's.
 fn two<V: Serving + Send, R: Threads + Wait + Sync>(
     rt: &R,
-    office: &Office<V>,
+    office: &OfficeOf<V>,
     clerk: Clerk<V>,
 ) -> Option<(Clerk<V>, Clerk<V>, u64)>
     requires { IsClerkOf office.now.lock clerk }
@@ -166,7 +166,7 @@ fn counts(alloc: Global, journal: &[u8]) -> Result<(u32, u32, u32), Fail> {
 /// What is left of two clerks that met, and whether one has seen what the other did in its thread.
 fn sees_the_other<V: Serving + Send, R: Threads + Wait + Sync>(
     rt: &R,
-    office: &Office<V>,
+    office: &OfficeOf<V>,
     pass: Pass<V>,
 ) -> Result<(Clerk<V>, bool), Fail>
     requires lock { pass_id pass ≡ lock_id office.now.lock }
@@ -226,7 +226,7 @@ impl<R: Clock> Write for Slow<'_, R> {
 }
 
 /// Whether an action is started while the writer waits.
-fn starts_slowly<V: Serving, R: Wait>(rt: &R, office: &Office<V>, mut clerk: Clerk<V>) -> bool
+fn starts_slowly<V: Serving, R: Wait>(rt: &R, office: &OfficeOf<V>, mut clerk: Clerk<V>) -> bool
     requires { IsClerkOf office.now.lock clerk }
 {
     let told = office.start(rt, &mut clerk, 1, None, 0);
@@ -237,7 +237,7 @@ fn starts_slowly<V: Serving, R: Wait>(rt: &R, office: &Office<V>, mut clerk: Cle
 /// Whether a status is asked for in vain once the writer waits.
 fn is_told_busy<V: Serving, R: Clock>(
     rt: &R,
-    office: &Office<V>,
+    office: &OfficeOf<V>,
     mut clerk: Clerk<V>,
     signals: &Signals,
 ) -> bool
@@ -253,7 +253,7 @@ fn is_told_busy<V: Serving, R: Clock>(
 /// Whether one clerk was told that the lock is another's, and the other one was served.
 fn do_overlap<V: Serving + Send, R: Threads + Wait + Clock + Sync>(
     rt: &R,
-    office: &Office<V>,
+    office: &OfficeOf<V>,
     pass: Pass<V>,
     signals: &Signals,
 ) -> Result<bool, Fail>

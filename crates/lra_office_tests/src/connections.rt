@@ -8,7 +8,7 @@ ghost use Rattle.lra_ticket.specs.Locks.{lock_id, pass_id, pass_view};
 
 use crate::making::{enrolled_two, made, shut};
 use crate::workers::Still;
-use lra_office::{Clerk, Office, Serving};
+use lra_office::{Clerk, OfficeOf, Serving};
 use lra_ticket::Pass;
 use lra_workers::{ServeEnd, serve_connections};
 use std::alloc::Global;
@@ -78,7 +78,7 @@ fn answers_one<V: Serving, R: Wait>(
     rt: &R,
     alloc: Global,
     door: &Mutex<TcpListener>,
-    office: &Office<V>,
+    office: &OfficeOf<V>,
     clerk: Clerk<V>,
 ) -> (Clerk<V>, bool)
     requires clerk { IsClerkOf office.now.lock clerk }
@@ -95,7 +95,7 @@ fn two_answer<V: Serving + Send, R: Threads + Wait + Sync>(
     rt: &R,
     alloc: Global,
     door: &Mutex<TcpListener>,
-    office: &Office<V>,
+    office: &OfficeOf<V>,
     first: Clerk<V>,
     second: Clerk<V>,
 ) -> (Clerk<V>, bool)
@@ -132,7 +132,7 @@ fn visited<
 >(
     rt: &R,
     alloc: Global,
-    office: &Office<V>,
+    office: &OfficeOf<V>,
     pass: Pass<V>,
     door: &Mutex<TcpListener>,
     address: SocketAddr,

@@ -9,7 +9,7 @@ ghost use Rattle.lra_ticket.specs.Locks.{lock_id, pass_id, pass_view};
 use lra_core::{Instance, Limits};
 use lra_ids::{Address, address};
 use lra_model::Uris;
-use lra_office::{Clerk, Desk, Office, Serving};
+use lra_office::{Clerk, Desk, Office, OfficeOf, Serving};
 use lra_ticket::Pass;
 use std::alloc::{AllocError, Global};
 use std::io::Write;
@@ -30,10 +30,7 @@ pub fn base(alloc: Global) -> Result<Address, Fail>
 }
 
 /// A new office with a writer, and the pass of whoever enrols first.
-pub fn made<W: Write + Drop>(
-    alloc: Global,
-    writer: W,
-) -> Result<(Office<Desk<W>>, Pass<Desk<W>>), Fail>
+pub fn made<W: Write + Drop>(alloc: Global, writer: W) -> Result<(Office<W>, Pass<Desk<W>>), Fail>
     ensures lock { IfOk result (λ r. pass_id r.1 ≡ lock_id r.0.lock) }
     ensures newcomer { IfOk result (λ r. (pass_view r.1).number ≡ 0) }
     ensures made { IfOk result (λ r. IsOfficeOf (pass_view r.1).origin.setting r.0) }
@@ -51,7 +48,7 @@ pub fn made<W: Write + Drop>(
 /// Enrols a clerk.
 pub fn enrolled<V: Serving, R: Wait>(
     rt: &R,
-    office: &Office<V>,
+    office: &OfficeOf<V>,
     pass: Pass<V>,
 ) -> Result<Clerk<V>, Fail>
     requires lock { pass_id pass ≡ lock_id office.now.lock }
@@ -71,7 +68,7 @@ pub fn enrolled<V: Serving, R: Wait>(
 /// Enrols two clerks.
 pub fn enrolled_two<V: Serving, R: Wait>(
     rt: &R,
-    office: &Office<V>,
+    office: &OfficeOf<V>,
     pass: Pass<V>,
 ) -> Result<(Clerk<V>, Clerk<V>), Fail>
     requires lock { pass_id pass ≡ lock_id office.now.lock }
@@ -93,7 +90,7 @@ pub fn enrolled_two<V: Serving, R: Wait>(
 
 /// Shuts an office by its clerk, and gives its writer beside what was told.
 pub fn ended<W: Write + Drop, T: Drop>(
-    office: Office<Desk<W>>,
+    office: Office<W>,
     clerk: Clerk<Desk<W>>,
     told: T,
 ) -> Result<(W, T), Fail>
@@ -114,7 +111,7 @@ pub fn ended<W: Write + Drop, T: Drop>(
 
 /// Shuts an office after the work that was done there, and gives its writer beside what the work told.
 pub fn shut<W: Write + Drop, T: Drop>(
-    office: Office<Desk<W>>,
+    office: Office<W>,
     worked: Result<(Clerk<Desk<W>>, T), Fail>,
 ) -> Result<(W, T), Fail>
     requires { IfOk worked (λ r. IsClerkOf office.lock r.0) }

@@ -111,7 +111,7 @@ tttttttttd";
 /// Asks for something that is due.
 fn ask<R: Wait>(
     rt: &R,
-    office: &Office<Desk<Faulty>>,
+    office: &Office<Faulty>,
     clerk: &mut Clerk<Desk<Faulty>>,
     moment: u64,
     answers: &mut Answers,
@@ -134,7 +134,7 @@ fn ask<R: Wait>(
 /// Records what came of an ask, if there was one.
 fn record<R: Wait>(
     rt: &R,
-    office: &Office<Desk<Faulty>>,
+    office: &Office<Faulty>,
     clerk: &mut Clerk<Desk<Faulty>>,
     moment: u64,
     errand: Option<Errand>,
@@ -164,7 +164,7 @@ fn record<R: Wait>(
 /// Starts the action, which both join, and closes it.
 fn give_orders<R: Wait>(
     rt: &R,
-    office: &Office<Desk<Faulty>>,
+    office: &Office<Faulty>,
     clerk: &mut Clerk<Desk<Faulty>>,
     first: &Uris,
     second: &Uris,
@@ -182,7 +182,7 @@ fn give_orders<R: Wait>(
 /// Asks both, and records what came of it.
 fn ask_both<R: Wait>(
     rt: &R,
-    office: &Office<Desk<Faulty>>,
+    office: &Office<Faulty>,
     clerk: &mut Clerk<Desk<Faulty>>,
     answers: &mut Answers,
 )
@@ -198,7 +198,7 @@ fn ask_both<R: Wait>(
 /// The commands of the journal, but for the first, and then a status.
 fn give_all<R: Wait>(
     rt: &R,
-    office: &Office<Desk<Faulty>>,
+    office: &Office<Faulty>,
     clerk: &mut Clerk<Desk<Faulty>>,
     first: &Uris,
     second: &Uris,
@@ -220,7 +220,7 @@ type Ran = Option<(Faulty, Answers)>;
 /// Gives the commands by a clerk, and shuts the office.
 fn run_by<R: Wait>(
     rt: &R,
-    office: Office<Desk<Faulty>>,
+    office: Office<Faulty>,
     mut clerk: Clerk<Desk<Faulty>>,
     first: &Uris,
     second: &Uris,
@@ -234,7 +234,7 @@ fn run_by<R: Wait>(
 /// Enrols the clerk, and gives the commands by it.
 fn run_at<R: Wait>(
     rt: &R,
-    office: Office<Desk<Faulty>>,
+    office: Office<Faulty>,
     pass: Pass<Desk<Faulty>>,
     first: &Uris,
     second: &Uris,
@@ -339,7 +339,7 @@ fn is_left_alone<R: Wait>(
 /// What an office has written that goes on from a journal, once an action was started there and it is shut.
 fn started_at<R: Wait>(
     rt: &R,
-    office: Office<Desk<Faulty>>,
+    office: Office<Faulty>,
     mut clerk: Clerk<Desk<Faulty>>,
     moment: u64,
 ) -> Result<Vec<u8>, Fail>

@@ -9,7 +9,7 @@ use lra_auditor::{Summary, Verdict, audit};
 use lra_core::{Errand, Refusal, Told};
 use lra_journal::read_journal;
 use lra_model::{Deed, Entry, Outcome, Uris, suits};
-use lra_office::{Clerk, Office, OfficeRefusal, Serving};
+use lra_office::{Clerk, OfficeOf, OfficeRefusal, Serving};
 use lra_ticket::Pass;
 use std::alloc::{AllocError, Global};
 use std::io::Write;
@@ -93,7 +93,7 @@ fn outcome_of(ask: u64) -> Outcome {
 struct Worker<'a, V: Serving, R> {
     rt: &'a R,
     alloc: Global,
-    office: &'a Office<V>,
+    office: &'a OfficeOf<V>,
     clerk: Clerk<V>,
     number: u32,
     written: Vec<Own>,
@@ -231,7 +231,7 @@ impl<V: Serving, R: Wait> Worker<'_, V, R> {
 fn work_of<V: Serving, R: Wait>(
     rt: &R,
     alloc: Global,
-    office: &Office<V>,
+    office: &OfficeOf<V>,
     clerk: Clerk<V>,
     number: u32,
 ) -> Option<Vec<Own>>
@@ -253,7 +253,7 @@ fn work_of<V: Serving, R: Wait>(
 /// Adds clerks with the numbers from 1 on, and gives a pass for one more.
 fn clerks<V: Serving, R: Wait>(
     rt: &R,
-    office: &Office<V>,
+    office: &OfficeOf<V>,
     mut pass: Pass<V>,
     all: &mut Vec<(u32, Clerk<V>)>,
 ) -> Result<Pass<V>, Fail>
@@ -279,7 +279,7 @@ type Written = Result<Vec<Option<Vec<Own>>>, AllocError>;
 fn work_all<V: Serving + Send, R: Threads + Wait + Sync>(
     rt: &R,
     alloc: Global,
-    office: &Office<V>,
+    office: &OfficeOf<V>,
     jobs: Vec<(u32, Clerk<V>)>,
 ) -> Written
     requires { All (λ job. IsClerkOf office.now.lock job.1) jobs.items }
@@ -297,7 +297,7 @@ fn work_all<V: Serving + Send, R: Threads + Wait + Sync>(
 fn work_at<V: Serving + Send, R: Threads + Wait + Sync>(
     rt: &R,
     alloc: Global,
-    office: &Office<V>,
+    office: &OfficeOf<V>,
     pass: Pass<V>,
 ) -> Result<(Clerk<V>, Written), Fail>
     requires lock { pass_id pass ≡ lock_id office.now.lock }

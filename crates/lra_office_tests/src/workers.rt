@@ -9,7 +9,7 @@ use lra_core::{Errand, Told};
 use lra_courier::Courier;
 use lra_front::Clock;
 use lra_model::{Outcome, suits};
-use lra_office::{Clerk, Office, Serving};
+use lra_office::{Clerk, OfficeOf, Serving};
 use lra_ticket::Pass;
 use lra_workers::{Gate, Go, WorkerEnd, run_worker};
 use std::alloc::Global;
@@ -118,7 +118,7 @@ impl<R: time::Clock> Gate for Patient<'_, R> {
 fn joins<V: Serving, R: Wait>(
     rt: &R,
     alloc: Global,
-    office: &Office<V>,
+    office: &OfficeOf<V>,
     clerk: &mut Clerk<V>,
     member: u64,
 ) -> Result<bool, Fail>
@@ -136,7 +136,7 @@ fn joins<V: Serving, R: Wait>(
 fn closes<V: Serving, R: Wait>(
     rt: &R,
     alloc: Global,
-    office: &Office<V>,
+    office: &OfficeOf<V>,
     clerk: &mut Clerk<V>,
     members: u64,
 ) -> Result<bool, Fail>
@@ -154,7 +154,7 @@ fn closes<V: Serving, R: Wait>(
 /// How a worker ends whose gate holds its errand back so often, and how often the gate was asked.
 fn holds_back<V: Serving, R: Wait>(
     rt: &R,
-    office: &Office<V>,
+    office: &OfficeOf<V>,
     clerk: Clerk<V>,
     holds: u32,
 ) -> (Clerk<V>, (WorkerEnd, u32))
@@ -174,7 +174,7 @@ fn holds_back<V: Serving, R: Wait>(
 fn held_at<V: Serving, R: Wait>(
     rt: &R,
     alloc: Global,
-    office: &Office<V>,
+    office: &OfficeOf<V>,
     pass: Pass<V>,
     holds: u32,
 ) -> Result<(Clerk<V>, (WorkerEnd, u32)), Fail>
@@ -232,7 +232,7 @@ fn a_worker_that_is_held_back_ends_and_leaves_its_ask(rt: HostRuntime) -> Result
 /// A worker that answers one ask, and whether it ends so.
 fn answers_one<V: Serving, R: Wait + time::Clock>(
     rt: &R,
-    office: &Office<V>,
+    office: &OfficeOf<V>,
     clerk: Clerk<V>,
     second: &AtomicBool,
 ) -> (Clerk<V>, bool)
@@ -251,7 +251,7 @@ fn answers_one<V: Serving, R: Wait + time::Clock>(
 /// Two workers, each in a thread of its own, and whether both ended.
 fn two_answer<V: Serving + Send, R: Threads + Wait + time::Clock + Sync>(
     rt: &R,
-    office: &Office<V>,
+    office: &OfficeOf<V>,
     first: Clerk<V>,
     second: Clerk<V>,
     signal: &AtomicBool,
@@ -281,7 +281,7 @@ fn two_answer<V: Serving + Send, R: Threads + Wait + time::Clock + Sync>(
 fn overlap<V: Serving + Send, R: Threads + Wait + time::Clock + Sync>(
     rt: &R,
     alloc: Global,
-    office: &Office<V>,
+    office: &OfficeOf<V>,
     pass: Pass<V>,
 ) -> Result<(Clerk<V>, bool), Fail>
     requires lock { pass_id pass ≡ lock_id office.now.lock }

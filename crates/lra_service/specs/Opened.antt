@@ -6,7 +6,7 @@ use Rattle.lra_ticket.specs.Views.{first_view}
 use Rattle.lra_commands.specs.Counters.{Setting}
 use Rattle.lra_commands.specs.Terms.{usual}
 use Rattle.lra_office.specs.declared.clerk.Clerk.{Clerk}
-use Rattle.lra_office.specs.declared.office.Office.{Office}
+use Rattle.lra_office.specs.declared.office.OfficeOf.{OfficeOf}
 use Rattle.lra_office.specs.Clerks.{clerk_view, IsClerkOf}
 use Rattle.lra_office.specs.Enrolled.{IsEnrolled}
 use Rattle.lra_office.specs.Made.{new_origin}
@@ -16,14 +16,14 @@ use Rattle.lra_office.specs.Windows.{IsOfficeOf}
 use Rattle.lra_office.specs.Wholes.{whole_lines}
 
 -- a new office of an origin, and its first clerk, which has enrolled
-pub record IsBegun {X : Type 0} {g : Ghosts X Origin} (o : Origin) (moment : ℕ) (office : Office X Origin) (clerk : Clerk X Origin g) : Type 0 where
+pub record IsBegun {X : Type 0} {g : Ghosts X Origin} (o : Origin) (moment : ℕ) (office : OfficeOf X Origin) (clerk : Clerk X Origin g) : Type 0 where
   pub known : IsClerkOf office.lock clerk
   pub copies : IsOfficeOf o.setting office
   pub enrolled : IsEnrolled o.setting (first_view 0 o []) moment clerk.number (clerk_view clerk)
 
 -- the office of a journal's bytes, at a base and with the usual limits, and its first clerk, where the writer had taken this before: it goes on
 -- from just their whole lines; or, of no bytes, it is new, and its instance is the moment (this project's choice)
-abbrev pub GoesOn : {X : Type 0} {g : Ghosts X Origin} → List ℕ → List ℕ → ℕ → Option (List ℕ) → Office X Origin → Clerk X Origin g → Type 0
+abbrev pub GoesOn : {X : Type 0} {g : Ghosts X Origin} → List ℕ → List ℕ → ℕ → Option (List ℕ) → OfficeOf X Origin → Clerk X Origin g → Type 0
 GoesOn base [] moment had office clerk = IsBegun (new_origin moment base usual had) moment office clerk
 GoesOn base (b ∷ bs) moment had office clerk =
     (g : Setting) × (J : History) × IsFrontOf base usual (whole_lines (b ∷ bs)) g J

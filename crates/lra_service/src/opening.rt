@@ -56,7 +56,7 @@ fn begin<W: Write + Drop, R: Wait>(
     base: Address,
     writer: W,
     moment: u64,
-) -> Result<(Office<Desk<W>>, Clerk<Desk<W>>), ServeFault>
+) -> Result<(Office<W>, Clerk<Desk<W>>), ServeFault>
     requires { is_base base ≡ true }
     ensures opened { IfOk result (λ opened. IsBegun (new_origin moment base usual (W.contents writer)) moment opened.0 opened.1) }
     ensures fault { IfErr result IsOfNoScript }
@@ -86,7 +86,7 @@ pub fn open_office<W: Write + Drop, R: Wait>(
     journal: Vec<u8>,
     writer: W,
     moment: u64,
-) -> Result<(Office<Desk<W>>, Clerk<Desk<W>>), ServeFault>
+) -> Result<(Office<W>, Clerk<Desk<W>>), ServeFault>
     requires { is_base base ≡ true }
     ensures opened { IfOk result (λ opened. GoesOn base journal.items moment (W.contents writer) opened.0 opened.1) }
     ensures fault { IfErr result IsOfNoScript }

@@ -6,7 +6,7 @@ ghost use Rattle.lra_service.specs.inner.Opened.{IsAt};
 
 use crate::fault::ServeFault;
 use lra_commands::Refusal;
-use lra_office::{Clerk, Office, OfficeRefusal, Serving};
+use lra_office::{Clerk, OfficeOf, OfficeRefusal, Serving};
 use lra_reports::RunFault;
 use std::alloc::Global;
 use std::sync::Wait;
@@ -34,7 +34,7 @@ pub(crate) fn enrol_fault(refusal: OfficeRefusal) -> ServeFault
 /// Gives a clerk its duty, and enrols another beside it.
 fn engage<V: Serving, R: Wait>(
     rt: &R,
-    office: &Office<V>,
+    office: &OfficeOf<V>,
     clerk: Clerk<V>,
     duty: Duty,
     moment: u64,
@@ -60,7 +60,7 @@ fn engage<V: Serving, R: Wait>(
 /// Adds the clerks of a service, of which one is there already.
 fn add_all<V: Serving, R: Wait>(
     rt: &R,
-    office: &Office<V>,
+    office: &OfficeOf<V>,
     first: Clerk<V>,
     moment: u64,
     workers: u32,
@@ -85,7 +85,7 @@ fn add_all<V: Serving, R: Wait>(
 pub(crate) fn hire_all<V: Serving, R: Wait>(
     rt: &R,
     alloc: Global,
-    office: &Office<V>,
+    office: &OfficeOf<V>,
     first: Clerk<V>,
     moment: u64,
     workers: u32,

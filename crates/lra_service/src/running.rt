@@ -98,7 +98,7 @@ impl<
     fn serve_office<K: Write + Drop + Send, W: Write>(
         &self,
         shift: &Shift<'_, R>,
-        office: &Office<Desk<K>>,
+        office: &Office<K>,
         clerk: Clerk<Desk<K>>,
         writer: &mut W,
     ) -> Result<(), ServeFault>
@@ -145,7 +145,7 @@ impl<
         journal: Vec<u8>,
         keeper: K,
         moment: u64,
-    ) -> Result<(Office<Desk<K>>, Clerk<Desk<K>>), ServeFault>
+    ) -> Result<(Office<K>, Clerk<Desk<K>>), ServeFault>
         requires base { is_base base ≡ true }
         requires text { base ≡ base_text self.now.address.now }
         requires journal { IfSome (P.had self.now.place.now) (λ had. journal.items ≡ had) }

@@ -11,7 +11,7 @@ use crate::pause::Pause;
 use crate::post::Duty;
 use lra_courier::TcpCourier;
 use lra_durable::Progress;
-use lra_office::{Clerk, Office, Serving};
+use lra_office::{Clerk, OfficeOf, Serving};
 use lra_workers::{run_worker, serve_connections};
 use std::alloc::{AllocError, Global};
 use std::marker::{Send, Sync};
@@ -79,7 +79,7 @@ impl<R: Wait + Clock + Net<Stream = TcpStream, Listener = TcpListener>> Shift<'_
     }
 
     /// Answers connections.
-    fn answer<V: Serving>(&self, office: &Office<V>, clerk: Clerk<V>)
+    fn answer<V: Serving>(&self, office: &OfficeOf<V>, clerk: Clerk<V>)
         requires { IsAt V.setting office.now clerk }
     {
         let mut clock = SystemClock::new(self.rt, self.moment);
@@ -96,7 +96,7 @@ impl<R: Wait + Clock + Net<Stream = TcpStream, Listener = TcpListener>> Shift<'_
     }
 
     /// Lets limits fire and carries errands.
-    fn carry<V: Serving>(&self, office: &Office<V>, clerk: Clerk<V>)
+    fn carry<V: Serving>(&self, office: &OfficeOf<V>, clerk: Clerk<V>)
         requires { IsAt V.setting office.now clerk }
     {
         let courier = TcpCourier::new(self.rt, self.alloc);
@@ -110,7 +110,7 @@ impl<R: Wait + Clock + Net<Stream = TcpStream, Listener = TcpListener>> Shift<'_
         );
     }
 
-    fn work<V: Serving>(&self, office: &Office<V>, duty: Duty, clerk: Clerk<V>)
+    fn work<V: Serving>(&self, office: &OfficeOf<V>, duty: Duty, clerk: Clerk<V>)
         requires { IsAt V.setting office.now clerk }
     {
         match duty {
@@ -124,7 +124,7 @@ impl<R: Wait + Clock + Net<Stream = TcpStream, Listener = TcpListener>> Shift<'_
 fn work_all<
     V: Serving + Send,
     R: Threads + Wait + Clock + Net<Stream = TcpStream, Listener = TcpListener> + Sync,
->(shift: &Shift<'_, R>, office: &Office<V>, jobs: Vec<(Duty, Clerk<V>)>) -> Result<(), AllocError>
+>(shift: &Shift<'_, R>, office: &OfficeOf<V>, jobs: Vec<(Duty, Clerk<V>)>) -> Result<(), AllocError>
     requires { All (λ job. IsAt V.setting office.now job.1) jobs.items }
 {
     thread::map_vec(
@@ -141,7 +141,7 @@ fn work_all<
 pub(crate) fn work<
     V: Serving + Send,
     R: Threads + Wait + Clock + Net<Stream = TcpStream, Listener = TcpListener> + Sync,
->(shift: &Shift<'_, R>, office: &Office<V>, jobs: Vec<(Duty, Clerk<V>)>) -> Result<(), AllocError>
+>(shift: &Shift<'_, R>, office: &OfficeOf<V>, jobs: Vec<(Duty, Clerk<V>)>) -> Result<(), AllocError>
     requires { All (λ job. IsAt V.setting office.now job.1) jobs.items }
 {
     let (_, worked) = join(

@@ -10,7 +10,7 @@ ghost use Rattle.lra_workers.specs.Connections.{clerk_sight, Connection, EndsSer
 
 use crate::door::{Door, Line};
 use lra_front::{Clock, serve_stream};
-use lra_office::{Clerk, Office, Serving, WhichLock, Window};
+use lra_office::{Clerk, OfficeOf, Serving, WhichLock, Window};
 use std::alloc::Global;
 use std::io::{self, Read, Write};
 use std::marker::Brand;
@@ -54,7 +54,7 @@ fn answer<V: Serving, R: Wait, L: Line, K: Clock, Q: WhichLock>(
     rt: &R,
     alloc: Global,
     line: &L,
-    office: &Office<V>,
+    office: &OfficeOf<V>,
     clerk: Clerk<V>,
     clock: &mut K,
 ) -> Clerk<V>
@@ -76,7 +76,7 @@ pub fn serve_connections<V: Serving, R: Wait, D: Door, K: Clock>(
     rt: &R,
     alloc: Global,
     door: &D,
-    office: &Office<V>,
+    office: &OfficeOf<V>,
     clerk: Clerk<V>,
     clock: &mut K,
     count: u64,

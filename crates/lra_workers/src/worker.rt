@@ -17,7 +17,7 @@ use lra_core::{Errand, errands_are_of_asks};
 use lra_courier::Courier;
 use lra_front::Clock;
 use lra_model::Outcome;
-use lra_office::{Clerk, Office, OfficeRefusal, Serving};
+use lra_office::{Clerk, OfficeOf, OfficeRefusal, Serving};
 use std::sync::Wait;
 
 /// How often a gate may say of one errand that it isn't carried yet.
@@ -38,7 +38,7 @@ pub enum WorkerEnd {
 /// Lets limits fire until none has passed.
 fn fire<V: Serving, R: Wait, C: Courier, K: Clock>(
     rt: &R,
-    office: &Office<V>,
+    office: &OfficeOf<V>,
     clerk: &mut Clerk<V>,
     clock: &mut K,
 ) -> Result<(), OfficeRefusal>
@@ -87,7 +87,7 @@ fn after_refusal(refusal: OfficeRefusal) -> Result<(), WorkerEnd>
 /// The errand of something that is due, where anything is.
 fn next_errand<V: Serving, R: Wait, C: Courier, K: Clock>(
     rt: &R,
-    office: &Office<V>,
+    office: &OfficeOf<V>,
     clerk: &mut Clerk<V>,
     clock: &mut K,
 ) -> Result<Option<Errand>, OfficeRefusal>
@@ -107,7 +107,7 @@ fn next_errand<V: Serving, R: Wait, C: Courier, K: Clock>(
 /// Records what came of an errand. One whose ask isn't outstanding any more is let go.
 fn record<V: Serving, R: Wait, C: Courier, G: Gate, K: Clock>(
     rt: &R,
-    office: &Office<V>,
+    office: &OfficeOf<V>,
     clerk: &mut Clerk<V>,
     gate: &mut G,
     clock: &mut K,
@@ -140,7 +140,7 @@ fn record<V: Serving, R: Wait, C: Courier, G: Gate, K: Clock>(
 /// Carries an errand and records what came of it, where the gate lets it.
 fn carry<V: Serving, R: Wait, C: Courier, G: Gate, K: Clock>(
     rt: &R,
-    office: &Office<V>,
+    office: &OfficeOf<V>,
     clerk: &mut Clerk<V>,
     courier: &mut C,
     gate: &mut G,
@@ -166,7 +166,7 @@ fn carry<V: Serving, R: Wait, C: Courier, G: Gate, K: Clock>(
 /// Lets limits fire, and carries one errand, where one is due.
 fn take_turn<V: Serving, R: Wait, C: Courier, G: Gate, K: Clock>(
     rt: &R,
-    office: &Office<V>,
+    office: &OfficeOf<V>,
     clerk: &mut Clerk<V>,
     courier: &mut C,
     gate: &mut G,
@@ -193,7 +193,7 @@ fn take_turn<V: Serving, R: Wait, C: Courier, G: Gate, K: Clock>(
 /// as long as the gate lets it.
 pub fn run_worker<V: Serving, R: Wait, C: Courier, G: Gate, K: Clock>(
     rt: &R,
-    office: &Office<V>,
+    office: &OfficeOf<V>,
     clerk: Clerk<V>,
     courier: &mut C,
     gate: &mut G,

@@ -1,7 +1,7 @@
 use Rattle.std.proofs.Common.{◌∙◌, ap, sym, Some}
 use Rattle.lra_ticket.specs.Locks.{pass_view}
 use Rattle.lra_office.proofs.AtEnrolment.{told_some, knows}
-use Rattle.lra_office.proofs.office.Office.clerk.Goals as goal
+use Rattle.lra_office.proofs.office.OfficeOf.clerk.Goals as goal
 
 pub told_number-requires : goal.told_number-requires
 told_number-requires g c =

@@ -1,7 +1,7 @@
 use Rattle.std.proofs.Common.{sym, ◌∙◌}
 use Rattle.lra_ticket.specs.Locks.{held_view, pass_view}
 use Rattle.lra_office.proofs.AtLock.{extends_same, may_add_nothing, answered}
-use Rattle.lra_office.proofs.office.Office.ask.Goals as goal
+use Rattle.lra_office.proofs.office.OfficeOf.ask.Goals as goal
 
 pub give-pass-requires-clause-extends : goal.give-pass-requires-clause-extends
 give-pass-requires-clause-extends g c = extends_same (pass_view c.args.pass) (held_view c.in-Ok.taken.0) _ c.in-Ok.ensures.view

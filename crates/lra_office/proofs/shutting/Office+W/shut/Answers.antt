@@ -4,7 +4,7 @@ use Rattle.lra_office.specs.Origins.{Origin}
 use Rattle.lra_office.specs.Clerks.{clerk_view}
 use Rattle.lra_office.specs.Desks.{IsDesk}
 use Rattle.lra_office.specs.Shut.{IsShut}
-use Rattle.lra_office.proofs.shutting.Office+Desk+W.shut.Goals as goal
+use Rattle.lra_office.proofs.shutting.Office+W.shut.Goals as goal
 
 pub returns-clause-shut : goal.returns-clause-shut
 returns-clause-shut g c =

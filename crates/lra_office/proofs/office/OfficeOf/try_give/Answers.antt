@@ -6,7 +6,7 @@ use Rattle.lra_commands.specs.declared.refusal.Refusal.TheVariants.{Stopped}
 use Rattle.lra_office.specs.Serves.{IsKeptBy}
 use Rattle.lra_office.specs.Orders.{IsGrown}
 use Rattle.lra_office.proofs.AtLock.{extends, may_add, grown, not_grown, stopped_at}
-use Rattle.lra_office.proofs.office.Office.try_give.Goals as goal
+use Rattle.lra_office.proofs.office.OfficeOf.try_give.Goals as goal
 
 pub give-pass-requires-clause-extends : goal.give-pass-requires-clause-extends
 give-pass-requires-clause-extends g c =
