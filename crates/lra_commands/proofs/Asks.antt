@@ -32,7 +32,7 @@ use Rattle.lra_commands.specs.Queries.{rows_of, holds_end, known_where, is_liste
 
 -- a call is answered what a query is told, and appends nothing
 abbrev IsAsked : Terms → History → Call → Query → Type 0
-IsAsked s J c q = (answer s J c ≡ cond (is_among (clerks J) c.by) (answer_as (tell J q)) (Err refusal.NoSuchClerk)) × (block s J c ≡ [])
+IsAsked s J c q = (answer s J c ≡ cond (is_among (clerks J) c.by) (answer_as (tell s.limits J q)) (Err refusal.NoSuchClerk)) × (block s J c ≡ [])
 
 abbrev call : ℕ → ℕ → Command → Call
 call by m o = record { by = by; moment = m; command = o }
@@ -75,10 +75,11 @@ missed false k q r h = cc
 
 pub queries_miss : QueriesMiss
 unfolding tell
-queries_miss J (query.ActionStatus a) r h = inl (missed (is_among (actions J) a) _ _ r h)
-queries_miss J (query.MemberStatus p) r h = inr (missed (is_among (members J) p) _ _ r h)
-queries_miss J (query.Awaited a place) r h = inl (missed (is_among (actions J) a) _ _ r h)
-queries_miss J (query.Row l place) r h = inl (missed (is_listed J l) _ _ r h)
+queries_miss l J (query.ActionStatus a) r h = inl (missed (is_among (actions J) a) _ _ r h)
+queries_miss l J (query.MemberStatus p) r h = inr (missed (is_among (members J) p) _ _ r h)
+queries_miss l J (query.Awaited a place) r h = inl (missed (is_among (actions J) a) _ _ r h)
+queries_miss l J (query.Row x place) r h = inl (missed (is_listed J x) _ _ r h)
+queries_miss l J (query.Count x place) r h = inl (missed (is_listed J x) _ _ r h)
 
 -- ---- what holds the end of an action
 

@@ -1,14 +1,16 @@
 -- What a query is told.
-use Rattle.std.specs.Prelude.{◌≡◌, ◌⊎◌, ℕ, zero, suc, ◌+◌, ◌<◌, nat_lt, Bool, true, false, ◌&&◌, not, List, [], ◌∷◌, ◌++◌, length, take, drop, map, filter, Option, Some, None, Result, Ok, Err, cond}
+use Rattle.std.specs.Prelude.{◌≡◌, ◌⊎◌, ℕ, zero, suc, ◌+◌, ◌<◌, nat_lt, Bool, true, false, ◌&&◌, not, List, [], ◌∷◌, ◌++◌, length, take, drop, map, filter, Option, Some, None, option_map, Result, Ok, Err, cond}
 use Rattle.std.specs.Option.{option_map_or}
 use Rattle.std.specs.List.{find, position_or_len, list_any}
 use Rattle.lra_model.specs.declared.status.ActionStatus.{ActionStatus}
 use Rattle.lra_model.specs.declared.status.ActionStatus.TheVariants as action
-use Rattle.lra_model.specs.Words.{has_ended, has_finished_cancelling, is_done_completing, is_done_compensating, same_status}
+use Rattle.lra_model.specs.declared.asks.AskKind.{AskKind}
+use Rattle.lra_model.specs.Words.{when, has_ended, has_finished_cancelling, is_done_completing, is_done_compensating, same_status}
 use Rattle.lra_model.specs.History.{History, clerks, actions, members, is_among}
 use Rattle.lra_model.specs.Actions.{parent, children, members_of}
 use Rattle.lra_model.specs.Members.{stays, member_status, outstanding_ask}
 use Rattle.lra_model.specs.Ends.{action_is, settles}
+use Rattle.lra_model.specs.Wants.{wants, repeat_count, last_repeat}
 use Rattle.lra_commands.specs.declared.command.Command.TheVariants as command
 use Rattle.lra_commands.specs.declared.command.Told.{Told}
 use Rattle.lra_commands.specs.declared.command.Told.TheVariants as told
@@ -20,15 +22,18 @@ use Rattle.lra_commands.specs.declared.query.Listing.{Listing}
 use Rattle.lra_commands.specs.declared.query.Listing.TheVariants as listing
 use Rattle.lra_commands.specs.declared.query.Row.{Row}
 use Rattle.lra_commands.specs.declared.query.Row.TheVariants as row
+use Rattle.lra_commands.specs.declared.query.Want.{Want}
 use Rattle.lra_commands.specs.declared.query.Known.{Known}
 use Rattle.lra_commands.specs.declared.query.Known.TheVariants as known
 use Rattle.lra_commands.specs.declared.refusal.Refusal.{Refusal}
 use Rattle.lra_commands.specs.declared.refusal.Refusal.TheVariants as refusal
+use Rattle.lra_commands.specs.declared.limits.Limits.{Limits}
 use Rattle.lra_commands.specs.declared.limits.Terms.{Terms}
 use Rattle.lra_commands.specs.Calls.{Command, Call}
 use Rattle.lra_commands.specs.Blocks.{block}
 use Rattle.lra_commands.specs.Refusals.{status_at}
 use Rattle.lra_commands.specs.Answers.{answer}
+use Rattle.lra_commands.specs.Due.{due_after, stage_wanted}
 
 -- ---- rows, from a place on
 
@@ -71,9 +76,21 @@ awaited_from J a place = first_from (holds_end (status_at J a) J) known.Awaits k
 
 -- ---- listings
 
--- a member's row: its status and the ask of it that is outstanding (MicroProfile LRA 2.0, ParticipantStatus; the ask is this project's choice)
-abbrev pub member_row : History → ℕ → Row
-member_row J p = row.Member p (member_status J p) (outstanding_ask J p)
+-- what a member is to be asked next: how often it was asked for that in vain, and from when on it is asked again (this project's choice)
+abbrev pub want_told : Limits → History → ℕ → Option Want
+want_told l J p =
+    option_map
+    (λ (kind : AskKind). record {
+      kind = kind;
+      repeats = repeat_count J p (stage_wanted J p kind);
+      due = due_after l (repeat_count J p (stage_wanted J p kind)) (last_repeat J p (stage_wanted J p kind));
+    })
+    (wants J p)
+
+-- a member's row: its status, the ask of it that is outstanding, and what it is to be asked next (MicroProfile LRA 2.0, ParticipantStatus; the asks
+-- are this project's choice)
+abbrev pub member_row : Limits → History → ℕ → Row
+member_row l J p = row.Member p (member_status J p) (outstanding_ask J p) (want_told l J p)
 
 -- an action's row: its status and the action that it is nested in (MicroProfile LRA 2.0, LRAStatus and nested LRAs)
 abbrev pub action_row : History → ℕ → Row
@@ -81,10 +98,10 @@ action_row J a = row.Action a (status_at J a) (parent J a)
 
 -- the rows that a listing goes along: an action's members, those that left among them, the actions nested directly in it, or all actions
 -- (MicroProfile LRA 2.0, participants, nested LRAs and LRAs)
-unfoldable pub rows_along : History → Listing → List Row
-rows_along J (listing.Members a) = map (member_row J) (members_of J a)
-rows_along J (listing.Nested a) = map (action_row J) (children J a)
-rows_along J (listing.Actions status) = map (action_row J) (actions J)
+unfoldable pub rows_along : Limits → History → Listing → List Row
+rows_along l J (listing.Members a) = map (member_row l J) (members_of J a)
+rows_along l J (listing.Nested a) = map (action_row J) (children J a)
+rows_along l J (listing.Actions status) = map (action_row J) (actions J)
 
 -- whether a row that a listing goes along belongs to it: of actions, where a status is given, one that has it (MicroProfile LRA 2.0, all LRAs by
 -- status)
@@ -93,8 +110,16 @@ belongs (listing.Actions (Some status)) (row.Action a now parent) = same_status 
 belongs _ _ = true
 
 -- the next row of a listing, from a place on (this project's choice)
-unfoldable pub row_from : History → Listing → ℕ → Known
-row_from J l place = first_from (belongs l) known.Row known.NoMore (rows_along J l) place
+unfoldable pub row_from : Limits → History → Listing → ℕ → Known
+row_from l J x place = first_from (belongs x) known.Row known.NoMore (rows_along l J x) place
+
+-- where to go on from a place, of so many rows, unless all of them were looked at
+abbrev pub next_of : ℕ → ℕ → Option ℕ
+next_of rows place = when (nat_lt (place + most_rows) rows) (place + most_rows)
+
+-- how many of the rows looked at from a place on belong to a listing, and where to go on (this project's choice)
+unfoldable pub count_from : Limits → History → Listing → ℕ → Known
+count_from l J x place = known.Counted (length (filter (belongs x) (looked_at (rows_along l J x) place))) (next_of (length (rows_along l J x)) place)
 
 -- whether what a listing is of is there: its action, where it is of one
 abbrev pub is_listed : History → Listing → Bool
@@ -108,12 +133,13 @@ is_listed J (listing.Actions status) = true
 abbrev pub known_where : Bool → Known → Refusal → Result Known Refusal
 known_where there k r = cond there (Ok k) (Err r)
 
--- what a query is told of a history, which nothing else decides; it changes nothing (this project's choice)
-unfoldable pub tell : History → Query → Result Known Refusal
-tell J (query.ActionStatus a) = known_where (is_among (actions J) a) (known.ActionIs (status_at J a)) refusal.NoSuchAction
-tell J (query.MemberStatus p) = known_where (is_among (members J) p) (known.MemberIs (member_status J p)) refusal.NoSuchMember
-tell J (query.Awaited a place) = known_where (is_among (actions J) a) (awaited_from J a place) refusal.NoSuchAction
-tell J (query.Row l place) = known_where (is_listed J l) (row_from J l place) refusal.NoSuchAction
+-- what a query is told of a history, which nothing else decides but the pauses between asks; it changes nothing (this project's choice)
+unfoldable pub tell : Limits → History → Query → Result Known Refusal
+tell l J (query.ActionStatus a) = known_where (is_among (actions J) a) (known.ActionIs (status_at J a)) refusal.NoSuchAction
+tell l J (query.MemberStatus p) = known_where (is_among (members J) p) (known.MemberIs (member_status J p)) refusal.NoSuchMember
+tell l J (query.Awaited a place) = known_where (is_among (actions J) a) (awaited_from J a place) refusal.NoSuchAction
+tell l J (query.Row x place) = known_where (is_listed J x) (row_from l J x place) refusal.NoSuchAction
+tell l J (query.Count x place) = known_where (is_listed J x) (count_from l J x place) refusal.NoSuchAction
 
 -- ---- commands that ask
 
@@ -137,11 +163,11 @@ answer_as (Err r) = Err r
 -- a command that only asks is answered what the query is told, where its clerk is enrolled, and appends nothing
 abbrev pub CommandsAsk : Type 0
 CommandsAsk = (s : Terms) (J : History) (c : Call) (q : Query) → asks c.command ≡ Some q
-    → (answer s J c ≡ cond (is_among (clerks J) c.by) (answer_as (tell J q)) (Err refusal.NoSuchClerk)) × (block s J c ≡ [])
+    → (answer s J c ≡ cond (is_among (clerks J) c.by) (answer_as (tell s.limits J q)) (Err refusal.NoSuchClerk)) × (block s J c ≡ [])
 
 -- a query is refused only since what it asks about isn't there
 abbrev pub QueriesMiss : Type 0
-QueriesMiss = (J : History) (q : Query) (r : Refusal) → tell J q ≡ Err r → (r ≡ refusal.NoSuchAction) ⊎ (r ≡ refusal.NoSuchMember)
+QueriesMiss = (l : Limits) (J : History) (q : Query) (r : Refusal) → tell l J q ≡ Err r → (r ≡ refusal.NoSuchAction) ⊎ (r ≡ refusal.NoSuchMember)
 
 -- an action that is Closing or Cancelling may end exactly where no row of it holds its end
 abbrev pub RowsHoldEnds : Type 0
@@ -155,10 +181,25 @@ rows_after on (known.Further place) = on place
 rows_after on _ = []
 
 -- the rows that are told where a listing is asked for again and again, at most so many times
-abbrev pub told_on : ℕ → History → Listing → ℕ → List Row
-told_on zero J l place = []
-told_on (suc n) J l place = rows_after (told_on n J l) (row_from J l place)
+abbrev pub told_on : ℕ → Limits → History → Listing → ℕ → List Row
+told_on zero l J x place = []
+told_on (suc n) l J x place = rows_after (told_on n l J x) (row_from l J x place)
 
 -- a listing that is asked for so is told whole: each row that belongs to it, once, in order
 abbrev pub ListingsAreToldWhole : Type 0
-ListingsAreToldWhole = (J : History) (l : Listing) (n : ℕ) → length (rows_along J l) < n → told_on n J l 0 ≡ filter (belongs l) (rows_along J l)
+ListingsAreToldWhole = (l : Limits) (J : History) (x : Listing) (n : ℕ) → length (rows_along l J x) < n → told_on n l J x 0 ≡ filter (belongs x) (rows_along l J x)
+
+-- how many rows are counted from what one query was told on, with what is counted from where to go on
+abbrev pub counted_after : (ℕ → ℕ) → Known → ℕ
+counted_after on (known.Counted count (Some place)) = count + on place
+counted_after on (known.Counted count None) = count
+counted_after _ _ = 0
+
+-- how many rows are counted where a count is asked for again and again, at most so many times
+abbrev pub counted_on : ℕ → Limits → History → Listing → ℕ → ℕ
+counted_on zero l J x place = 0
+counted_on (suc n) l J x place = counted_after (counted_on n l J x) (count_from l J x place)
+
+-- a listing that is counted so is counted whole: each row that belongs to it, once
+abbrev pub ListingsAreCountedWhole : Type 0
+ListingsAreCountedWhole = (l : Limits) (J : History) (x : Listing) (n : ℕ) → length (rows_along l J x) < n → counted_on n l J x 0 ≡ length (filter (belongs x) (rows_along l J x))

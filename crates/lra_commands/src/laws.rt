@@ -1,7 +1,7 @@
 //! Laws of coordinators: public functions that do nothing, whose contracts say what holds whatever commands are given.
 
 ghost use Rattle.lra_commands.specs.Counters.{CountersTell, CountersWriteOnce};
-ghost use Rattle.lra_commands.specs.Queries.{CommandsAsk, ListingsAreToldWhole, QueriesMiss, RowsHoldEnds};
+ghost use Rattle.lra_commands.specs.Queries.{CommandsAsk, ListingsAreCountedWhole, ListingsAreToldWhole, QueriesMiss, RowsHoldEnds};
 ghost use Rattle.lra_commands.specs.Runs.{CallsKeepHistories, CallsLeaveQuiet, CallsMakeHistories};
 
 /// Whatever commands are given to a coordinator, by any clerks, at any moments and in any order, refused ones among
@@ -54,4 +54,9 @@ pub fn rows_hold_ends()
 /// once, in order.
 pub fn listings_are_told_whole()
     ensures { ListingsAreToldWhole }
+{}
+
+/// A listing that is counted part by part, each time from where the count before says to go on, is counted whole: each of its rows once.
+pub fn listings_are_counted_whole()
+    ensures { ListingsAreCountedWhole }
 {}

@@ -13,8 +13,9 @@ pub use command::{Command, Told};
 pub use counter::{Counter, CounterFault, Order};
 pub use laws::{
     calls_leave_quiet_histories, commands_ask, commands_keep_histories, commands_make_histories,
-    counters_tell, counters_write_once, listings_are_told_whole, queries_miss, rows_hold_ends,
+    counters_tell, counters_write_once, listings_are_counted_whole, listings_are_told_whole,
+    queries_miss, rows_hold_ends,
 };
 pub use limits::{Limits, Terms};
-pub use query::{Awaited, Known, Listing, Query, Row};
+pub use query::{Awaited, Known, Listing, Query, Row, Want};
 pub use refusal::{Refusal, Resource};

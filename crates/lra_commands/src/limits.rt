@@ -2,8 +2,10 @@
 
 ghost use Rattle.std.specs.Prelude.{◌≡◌};
 ghost use Rattle.lra_commands.specs.Terms.{usual};
+ghost use Rattle.lra_commands.specs.Due.{due_after};
 
 use lra_model::Version;
+use lra_timers::pause;
 
 /// How much a coordinator takes, and how it repeats its asks.
 #[derive(Clone, Copy, Debug, PartialEq, Eq)]
@@ -34,6 +36,18 @@ impl Limits {
             retry_base: 100,
             retry_cap: 60_000,
         }
+    }
+
+    /// From when on a member is asked that was asked so often in vain, the last time at that moment, in milliseconds: at once, or
+    /// after a pause.
+    pub fn due_after(&self, repeats: u64, last: Option<u64>) -> u64
+        ensures { result ≡ due_after self.now repeats last }
+    {
+        if repeats == 0 {
+            return 0;
+        }
+        last.unwrap_or(0)
+            .saturating_add(pause(self.retry_base, self.retry_cap, repeats))
     }
 }
 

@@ -4,7 +4,7 @@ ghost use Rattle.std.specs.Prelude.{◌≡◌};
 ghost use Rattle.lra_commands.specs.Queries.{told_as};
 
 use crate::command::Told;
-use lra_model::{ActionStatus, MemberStatus};
+use lra_model::{ActionStatus, AskKind, MemberStatus};
 
 /// What is asked of a coordinator. It is no command: it names no clerk and no moment, writes nothing and takes no memory of the
 /// coordinator, and it isn't refused where there is no room.
@@ -20,6 +20,9 @@ pub enum Query {
     /// The next row of a listing. The place of the first is 0. At most 256 rows are looked at, from this place on, so that a page
     /// is this query asked again, each time from the place after the one that it told.
     Row { of: Listing, place: u64 },
+    /// How many rows belong to a listing. At most 256 are looked at, from this place on, so that a count of all is the sum of what this
+    /// query is told, each time from where to go on.
+    Count { of: Listing, place: u64 },
 }
 
 /// Rows of a coordinator's history, those that came first before the others.
@@ -36,11 +39,12 @@ pub enum Listing {
 /// A row of a listing.
 #[derive(Clone, Copy, Debug, PartialEq, Eq)]
 pub enum Row {
-    /// A member, its status, and the ask of it that is outstanding, if one is.
+    /// A member, its status, the ask of it that is outstanding, if one is, and else what it is to be asked, if anything.
     Member {
         member: u64,
         status: MemberStatus,
         ask: Option<u64>,
+        want: Option<Want>,
     },
     /// An action, its status, and the action that it is nested in, if it is.
     Action {
@@ -48,6 +52,16 @@ pub enum Row {
         status: ActionStatus,
         parent: Option<u64>,
     },
+}
+
+/// What a member is to be asked next.
+#[derive(Clone, Copy, Debug, PartialEq, Eq)]
+pub struct Want {
+    pub kind: AskKind,
+    /// How often it was asked in vain: it answered that it goes on, or nothing.
+    pub repeats: u64,
+    /// From when on it is asked, in milliseconds: 0 where it is at once.
+    pub due: u64,
 }
 
 /// What holds the end of an action.
@@ -76,10 +90,12 @@ pub enum Known {
     Row { place: u64, row: Row },
     /// The listing has no row from the place on.
     NoMore,
+    /// How many of the rows looked at belong to the listing, and the place to go on from, if there are more rows.
+    Counted { count: u64, next: Option<u64> },
 }
 
 impl Known {
-    /// The same, as a command is told it. Rows are told to no command: there it is `Idle`.
+    /// The same, as a command is told it. Rows, and how many there are, are told to no command: there it is `Idle`.
     pub const fn told(self) -> Told
         ensures { result ≡ told_as self }
     {
@@ -91,6 +107,7 @@ impl Known {
             Known::AwaitsNothing => Told::Idle,
             Known::Row { .. } => Told::Idle,
             Known::NoMore => Told::Idle,
+            Known::Counted { .. } => Told::Idle,
         }
     }
 }

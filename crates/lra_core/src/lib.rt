@@ -20,7 +20,7 @@ pub use laws::{
 };
 pub use lra_commands::{
     Awaited, Counter, CounterFault, Known, Limits, Listing, Order, Query, Refusal, Resource, Row,
-    Told, calls_leave_quiet_histories, commands_keep_histories, commands_make_histories,
+    Told, Want, calls_leave_quiet_histories, commands_keep_histories, commands_make_histories,
 };
 pub use lra_ids::{Address, Instance};
 pub use lra_model::{Memory, Rule, Version};

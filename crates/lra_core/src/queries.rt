@@ -14,9 +14,9 @@ impl Coordinator {
     /// What a query is told of the history, whoever asks and whenever. This changes nothing and takes no memory, and neither limits
     /// nor a journal that can't be written refuse it: `NoSuchAction` and `NoSuchMember` alone do.
     pub fn query(&self, query: Query) -> Result<Known, Refusal>
-        ensures { result ≡ tell self.now.history query }
+        ensures { result ≡ tell self.now.setting.limits self.now.history query }
     {
-        tell(&self.tables, query)
+        tell(&self.terms.limits, &self.tables, query)
     }
 
     /// What a clerk's command is told that only asks.

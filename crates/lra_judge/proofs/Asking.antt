@@ -7,6 +7,7 @@ use Rattle.lra_commands.specs.declared.query.Query.TheVariants as query
 use Rattle.lra_commands.specs.declared.query.Listing.{Listing}
 use Rattle.lra_commands.specs.declared.query.Known.{Known}
 use Rattle.lra_commands.specs.declared.query.Known.TheVariants as known
+use Rattle.lra_commands.specs.declared.limits.Limits.{Limits}
 use Rattle.lra_commands.specs.declared.limits.Terms.{Terms}
 use Rattle.lra_commands.specs.declared.refusal.Refusal.{Refusal}
 use Rattle.lra_commands.specs.declared.refusal.Refusal.TheVariants as refusal
@@ -14,15 +15,15 @@ use Rattle.lra_commands.specs.Calls.{Command, Call}
 use Rattle.lra_commands.specs.Blocks.{block}
 use Rattle.lra_commands.specs.Refusals.{status_at}
 use Rattle.lra_commands.specs.Answers.{answer}
-use Rattle.lra_commands.specs.Queries.{known_where, awaited_from, is_listed, row_from, tell, asks, told_as, answer_as}
+use Rattle.lra_commands.specs.Queries.{known_where, awaited_from, is_listed, row_from, count_from, tell, asks, told_as, answer_as}
 use Rattle.lra_commands.proofs.Asks.{commands_ask}
 use Rattle.lra_judge.specs.Decisions.{IsDecided}
 use Rattle.lra_judge.specs.inner.Judged as judged
 use Rattle.lra_judge.specs.inner.Judged.{◌>>=◌}
 use Rattle.lra_judge.proofs.Passing.{call}
 
-pub ask_decides : (s : Terms) (J : History) (by h : ℕ) (o : Command) (q : Query) → asks o ≡ Some q → IsDecided s J (call by h o) (judged.ask J by q)
-ask_decides s J by h o q e = let k = commands_ask s J c q e in one (is_among (clerks J) by) (tell J q) k.0 k.1
+pub ask_decides : (s : Terms) (J : History) (by h : ℕ) (o : Command) (q : Query) → asks o ≡ Some q → IsDecided s J (call by h o) (judged.ask s.limits J by q)
+ask_decides s J by h o q e = let k = commands_ask s J c q e in one (is_among (clerks J) by) (tell s.limits J q) k.0 k.1
   where
     c : Call
     c = call by h o
@@ -35,18 +36,22 @@ ask_decides s J by h o q e = let k = commands_ask s J c q e in one (is_among (cl
 
 -- ---- what each query is told
 
-pub tell_status : (J : History) (a : ℕ) → tell J (query.ActionStatus a) ≡ known_where (is_among (actions J) a) (known.ActionIs (status_at J a)) refusal.NoSuchAction
+pub tell_status : (l : Limits) (J : History) (a : ℕ) → tell l J (query.ActionStatus a) ≡ known_where (is_among (actions J) a) (known.ActionIs (status_at J a)) refusal.NoSuchAction
 unfolding tell
-tell_status J a = refl
+tell_status l J a = refl
 
-pub tell_member : (J : History) (p : ℕ) → tell J (query.MemberStatus p) ≡ known_where (is_among (members J) p) (known.MemberIs (member_status J p)) refusal.NoSuchMember
+pub tell_member : (l : Limits) (J : History) (p : ℕ) → tell l J (query.MemberStatus p) ≡ known_where (is_among (members J) p) (known.MemberIs (member_status J p)) refusal.NoSuchMember
 unfolding tell
-tell_member J p = refl
+tell_member l J p = refl
 
-pub tell_awaited : (J : History) (a place : ℕ) → tell J (query.Awaited a place) ≡ known_where (is_among (actions J) a) (awaited_from J a place) refusal.NoSuchAction
+pub tell_awaited : (l : Limits) (J : History) (a place : ℕ) → tell l J (query.Awaited a place) ≡ known_where (is_among (actions J) a) (awaited_from J a place) refusal.NoSuchAction
 unfolding tell
-tell_awaited J a place = refl
+tell_awaited l J a place = refl
 
-pub tell_row : (J : History) (l : Listing) (place : ℕ) → tell J (query.Row l place) ≡ known_where (is_listed J l) (row_from J l place) refusal.NoSuchAction
+pub tell_row : (l : Limits) (J : History) (x : Listing) (place : ℕ) → tell l J (query.Row x place) ≡ known_where (is_listed J x) (row_from l J x place) refusal.NoSuchAction
 unfolding tell
-tell_row J l place = refl
+tell_row l J x place = refl
+
+pub tell_count : (l : Limits) (J : History) (x : Listing) (place : ℕ) → tell l J (query.Count x place) ≡ known_where (is_listed J x) (count_from l J x place) refusal.NoSuchAction
+unfolding tell
+tell_count l J x place = refl

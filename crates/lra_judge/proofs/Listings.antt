@@ -3,12 +3,15 @@ use Rattle.std.proofs.Common.{◌≡◌, ℕ, zero, suc, ◌+◌, ◌≤◌, Boo
 use Rattle.std.proofs.lemmas.List.{length-map}
 use Rattle.std.proofs.lemmas.Option.{slice_get-map}
 use Rattle.std.specs.Prelude.{option_map, slice_get}
-use Rattle.std.specs.Option.{option_and_then}
+use Rattle.std.specs.Option.{option_map_or, option_and_then}
 use Rattle.std.specs.List.{range_with_len}
+use Rattle.lra_model.specs.declared.asks.AskKind.{AskKind}
 use Rattle.lra_model.specs.declared.version.Version.{Version}
 use Rattle.lra_model.specs.History.{History, actions, members, is_among}
 use Rattle.lra_model.specs.Actions.{children, members_of}
+use Rattle.lra_model.specs.Members.{member_status, outstanding_ask}
 use Rattle.lra_model.specs.Rules.{is_legal}
+use Rattle.lra_model.specs.Wants.{wants, repeat_count, last_repeat}
 use Rattle.lra_laws.proofs.Legal.{IsNumbered, actions_numbered, numbered_among, child_of, member_action, parent_there}
 use Rattle.lra_laws.proofs.GoodLists.{among_here, among_there}
 use Rattle.lra_rows.specs.declared.found.ActionRow.{ActionRow}
@@ -17,14 +20,37 @@ use Rattle.lra_commands.specs.declared.query.Listing.{Listing}
 use Rattle.lra_commands.specs.declared.query.Listing.TheVariants as listing
 use Rattle.lra_commands.specs.declared.query.Row.{Row}
 use Rattle.lra_commands.specs.declared.query.Row.TheVariants as row
-use Rattle.lra_commands.specs.Queries.{member_row, action_row, rows_along}
-use Rattle.lra_judge.specs.inner.Listed.{member_found, action_found, count_listed, row_at}
+use Rattle.lra_commands.specs.declared.query.Want.{Want}
+use Rattle.lra_commands.specs.declared.limits.Limits.{Limits}
+use Rattle.lra_commands.specs.Due.{due_after, stage_wanted}
+use Rattle.lra_commands.specs.Queries.{want_told, member_row, action_row, rows_along}
+use Rattle.lra_judge.specs.inner.Listed.{want_in, member_found, action_found, count_listed, row_at}
 use Rattle.lra_judge.proofs.Passing.{row_of, member_of}
 
 -- ---- what is found of one that is there
 
-member_there : (J : History) (p : ℕ) → is_among (members J) p ≡ true → member_found J p ≡ Some (member_row J p)
-member_there J p h = ap (λ b. option_map (λ (r : MemberRow). row.Member p r.status r.outstanding) (cond b (Some (member_of J p)) None)) h
+abbrev want : AskKind → ℕ → ℕ → Want
+want kind repeats due = record { kind = kind; repeats = repeats; due = due }
+
+want_is : (l : Limits) (J : History) (p : ℕ) → want_in l (member_of J p) ≡ want_told l J p
+want_is l J p = by (wants J p)
+  where
+    count : AskKind → ℕ
+    count kind = repeat_count J p (stage_wanted J p kind)
+
+    last : AskKind → Option ℕ
+    last kind = last_repeat J p (stage_wanted J p kind)
+
+    by : (o : Option AskKind)
+        → option_map (λ (kind : AskKind). want kind (option_map_or count o 0) (due_after l (option_map_or count o 0) (option_and_then last o))) o
+        ≡ option_map (λ (kind : AskKind). want kind (count kind) (due_after l (count kind) (last kind))) o
+    by None = refl
+    by (Some kind) = refl
+
+member_there : (l : Limits) (J : History) (p : ℕ) → is_among (members J) p ≡ true → member_found l J p ≡ Some (member_row l J p)
+member_there l J p h =
+    ap (λ b. option_map (λ (r : MemberRow). row.Member p r.status r.outstanding (want_in l r)) (cond b (Some (member_of J p)) None)) h
+    ∙ ap (λ (o : Option Want). Some (row.Member p (member_status J p) (outstanding_ask J p) o)) (want_is l J p)
 
 action_if : (J : History) (a : ℕ) (b : Bool) → is_among (actions J) a ≡ b → action_found J a ≡ cond b (Some (action_row J a)) None
 action_if J a b h = ap (λ x. option_map (λ (r : ActionRow). row.Action a r.status r.parent) (cond x (Some (row_of J a)) None)) h ∙ by b
@@ -76,15 +102,15 @@ numbered_found found f ns e h k = one (slice_get ns k) refl ∙ sym (slice_get-m
 
 -- ---- the rows of a listing
 
-pub row_is : (v : Version) (t : List ℕ → Bool) (J : History) → is_legal v t J ≡ true → (l : Listing) (k : ℕ) → row_at J l k ≡ slice_get (rows_along J l) k
+pub row_is : (l : Limits) (v : Version) (t : List ℕ → Bool) (J : History) → is_legal v t J ≡ true → (x : Listing) (k : ℕ) → row_at l J x k ≡ slice_get (rows_along l J x) k
 unfolding rows_along
-row_is v t J g (listing.Members a) k = each_found (member_found J) (member_row J) (members_of J a) (λ p h. member_there J p (member_action v t J g a p h).0) k
-row_is v t J g (listing.Nested a) k =
+row_is l v t J g (listing.Members a) k = each_found (member_found l J) (member_row l J) (members_of J a) (λ p h. member_there l J p (member_action v t J g a p h).0) k
+row_is l v t J g (listing.Nested a) k =
     each_found (action_found J) (action_row J) (children J a) (λ b h. action_if J b true (parent_there v t J g b a (child_of v t J g a b h)).child) k
-row_is v t J g (listing.Actions status) k = numbered_found (action_found J) (action_row J) (actions J) (actions_numbered v t J g) (action_if J) k
+row_is l v t J g (listing.Actions status) k = numbered_found (action_found J) (action_row J) (actions J) (actions_numbered v t J g) (action_if J) k
 
-pub count_is : (J : History) (l : Listing) → count_listed J l ≡ length (rows_along J l)
+pub count_is : (l : Limits) (J : History) (x : Listing) → count_listed J x ≡ length (rows_along l J x)
 unfolding rows_along
-count_is J (listing.Members a) = sym (length-map (members_of J a) (member_row J))
-count_is J (listing.Nested a) = sym (length-map (children J a) (action_row J))
-count_is J (listing.Actions status) = sym (length-map (actions J) (action_row J))
+count_is l J (listing.Members a) = sym (length-map (members_of J a) (member_row l J))
+count_is l J (listing.Nested a) = sym (length-map (children J a) (action_row J))
+count_is l J (listing.Actions status) = sym (length-map (actions J) (action_row J))

@@ -6,18 +6,33 @@ ghost use Rattle.lra_laws.specs.Sheets.{StandsFor};
 ghost use Rattle.lra_commands.specs.Queries as queries;
 ghost use Rattle.lra_judge.specs.inner.Listed as listed;
 
-use lra_commands::{Known, Listing, Row};
-use lra_tables::Tables;
+use lra_commands::{Known, Limits, Listing, Row, Want};
+use lra_tables::{MemberRow, Tables};
+
+/// What a member is to be asked next.
+fn want_in(limits: &Limits, found: &MemberRow) -> Option<Want>
+    ensures { result ≡ listed.want_in limits.now found.now }
+{
+    match found.want {
+        Some(kind) => Some(Want {
+            kind,
+            repeats: found.k,
+            due: limits.due_after(found.k, found.last),
+        }),
+        None => None,
+    }
+}
 
 /// The row of a member, if it is there.
-fn member_row(tables: &Tables, member: u64) -> Option<Row>
-    ensures { (J : History) → StandsFor tables.now.sheet J → result ≡ listed.member_found J member }
+fn member_row(limits: &Limits, tables: &Tables, member: u64) -> Option<Row>
+    ensures { (J : History) → StandsFor tables.now.sheet J → result ≡ listed.member_found limits.now J member }
 {
     let found = tables.member(member)?;
     Some(Row::Member {
         member,
         status: found.status,
         ask: found.outstanding,
+        want: want_in(limits, &found),
     })
 }
 
@@ -45,14 +60,14 @@ pub(crate) fn count_listed(tables: &Tables, listing: Listing) -> u64
 }
 
 /// The row at a place: of all actions, that of the number after it.
-fn row_at(tables: &Tables, listing: Listing, place: u64) -> Option<Row>
+fn row_at(limits: &Limits, tables: &Tables, listing: Listing, place: u64) -> Option<Row>
     requires { place < 2 ^ 64 - 1 }
-    ensures { (J : History) → StandsFor tables.now.sheet J → result ≡ listed.row_at J listing place }
+    ensures { (J : History) → StandsFor tables.now.sheet J → result ≡ listed.row_at limits.now J listing place }
 {
     match listing {
         Listing::Members { action } => {
             let member = tables.members(action).get(place as usize)?;
-            member_row(tables, *member)
+            member_row(limits, tables, *member)
         }
         Listing::Nested { action } => {
             let nested = tables.children(action).get(place as usize)?;
@@ -78,11 +93,16 @@ fn belongs(listing: Listing, row: Row) -> bool
 }
 
 /// What is told of the row at a place, if there is one that belongs to the listing.
-pub(crate) fn look_listed(tables: &Tables, listing: Listing, place: u64) -> Option<Known>
+pub(crate) fn look_listed(
+    limits: &Limits,
+    tables: &Tables,
+    listing: Listing,
+    place: u64,
+) -> Option<Known>
     requires { place < 2 ^ 64 - 1 }
-    ensures { (J : History) → StandsFor tables.now.sheet J → result ≡ listed.look_listed J listing place }
+    ensures { (J : History) → StandsFor tables.now.sheet J → result ≡ listed.look_listed limits.now J listing place }
 {
-    let row = row_at(tables, listing, place)?;
+    let row = row_at(limits, tables, listing, place)?;
     if belongs(listing, row) {
         Some(Known::Row { place, row })
     } else {

@@ -8,12 +8,12 @@ ghost use Rattle.lra_laws.specs.Sheets.{StandsFor};
 ghost use Rattle.lra_commands.specs.declared.query.Known.TheVariants as known;
 ghost use Rattle.lra_commands.specs.declared.refusal.Refusal.TheVariants as refusal;
 ghost use Rattle.lra_commands.specs.Refusals.{status_at};
-ghost use Rattle.lra_commands.specs.Queries.{awaited_from, is_listed, known_where, row_from, tell};
+ghost use Rattle.lra_commands.specs.Queries.{awaited_from, count_from, is_listed, known_where, row_from, tell};
 
 use crate::decision::Decision;
 use crate::judge::Judge;
-use crate::walk::{Walk, tell_from};
-use lra_commands::{Known, Listing, Query, Refusal};
+use crate::walk::{Walk, count_from, tell_from};
+use lra_commands::{Known, Limits, Listing, Query, Refusal};
 use lra_tables::Tables;
 
 /// The status of an action.
@@ -37,11 +37,12 @@ fn member_is(tables: &Tables, member: u64) -> Result<Known, Refusal>
 }
 
 /// What an action waits for, from a place on.
-fn awaited(tables: &Tables, action: u64, place: u64) -> Result<Known, Refusal>
+fn awaited(limits: &Limits, tables: &Tables, action: u64, place: u64) -> Result<Known, Refusal>
     ensures { (J : History) → StandsFor tables.now.sheet J → result ≡ known_where (is_among (actions J) action) (awaited_from J action place) refusal.NoSuchAction }
 {
     match tables.action(action) {
         Some(row) => Ok(tell_from(
+            limits,
             tables,
             Walk::Awaited {
                 action,
@@ -75,25 +76,47 @@ fn is_listed(tables: &Tables, listing: Listing) -> bool
 }
 
 /// The next row of a listing, from a place on.
-fn next_row(tables: &Tables, listing: Listing, place: u64) -> Result<Known, Refusal>
-    ensures { (J : History) → StandsFor tables.now.sheet J → result ≡ known_where (is_listed J listing) (row_from J listing place) refusal.NoSuchAction }
+fn next_row(
+    limits: &Limits,
+    tables: &Tables,
+    listing: Listing,
+    place: u64,
+) -> Result<Known, Refusal>
+    ensures { (J : History) → StandsFor tables.now.sheet J → result ≡ known_where (is_listed J listing) (row_from limits.now J listing place) refusal.NoSuchAction }
 {
     if is_listed(tables, listing) {
-        Ok(tell_from(tables, Walk::Listed { listing }, place))
+        Ok(tell_from(limits, tables, Walk::Listed { listing }, place))
     } else {
         Err(Refusal::NoSuchAction)
     }
 }
 
-/// What a query is told at the history that the tables stand for. This takes no memory.
-pub fn tell(tables: &Tables, query: Query) -> Result<Known, Refusal>
-    ensures { (J : History) → StandsFor tables.now.sheet J → result ≡ tell J query }
+/// How many rows of a listing there are, of those looked at from a place on.
+fn count_rows(
+    limits: &Limits,
+    tables: &Tables,
+    listing: Listing,
+    place: u64,
+) -> Result<Known, Refusal>
+    ensures { (J : History) → StandsFor tables.now.sheet J → result ≡ known_where (is_listed J listing) (count_from limits.now J listing place) refusal.NoSuchAction }
+{
+    if is_listed(tables, listing) {
+        Ok(count_from(limits, tables, listing, place))
+    } else {
+        Err(Refusal::NoSuchAction)
+    }
+}
+
+/// What a query is told at the history that the tables stand for, where members are asked again by these limits. This takes no memory.
+pub fn tell(limits: &Limits, tables: &Tables, query: Query) -> Result<Known, Refusal>
+    ensures { (J : History) → StandsFor tables.now.sheet J → result ≡ tell limits.now J query }
 {
     match query {
         Query::ActionStatus { action } => action_is(tables, action),
         Query::MemberStatus { member } => member_is(tables, member),
-        Query::Awaited { action, place } => awaited(tables, action, place),
-        Query::Row { of, place } => next_row(tables, of, place),
+        Query::Awaited { action, place } => awaited(limits, tables, action, place),
+        Query::Row { of, place } => next_row(limits, tables, of, place),
+        Query::Count { of, place } => count_rows(limits, tables, of, place),
     }
 }
 
@@ -105,10 +128,10 @@ impl Judge<'_> {
 
     /// What a command is told that only asks.
     pub(crate) fn ask(&self, query: Query) -> Result<Decision, Refusal>
-        ensures { (J : History) → StandsFor self.now.tables.now.sheet J → result ≡ judged.ask J self.now.by query }
+        ensures { (J : History) → StandsFor self.now.tables.now.sheet J → result ≡ judged.ask self.now.terms.limits J self.now.by query }
     {
         self.require_clerk()?;
-        let known = tell(self.tables, query)?;
+        let known = tell(&self.terms.limits, self.tables, query)?;
         Ok(Decision::Told(known.told()))
     }
 }

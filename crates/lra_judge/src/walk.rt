@@ -1,15 +1,15 @@
 //! What a query goes along, row by row, and the first of the rows that it tells.
 
-ghost use Rattle.std.specs.Prelude.{◌≡◌, ◌≤◌, ◌<◌, ◌+◌, ◌-◌, ◌^◌, min, max, unwrap_or};
+ghost use Rattle.std.specs.Prelude.{◌≡◌, ◌≤◌, ◌<◌, ◌+◌, ◌-◌, ◌^◌, min, max, unwrap_or, cond, filter, length};
 ghost use Rattle.lra_model.specs.History.{History};
 ghost use Rattle.lra_laws.specs.Sheets.{StandsFor};
 ghost use Rattle.lra_commands.specs.declared.query.Known.{Known as Told};
-ghost use Rattle.lra_commands.specs.Queries.{most_rows};
+ghost use Rattle.lra_commands.specs.Queries.{most_rows, looked_at, belongs, rows_along, next_of, count_from};
 ghost use Rattle.lra_judge.specs.inner.Walks as walks;
 
 use crate::awaited::{count_awaited, look_awaited};
 use crate::listed::{count_listed, look_listed};
-use lra_commands::{Known, Listing};
+use lra_commands::{Known, Limits, Listing};
 use lra_model::ActionStatus;
 use lra_tables::Tables;
 
@@ -36,13 +36,13 @@ fn count_rows(tables: &Tables, walk: Walk) -> u64
 }
 
 /// What is told of the row at a place, if there is one that is told.
-fn look(tables: &Tables, walk: Walk, place: u64) -> Option<Known>
+fn look(limits: &Limits, tables: &Tables, walk: Walk, place: u64) -> Option<Known>
     requires { place < 2 ^ 64 - 1 }
-    ensures { (J : History) → StandsFor tables.now.sheet J → result ≡ walks.look J walk place }
+    ensures { (J : History) → StandsFor tables.now.sheet J → result ≡ walks.look limits.now J walk place }
 {
     match walk {
         Walk::Awaited { action, status } => look_awaited(tables, action, status, place),
-        Walk::Listed { listing } => look_listed(tables, listing, place),
+        Walk::Listed { listing } => look_listed(limits, tables, listing, place),
     }
 }
 
@@ -60,12 +60,12 @@ fn count_looked(rows: u64, place: u64) -> u64
 }
 
 /// What is told of the first of the rows looked at that is told.
-fn first_told(tables: &Tables, walk: Walk, place: u64) -> Option<Known>
-    ensures { (J : History) (none : Told) → StandsFor tables.now.sheet J → unwrap_or result none ≡ walks.first_some (walks.look J walk) none place most_rows }
+fn first_told(limits: &Limits, tables: &Tables, walk: Walk, place: u64) -> Option<Known>
+    ensures { (J : History) (none : Told) → StandsFor tables.now.sheet J → unwrap_or result none ≡ walks.first_some (walks.look limits.now J walk) none place most_rows }
 {
     let rows = count_rows(tables, walk);
     for n in 0..count_looked(rows, place) {
-        let told = look(tables, walk, place + n);
+        let told = look(limits, tables, walk, place + n);
         if told.is_some() {
             return told;
         }
@@ -83,20 +83,62 @@ fn last_of(walk: Walk) -> Known
     }
 }
 
+/// Where to go on from a place, of so many rows, unless all of them were looked at.
+fn next_of(rows: u64, place: u64) -> Option<u64>
+    ensures { result ≡ next_of rows place }
+{
+    match place.checked_add(MOST_ROWS) {
+        Some(next) if next < rows => Some(next),
+        _ => None,
+    }
+}
+
 /// What is told where none of the rows looked at is, of so many.
 fn none_told(last: Known, rows: u64, place: u64) -> Known
     ensures { result ≡ walks.none_told last rows place }
 {
-    match place.checked_add(MOST_ROWS) {
-        Some(next) if next < rows => Known::Further(next),
-        _ => last,
+    match next_of(rows, place) {
+        Some(next) => Known::Further(next),
+        None => last,
     }
 }
 
 /// What is told from a place on.
-pub(crate) fn tell_from(tables: &Tables, walk: Walk, place: u64) -> Known
-    ensures { (J : History) → StandsFor tables.now.sheet J → walks.IsTold J walk place result }
+pub(crate) fn tell_from(limits: &Limits, tables: &Tables, walk: Walk, place: u64) -> Known
+    ensures { (J : History) → StandsFor tables.now.sheet J → walks.IsTold limits.now J walk place result }
 {
     let none = none_told(last_of(walk), count_rows(tables, walk), place);
-    first_told(tables, walk, place).unwrap_or(none)
+    first_told(limits, tables, walk, place).unwrap_or(none)
+}
+
+/// 1 where something is so, and else 0.
+fn one_if(is_so: bool) -> u64
+    ensures count { result ≡ cond is_so 1 0 }
+    ensures most { result ≤ 1 }
+{
+    if is_so { 1 } else { 0 }
+}
+
+/// How many of the rows looked at belong to a listing.
+fn count_belonging(limits: &Limits, tables: &Tables, listing: Listing, place: u64) -> u64
+    ensures { (J : History) → StandsFor tables.now.sheet J → result ≡ length (filter (belongs listing) (looked_at (rows_along limits.now J listing) place)) }
+{
+    let rows = count_listed(tables, listing);
+    let mut count = 0;
+    for n in 0..count_looked(rows, place) {
+        let told = look_listed(limits, tables, listing, place + n);
+        count += one_if(told.is_some());
+    }
+    count
+}
+
+/// How many rows there are of a listing, of those looked at from a place on.
+pub(crate) fn count_from(limits: &Limits, tables: &Tables, listing: Listing, place: u64) -> Known
+    ensures { (J : History) → StandsFor tables.now.sheet J → result ≡ count_from limits.now J listing place }
+{
+    let next = next_of(count_listed(tables, listing), place);
+    Known::Counted {
+        count: count_belonging(limits, tables, listing, place),
+        next,
+    }
 }

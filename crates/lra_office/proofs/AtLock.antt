@@ -94,7 +94,7 @@ pub may_add_nothing : {O : Type 0} (v w : View O) (J : History) → HasTaken v J
 may_add_nothing v w J h = subst (λ (u : View _). MayAdd u.number u.seen (block_after u.seen J)) (sym h.2) (add_nothing v.number J)
 
 -- it was answered
-pub answered : {O : Type 0} (set : O → Setting) (v w u : View O) (o : O) (J : History) (q : Query) (r : Result Known Refusal) → o ≡ v.origin → IsMet (set o) v J → HasTaken v J w → r ≡ tell J q → u ≡ given w J
+pub answered : {O : Type 0} (set : O → Setting) (v w u : View O) (o : O) (J : History) (q : Query) (r : Result Known Refusal) → o ≡ v.origin → IsMet (set o) v J → HasTaken v J w → r ≡ tell (set o).limits J q → u ≡ given w J
     → IsAnswered (set v.origin) v q r u
 answered set v w u o J q r same met h s e =
     subst (λ x. IsAnswered (set x) v q r u) same (record { history = J; met = met; told = s; after = given_after v w u J J [] h e (sym (append-nil J)) ∙ nothing_added v J })

@@ -54,7 +54,7 @@ pub record IsGrown {O : Type 0} (g : Setting) (v : View O) (c : Call) (t : Told)
 pub record IsAnswered {O : Type 0} (g : Setting) (v : View O) (q : Query) (answer : Result Known Refusal) (w : View O) : Type 0 where
   pub history : History
   pub met : IsMet g v history
-  pub told : answer ≡ tell history q
+  pub told : answer ≡ tell g.limits history q
   pub after : w ≡ met_view v history
 
 -- a query was answered, or no ticket was left

@@ -32,7 +32,7 @@ pub trait Serving: Kept {
 
     /// What a query is told of its history.
     fn query(&self, query: Query) -> Result<Known, Refusal>
-        ensures { result ≡ tell (Self.history self.now) query };
+        ensures { result ≡ tell (setting (Self.origin self.now)).limits (Self.history self.now) query };
 
     // What its laws say of its history.
     ghost tells: { (x : Self) → Self.Kept.lawful x → IsKeptBy (setting (Self.Kept.origin x)) (Self.Kept.history x) };

@@ -3,31 +3,18 @@
 ghost use Rattle.std.specs.Prelude.{◌≡◌, ◌+◌, ◌<◌, ◌^◌};
 ghost use Rattle.lra_model.specs.History.{History};
 ghost use Rattle.lra_laws.specs.Sheets.{StandsFor};
-ghost use Rattle.lra_commands.specs.Due.{due_after};
 ghost use Rattle.lra_schedule.specs.inner.Renewals.{retry_by, limit_by, retry_in, limit_in};
 
 use lra_commands::Limits;
 use lra_model::ActionStatus;
 use lra_tables::{ActionRow, MemberRow, Tables};
-use lra_timers::pause;
-
-/// When a want is due that was asked for k times in vain, the last time at that moment: at once, or after a pause.
-fn due_after(limits: &Limits, k: u64, last: Option<u64>) -> u64
-    ensures { result ≡ due_after limits.now k last }
-{
-    if k == 0 {
-        return 0;
-    }
-    last.unwrap_or(0)
-        .saturating_add(pause(limits.retry_base, limits.retry_cap, k))
-}
 
 /// When the want of a member is due, if it wants anything.
 fn retry_by(limits: &Limits, row: &MemberRow) -> Option<u64>
     ensures { result ≡ retry_by limits.now row.now }
 {
     match row.want {
-        Some(_) => Some(due_after(limits, row.k, row.last)),
+        Some(_) => Some(limits.due_after(row.k, row.last)),
         None => None,
     }
 }

@@ -35,12 +35,16 @@ awaited 1 1 -> Awaits { place: 1, awaited: Member { member: 2, ask: Some(2) } }
 1 23 reply 2 done -> Recorded
 + 1 23 reply 2 done
 awaited 1 1 -> AwaitsNothing
-listed members 1 0 -> Row { place: 0, row: Member { member: 1, status: Completing, ask: Some(1) } }
-listed members 1 1 -> Row { place: 1, row: Member { member: 2, status: Completed, ask: None } }
+listed members 1 0 -> Row { place: 0, row: Member { member: 1, status: Completing, ask: Some(1), want: None } }
+listed members 1 1 -> Row { place: 1, row: Member { member: 2, status: Completed, ask: None, want: None } }
 listed members 1 2 -> NoMore
 listed members 2 0 -> refused NoSuchAction
+counted members 1 0 -> Counted { count: 2, next: None }
+counted members 1 1 -> Counted { count: 1, next: None }
+counted members 2 0 -> refused NoSuchAction
 1 24 reply 1 accepted -> Recorded
 + 1 24 reply 1 accepted
+listed members 1 0 -> Row { place: 0, row: Member { member: 1, status: Completing, ask: None, want: Some(Want { kind: Status, repeats: 1, due: 124 }) } }
 awaited 1 0 -> Awaits { place: 0, awaited: Member { member: 1, ask: None } }
 1 30 report 1 Completed -> MemberNow(Completed)
 + 1 30 report 1 done
@@ -141,6 +145,10 @@ listed actions * 1 -> Row { place: 1, row: Action { action: 2, status: Cancellin
 listed actions * 2 -> NoMore
 listed actions Cancelling 1 -> Row { place: 1, row: Action { action: 2, status: Cancelling, parent: Some(1) } }
 listed actions Closed 0 -> NoMore
+counted nested 1 0 -> Counted { count: 1, next: None }
+counted actions * 0 -> Counted { count: 2, next: None }
+counted actions Cancelling 1 -> Counted { count: 1, next: None }
+counted actions Closed 0 -> Counted { count: 0, next: None }
 1 8 reply 2 done -> Recorded
 + 1 8 reply 2 done
 + 1 8 end 2 Cancelled

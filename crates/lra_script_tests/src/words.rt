@@ -17,7 +17,7 @@ pub fn parted<'a>(row: &'a str, sign: &str) -> (&'a str, &'a str) {
 
 /// Whether a line with such a first word only asks.
 pub fn asks(first: &str) -> bool {
-    first == "awaited" || first == "listed"
+    first == "awaited" || first == "listed" || first == "counted"
 }
 
 impl<'a> Words<'a> {
@@ -74,7 +74,8 @@ impl<'a> Words<'a> {
         Ok(())
     }
 
-    /// A query, from a place on, of a line with such a first word: of what an action waits for, or of the next row of a listing.
+    /// A query, from a place on, of a line with such a first word: of what an action waits for, of the next row of a
+    /// listing, or of how many it has.
     pub fn query(&mut self, first: &str) -> Option<Query> {
         if first == "awaited" {
             let action = self.number()?;
@@ -83,6 +84,9 @@ impl<'a> Words<'a> {
         }
         let of = self.listing()?;
         let place = self.number()?;
+        if first == "counted" {
+            return Some(Query::Count { of, place });
+        }
         Some(Query::Row { of, place })
     }
 

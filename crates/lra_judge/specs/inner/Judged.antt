@@ -309,10 +309,10 @@ restart J by m = do
 -- ---- queries
 
 -- a command that only asks
-abbrev pub ask : History → ℕ → Query → Judged
-ask J by q = do
+abbrev pub ask : Limits → History → ℕ → Query → Judged
+ask l J by q = do
   _ ← known_clerk J by
-  k ← tell J q
+  k ← tell l J q
   told_so (told_as k)
 
 -- ---- every command
@@ -331,5 +331,5 @@ IsJudged s J by m x (command.Record errand o) result = result ≡ reply J by m (
 IsJudged s J by m x (command.Report p e) result = result ≡ report J by m p e
 IsJudged s J by m x command.Restart result = result ≡ restart J by m
 IsJudged s J by m x (command.Renew a limit) result = result ≡ renew s.version J by m a limit
-IsJudged s J by m x (command.Status a) result = result ≡ ask J by (query.ActionStatus a)
-IsJudged s J by m x (command.MemberStatus p) result = result ≡ ask J by (query.MemberStatus p)
+IsJudged s J by m x (command.Status a) result = result ≡ ask s.limits J by (query.ActionStatus a)
+IsJudged s J by m x (command.MemberStatus p) result = result ≡ ask s.limits J by (query.MemberStatus p)

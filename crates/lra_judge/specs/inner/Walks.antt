@@ -3,6 +3,7 @@ use Rattle.std.specs.Prelude.{◌≡◌, ℕ, zero, suc, ◌+◌, nat_lt, length
 use Rattle.lra_model.specs.History.{History}
 use Rattle.lra_commands.specs.declared.query.Known.{Known}
 use Rattle.lra_commands.specs.declared.query.Known.TheVariants as known
+use Rattle.lra_commands.specs.declared.limits.Limits.{Limits}
 use Rattle.lra_commands.specs.Refusals.{status_at}
 use Rattle.lra_commands.specs.Queries.{most_rows, awaited_from, row_from}
 use Rattle.lra_judge.specs.declared.walk.Walk.{Walk}
@@ -21,9 +22,9 @@ count_rows J (walk.Awaited a status) = length (found_rows J a)
 count_rows J (walk.Listed l) = count_listed J l
 
 -- what is told of the row at a place, if there is one that is told
-abbrev pub look : History → Walk → ℕ → Option Known
-look J (walk.Awaited a status) place = look_awaited J a status place
-look J (walk.Listed l) place = look_listed J l place
+abbrev pub look : Limits → History → Walk → ℕ → Option Known
+look l J (walk.Awaited a status) place = look_awaited J a status place
+look l J (walk.Listed x) place = look_listed l J x place
 
 -- what is told where no row from any place on is
 abbrev pub last_of : Walk → Known
@@ -35,6 +36,6 @@ abbrev pub none_told : Known → ℕ → ℕ → Known
 none_told last rows place = cond (nat_lt (place + most_rows) rows) (known.Further (place + most_rows)) last
 
 -- what is told from a place on is what the query is told, along the rows of an action by its status
-abbrev pub IsTold : History → Walk → ℕ → Known → Type 0
-IsTold J (walk.Awaited a status) place k = status ≡ status_at J a → k ≡ awaited_from J a place
-IsTold J (walk.Listed l) place k = k ≡ row_from J l place
+abbrev pub IsTold : Limits → History → Walk → ℕ → Known → Type 0
+IsTold l J (walk.Awaited a status) place k = status ≡ status_at J a → k ≡ awaited_from J a place
+IsTold l J (walk.Listed x) place k = k ≡ row_from l J x place
