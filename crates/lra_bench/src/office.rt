@@ -13,7 +13,7 @@ use crate::stopwatch::Stopwatch;
 use anyhow::{Context, Result, bail, ensure};
 use lra_core::{Command, Committed, Told};
 use lra_model::{Outcome, Uris, suits};
-use lra_office::{Clerk, Office, Serving};
+use lra_office::{Clerk, Office, OfficeOf, Serving};
 use lra_ticket::Pass;
 use std::alloc::{AllocError, Global};
 use std::io::{Print, Write};
@@ -69,7 +69,7 @@ fn does_rounds<G: Gives>(giver: &mut G, uris: &Uris, rounds: u64) -> bool {
 /// The commands of a round, by a clerk of an office.
 fn round_at<V: Serving, R: Wait>(
     rt: &R,
-    office: &Office<V>,
+    office: &OfficeOf<V>,
     clerk: &mut Clerk<V>,
     uris: &Uris,
 ) -> Option<()>
@@ -86,7 +86,7 @@ fn round_at<V: Serving, R: Wait>(
 }
 
 /// Asks who is to be asked, and takes down that it is done.
-fn ask_at<V: Serving, R: Wait>(rt: &R, office: &Office<V>, clerk: &mut Clerk<V>) -> Option<()>
+fn ask_at<V: Serving, R: Wait>(rt: &R, office: &OfficeOf<V>, clerk: &mut Clerk<V>) -> Option<()>
     requires { IsClerkOf office.now.lock clerk.old }
     ensures { IsClerkOf office.now.lock clerk.new }
 {
@@ -109,7 +109,7 @@ fn ask_at<V: Serving, R: Wait>(rt: &R, office: &Office<V>, clerk: &mut Clerk<V>)
 /// So many rounds by a clerk; false where one of them fails.
 fn does_rounds_of<V: Serving, R: Wait>(
     rt: &R,
-    office: &Office<V>,
+    office: &OfficeOf<V>,
     clerk: &mut Clerk<V>,
     uris: &Uris,
     rounds: u64,
@@ -127,7 +127,7 @@ fn does_rounds_of<V: Serving, R: Wait>(
 /// The same by a clerk that is enrolled for them.
 fn does_rounds_at<V: Serving, R: Wait>(
     rt: &R,
-    office: &Office<V>,
+    office: &OfficeOf<V>,
     pass: Pass<V>,
     uris: &Uris,
     rounds: u64,
@@ -146,7 +146,7 @@ fn does_rounds_at<V: Serving, R: Wait>(
 /// As many passes as there are threads.
 fn passes<V: Serving>(
     alloc: Global,
-    office: &Office<V>,
+    office: &OfficeOf<V>,
     mut clerk: Clerk<V>,
     threads: u64,
 ) -> Result<Vec<Pass<V>>, AllocError>
@@ -173,7 +173,7 @@ fn time_of<R: Clock>(rt: &R, watch: Stopwatch, are_done: &[bool]) -> Result<Dura
 /// How long so many rounds take by each of these passes, in a thread of its own.
 fn time_all<V: Serving + Send, R: Threads + Wait + Clock + Sync>(
     rt: &R,
-    office: &Office<V>,
+    office: &OfficeOf<V>,
     jobs: Vec<Pass<V>>,
     uris: &Uris,
     rounds: u64,
@@ -197,7 +197,7 @@ fn time_all<V: Serving + Send, R: Threads + Wait + Clock + Sync>(
 fn time_clerks<V: Serving + Send, R: Threads + Wait + Clock + Sync>(
     rt: &R,
     alloc: Global,
-    office: &Office<V>,
+    office: &OfficeOf<V>,
     pass: Pass<V>,
     uris: &Uris,
     threads: u64,

@@ -17,7 +17,7 @@ use lra_commands::{Order, Query};
 use lra_core::{Errand, Instance, Limits, Refusal, Told};
 use lra_journal::whole;
 use lra_model::{Outcome, suits};
-use lra_office::{Clerk, Desk, Office, OfficeRefusal, ReopenFault, Serving};
+use lra_office::{Clerk, Desk, Office, OfficeOf, OfficeRefusal, ReopenFault, Serving};
 use lra_ticket::Pass;
 use std::alloc::{AllocError, Global};
 use std::io::{self, Write};
@@ -56,7 +56,7 @@ impl<R: Wait> Write for Shared<'_, R> {
 struct Player<'a, V: Serving, R> {
     rt: &'a R,
     alloc: Global,
-    office: Office<V>,
+    office: OfficeOf<V>,
     clerk: Clerk<V>,
     /// What the office's writer has taken.
     journal: &'a Mutex<Vec<u8>>,
@@ -252,7 +252,7 @@ impl<V: Serving, R: Wait> Player<'_, V, R> {
 /// Gives an order by the call of its name.
 fn named<V: Serving, R: Wait>(
     rt: &R,
-    office: &Office<V>,
+    office: &OfficeOf<V>,
     clerk: &mut Clerk<V>,
     moment: u64,
     order: &Order<'_>,
@@ -313,7 +313,7 @@ fn room(alloc: Global) -> Vec<u8> {
 /// Enrols the first clerk of an office, the second time where memory was refused.
 fn enrolled<V: Serving, R: Wait>(
     rt: &R,
-    office: &Office<V>,
+    office: &OfficeOf<V>,
     pass: Pass<V>,
     moment: u64,
 ) -> Option<Clerk<V>>
@@ -329,7 +329,7 @@ fn enrolled<V: Serving, R: Wait>(
 }
 
 /// An office and its clerk after a script that the clerk gives.
-fn given<V: Serving, R: Wait>(mut player: Player<'_, V, R>, script: &str) -> (Office<V>, Clerk<V>)
+fn given<V: Serving, R: Wait>(mut player: Player<'_, V, R>, script: &str) -> (OfficeOf<V>, Clerk<V>)
     ensures { IsClerkOf result.0.lock result.1 }
 {
     let _ = player.play(script);
@@ -347,7 +347,7 @@ fn given<V: Serving, R: Wait>(mut player: Player<'_, V, R>, script: &str) -> (Of
 }
 
 /// Adds the journal by the coordinator of an office, which is shut. It takes no memory where there is room.
-fn shut<W: Write + Drop>(office: Office<Desk<W>>, clerk: Clerk<Desk<W>>, kept: &mut Vec<u8>)
+fn shut<W: Write + Drop>(office: Office<W>, clerk: Clerk<Desk<W>>, kept: &mut Vec<u8>)
     requires { IsClerkOf office.lock clerk }
 {
     match office.shut(clerk) {
@@ -382,7 +382,7 @@ struct Came<'a> {
 fn play_at<W: Write + Drop, R: Wait>(
     rt: &R,
     alloc: Global,
-    office: Office<Desk<W>>,
+    office: Office<W>,
     pass: Pass<Desk<W>>,
     moment: u64,
     script: &str,
