@@ -24,7 +24,7 @@ use std::process::ExitCode;
 const USAGE: &str = "usage: lra_bench NAME
 
 audit     megabytes audited a second, and memory, as a journal grows from 10,000 entries to 10,000,000
-core      the commands of a coordinator, as its members grow from 1,000 to 400,000, and reopening its journal
+core      the commands and queries of a coordinator, as its members grow from 1,000 to 400,000, and reopening its journal
 front     the replies to one connection: standard input has a journal, an empty line, and the connection's bytes
 ids       address texts tested a second, short and long
 lock      handovers of the ticket lock, beside a Mutex

@@ -1,5 +1,6 @@
 //! What some commands take on top of what a coordinator holds.
 
+use super::asking::{Asked, time_queries};
 use super::desk::{Desk, Gives};
 use anyhow::Result;
 use lra_model::{Outcome, Uris};
@@ -15,13 +16,17 @@ const ACTIONS: u64 = 25;
 /// How many members join each of the actions that are closed.
 const JOINING: u64 = 3;
 
-/// The nanoseconds of a command of each kind.
+/// The nanoseconds of a command and of a query of each kind.
 #[derive(Clone, Copy)]
 pub struct Sample {
     pub join: f64,
     pub close: f64,
     pub ask: f64,
     pub tick: f64,
+    pub status: f64,
+    pub awaited: f64,
+    pub listed: f64,
+    pub counted: f64,
 }
 
 impl Sample {
@@ -31,12 +36,16 @@ impl Sample {
             close: self.close.min(other.close),
             ask: self.ask.min(other.ask),
             tick: self.tick.min(other.tick),
+            status: self.status.min(other.status),
+            awaited: self.awaited.min(other.awaited),
+            listed: self.listed.min(other.listed),
+            counted: self.counted.min(other.counted),
         }
     }
 }
 
-/// The nanoseconds of one of so many commands, since their start.
-fn nanoseconds(rt: &HostRuntime, start: Instant, commands: u64) -> Result<f64> {
+/// The nanoseconds of one of so many calls, since their start.
+pub fn nanoseconds(rt: &HostRuntime, start: Instant, commands: u64) -> Result<f64> {
     let time = start.elapsed(rt)?;
     Ok(time.as_secs_f64() * 1e9 / nearest_u64_to_f64(commands))
 }
@@ -115,8 +124,9 @@ fn time_late(rt: &HostRuntime, desk: &mut Desk) -> Result<f64> {
     time_ticks(rt, desk)
 }
 
-/// One sample: members join actions and are asked to complete, and told of the end; other actions are cancelled by their limits.
-fn take_sample(rt: &HostRuntime, desk: &mut Desk) -> Result<Sample> {
+/// One sample: members join actions and are asked to complete, and told of the end; other actions are cancelled by their limits; and
+/// queries are asked.
+fn take_sample(rt: &HostRuntime, desk: &mut Desk, members: u64) -> Result<Sample> {
     let [join, close] = time_members(rt, desk)?;
     let ask = time_asks(rt, desk)?;
     let tick = time_late(rt, desk)?;
@@ -125,15 +135,19 @@ fn take_sample(rt: &HostRuntime, desk: &mut Desk) -> Result<Sample> {
         close,
         ask,
         tick,
+        status: time_queries(rt, desk, Asked::Status, members)?,
+        awaited: time_queries(rt, desk, Asked::Awaited, members)?,
+        listed: time_queries(rt, desk, Asked::Listed, members)?,
+        counted: time_queries(rt, desk, Asked::Counted, members)?,
     })
 }
 
 /// The shortest of some samples on one coordinator that is filled with so many members.
 fn shortest_on(rt: &HostRuntime, desk: &mut Desk, members: u64) -> Result<Sample> {
     desk.fill(members)?;
-    let mut least = take_sample(rt, desk)?;
+    let mut least = take_sample(rt, desk, members)?;
     for _ in 1..TIMES {
-        least = least.least(take_sample(rt, desk)?);
+        least = least.least(take_sample(rt, desk, members)?);
     }
     Ok(least)
 }
