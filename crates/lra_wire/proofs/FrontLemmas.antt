@@ -1,8 +1,9 @@
 -- The request at the front of bytes that came.
-use Rattle.std.proofs.Common.{◌≡◌, ◌≢◌, ℕ, ◌+◌, ◌<◌, ◌≤◌, Bool, true, false, cond, List, [], ◌∷◌, ◌++◌, length, map, take, drop, refl, sym, ap, subst, ◌∙◌, arith, append_assoc, Result, Ok, Err, inl, inr}
+use Rattle.std.proofs.Common.{◌≡◌, ◌≢◌, ℕ, ◌+◌, ◌<◌, ◌≤◌, Bool, true, false, cond, ◌==◌, List, [], ◌∷◌, ◌++◌, length, map, take, drop, refl, sym, ap, subst, ◌∙◌, arith, append_assoc, Result, Ok, Err, inl, inr}
 use Rattle.std.specs.Prelude.{nat_le, slice_range}
+use Rattle.std.specs.List.{list_any}
 use Rattle.std.proofs.lemmas.Bool.{leb-true}
-use Rattle.std.proofs.lemmas.List.{append-nil, length-append}
+use Rattle.std.proofs.lemmas.List.{append-nil, length-append, take-append-le, take_all}
 use Rattle.httparse.specs.declared.spans.HeaderSpan.{HeaderSpan}
 use Rattle.httparse.specs.declared.spans.RequestSpans.{RequestSpans}
 use Rattle.httparse.specs.Grammar.{print_request, ReadsRequest, HasNoRequest, MayBecomeRequest}
@@ -13,10 +14,13 @@ use Rattle.lra_wire.specs.declared.fault.WireFault.TheVariants.{BadHead, Chunked
 use Rattle.lra_wire.specs.declared.fields.Stated.{Stated}
 use Rattle.lra_wire.specs.declared.fields.Stated.TheVariants.{Nothing, Length, Malformed}
 use Rattle.lra_wire.specs.Fields.{is_coded, stated_of, stated_body, body_length_of}
-use Rattle.lra_wire.specs.Fronts.{RefusesFront, IsUnfinished}
+use Rattle.lra_wire.specs.declared.front.Seen.{Seen}
+use Rattle.lra_wire.specs.Fronts.{RefusesFront, IsUnfinished, Sees}
+use Rattle.lra_wire.specs.inner.Sought.{LacksBody, StaysOpen}
 use Rattle.lra_wire.specs.inner.Heads.{IsHeadAt}
 use Rattle.lra_wire.specs.inner.Reading.{request_at}
-use Rattle.lra_wire.specs.Request.{IsRequest, HasHead, Request, RefusesBody, EndsInBody}
+use Rattle.lra_wire.specs.Request.{IsRequest, HasHead, Request, RefusesBody, EndsInBody, IsOpenRequest, AwaitsRequest}
+use Rattle.lra_wire.proofs.HeadLemmas.{up_to_all, no_request, no_request_yet}
 use Rattle.lra_wire.proofs.ReadingLemmas.{request_there, lacks_body}
 use Rattle.lra_wire.proofs.RequestsLemmas.{exclusive, some_bytes}
 
@@ -57,15 +61,78 @@ length_limit fields size e = go (is_coded fields) (stated_of fields) e
     go false Malformed f = absurd cc
 
 -- a body isn't whole
-pub body_unfinished : (bytes : List ℕ) (headers : List HeaderSpan) (spans : RequestSpans) (size : ℕ) → IsHeadAt bytes headers spans
-    → body_length_of (map (header_bytes bytes) (take spans.headers headers)) ≡ Ok size → length bytes < spans.len + size
-    → IsUnfinished bytes × (length bytes < 73728)
-body_unfinished bytes headers spans size at stated few =
+pub body_lacks : (bytes : List ℕ) (headers : List HeaderSpan) (spans : RequestSpans) (size : ℕ) → IsHeadAt bytes headers spans
+    → body_length_of (map (header_bytes bytes) (take spans.headers headers)) ≡ Ok size → length bytes < spans.len + size → LacksBody (spans.len + size) bytes
+body_lacks bytes headers spans size at stated few = record {
+  few = few;
+  bound = omega (arith, at.places.len, at.lawful.size, length_limit (map (header_bytes bytes) (take spans.headers headers)) size stated);
+  body = λ more f. lacks_body bytes more headers spans size at stated f;
+}
+
+ends_in_body : (bytes : List ℕ) (wanted : ℕ) → length bytes < wanted → ((more : List ℕ) → length (bytes ++ more) < wanted → EndsInBody (bytes ++ more)) → EndsInBody bytes
+ends_in_body bytes wanted few h =
     let same : bytes ++ [] ≡ bytes = append-nil bytes in
-    let lacks = lacks_body bytes [] headers spans size at stated (subst (λ (xs : List ℕ). length xs < spans.len + size) (sym same) few) in (
-      inr (inr (subst EndsInBody same lacks)),
-      omega (arith, few, at.places.len, at.lawful.size, length_limit (map (header_bytes bytes) (take spans.headers headers)) size stated),
-    )
+    subst EndsInBody same (h [] (subst (λ (xs : List ℕ). length xs < wanted) (sym same) few))
+
+pub body_unfinished : (bytes : List ℕ) (wanted : ℕ) → LacksBody wanted bytes → IsUnfinished bytes × (length bytes < 73728)
+body_unfinished bytes wanted l = (inr (inr (ends_in_body bytes wanted l.few l.body)), omega (arith, l.few, l.bound))
+
+-- ---- what was seen
+
+pub sees_nothing : (bytes : List ℕ) → Sees (record { looked = 0; wanted = 0 }) bytes
+sees_nothing bytes = record { within = omega arith; head = λ z. no_request_yet; body = λ p. absurd (omega (arith, p)) }
+
+-- it holds of more bytes
+pub sees_more : (seen : Seen) (bytes more : List ℕ) → Sees seen bytes → Sees seen (bytes ++ more)
+sees_more seen bytes more s = record {
+  within = omega (arith, s.within, length-append bytes more);
+  head = λ z. subst IsOpenRequest (sym (take-append-le seen.looked bytes more s.within)) (s.head z);
+  body = λ p.
+      let known = s.body p in (
+        known.0,
+        λ tail few. subst EndsInBody (sym (append_assoc bytes more tail)) (known.1 (more ++ tail) (subst (λ (xs : List ℕ). length xs < seen.wanted) (append_assoc bytes more tail) few)),
+      );
+}
+
+-- a body that isn't whole yet
+pub seen_body : (seen : Seen) (bytes : List ℕ) → Sees seen bytes → 0 < seen.wanted → length bytes < seen.wanted → StaysOpen seen.wanted bytes
+seen_body seen bytes s some few =
+    let known = s.body some in
+    record { awaits = inr (ends_in_body bytes seen.wanted few known.1); bound = omega (arith, few, known.0); head = λ z. absurd (omega (arith, z, some)) }
+
+-- a head behind which no line feed came
+pub seen_head : (seen : Seen) (bytes : List ℕ) → Sees seen bytes → seen.wanted ≡ 0 → length bytes < 8192 → list_any (λ b. b == 10) (slice_range bytes seen.looked (length bytes)) ≡ false
+    → StaysOpen seen.wanted bytes
+seen_head seen bytes s none few feed =
+    let open_head = no_request bytes seen.looked s.within (s.head none) feed in
+    record { awaits = inl open_head; bound = omega (arith, few); head = λ z. open_head }
+
+-- all was looked at
+pub sees_all : (seen : Seen) (bytes : List ℕ) → Sees seen bytes → StaysOpen seen.wanted bytes → Sees (record seen { looked = length bytes }) bytes
+sees_all seen bytes s o = record {
+  within = omega arith;
+  head = λ z. subst IsOpenRequest (sym (take_all (length bytes) bytes (omega arith))) (o.head z);
+  body = s.body;
+}
+
+pub head_open : (bytes : List ℕ) → HasNoRequest bytes → MayBecomeRequest bytes → IsOpenRequest bytes
+head_open bytes none may = (none, up_to_all MayBecomeRequest bytes may)
+
+pub sees_head : (bytes : List ℕ) → IsOpenRequest bytes → Sees (record { looked = length bytes; wanted = 0 }) bytes
+sees_head bytes o = record {
+  within = omega arith;
+  head = λ z. subst IsOpenRequest (sym (take_all (length bytes) bytes (omega arith))) o;
+  body = λ p. absurd (omega (arith, p));
+}
+
+pub sees_body : (seen : Seen) (bytes : List ℕ) (wanted : ℕ) → Sees seen bytes → LacksBody wanted bytes → Sees (record seen { wanted = wanted }) bytes
+sees_body seen bytes wanted s l = record { within = s.within; head = λ z. absurd (omega (arith, z, l.few)); body = λ p. (l.bound, l.body) }
+
+-- more is asked for where more is wanted
+pub unfinished_awaits : (bytes : List ℕ) → IsUnfinished bytes → AwaitsRequest bytes
+unfinished_awaits bytes (inl none) = inl (subst IsOpenRequest (sym none) no_request_yet)
+unfinished_awaits bytes (inr (inl ends)) = inl (head_open bytes ends.open_head ends.lawful)
+unfinished_awaits bytes (inr (inr ends)) = inr ends
 
 -- ---- whatever follows
 

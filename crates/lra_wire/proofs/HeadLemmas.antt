@@ -26,7 +26,7 @@ use Rattle.lra_wire.proofs.SearchLemmas.{EndsLine, ends_behind, section_ends, en
 
 -- ---- up to a line feed
 
-up_to_all : (P : List ℕ → Type 0) (bytes : List ℕ) → P bytes → UpToLine P bytes
+pub up_to_all : (P : List ℕ → Type 0) (bytes : List ℕ) → P bytes → UpToLine P bytes
 up_to_all P bytes there = record { front = bytes; back = []; whole = sym (append-nil bytes); none = refl; there = there }
 
 up_to_more : (P : List ℕ → Type 0) (bytes : List ℕ) (n : ℕ) → UpToLine P (take n bytes) → list_any (λ b. b == 10) (drop n bytes) ≡ false → UpToLine P bytes
@@ -52,7 +52,7 @@ no_request bytes n within so_far feed = (
   up_to_more MayBecomeRequest bytes n so_far.1 (no_feed bytes n feed),
 )
 
-no_request_yet : IsOpenRequest []
+pub no_request_yet : IsOpenRequest []
 no_request_yet = (
   λ head rest reads. ends_some (print_request head) rest (request_ends head) reads.1,
   up_to_all MayBecomeRequest [] (inl (print_request example, example, (example_is, sym (append-nil (print_request example))))),

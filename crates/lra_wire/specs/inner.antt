@@ -3,4 +3,5 @@ pub mod Growth
 pub mod Fields
 pub mod Heads
 pub mod Reading
+pub mod Sought
 pub mod Steps

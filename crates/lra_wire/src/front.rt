@@ -1,12 +1,14 @@
 //! The request at the front of bytes that came, with no reader.
-ghost use Rattle.std.specs.Prelude.{◌≡◌, ◌≢◌, ℕ, List, ◌++◌};
+ghost use Rattle.std.specs.Prelude.{◌≡◌, ◌≢◌, ℕ, List, ◌++◌, length, true};
 ghost use Rattle.lra_wire.specs.declared.fault.WireFault.{WireFault};
 ghost use Rattle.lra_wire.specs.declared.fault.WireFault.TheVariants.{Memory};
-ghost use Rattle.lra_wire.specs.Fronts.{RefusesFront, IsUnfinished, IsFront, EndsWith};
+ghost use Rattle.lra_wire.specs.declared.front.Seen.{Seen};
+ghost use Rattle.lra_wire.specs.Fronts.{RefusesFront, IsUnfinished, IsFront, Sees, IsFrontSeen, EndsWith};
+ghost use Rattle.lra_wire.specs.inner.Sought.{IsSought, StaysOpen};
 ghost use Rattle.lra_wire.specs.Request.{Request, IsRequest};
 
 use crate::fault::WireFault;
-use crate::head::MAX_FIELDS;
+use crate::head::{MAX_FIELDS, MAX_HEAD};
 use crate::request::{RequestRead, body_length, head_at, request_at};
 use httparse::spans::EMPTY_HEADER_SPAN;
 use std::alloc::Global;
@@ -18,23 +20,106 @@ pub struct Front {
     pub len: usize,
 }
 
+/// What stands at the front of bytes.
+#[derive(Drop)]
+enum Sought {
+    Whole(Front),
+    OpenHead,
+    /// A whole head, and how many bytes there are once the body is whole.
+    OpenBody(usize),
+}
+
+/// What was found of bytes that hold no whole request, so that they needn't be read anew with each piece that follows.
+#[derive(Clone, Copy)]
+pub struct Seen {
+    looked: usize,
+    /// How many bytes there are once the body is whole, or 0 where the head isn't.
+    wanted: usize,
+}
+
+impl Seen {
+    /// Nothing was looked at.
+    pub fn nothing() -> Seen
+        ensures { (bytes : List ℕ) → Sees result bytes }
+    {
+        Seen {
+            looked: 0,
+            wanted: 0,
+        }
+    }
+
+    /// Whether these bytes, of which a front was seen, can hold no whole request yet.
+    fn stays_open(&self, bytes: &[u8]) -> bool
+        requires { Sees self.now bytes.now }
+        ensures { result ≡ true → StaysOpen self.now.wanted bytes.now }
+    {
+        if self.wanted > 0 {
+            return bytes.len() < self.wanted;
+        }
+        if bytes.len() >= MAX_HEAD {
+            return false;
+        }
+        !bytes[self.looked..].contains(&b'\n')
+    }
+}
+
+fn find_front(alloc: Global, bytes: &[u8]) -> Result<Sought, WireFault>
+    ensures { IsSought bytes.now result }
+{
+    let mut headers = [EMPTY_HEADER_SPAN; MAX_FIELDS];
+    let Some(head) = head_at(bytes, &mut headers)? else {
+        return Ok(Sought::OpenHead);
+    };
+    let size = body_length(bytes, &headers[..head.headers])?;
+    let len = head.len + size;
+    if bytes.len() < len {
+        return Ok(Sought::OpenBody(len));
+    }
+    let mut request = request_at(alloc, bytes, &headers, &head)?;
+    request.body = Vec::from_slice(alloc, &bytes[head.len..len])?;
+    Ok(Sought::Whole(Front { request, len }))
+}
+
 /// The request at the front of the bytes that came so far, or none where more are wanted. Its faults are those of
 /// [`read_request`](crate::read_request), but for what the end of a stream or a reader brings.
 pub fn request_front(alloc: Global, bytes: &[u8]) -> Result<Option<Front>, WireFault>
     ensures { IsFront bytes.now result }
 {
-    let mut headers = [EMPTY_HEADER_SPAN; MAX_FIELDS];
-    let Some(head) = head_at(bytes, &mut headers)? else {
-        return Ok(None);
-    };
-    let size = body_length(bytes, &headers[..head.headers])?;
-    let len = head.len + size;
-    if bytes.len() < len {
+    match find_front(alloc, bytes) {
+        Ok(Sought::Whole(front)) => Ok(Some(front)),
+        Ok(Sought::OpenHead) => Ok(None),
+        Ok(Sought::OpenBody(_)) => Ok(None),
+        Err(fault) => Err(fault),
+    }
+}
+
+/// The same of bytes of which a front was seen: they are read only where a head may end in what came since, or a body.
+pub fn request_front_seen(
+    alloc: Global,
+    bytes: &[u8],
+    seen: &mut Seen,
+) -> Result<Option<Front>, WireFault>
+    requires { Sees seen.old bytes.now }
+    ensures front { IsFrontSeen bytes.now result }
+    ensures seen { Sees seen.new bytes.now }
+{
+    if seen.stays_open(bytes) {
+        seen.looked = bytes.len();
         return Ok(None);
     }
-    let mut request = request_at(alloc, bytes, &headers, &head)?;
-    request.body = Vec::from_slice(alloc, &bytes[head.len..len])?;
-    Ok(Some(Front { request, len }))
+    match find_front(alloc, bytes) {
+        Ok(Sought::Whole(front)) => Ok(Some(front)),
+        Ok(Sought::OpenHead) => {
+            seen.looked = bytes.len();
+            seen.wanted = 0;
+            Ok(None)
+        }
+        Ok(Sought::OpenBody(wanted)) => {
+            seen.wanted = wanted;
+            Ok(None)
+        }
+        Err(fault) => Err(fault),
+    }
 }
 
 /// What it means that a stream ends with these bytes, where more of a request is wanted: nothing, or that it was cut.
@@ -55,6 +140,7 @@ pub fn one_front()
         → IsRequest bytes request rest → IsRequest (bytes ++ more) request (rest ++ more) }
     ensures one { (bytes : List ℕ) (request other : Request) (rest tail : List ℕ)
         → IsRequest bytes request rest → IsRequest bytes other tail → (request ≡ other) × (rest ≡ tail) }
+    ensures seen { (seen : Seen) (bytes more : List ℕ) → Sees seen bytes → Sees seen (bytes ++ more) }
     ensures refused { (bytes more : List ℕ) (fault : WireFault)
         → RefusesFront bytes fault → RefusesFront (bytes ++ more) fault }
 

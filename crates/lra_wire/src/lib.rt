@@ -17,7 +17,7 @@ mod response;
 mod write;
 
 pub use fault::WireFault;
-pub use front::{Front, end_fault, one_front, request_front};
+pub use front::{Front, Seen, end_fault, one_front, request_front, request_front_seen};
 pub use inbox::Inbox;
 pub use request::{RequestRead, one_reading, read_request};
 pub use response::{ResponseRead, read_response};
