@@ -2,8 +2,8 @@
 use Rattle.std.specs.Prelude.{◌≡◌, ◌≢◌, ◌⊎◌, ◌<◌, ◌≤◌, Bool, true, false, List, [], ℕ, length, Some, None, Result, Ok, Err, IsTrue, IsFalse, IsSome}
 use Rattle.std.specs.declared.alloc.AllocError.{AllocError}
 use Rattle.lra_wire.specs.declared.fault.WireFault.TheVariants.{Cut, Memory}
-use Rattle.lra_wire.specs.Fronts.{RefusesFront, IsUnfinished}
-use Rattle.lra_wire.specs.Request.{Request, IsRequest, RefusesRequest}
+use Rattle.lra_wire.specs.Fronts.{RefusesFront}
+use Rattle.lra_wire.specs.Request.{Request, IsRequest, RefusesRequest, AwaitsRequest}
 use Rattle.lra_front.specs.declared.stream.StreamEnd.{StreamEnd}
 use Rattle.lra_front.specs.declared.stream.StreamEnd.TheVariants.{Done, Refused, WriteFault}
 use Rattle.lra_front.specs.Transcripts.{Turn}
@@ -23,7 +23,7 @@ Ends WriteFault h = ⊥
 
 -- what a step says of the history before it, and what it changes
 abbrev pub StepsTo : Step → History → History → Type 0
-StepsTo Wants old new = IsFree old × IsFalse old.closed × IsUnfinished old.kept × (length old.kept < 73728) × (new ≡ old)
+StepsTo Wants old new = IsFree old × IsFalse old.closed × AwaitsRequest old.kept × (length old.kept < 73728) × (new ≡ old)
 StepsTo Stands old new = (request : Request) × (rest : List ℕ) × IsFree old × IsRequest old.kept request rest × (new ≡ ordered old request rest)
 StepsTo Waits old new = (old.ended ≡ None) × IsSome old.stands × (new ≡ old)
 StepsTo (Ended end) old new = ((old.ended ≡ Some end) × (new ≡ old)) ⊎ (IsFree old × Ends end old × (new ≡ ended_by old end))

@@ -2,14 +2,14 @@
 ghost use Rattle.std.specs.Prelude.{◌≡◌, ◌≤◌, ◌==◌, [], ◌∷◌, ◌++◌, map, take, drop, length, if◌then◌else◌, Some, None, IfSome, IsTrue, IsSome};
 ghost use Rattle.std.specs.Option.{option_map};
 ghost use Rattle.lra_ids.specs.Addresses.{is_base};
-ghost use Rattle.lra_wire.specs.Fronts.{IsUnfinished};
+ghost use Rattle.lra_wire.specs.Fronts.{IsUnfinished, Sees};
 ghost use Rattle.lra_wire.specs.Request.{request_of};
 ghost use Rattle.lra_front.specs.declared.stream.StreamEnd.TheVariants.{Done, WriteFault};
 ghost use Rattle.lra_front.specs.Replies.{HasIdentifiers};
 ghost use Rattle.lra_front.specs.Streams as stream;
 ghost use Rattle.lra_steps.specs.History.{IsServed, begun, room_of, finished, went};
 ghost use Rattle.lra_steps.specs.Steps.{Steps, Takes, Tells};
-ghost use Rattle.lra_steps.specs.inner.Ends.{EndsWithout};
+ghost use Rattle.lra_steps.specs.inner.Ends.{Finds, EndsWithout};
 ghost use Rattle.lra_steps.specs.inner.Fields.{backs, fronts, turn_of};
 
 use crate::log::Log;
@@ -19,7 +19,7 @@ use http::Method;
 use lra_front::{Answer, StreamEnd};
 use lra_ids::{Address, Instance};
 use lra_model::Memory;
-use lra_wire::{RequestRead, WireFault, end_fault, request_front};
+use lra_wire::{Front, RequestRead, Seen, WireFault, end_fault, request_front, request_front_seen};
 use std::alloc::{AllocError, Global};
 use std::marker::Model;
 use std::snapshot::Snapshot;
@@ -57,6 +57,8 @@ pub struct Connection {
     instance: Instance,
     kept: Queue,
     out: Queue,
+    /// What was found of what is kept, so that it isn't read anew with each piece.
+    seen: Seen,
     /// The request that stands to be answered.
     stands: Option<RequestRead>,
     ended: Option<StreamEnd>,
@@ -105,9 +107,27 @@ fn note_turn(log: &mut Log<RequestRead, Reply>, request: &RequestRead, reply: &R
     *log = log.and(request, reply);
 }
 
+/// The request at the front of what is kept. While bytes may come it is looked for only where it can be whole since what was seen.
+fn next_front(
+    alloc: Global,
+    kept: &[u8],
+    closed: bool,
+    seen: &mut Seen,
+) -> Result<Option<Front>, WireFault>
+    requires { Sees seen.old kept.now }
+    ensures front { Finds closed kept.now result }
+    ensures seen { Sees seen.new kept.now }
+{
+    if closed {
+        request_front(alloc, kept)
+    } else {
+        request_front_seen(alloc, kept, seen)
+    }
+}
+
 /// How a connection ends where more of a request is wanted: not at all while bytes may come.
 fn end_without(closed: bool, kept: &[u8]) -> Option<StreamEnd>
-    requires { IsUnfinished kept.now }
+    requires { IsTrue closed → IsUnfinished kept.now }
     ensures { EndsWithout closed kept.now result }
 {
     if !closed {
@@ -156,6 +176,7 @@ impl Connection {
             instance,
             kept: Queue::new(alloc),
             out: Queue::new(alloc),
+            seen: Seen::nothing(),
             stands: None,
             ended: None,
             closed: false,
@@ -217,9 +238,15 @@ impl Connection {
         if self.stands.is_some() {
             return Ok(Step::Waits);
         }
-        match request_front(self.alloc, self.kept.as_slice()) {
+        match next_front(
+            self.alloc,
+            self.kept.as_slice(),
+            self.closed,
+            &mut self.seen,
+        ) {
             Ok(Some(front)) => {
                 self.kept.advance(front.len);
+                self.seen = Seen::nothing();
                 self.stands = Some(front.request);
                 Ok(Step::Stands)
             }

@@ -1,9 +1,18 @@
--- How a connection ends where no whole request is kept.
-use Rattle.std.specs.Prelude.{◌≡◌, ℕ, Bool, List, [], Option, Some, None, IsTrue, IsFalse}
+-- What is found of what a connection keeps, and how it ends where that is no whole request.
+use Rattle.std.specs.Prelude.{◌≡◌, ℕ, ◌<◌, Bool, List, [], length, Option, Some, None, Result, Ok, Err, IsTrue, IsFalse}
+use Rattle.lra_wire.specs.declared.fault.WireFault.{WireFault}
 use Rattle.lra_wire.specs.declared.fault.WireFault.TheVariants.{Cut}
-use Rattle.lra_wire.specs.Request.{RefusesRequest}
+use Rattle.lra_wire.specs.declared.front.Front.{Front}
+use Rattle.lra_wire.specs.Fronts.{RefusesFront, IsUnfinished, IsFront}
+use Rattle.lra_wire.specs.Request.{RefusesRequest, AwaitsRequest}
 use Rattle.lra_front.specs.declared.stream.StreamEnd.{StreamEnd}
 use Rattle.lra_front.specs.declared.stream.StreamEnd.TheVariants.{Done, Refused, WriteFault}
+
+-- a whole request, or more is wanted, or a fault
+abbrev pub Finds : Bool → List ℕ → Result (Option Front) WireFault → Type 0
+Finds closed kept (Ok (Some front)) = IsFront kept (Ok (Some front))
+Finds closed kept (Ok None) = (IsTrue closed → IsUnfinished kept) × (IsFalse closed → AwaitsRequest kept) × (length kept < 73728)
+Finds closed kept (Err fault) = RefusesFront kept fault
 
 -- not while bytes may come; and then by what is kept
 abbrev pub EndsWithout : Bool → List ℕ → Option StreamEnd → Type 0

@@ -2,6 +2,7 @@
 use Rattle.std.specs.Prelude.{◌≡◌, ℕ, ◌-◌, List, map, take, drop, flat_map, length}
 use Rattle.std.specs.Option.{option_map}
 use Rattle.lra_wire.specs.declared.request.RequestRead.{RequestRead}
+use Rattle.lra_wire.specs.Fronts.{Sees}
 use Rattle.lra_wire.specs.Request.{request_of}
 use Rattle.lra_front.specs.Transcripts.{Turn}
 use Rattle.lra_steps.specs.declared.connection.Connection.TheInside.{Inside}
@@ -33,7 +34,8 @@ history_of c = record {
   out = c.out;
 }
 
--- the history is served, and as many requests are left, beside a last one, as are counted
+-- the history is served, what was seen is of what is kept, and as many requests are left, beside a last one, as are counted
 pub record Holds (c : Inside) : Type 0 where
   pub served : IsServed (history_of c)
+  pub seen : Sees c.seen c.kept
   pub left : c.left ≡ 999 - length (history_of c).turns

@@ -1,4 +1,6 @@
-use Rattle.std.proofs.Common.{refl, sym, ap, length, subst, ◌≤◌, arith}
+use Rattle.std.proofs.Common.{ℕ, List, refl, sym, ap, length, subst, ◌≤◌, arith}
+use Rattle.lra_wire.specs.Fronts.{Sees}
+use Rattle.lra_wire.proofs.FrontLemmas.{sees_more}
 use Rattle.lra_steps.specs.History.{IsServed, room_of}
 use Rattle.lra_steps.specs.inner.Fields.{history_of, backs}
 use Rattle.lra_steps.proofs.HistoryLemmas.{served_took, took_is}
@@ -13,5 +15,6 @@ invariant_of-self-2 c =
           (sym (took_is h c.args.bytes.now c.push.new.self (backs c.self.inside.reads.items) (backs c.note_back.new.log.items) _ refl
           (ap length c.as_slice-place.ensures) c.in_ok-push.ensures.ok c.note_back.ensures))
           (served_took h c.args.bytes.now c.self.invariant.served fits);
+      seen = subst (λ (xs : List ℕ). Sees c.self.inside.seen xs) (sym c.in_ok-push.ensures.ok) (sees_more c.self.inside.seen c.self.inside.kept c.args.bytes.now c.self.invariant.seen);
       left = c.self.invariant.left;
     }

@@ -19,5 +19,6 @@ invariant_of-self c =
       served = served_told h turn c.args.base.now c.self.inside.left c.is_head-head.result c.closes_after-close.result c.push_reply-replied.result turns c.end_after-self-inside.result c.push_reply-replied.new.out
           c.self.invariant.served (ap (option_map request_of) c.in-Some.is) base left c.is_head-head.ensures c.closes_after-close.ensures c.note_turn.ensures
           (c.end_after-self-inside.ensures ∙ ap (λ b. cond b (cond c.closes_after-close.result (Some Done) None) (Some WriteFault)) c.is_ok.ensures.value) c.push_reply-replied.ensures.ok c.push_reply-replied.ensures.err;
+      seen = c.self.invariant.seen;
       left = left_one h turn c.self.inside.left c.saturating_sub-self-inside.result turns left c.saturating_sub-self-inside.ensures c.note_turn.ensures;
     }
