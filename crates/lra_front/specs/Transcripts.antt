@@ -15,7 +15,7 @@ use Rattle.lra_front.specs.declared.wish.Wish.{Wish}
 use Rattle.lra_front.specs.declared.stream.StreamEnd.{StreamEnd}
 use Rattle.lra_front.specs.declared.stream.StreamEnd.TheVariants.{Done, Refused, WriteFault}
 use Rattle.lra_front.specs.Replies.{reply_bytes}
-use Rattle.lra_front.specs.Serving.{Gives, Does, Responds}
+use Rattle.lra_front.specs.Serving.{Does, Responds}
 use Rattle.lra_front.specs.Streams.{Standing, fault_answer, is_head, closes_after, ServesUpTo}
 
 -- a request, the moment at which it was answered, and its answer

@@ -1,5 +1,5 @@
 -- Why a worker's calls are refused.
-use Rattle.std.proofs.Common.{◌≡◌, ◌≢◌, ℕ, zero, suc, ◌≤◌, Bool, true, false, List, [], ◌∷◌, ◌++◌, length, Option, Some, None, inl, inr, refl, sym, ap, ◌∙◌, subst, append-nil, arith}
+use Rattle.std.proofs.Common.{◌≡◌, ◌≢◌, ℕ, zero, suc, ◌≤◌, Bool, true, false, List, [], ◌∷◌, ◌++◌, length, Option, Some, None, inl, inr, refl, sym, ap, ◌∙◌, subst, append-nil}
 use Rattle.std.specs.Prelude.{◌⊎◌, ◌&&◌, ◌+◌, not, option_map, IfSome, Ok, Err}
 use Rattle.std.specs.Option.{option_map_or, option_and_then}
 use Rattle.std.specs.List.{filter_map}
@@ -20,7 +20,6 @@ use Rattle.lra_ids.specs.Addresses.{is_address}
 use Rattle.lra_ticket.specs.declared.view.View.{View}
 use Rattle.lra_commands.specs.declared.command.Command.TheVariants as command
 use Rattle.lra_commands.specs.declared.command.Told.{Told}
-use Rattle.lra_commands.specs.declared.limits.Limits.{Limits}
 use Rattle.lra_commands.specs.declared.limits.Terms.{Terms}
 use Rattle.lra_commands.specs.declared.refusal.Refusal.{Refusal}
 use Rattle.lra_commands.specs.declared.refusal.Refusal.TheVariants as refusal
@@ -30,7 +29,7 @@ use Rattle.lra_commands.specs.Calls.{Call, Command, moment_of}
 use Rattle.lra_commands.specs.Deeds.{own_deed, writer_of, entry_of}
 use Rattle.lra_commands.specs.Due.{due, late}
 use Rattle.lra_commands.specs.Blocks.{block}
-use Rattle.lra_commands.specs.Refusals.{Ground, is_filled, passes, overfills, full_grounds, is_asked, is_stranger, first_ground, refused}
+use Rattle.lra_commands.specs.Refusals.{is_filled, passes, overfills, is_asked, first_ground, refused}
 use Rattle.lra_commands.specs.Answers.{told_of, answer}
 use Rattle.lra_commands.specs.Counters.{Setting, terms_of}
 use Rattle.lra_commands.specs.Runs.{IsWithin}
