@@ -42,7 +42,7 @@ pub enum Order<'a> {
 #[derive(Clone, Copy, Debug, PartialEq, Eq, Error)]
 pub enum CounterFault {
     /// The coordinator refused it, and is as it was.
-    #[error("{0}")]
+    #[error(transparent)]
     Refused(Refusal),
     /// Nothing can be given here any more.
     #[error("the counter is worn")]

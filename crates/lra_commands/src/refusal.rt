@@ -5,7 +5,8 @@ ghost use Rattle.lra_commands.specs.Names.{resource_name, refusal_name};
 
 use lra_model::ActionStatus;
 use std::alloc::{AllocError, AllocFailed};
-use thiserror::Error;
+use std::error::Error;
+use std::fmt;
 
 /// What there may be too much of.
 #[derive(Clone, Copy, Debug, PartialEq, Eq)]
@@ -17,43 +18,29 @@ pub enum Resource {
 }
 
 /// Why a command is refused. After a refusal the coordinator is as it was.
-#[derive(Clone, Copy, Debug, PartialEq, Eq, Error)]
+#[derive(Clone, Copy, Debug, PartialEq, Eq)]
 pub enum Refusal {
-    #[error("the clerk isn't enrolled")]
     NoSuchClerk,
     /// The journal is of version 1, which has no renewed limits.
-    #[error("the journal is of version 1")]
     OldJournal,
     /// The action, or the parent of a new one.
-    #[error("the action isn't there")]
     NoSuchAction,
-    #[error("the member isn't there")]
     NoSuchMember,
-    #[error("the member is another action's")]
     WrongAction,
-    #[error("the member has left")]
     HasLeft,
     /// The action's status doesn't allow it.
-    #[error("the action isn't active")]
     NotActive(ActionStatus),
     /// A text is no address, or the member has none that it needs.
-    #[error("the addresses don't fit")]
     BadAddresses,
     /// The limit would pass after 2^64 - 1 milliseconds.
-    #[error("the limit is too far off")]
     LimitTooFar,
-    #[error("the action would be nested too deep")]
     TooDeep,
     /// What would be written doesn't fit into the coordinator's limits.
-    #[error("the coordinator is full")]
     Full(Resource),
     /// The ask isn't outstanding, or the member isn't asked what it tells.
-    #[error("this wasn't asked")]
     NotAsked,
     /// The journal's writer has failed.
-    #[error("the journal can't be written")]
     Stopped,
-    #[error("out of memory")]
     Memory,
 }
 
@@ -115,4 +102,32 @@ impl Refusal {
             Refusal::Memory => "Memory",
         }
     }
+
+    /// What a person is told.
+    const fn text(self) -> &'static str {
+        match self {
+            Refusal::NoSuchClerk => "the clerk isn't enrolled",
+            Refusal::OldJournal => "the journal is of version 1",
+            Refusal::NoSuchAction => "the action isn't there",
+            Refusal::NoSuchMember => "the member isn't there",
+            Refusal::WrongAction => "the member is another action's",
+            Refusal::HasLeft => "the member has left",
+            Refusal::NotActive(_) => "the action isn't active",
+            Refusal::BadAddresses => "the addresses don't fit",
+            Refusal::LimitTooFar => "the limit is too far off",
+            Refusal::TooDeep => "the action would be nested too deep",
+            Refusal::Full(_) => "the coordinator is full",
+            Refusal::NotAsked => "this wasn't asked",
+            Refusal::Stopped => "the journal can't be written",
+            Refusal::Memory => "out of memory",
+        }
+    }
 }
+
+impl fmt::Display for Refusal {
+    fn fmt<W: fmt::Write>(&self, f: &mut fmt::Formatter<W>) -> fmt::Result {
+        f.write_str(self.text())
+    }
+}
+
+impl Error for Refusal {}
