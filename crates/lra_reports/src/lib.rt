@@ -19,7 +19,7 @@ pub use audit::audit_run;
 pub use dispatch::{Sources, run};
 pub use errors::{error_line, input_name};
 pub use fault::RunFault;
-pub use input::read_input;
+pub use input::{LONGEST, read_input};
 pub use output::put;
 pub use program::{System, answer_question, settle, tell, tell_usage, words_of};
 pub use show::show_run;

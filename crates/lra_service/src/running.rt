@@ -195,7 +195,8 @@ impl<
             pen,
             moment,
         } = stand;
-        let keeper = Keeper::new(self.rt, &progress, pen);
+        let room = pen.room();
+        let keeper = Keeper::new(self.rt, &progress, pen, room);
         let shift = Shift::new(
             self.rt,
             self.alloc,
