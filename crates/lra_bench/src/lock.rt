@@ -2,22 +2,23 @@
 ghost use Rattle.std.specs.Prelude.{◌≡◌, All, IfOk};
 ghost use Rattle.lra_ticket.specs.Locks.{lock_id, pass_id};
 
-use crate::stopwatch::Stopwatch;
-use anyhow::{Context, Result};
+use crate::line::Line;
+use crate::mutex::{Turns, through_a_mutex};
+use crate::stopwatch::{Stopwatch, a_second};
+use anyhow::Result;
 use lra_model::{Entry, Memory};
 use lra_ticket::{Kept, Pass, TicketLock};
 use std::alloc::Global;
 use std::io::Print;
 use std::marker::Send;
-use std::sync::{Mutex, Wait};
-use std::thread;
-use std::thread::Threads;
-use std::time::{Clock, Duration};
+use std::sync::Wait;
+use std::thread::{self, Threads};
+use std::time::Clock;
 
 /// The handovers of one measurement, by all threads together.
 const HANDOVERS: u64 = 1_000_000;
 
-// Takes the lock and gives it back, this many times. It ends early where no ticket is left.
+/// Takes the lock and gives it back, this many times. It ends early where no ticket is left.
 fn hand_over<V: Kept, R: Wait>(
     rt: &R,
     lock: &TicketLock<V>,
@@ -35,14 +36,14 @@ fn hand_over<V: Kept, R: Wait>(
     pass
 }
 
-fn lock_and_unlock<R: Wait>(rt: &R, lock: &Mutex<Vec<Entry>>, times: u64) {
-    for _ in 0..times {
-        let entries = lock.lock(rt);
-        drop(entries);
+impl Turns for Vec<Entry> {
+    /// Does nothing: the lock is taken and given back.
+    fn take_turn(&mut self) -> bool {
+        true
     }
 }
 
-// As many passes as there are threads.
+/// As many passes as there are threads.
 fn passes<V: Kept>(
     alloc: Global,
     lock: &TicketLock<V>,
@@ -62,7 +63,7 @@ fn passes<V: Kept>(
     Ok(all)
 }
 
-// Each pass takes the lock this many times, in a thread of its own.
+/// Each pass takes the lock this many times, in a thread of its own.
 fn hand_over_all<V: Kept + Send, R: Threads + Wait + Sync>(
     rt: &R,
     lock: &TicketLock<V>,
@@ -89,20 +90,20 @@ fn time_tickets<V: Kept + Send, R: Threads + Wait + Clock + Sync>(
     lock: &TicketLock<V>,
     pass: Pass<V>,
     threads: u64,
-) -> Result<Duration>
+) -> Result<f64>
     requires { pass_id pass ≡ lock_id lock.now }
 {
     let jobs = passes(alloc, lock, pass, threads)?;
     let watch = Stopwatch::start(rt);
     hand_over_all(rt, lock, jobs, HANDOVERS / threads.max(1))?;
-    watch.elapsed(rt).context("the clock can't be read")
+    Ok(watch.seconds(rt))
 }
 
 fn through_tickets<R: Threads + Wait + Clock + Sync>(
     rt: &R,
     alloc: Global,
     threads: u64,
-) -> Result<Duration> {
+) -> Result<f64> {
     let entries: Vec<Entry> = Vec::new(alloc);
     match TicketLock::new(alloc, entries) {
         Ok((lock, pass)) => {
@@ -114,47 +115,22 @@ fn through_tickets<R: Threads + Wait + Clock + Sync>(
     }
 }
 
-fn time_mutex<R: Threads + Wait + Clock + Sync>(
-    rt: &R,
-    alloc: Global,
-    lock: &Mutex<Vec<Entry>>,
-    threads: u64,
-) -> Result<Duration> {
-    let times = HANDOVERS / threads.max(1);
-    let watch = Stopwatch::start(rt);
-    thread::map_indices(
-        rt,
-        alloc,
-        threads as usize,
-        &|_| lock_and_unlock(rt, lock, times),
-    )?;
-    watch.elapsed(rt).context("the clock can't be read")
-}
-
-fn through_a_mutex<R: Threads + Wait + Clock + Sync>(
-    rt: &R,
-    alloc: Global,
-    threads: u64,
-) -> Result<Duration> {
-    let lock = Mutex::new(Vec::new(alloc));
-    let time = time_mutex(rt, alloc, &lock, threads);
-    drop(lock);
-    time
-}
-
-/// How many there are a second, where so many took a time.
-pub fn a_second(count: u64, time: Duration) -> u64 {
-    let micros = time.as_micros().max(1).min(u64::MAX as u128) as u64;
-    count.saturating_mul(1_000_000) / micros
-}
-
-/// Prints a line for 1, 2, 4 and 8 threads: handovers a second through the ticket lock and through the Mutex, and the first as hundredths of the second.
+/// Prints a line for 1, 2, 4 and 8 threads: handovers a second through the ticket lock, and how many times those through the Mutex they
+/// are.
 pub fn run<R: Threads + Wait + Clock + Print + Sync>(rt: &R, alloc: Global) -> Result<()> {
     for threads in [1u64, 2, 4, 8] {
-        let ours = a_second(HANDOVERS, through_tickets(rt, alloc, threads)?);
-        let theirs = a_second(HANDOVERS, through_a_mutex(rt, alloc, threads)?);
-        let percent = ours.saturating_mul(100) / theirs.max(1);
-        println!(rt; "lock threads {threads} tickets {ours} mutex {theirs} percent {percent}")?;
+        let ours = through_tickets(rt, alloc, threads)?;
+        let entries: Vec<Entry> = Vec::new(alloc);
+        let theirs = through_a_mutex(rt, alloc, entries, threads, HANDOVERS)?;
+        let line = Line {
+            what: "tickets",
+            size: threads,
+            of: "threads",
+            figure: a_second(ours, HANDOVERS),
+            unit: "handovers a second, to a Mutex",
+            ratio: theirs / ours,
+        };
+        line.print(rt)?;
     }
     Ok(())
 }

@@ -7,14 +7,15 @@ mod coordinator;
 mod front;
 mod ids;
 mod journals;
+mod line;
 mod lock;
 mod memory;
+mod mutex;
 mod office;
 mod pieces;
 mod requests;
 mod setting;
 mod stopwatch;
-mod tables;
 mod timers;
 mod wire;
 
@@ -24,42 +25,34 @@ use std::process::ExitCode;
 const USAGE: &str = "usage: lra_bench NAME
 
 audit     megabytes audited a second, and memory, as a journal grows from 10,000 entries to 10,000,000
-core      the commands and queries of a coordinator, as its members grow from 1,000 to 400,000, and reopening its journal
+core      the commands and queries of a coordinator, as its members grow from 1,000 to 400,000, its long blocks, its memory, and reopening
 front     the replies to one connection: standard input has a journal, an empty line, and the connection's bytes
 ids       address texts tested a second, short and long
 lock      handovers of the ticket lock, beside a Mutex
 office    commands a second through an office by several threads, beside a Mutex and one thread alone
 requests  HTTP requests answered a second, beside reading them and beside their commands
-tables    what commands cost the tables, as their members grow from 1,000 to 400,000
 timers    the calls of an agenda, as its pairs grow from 1,000 to 400,000
 wire      requests read a second, whole and in small pieces";
 
 /// The status where there is no benchmark of that name.
 const UNKNOWN: u8 = 2;
 
-/// Runs the benchmark of that name, if it needs no threads, and tells whether there is one.
-fn run(rt: &HostRuntime, name: &str) -> anyhow::Result<bool> {
+/// Runs the benchmark of that name, if it needs no threads.
+fn run(rt: &HostRuntime, name: &str) -> anyhow::Result<ExitCode> {
     match name {
         "audit" => audit::run(rt)?,
         "core" => coordinator::run(rt)?,
         "front" => front::run(rt)?,
         "ids" => ids::run(rt)?,
         "requests" => requests::run(rt)?,
-        "tables" => tables::run(rt)?,
         "timers" => timers::run(rt)?,
         "wire" => wire::run(rt)?,
-        _ => return Ok(false),
+        _ => {
+            eprintln!(rt; "{USAGE}")?;
+            return Ok(ExitCode::from(UNKNOWN));
+        }
     }
-    Ok(true)
-}
-
-/// The same, with its status.
-fn status(rt: &HostRuntime, name: &str) -> anyhow::Result<ExitCode> {
-    if run(rt, name)? {
-        return Ok(ExitCode::SUCCESS);
-    }
-    eprintln!(rt; "{USAGE}")?;
-    Ok(ExitCode::from(UNKNOWN))
+    Ok(ExitCode::SUCCESS)
 }
 
 /// The name that the program is given, where it is given one.
@@ -80,7 +73,7 @@ fn main(rt: HostRuntime) -> anyhow::Result<ExitCode> {
     let ended = match name.as_str() {
         "lock" => lock::run(&rt, rt.alloc()).map(|_| ExitCode::SUCCESS),
         "office" => office::run(&rt, rt.alloc()).map(|_| ExitCode::SUCCESS),
-        name => status(&rt, name),
+        name => run(&rt, name),
     };
     drop(name);
     ended

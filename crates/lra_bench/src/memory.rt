@@ -3,14 +3,16 @@
 use anyhow::{Context, Result};
 use std::fs;
 
-/// The kilobytes on a line of the program's status, as `VmHWM:` for the most memory that it has had so far.
+/// The number after a word.
+fn number_after(text: &str, word: &str) -> Option<u64> {
+    let (_, rest) = text.split_once(word)?;
+    rest.split_whitespace().next()?.parse().ok()
+}
+
+/// The kilobytes on a line of the program's status: `VmHWM:` for the most memory that it has had so far, `VmRSS:` for what it has.
 pub fn kilobytes(rt: &HostRuntime, line: &str) -> Result<u64> {
     let status = fs::read_to_string(rt, "/proc/self/status")?;
-    let told = status
-        .lines()
-        .find_map(|text| text.strip_prefix(line))
-        .and_then(|rest| rest.split_whitespace().next())
-        .context("the memory isn't told")?;
-    let kilobytes = told.parse::<u64>()?;
-    Ok(kilobytes)
+    let told = number_after(status.as_str(), line);
+    drop(status);
+    told.context("the memory isn't told")
 }

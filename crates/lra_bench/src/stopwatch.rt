@@ -1,8 +1,9 @@
 //! A clock that is read where nothing may fail.
 
-use std::time::{Clock, Duration, Instant};
+use std::num::nearest_u64_to_f64;
+use std::time::{Clock, Instant};
 
-/// Takes a time. Where the clock can't be read this is told at the end, so that whoever has something in hand needn't let go of it.
+/// Takes a time. Where the clock can't be read the time is infinite, so that whoever has something in hand needn't let go of it.
 #[derive(Clone, Copy)]
 pub struct Stopwatch {
     start: Option<Instant>,
@@ -15,11 +16,24 @@ impl Stopwatch {
         }
     }
 
-    /// The time since the start; none where the clock couldn't be read.
-    pub fn elapsed<R: Clock>(self, rt: &R) -> Option<Duration> {
-        match self.start {
-            Some(start) => start.elapsed(rt).ok(),
-            None => None,
+    /// The seconds since the start.
+    pub fn seconds<R: Clock>(self, rt: &R) -> f64 {
+        let Some(start) = self.start else {
+            return f64::INFINITY;
+        };
+        match start.elapsed(rt) {
+            Ok(time) => time.as_secs_f64(),
+            Err(_) => f64::INFINITY,
         }
     }
+}
+
+/// Nanoseconds of each of so many calls.
+pub fn nanoseconds_each(seconds: f64, calls: u64) -> f64 {
+    seconds * 1e9 / nearest_u64_to_f64(calls)
+}
+
+/// How many calls there are a second.
+pub fn a_second(seconds: f64, calls: u64) -> f64 {
+    nearest_u64_to_f64(calls) / seconds
 }

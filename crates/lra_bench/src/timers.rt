@@ -1,8 +1,9 @@
 //! The time per call of an agenda, for moments in no order and for rising ones, at several numbers of pairs.
 
+use crate::line::Line;
+use crate::stopwatch::{Stopwatch, nanoseconds_each};
+use anyhow::Result;
 use lra_timers::{Agenda, Memory};
-use std::alloc::Global;
-use std::time::{Duration, Instant};
 
 const SIZES: [u64; 3] = [1_000, 20_000, 400_000];
 
@@ -13,7 +14,7 @@ const TURNS: u64 = 100_000;
 const CALLS: u64 = 5;
 
 /// The shortest of so many runs counts, since what else the machine does only makes a run longer.
-const RUNS: u32 = 50;
+const RUNS: u64 = 50;
 
 #[derive(Clone, Copy)]
 enum Order {
@@ -24,8 +25,8 @@ enum Order {
 impl Order {
     fn name(self) -> &'static str {
         match self {
-            Order::Random => "random",
-            Order::Rising => "rising",
+            Order::Random => "random moments",
+            Order::Rising => "rising moments",
         }
     }
 
@@ -43,103 +44,80 @@ fn scrambled(n: u64) -> u64 {
     (n ^ (n >> 29)).wrapping_mul(0xBF58_476D_1CE4_E5B9)
 }
 
-/// An agenda of one size, and the shortest time that its turns took.
-#[derive(Drop)]
-struct Load {
-    agenda: Agenda,
-    order: Order,
-    size: u64,
-    turn: u64,
-    shortest: Duration,
+/// With rising moments the member that comes first, else any of so many.
+fn next_member(agenda: &Agenda, order: Order, size: u64, turn: u64) -> u64 {
+    match (order, agenda.next_retry(u64::MAX)) {
+        (Order::Rising, Some(first)) => first,
+        _ => scrambled(scrambled(turn) % size.max(1)),
+    }
 }
 
-/// Sets so many pairs.
-fn fill(agenda: &mut Agenda, order: Order, size: u64) -> Result<(), Memory> {
+/// One member waits again, and another is done, whose place a new one takes.
+fn take_turn(agenda: &mut Agenda, order: Order, size: u64, turn: u64) -> Result<(), Memory> {
+    let moment = order.moment(turn);
+    let waiting = next_member(agenda, order, size, turn);
+    agenda.set_retry(waiting, moment)?;
+    let done = next_member(agenda, order, size, !turn);
+    agenda.drop_retry(done);
+    agenda.set_retry(done, moment)
+}
+
+/// The seconds that turns take, from one on.
+fn time_turns(
+    rt: &HostRuntime,
+    agenda: &mut Agenda,
+    order: Order,
+    size: u64,
+    first: u64,
+) -> Result<f64> {
+    let watch = Stopwatch::start(rt);
+    for turn in first..first.saturating_add(TURNS) {
+        take_turn(agenda, order, size, turn)?;
+    }
+    Ok(watch.seconds(rt))
+}
+
+/// Sets so many pairs in an empty agenda, and gives the seconds of the shortest of its runs.
+fn shortest(rt: &HostRuntime, agenda: &mut Agenda, order: Order, size: u64) -> Result<f64> {
     for n in 0..size {
         agenda.set_retry(scrambled(n), order.moment(n))?;
     }
-    Ok(())
-}
-
-impl Load {
-    fn new(alloc: Global, order: Order, size: u64) -> Result<Self, Memory> {
-        let mut agenda = Agenda::new(alloc);
-        if let Err(memory) = fill(&mut agenda, order, size) {
-            drop(agenda);
-            return Err(memory);
-        }
-        Ok(Load {
-            agenda,
-            order,
-            size,
-            turn: size,
-            shortest: Duration::MAX,
-        })
+    let mut least = f64::MAX;
+    for run in 0..RUNS {
+        let first = size.wrapping_add(run * TURNS);
+        least = least.min(time_turns(rt, agenda, order, size, first)?);
     }
-
-    /// With rising moments the member that comes first, else any member.
-    fn next_member(&self, turn: u64) -> u64 {
-        match (self.order, self.agenda.next_retry(u64::MAX)) {
-            (Order::Rising, Some(first)) => first,
-            _ => scrambled(scrambled(turn) % self.size.max(1)),
-        }
-    }
-
-    /// One member waits again, and another is done, whose place a new one takes.
-    fn take_turn(&mut self) -> Result<(), Memory> {
-        self.turn = self.turn.wrapping_add(1);
-        let moment = self.order.moment(self.turn);
-        let waiting = self.next_member(self.turn);
-        self.agenda.set_retry(waiting, moment)?;
-        let done = self.next_member(!self.turn);
-        self.agenda.drop_retry(done);
-        self.agenda.set_retry(done, moment)
-    }
-
-    fn time_turns(&mut self, rt: &HostRuntime) -> anyhow::Result<()> {
-        let start = Instant::now(rt)?;
-        for _ in 0..TURNS {
-            self.take_turn()?;
-        }
-        self.shortest = self.shortest.min(start.elapsed(rt)?);
-        Ok(())
-    }
-
-    fn nanoseconds_per_call(&self) -> f64 {
-        self.shortest.as_secs_f64() * 1e9 / (TURNS * CALLS) as f64
-    }
-}
-
-/// The nanoseconds per call of an agenda, in the shortest of its runs.
-fn time_load(rt: &HostRuntime, load: &mut Load) -> anyhow::Result<f64> {
-    for _ in 0..RUNS {
-        load.time_turns(rt)?;
-    }
-    Ok(load.nanoseconds_per_call())
+    Ok(least)
 }
 
 /// The nanoseconds per call of an agenda of its own.
-fn time_anew(rt: &HostRuntime, order: Order, size: u64) -> anyhow::Result<f64> {
-    let mut load = Load::new(rt.alloc(), order, size)?;
-    let time = time_load(rt, &mut load);
-    drop(load);
-    time
+fn time_anew(rt: &HostRuntime, order: Order, size: u64) -> Result<f64> {
+    let mut agenda = Agenda::new(rt.alloc());
+    let seconds = shortest(rt, &mut agenda, order, size);
+    drop(agenda);
+    Ok(nanoseconds_each(seconds?, TURNS * CALLS))
 }
 
 /// Prints a line for each size.
-fn print_order(rt: &HostRuntime, order: Order) -> anyhow::Result<()> {
+fn print_order(rt: &HostRuntime, order: Order) -> Result<()> {
     let mut least = None;
     for size in SIZES {
         let time = time_anew(rt, order, size)?;
-        let ratio = time / *least.get_or_insert(time);
-        let name = order.name();
-        println!(rt; "{name} moments, {size:>6} pairs: {time:6.1} ns a call, ratio {ratio:.2}")?;
+        let line = Line {
+            what: order.name(),
+            size,
+            of: "pairs",
+            figure: time,
+            unit: "ns a call",
+            ratio: time / *least.get_or_insert(time),
+        };
+        line.print(rt)?;
     }
     Ok(())
 }
 
 /// Prints a line for each order and size.
-pub fn run(rt: &HostRuntime) -> anyhow::Result<()> {
+pub fn run(rt: &HostRuntime) -> Result<()> {
     print_order(rt, Order::Random)?;
     print_order(rt, Order::Rising)
 }

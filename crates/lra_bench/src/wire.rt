@@ -3,14 +3,15 @@
 //! Times don't hold from machine to machine, so what counts are ratios taken in one run: the time of
 //! a stream in pieces of each size to that in large pieces, and that of long heads that come byte by
 //! byte to that of as many bytes in short ones.
+use crate::line::Line;
 use crate::pieces::Pieces;
+use crate::stopwatch::{Stopwatch, a_second};
 use anyhow::Result;
 use lra_wire::{Inbox, read_request};
 use std::alloc::Global;
-use std::time::Instant;
 
 /// How many requests a stream has.
-const REQUESTS: usize = 10_000;
+const REQUESTS: u64 = 10_000;
 
 /// The shortest of so many runs counts: what else the machine does only makes a run longer.
 const RUNS: u32 = 5;
@@ -19,15 +20,13 @@ const RUNS: u32 = 5;
 const LONG: usize = 7460;
 
 /// So many requests, each with a field of so long a value, one after another.
-fn stream(alloc: Global, count: usize, len: usize) -> Result<Vec<u8>> {
+fn stream(alloc: Global, count: u64, len: usize) -> Result<Vec<u8>> {
     let mut bytes = Vec::new(alloc);
     for _ in 0..count {
         bytes.extend_from_slice(
             b"PUT /lra-coordinator/00000000-0000-8007-8000-000000000001/close HTTP/1.1\r\nHost: 127.0.0.1:8080\r\nX: ",
         )?;
-        for _ in 0..len {
-            bytes.push(b'x')?;
-        }
+        bytes.resize(bytes.len().saturating_add(len), b'x')?;
         bytes.extend_from_slice(b"\r\nContent-Length: 2\r\n\r\n{}")?;
     }
     Ok(bytes)
@@ -57,9 +56,9 @@ pub fn read_stream(alloc: Global, bytes: &[u8], size: usize) -> Result<()> {
 fn time(rt: &HostRuntime, bytes: &[u8], size: usize) -> Result<f64> {
     let mut least = f64::MAX;
     for _ in 0..RUNS {
-        let start = Instant::now(rt)?;
+        let watch = Stopwatch::start(rt);
         read_stream(rt.alloc(), bytes, size)?;
-        least = least.min(start.elapsed(rt)?.as_secs_f64());
+        least = least.min(watch.seconds(rt));
     }
     Ok(least)
 }
@@ -67,17 +66,23 @@ fn time(rt: &HostRuntime, bytes: &[u8], size: usize) -> Result<f64> {
 /// Prints a line for each size of the pieces.
 fn print_pieces(rt: &HostRuntime, bytes: &[u8]) -> Result<()> {
     let whole = time(rt, bytes, 4096)?;
-    let rate = 10_000.0 / whole;
-    println!(rt; "{rate:9.0} requests a second, in pieces of 4096 bytes")?;
-    for size in [1024, 256, 64, 16, 4, 1] {
-        let ratio = time(rt, bytes, size)? / whole;
-        println!(rt; "in pieces of {size:>4} bytes: ratio {ratio:.2}")?;
+    for size in [4096, 1024, 256, 64, 16, 4, 1] {
+        let seconds = time(rt, bytes, size)?;
+        let line = Line {
+            what: "in pieces",
+            size: size as u64,
+            of: "bytes",
+            figure: a_second(seconds, REQUESTS),
+            unit: "requests a second, time",
+            ratio: seconds / whole,
+        };
+        line.print(rt)?;
     }
     Ok(())
 }
 
 /// Seconds to read, byte by byte, a stream of so many requests, each with a field of so long a value.
-fn time_bytes(rt: &HostRuntime, count: usize, len: usize) -> Result<f64> {
+fn time_bytes(rt: &HostRuntime, count: u64, len: usize) -> Result<f64> {
     let bytes = stream(rt.alloc(), count, len)?;
     let seconds = time(rt, bytes.as_slice(), 1);
     drop(bytes);
@@ -86,9 +91,17 @@ fn time_bytes(rt: &HostRuntime, count: usize, len: usize) -> Result<f64> {
 
 /// Prints a line for long heads beside short ones, with as many bytes in all: some 7,500 bytes each, and some 470.
 fn print_heads(rt: &HostRuntime) -> Result<()> {
-    let ratio = time_bytes(rt, 100, LONG)? / time_bytes(rt, 1600, 350)?;
-    println!(rt; "heads 16 times as long, byte by byte: ratio {ratio:.2}")?;
-    Ok(())
+    let long = time_bytes(rt, 100, LONG)?;
+    let short = time_bytes(rt, 1600, 350)?;
+    let line = Line {
+        what: "byte by byte, long heads",
+        size: 100,
+        of: "heads",
+        figure: a_second(long, 100),
+        unit: "requests a second, time",
+        ratio: long / short,
+    };
+    line.print(rt)
 }
 
 /// Prints the ratios.

@@ -1,14 +1,22 @@
-//! What some commands take on top of what a coordinator holds.
+//! What some commands and queries take on top of what a coordinator holds.
 
-use super::asking::{Asked, time_queries};
-use super::desk::{Desk, Gives};
-use anyhow::Result;
-use lra_model::{Outcome, Uris};
-use std::num::nearest_u64_to_f64;
-use std::time::Instant;
+use super::calls::{MEMBERS, ask, fill, start};
+use crate::line::Line;
+use crate::setting::{CLERK, coordinator, uris};
+use crate::stopwatch::{Stopwatch, nanoseconds_each};
+use anyhow::{Result, bail};
+use lra_core::{Coordinator, Listing, Query};
+use lra_model::{ActionStatus, Outcome, Uris};
+use std::alloc::Global;
+
+/// How many members there are at first, in how many runs: the shortest counts, since what else the machine does only makes a run longer.
+const FEWEST: (u64, u32) = (1_000, 20);
+
+/// And how many later.
+const SIZES: [(u64, u32); 3] = [(10_000, 10), (100_000, 5), (400_000, 3)];
 
 /// How often the same is timed on one coordinator.
-const TIMES: u32 = 4;
+const TIMES: u64 = 4;
 
 /// How many actions are closed in a sample, and how many are cancelled by their limits.
 const ACTIONS: u64 = 25;
@@ -16,155 +24,265 @@ const ACTIONS: u64 = 25;
 /// How many members join each of the actions that are closed.
 const JOINING: u64 = 3;
 
-/// The nanoseconds of a command and of a query of each kind.
+/// How many queries of a kind are timed.
+const QUERIES: u64 = 200;
+
+/// How many rows a query looks at.
+const PAGE: u64 = 256;
+
+/// How far the numbers that are asked about lie apart: a prime.
+const APART: u64 = 7_919;
+
+/// A kind of call.
 #[derive(Clone, Copy)]
-pub struct Sample {
-    pub join: f64,
-    pub close: f64,
-    pub ask: f64,
-    pub tick: f64,
-    pub status: f64,
-    pub awaited: f64,
-    pub listed: f64,
-    pub counted: f64,
+enum Call {
+    /// Members join actions.
+    Join,
+    /// Actions close.
+    Close,
+    /// Their members are asked to complete, and told of the end.
+    Ask,
+    /// Other actions are cancelled by their limits.
+    Tick,
+    /// A member's status is asked for.
+    Status,
+    /// What an action waits for.
+    Awaited,
+    /// The next action of a status that none has: a page of rows is looked at.
+    Listed,
+    /// How many actions a page has.
+    Counted,
 }
 
-impl Sample {
-    fn least(self, other: Sample) -> Sample {
-        Sample {
-            join: self.join.min(other.join),
-            close: self.close.min(other.close),
-            ask: self.ask.min(other.ask),
-            tick: self.tick.min(other.tick),
-            status: self.status.min(other.status),
-            awaited: self.awaited.min(other.awaited),
-            listed: self.listed.min(other.listed),
-            counted: self.counted.min(other.counted),
+/// How many kinds there are.
+const KINDS: usize = 8;
+
+/// The calls in the order in which they are timed.
+const CALLS: [Call; KINDS] = [
+    Call::Join,
+    Call::Close,
+    Call::Ask,
+    Call::Tick,
+    Call::Status,
+    Call::Awaited,
+    Call::Listed,
+    Call::Counted,
+];
+
+impl Call {
+    fn name(self) -> &'static str {
+        match self {
+            Call::Join => "join",
+            Call::Close => "close",
+            Call::Ask => "ask and record",
+            Call::Tick => "tick",
+            Call::Status => "status query",
+            Call::Awaited => "awaited query",
+            Call::Listed => "row query",
+            Call::Counted => "count query",
+        }
+    }
+
+    /// How many are timed together.
+    fn count(self) -> u64 {
+        match self {
+            Call::Join => ACTIONS * JOINING,
+            Call::Close | Call::Tick => ACTIONS,
+            Call::Ask => ACTIONS * JOINING * 2,
+            _ => QUERIES,
         }
     }
 }
 
-/// The nanoseconds of one of so many calls, since their start.
-pub fn nanoseconds(rt: &HostRuntime, start: Instant, commands: u64) -> Result<f64> {
-    let time = start.elapsed(rt)?;
-    Ok(time.as_secs_f64() * 1e9 / nearest_u64_to_f64(commands))
+/// To whom the calls of a sample go.
+#[derive(Clone, Copy)]
+struct Target {
+    /// How many members there were at first.
+    members: u64,
+    /// The first of the actions that are joined and closed: they are every other one.
+    first: u64,
+    /// The moment at which others are late.
+    moment: u64,
 }
 
-/// Starts the actions, and tells the first one's number.
-fn start_all(desk: &mut Desk, limit: u64) -> Result<u64> {
-    desk.clear();
-    let first = desk.start(limit)?;
-    for _ in 1..ACTIONS {
-        desk.start(limit)?;
+/// A number from 1 on, up to a greatest one, or 1.
+fn number(place: u64, greatest: u64) -> u64 {
+    place.wrapping_mul(APART) % greatest.max(1) + 1
+}
+
+/// The place at which a page begins, of so many rows.
+fn page(place: u64, rows: u64) -> u64 {
+    place.wrapping_mul(PAGE) % rows.saturating_sub(PAGE).max(1)
+}
+
+/// What is asked by a call that is a query.
+fn query(call: Call, place: u64, members: u64) -> Query {
+    let actions = members / MEMBERS;
+    match call {
+        Call::Awaited => Query::Awaited {
+            action: number(place, actions),
+            place: 0,
+        },
+        Call::Listed => Query::Row {
+            of: Listing::Actions {
+                status: Some(ActionStatus::FailedToClose),
+            },
+            place: page(place, actions),
+        },
+        Call::Counted => Query::Count {
+            of: Listing::Actions { status: None },
+            place: page(place, actions),
+        },
+        _ => Query::MemberStatus {
+            member: number(place, members),
+        },
     }
-    Ok(first)
 }
 
-/// The addresses of those who join.
-fn push_uris(desk: &mut Desk, uris: &mut Vec<Uris>) -> Result<()> {
-    for _ in 0..ACTIONS * JOINING {
-        uris.push(desk.next_uris()?)?;
+/// One of the calls of a kind; false where it is refused.
+fn is_done(
+    coordinator: &mut Coordinator,
+    call: Call,
+    place: u64,
+    target: Target,
+    uris: &[Uris],
+) -> bool {
+    match call {
+        Call::Join => match uris.get((place % JOINING) as usize) {
+            Some(uris) => {
+                let action = target.first.wrapping_add(place / JOINING * 2);
+                coordinator.join(CLERK, 0, action, uris).is_ok()
+            }
+            None => false,
+        },
+        Call::Close => {
+            let action = target.first.wrapping_add(place.wrapping_mul(2));
+            coordinator.close(CLERK, 0, action).is_ok()
+        }
+        Call::Ask => ask(coordinator, Outcome::Done),
+        Call::Tick => coordinator.tick(CLERK, target.moment).is_ok(),
+        _ => coordinator
+            .query(query(call, place, target.members))
+            .is_ok(),
+    }
+}
+
+/// Nanoseconds of one of the calls of a kind.
+fn time(
+    rt: &HostRuntime,
+    coordinator: &mut Coordinator,
+    call: Call,
+    target: Target,
+    uris: &[Uris],
+) -> Result<f64> {
+    let watch = Stopwatch::start(rt);
+    for place in 0..call.count() {
+        if !is_done(coordinator, call, place, target, uris) {
+            bail!("a call is refused");
+        }
+    }
+    Ok(nanoseconds_each(watch.seconds(rt), call.count()))
+}
+
+/// Starts the actions that calls go to: every other one is late at the next moment.
+fn start_all(coordinator: &mut Coordinator, members: u64, moment: u64) -> Result<Target> {
+    let first = start(coordinator, moment, None, 0)?;
+    for place in 1..ACTIONS * 2 {
+        start(coordinator, moment, None, place % 2)?;
+    }
+    Ok(Target {
+        members,
+        first,
+        moment: moment.wrapping_add(1),
+    })
+}
+
+/// The addresses of those who join: each action has its own members, with the same addresses.
+fn joining(alloc: Global) -> Result<Vec<Uris>> {
+    let mut all = Vec::new(alloc);
+    for member in 0..JOINING {
+        all.push(uris(alloc, member, true)?)?;
+    }
+    Ok(all)
+}
+
+/// The shortest times of some samples on one coordinator that is filled with so many members.
+fn shortest_on(
+    rt: &HostRuntime,
+    coordinator: &mut Coordinator,
+    members: u64,
+    uris: &[Uris],
+    least: &mut [f64; KINDS],
+) -> Result<()> {
+    fill(rt.alloc(), coordinator, members)?;
+    for moment in 0..TIMES {
+        let target = start_all(coordinator, members, moment)?;
+        for place in 0..KINDS {
+            let time = time(rt, coordinator, CALLS[place], target, uris)?;
+            least[place] = least[place].min(time);
+        }
     }
     Ok(())
 }
 
-/// Members with these addresses join the actions from the first on.
-fn time_joins(rt: &HostRuntime, desk: &mut Desk, first: u64, uris: &[Uris]) -> Result<f64> {
-    let start = Instant::now(rt)?;
-    for (place, uris) in uris.iter().enumerate() {
-        desk.join(first.wrapping_add(place as u64 / JOINING), uris)?;
+/// The same on a coordinator of their own.
+fn shortest_anew(
+    rt: &HostRuntime,
+    members: u64,
+    uris: &[Uris],
+    least: &mut [f64; KINDS],
+) -> Result<()> {
+    let mut coordinator = coordinator(rt.alloc())?;
+    let done = shortest_on(rt, &mut coordinator, members, uris, least);
+    drop(coordinator);
+    done
+}
+
+/// The shortest times of so many runs, each on a coordinator of its own.
+fn shortest(rt: &HostRuntime, (members, runs): (u64, u32), uris: &[Uris]) -> Result<[f64; KINDS]> {
+    let mut least = [f64::MAX; KINDS];
+    for _ in 0..runs {
+        shortest_anew(rt, members, uris, &mut least)?;
     }
-    nanoseconds(rt, start, ACTIONS * JOINING)
+    Ok(least)
 }
 
-/// The actions from the first on close.
-fn time_closes(rt: &HostRuntime, desk: &mut Desk, first: u64) -> Result<f64> {
-    let start = Instant::now(rt)?;
-    for place in 0..ACTIONS {
-        desk.close(first.wrapping_add(place))?;
+/// Prints a line for each kind of call.
+fn print_times(
+    rt: &HostRuntime,
+    members: u64,
+    times: &[f64; KINDS],
+    fewest: &[f64; KINDS],
+) -> Result<()> {
+    for place in 0..KINDS {
+        let line = Line {
+            what: CALLS[place].name(),
+            size: members,
+            of: "members",
+            figure: times[place],
+            unit: "ns a call",
+            ratio: times[place] / fewest[place],
+        };
+        line.print(rt)?;
     }
-    nanoseconds(rt, start, ACTIONS)
+    Ok(())
 }
 
-fn time_asks(rt: &HostRuntime, desk: &mut Desk) -> Result<f64> {
-    let start = Instant::now(rt)?;
-    let asked = desk.ask_all(Outcome::Done)?;
-    nanoseconds(rt, start, asked)
-}
-
-fn time_ticks(rt: &HostRuntime, desk: &mut Desk) -> Result<f64> {
-    let start = Instant::now(rt)?;
-    for _ in 0..ACTIONS {
-        desk.tick()?;
+/// Prints a line for each kind of call at each size, beside what it took with the fewest members.
+fn print_all(rt: &HostRuntime, uris: &[Uris]) -> Result<()> {
+    let fewest = shortest(rt, FEWEST, uris)?;
+    print_times(rt, FEWEST.0, &fewest, &fewest)?;
+    for size in SIZES {
+        let times = shortest(rt, size, uris)?;
+        print_times(rt, size.0, &times, &fewest)?;
     }
-    nanoseconds(rt, start, ACTIONS)
+    Ok(())
 }
 
-/// What it takes members to join actions, and those to close: the addresses are made before.
-fn time_closing(rt: &HostRuntime, desk: &mut Desk, uris: &mut Vec<Uris>) -> Result<[f64; 2]> {
-    let first = start_all(desk, 0)?;
-    push_uris(desk, uris)?;
-    let join = time_joins(rt, desk, first, uris.as_slice())?;
-    let close = time_closes(rt, desk, first)?;
-    Ok([join, close])
-}
-
-/// The same with addresses of its own.
-fn time_members(rt: &HostRuntime, desk: &mut Desk) -> Result<[f64; 2]> {
-    let mut uris = Vec::new(rt.alloc());
-    let times = time_closing(rt, desk, &mut uris);
+/// Prints the lines.
+pub fn run(rt: &HostRuntime) -> Result<()> {
+    let uris = joining(rt.alloc())?;
+    let printed = print_all(rt, uris.as_slice());
     drop(uris);
-    times
-}
-
-/// What it takes actions to be cancelled by their limits.
-fn time_late(rt: &HostRuntime, desk: &mut Desk) -> Result<f64> {
-    start_all(desk, 1)?;
-    desk.wait();
-    time_ticks(rt, desk)
-}
-
-/// One sample: members join actions and are asked to complete, and told of the end; other actions are cancelled by their limits; and
-/// queries are asked.
-fn take_sample(rt: &HostRuntime, desk: &mut Desk, members: u64) -> Result<Sample> {
-    let [join, close] = time_members(rt, desk)?;
-    let ask = time_asks(rt, desk)?;
-    let tick = time_late(rt, desk)?;
-    Ok(Sample {
-        join,
-        close,
-        ask,
-        tick,
-        status: time_queries(rt, desk, Asked::Status, members)?,
-        awaited: time_queries(rt, desk, Asked::Awaited, members)?,
-        listed: time_queries(rt, desk, Asked::Listed, members)?,
-        counted: time_queries(rt, desk, Asked::Counted, members)?,
-    })
-}
-
-/// The shortest of some samples on one coordinator that is filled with so many members.
-fn shortest_on(rt: &HostRuntime, desk: &mut Desk, members: u64) -> Result<Sample> {
-    desk.fill(members)?;
-    let mut least = take_sample(rt, desk, members)?;
-    for _ in 1..TIMES {
-        least = least.least(take_sample(rt, desk, members)?);
-    }
-    Ok(least)
-}
-
-/// The shortest of some samples on a coordinator of their own.
-fn shortest_anew(rt: &HostRuntime, members: u64) -> Result<Sample> {
-    let mut desk = Desk::new(rt.alloc())?;
-    let sample = shortest_on(rt, &mut desk, members);
-    drop(desk);
-    sample
-}
-
-/// The shortest of so many runs, each on a coordinator of its own with so many members.
-pub fn shortest(rt: &HostRuntime, members: u64, runs: u32) -> Result<Sample> {
-    let mut least = shortest_anew(rt, members)?;
-    for _ in 1..runs {
-        least = least.least(shortest_anew(rt, members)?);
-    }
-    Ok(least)
+    printed
 }
