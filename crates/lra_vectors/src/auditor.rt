@@ -4,7 +4,7 @@ ghost use Rattle.std.specs.Prelude.{◌≡◌, ◌+◌, ◌<◌, ◌^◌, length
 
 mod memory;
 
-use crate::texts::is_told;
+use crate::texts::{assert_told, parted};
 use lra_auditor::{
     Account, Auditor, AuditorFault, FailedEnds, Listing, Memory, Summary, Verdict, audit, check,
 };
@@ -12,7 +12,6 @@ use lra_journal::{Version, read_journal};
 use lra_model::Entry;
 use std::alloc::{AllocError, Global};
 use std::process::Abort;
-use std::test::Fail;
 
 /// A nested action closes in failure, and so does the one around it.
 const FAILED: &str =
@@ -79,22 +78,17 @@ fn told_whole(alloc: Global, bytes: &[u8]) -> Result<String, Memory> {
     told(alloc, verdict)
 }
 
-/// Feeds bytes in pieces of this size, or of one byte where it is 0. Where memory runs out the auditor is spent from then on.
-fn feed_pieces<R: Abort>(
-    rt: &R,
-    auditor: &mut Auditor,
-    bytes: &[u8],
-    size: usize,
-) -> Result<(), AuditorFault>
+/// Feeds bytes in pieces of this size, or of one byte where it is 0. Where memory runs out the auditor is spent from then on; where it
+/// isn't, that is another fault.
+fn feed_pieces(auditor: &mut Auditor, bytes: &[u8], size: usize) -> Result<(), AuditorFault>
     requires { auditor.old.fed ≡ 0 }
 {
     let mut rest = bytes;
     while !rest.is_empty() {
         let (piece, others) = rest.split_at(size.max(1).min(rest.len()));
         if let Err(fault) = auditor.feed(piece) {
-            assert_eq!(rt; fault, AuditorFault::Memory);
-            assert_eq!(rt; auditor.feed(others), Err(AuditorFault::Spent));
-            return Err(fault);
+            let is_spent = auditor.feed(others) == Err(AuditorFault::Spent);
+            return Err(if is_spent { fault } else { AuditorFault::Spent });
         }
         rest = others;
     }
@@ -107,114 +101,115 @@ fn told_at_end(alloc: Global, auditor: Auditor) -> Result<String, AuditorFault> 
     Ok(told(alloc, verdict)?)
 }
 
-/// What is told of bytes that are fed in pieces of this size.
-fn told_in_pieces<R: Abort + AllocGlobal>(
-    rt: &R,
-    bytes: &[u8],
-    size: usize,
+/// What is told at the end, or the fault of an auditor that is spent then.
+fn ended(
+    fed: Result<(), AuditorFault>,
+    told: Result<String, AuditorFault>,
 ) -> Result<String, AuditorFault> {
-    let mut auditor = Auditor::new(rt.alloc());
-    let fed = feed_pieces(rt, &mut auditor, bytes, size);
-    let told = told_at_end(rt.alloc(), auditor);
-    if let Err(fault) = fed {
-        assert_eq!(rt; told.err(), Some(AuditorFault::Spent));
-        return Err(fault);
-    }
-    told
+    let Err(fault) = fed else {
+        return told;
+    };
+    let is_spent = matches!(&told, Err(AuditorFault::Spent));
+    drop(told);
+    Err(if is_spent { fault } else { AuditorFault::Spent })
+}
+
+/// What is told of bytes that are fed in pieces of this size.
+fn told_in_pieces(alloc: Global, bytes: &[u8], size: usize) -> Result<String, AuditorFault> {
+    let mut auditor = Auditor::new(alloc);
+    let fed = feed_pieces(&mut auditor, bytes, size);
+    ended(fed, told_at_end(alloc, auditor))
 }
 
 /// In pieces of this size the verdict on the bytes is the one that is wanted.
-fn is_judged_by<R: Abort + AllocGlobal>(
-    rt: &R,
-    bytes: &[u8],
-    size: usize,
-    want: &str,
-) -> Result<(), AuditorFault> {
-    is_told(rt, "pieces", told_in_pieces(rt, bytes, size), want)
+fn assert_judged_by<R: Abort + AllocGlobal>(rt: &R, bytes: &[u8], size: usize, want: &str) {
+    let told = told_in_pieces(rt.alloc(), bytes, size);
+    assert_told(rt, "pieces", told.ok(), want);
 }
 
 /// Whole, byte by byte, and in pieces of seven bytes and more than all the verdict on the bytes is the one that is wanted.
-fn is_judged<R: Abort + AllocGlobal>(rt: &R, bytes: &[u8], want: &str) -> Result<(), AuditorFault> {
-    is_judged_by(rt, bytes, 1, want)?;
-    is_judged_by(rt, bytes, 7, want)?;
-    is_judged_by(rt, bytes, usize::MAX, want)?;
-    is_told(rt, "the whole", told_whole(rt.alloc(), bytes), want)?;
-    Ok(())
+fn assert_judged<R: Abort + AllocGlobal>(rt: &R, bytes: &[u8], want: &str) {
+    assert_judged_by(rt, bytes, 1, want);
+    assert_judged_by(rt, bytes, 7, want);
+    assert_judged_by(rt, bytes, usize::MAX, want);
+    assert_told(rt, "the whole", told_whole(rt.alloc(), bytes).ok(), want);
+}
+
+/// A journal whose lines end in semicolons.
+fn journal_of(alloc: Global, lines: &str) -> Result<String, Memory> {
+    lines.replace(alloc, ';', "\n")
 }
 
 /// A journal whose lines end in semicolons is judged so.
-fn is_worked<R: Abort + AllocGlobal>(rt: &R, lines: &str, want: &str) -> Result<(), AuditorFault> {
-    let journal = lines.replace(rt.alloc(), ';', "\n")?;
-    is_judged(rt, journal.as_bytes(), want)
+fn assert_worked<R: Abort + AllocGlobal>(rt: &R, lines: &str, want: &str) {
+    let Ok(journal) = journal_of(rt.alloc(), lines) else {
+        panic!(rt; "no memory for {lines}")
+    };
+    assert_judged(rt, journal.as_bytes(), want);
 }
 
 #[test]
-fn worked_journals(rt: HostRuntime) -> Result<(), Fail> {
+fn worked_journals(rt: HostRuntime) {
     for row in JOURNALS.lines() {
-        let (want, lines) = row.split_once(": ").ok_or("no column")?;
-        is_worked(&rt, lines, want)?;
+        let (want, lines) = parted(row, ": ");
+        assert_worked(&rt, lines, want);
     }
-    is_judged(&rt, b"", "line 1 header")?;
-    is_judged(&rt, b"\xFF", "line 1 header")?;
-    is_judged(&rt, b"lra-journal 1 7\n1 0 enrol\n\xFF\n", "line 3 grammar")?;
-    is_judged(&rt, b"lra-journal 1 7\n1 0 enrol\n\xC3", "line 3 grammar")?;
-    is_worked(&rt, NESTED, NESTED_VERDICT)?;
-    Ok(())
+    assert_judged(&rt, b"", "line 1 header");
+    assert_judged(&rt, b"\xFF", "line 1 header");
+    assert_judged(&rt, b"lra-journal 1 7\n1 0 enrol\n\xFF\n", "line 3 grammar");
+    assert_judged(&rt, b"lra-journal 1 7\n1 0 enrol\n\xC3", "line 3 grammar");
+    assert_worked(&rt, NESTED, NESTED_VERDICT);
 }
 
-/// Failed ends, printed, and how many there are.
+/// How many failed ends there are, and what they are, printed.
 fn shown_ends(alloc: Global, failed: FailedEnds) -> Result<String, Memory> {
-    let shown = format!(in alloc; "{:?}", failed.as_slice())?;
     let ends = failed.into_vec();
-    let count = ends.len();
+    let shown = format!(in alloc; "{} {:?}", ends.len(), ends.as_slice());
     drop(ends);
-    format!(in alloc; "{count} {shown}")
+    shown
 }
 
 /// The failed ends of a journal that is sound.
-fn failed_ends_of(alloc: Global, bytes: &[u8]) -> Result<String, Memory> {
-    match audit(alloc, bytes)? {
+fn failed_ends_of(alloc: Global, lines: &str) -> Result<String, Memory> {
+    let journal = journal_of(alloc, lines)?;
+    let verdict = audit(alloc, journal.as_bytes());
+    drop(journal);
+    match verdict? {
         Verdict::Sound(summary) => shown_ends(alloc, summary.failed),
         Verdict::Unsound { .. } => format!(in alloc; "unsound"),
     }
 }
 
 #[test]
-fn failed_ends(rt: HostRuntime) -> Result<(), Memory> {
-    let journal = FAILED.replace(rt.alloc(), ';', "\n")?;
-    is_told(
+fn failed_ends(rt: HostRuntime) {
+    assert_told(
         &rt,
         FAILED,
-        failed_ends_of(rt.alloc(), journal.as_bytes()),
+        failed_ends_of(rt.alloc(), FAILED).ok(),
         "2 [FailedEnd { action: 1, status: FailedToClose, member: 1 }, FailedEnd { action: 2, status: FailedToClose, member: 1 }]",
-    )
+    );
 }
 
 /// In pieces of every size the verdict on a journal is the one that is wanted.
-fn is_judged_by_every<R: Abort + AllocGlobal>(
-    rt: &R,
-    journal: &str,
-    want: &str,
-) -> Result<(), AuditorFault> {
+fn assert_judged_by_every<R: Abort + AllocGlobal>(rt: &R, journal: &str, want: &str) {
     for size in 1..=journal.len() {
-        is_judged_by(rt, journal.as_bytes(), size, want)?;
+        assert_judged_by(rt, journal.as_bytes(), size, want);
     }
-    Ok(())
 }
 
 /// Journals that break off in a line: the second has a fault before that.
 #[test]
-fn pieces_of_every_size(rt: HostRuntime) -> Result<(), AuditorFault> {
-    is_judged_by_every(
+fn pieces_of_every_size(rt: HostRuntime) {
+    assert_judged_by_every(
         &rt,
         "lra-journal 1 7\n1 0 enrol\n1 0 start 1 * 0\n1 5 close 1 client\n1 5 end 1 Closed",
         "line 5 grammar",
-    )?;
-    is_judged_by_every(
+    );
+    assert_judged_by_every(
         &rt,
         "lra-journal 1 7\n1 0 enrol\n1 0 start 1 * 0\n1 5 end 1 Closed\n1 5",
         "line 4 unsettled",
-    )
+    );
 }
 
 /// Feeds a line at fault, and others after it.
@@ -227,44 +222,51 @@ fn feed_fault(auditor: &mut Auditor) -> Result<(), AuditorFault>
 }
 
 #[test]
-fn pieces_after_a_fault(rt: HostRuntime) -> Result<(), AuditorFault> {
+fn pieces_after_a_fault(rt: HostRuntime) {
     let mut auditor = Auditor::new(rt.alloc());
     let fed = feed_fault(&mut auditor);
-    let verdict = told_at_end(rt.alloc(), auditor);
-    assert_eq!(rt; fed, Ok(()));
-    is_told(&rt, "pieces after a fault", verdict, "line 2 clerk")
+    let verdict = ended(fed, told_at_end(rt.alloc(), auditor));
+    assert_told(&rt, "pieces after a fault", verdict.ok(), "line 2 clerk");
 }
 
-/// An address of this many letters after `http://n.test/`, and a space before it.
-fn address_of(alloc: Global, letters: usize) -> Result<String, Memory> {
-    let mut address = String::from_str(alloc, " http://n.test/")?;
+/// Adds a space, and an address of this many letters after `http://n.test/`.
+fn push_address(line: &mut String, letters: usize) -> Result<(), Memory> {
+    line.push_str(" http://n.test/")?;
     for _ in 0..letters {
-        address.push('a')?;
+        line.push('a')?;
     }
-    Ok(address)
+    Ok(())
 }
 
-/// A journal whose last line has five such addresses is judged so.
-fn is_judged_with<R: Abort + AllocGlobal>(
-    rt: &R,
-    letters: usize,
-    want: &str,
-) -> Result<(), AuditorFault> {
-    let address = address_of(rt.alloc(), letters)?;
-    let journal = format!(in rt.alloc();
-        "lra-journal 1 7\n1 0 enrol\n1 0 start 1 * 0\n1 2 join 1 1{address}{address}{address}{address}{address}\n"
+/// A journal whose last line has five such addresses.
+fn journal_with(alloc: Global, letters: usize) -> Result<String, Memory> {
+    let mut journal = String::from_str(
+        alloc,
+        "lra-journal 1 7\n1 0 enrol\n1 0 start 1 * 0\n1 2 join 1 1",
     )?;
-    is_judged(rt, journal.as_bytes(), want)
+    for _ in 0..5u8 {
+        push_address(&mut journal, letters)?;
+    }
+    journal.push('\n')?;
+    Ok(journal)
+}
+
+/// It is judged so.
+fn assert_judged_with<R: Abort + AllocGlobal>(rt: &R, letters: usize, want: &str) {
+    let Ok(journal) = journal_with(rt.alloc(), letters) else {
+        panic!(rt; "no memory for {letters} letters")
+    };
+    assert_judged(rt, journal.as_bytes(), want);
 }
 
 #[test]
-fn the_longest_addresses(rt: HostRuntime) -> Result<(), AuditorFault> {
-    is_judged_with(
+fn the_longest_addresses(rt: HostRuntime) {
+    assert_judged_with(
         &rt,
         498,
         "3 entries, 1 actions, 1 unended, 0 closed, 0 cancelled, 0 failed",
-    )?;
-    is_judged_with(&rt, 499, "line 4 grammar")
+    );
+    assert_judged_with(&rt, 499, "line 4 grammar");
 }
 
 /// What a check of the entries from a place on tells.
@@ -290,13 +292,18 @@ fn told_in_memory(alloc: Global, bytes: &[u8], place: usize) -> Result<String, M
     }
 }
 
+/// The same of one whose lines end in semicolons.
+fn told_of_lines(alloc: Global, lines: &str, place: usize) -> Result<String, Memory> {
+    let journal = journal_of(alloc, lines)?;
+    told_in_memory(alloc, journal.as_bytes(), place)
+}
+
 #[test]
-fn entries_in_memory(rt: HostRuntime) -> Result<(), Memory> {
-    let journal = NESTED.replace(rt.alloc(), ';', "\n")?;
-    let whole = told_in_memory(rt.alloc(), journal.as_bytes(), 0);
-    is_told(&rt, NESTED, whole, NESTED_VERDICT)?;
-    let torn = told_in_memory(rt.alloc(), journal.as_bytes(), 1);
-    is_told(&rt, "all but the first entry", torn, "line 2 clerk")
+fn entries_in_memory(rt: HostRuntime) {
+    let whole = told_of_lines(rt.alloc(), NESTED, 0);
+    assert_told(&rt, NESTED, whole.ok(), NESTED_VERDICT);
+    let torn = told_of_lines(rt.alloc(), NESTED, 1);
+    assert_told(&rt, "all but the first entry", torn.ok(), "line 2 clerk");
 }
 
 /// How many actions and members a listing has, an action and a member of it, and one that isn't there.
@@ -327,7 +334,7 @@ fn shown_at_end(alloc: Global, auditor: Auditor) -> Result<String, AuditorFault>
 
 /// What the account of a journal whose lines end in semicolons tells.
 fn shown_account(alloc: Global, lines: &str) -> Result<String, AuditorFault> {
-    let journal = lines.replace(alloc, ';', "\n")?;
+    let journal = journal_of(alloc, lines)?;
     let mut auditor = Auditor::new(alloc);
     // Where that fails the auditor is spent.
     let _ = auditor.feed(journal.as_bytes());
@@ -337,17 +344,22 @@ fn shown_account(alloc: Global, lines: &str) -> Result<String, AuditorFault> {
 }
 
 #[test]
-fn actions_and_members_are_listed(rt: HostRuntime) -> Result<(), AuditorFault> {
-    is_told(
+fn actions_and_members_are_listed(rt: HostRuntime) {
+    assert_told(
         &rt,
         FAILED,
-        shown_account(rt.alloc(), FAILED),
+        shown_account(rt.alloc(), FAILED).ok(),
         "2 1 Some(ListedAction { action: 2, parent: Some(1), status: FailedToClose }) Some(ListedMember { member: 1, action: 2, status: FailedToComplete }) None",
-    )
+    );
 }
 
 #[test]
-fn a_fault_is_named_in_an_account(rt: HostRuntime) -> Result<(), AuditorFault> {
+fn a_fault_is_named_in_an_account(rt: HostRuntime) {
     let lines = "lra-journal 1 7;1 0 start 1 * 0;";
-    is_told(&rt, lines, shown_account(rt.alloc(), lines), "line 2 Clerk")
+    assert_told(
+        &rt,
+        lines,
+        shown_account(rt.alloc(), lines).ok(),
+        "line 2 Clerk",
+    );
 }

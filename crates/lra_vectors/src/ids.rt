@@ -1,12 +1,11 @@
 //! Addresses by the URL Standard, the texts that are refused, and the identifiers of actions and members.
 
+use crate::texts::{Telling, assert_rows, assert_told, parted};
 use lra_ids::{
     Address, Instance, Memory, UriFault, address, is_address_text, read_action, read_id,
     read_recovery, spell_action, spell_recovery,
 };
-use std::alloc::{AllocError, Global};
-use std::process::Abort;
-use std::test::Fail;
+use std::alloc::Global;
 use url::ParseError;
 
 // What each row shows: a text, and the address that it stands for by the URL Standard or the words of the fault.
@@ -111,68 +110,71 @@ p.test:80/x -> not an http URL
 httpx://p.test/ -> not an http URL
 ";
 
+// The same, of texts with line feeds: each ends before a `|`.
+const FEEDS: &str =
+    " -> not a URL|\u{1} http://p.test/x \n -> http://p.test/x|http://p.t\nest/a\tb -> http://p.test/ab";
+
 // The address that a text stands for, or the words of the fault.
-fn answer(alloc: Global, text: &str) -> Result<String, AllocError> {
+fn answer(alloc: Global, text: &str) -> Result<String, Memory> {
     match address(alloc, text) {
         Ok(own) => own.as_str().to_string(alloc),
         Err(fault) => format!(in alloc; "{fault}"),
     }
 }
 
-// The text is answered so; it is an address as it stands exactly where it stands for itself.
-fn is_answered<R: Abort + AllocGlobal>(rt: &R, text: &str, want: &str) -> Result<(), Fail> {
-    let own = is_address_text(rt.alloc(), text.as_bytes())?;
-    let answer = answer(rt.alloc(), text)?;
-    assert!(rt;
-        answer.as_str() == want && own == (text == want),
-        "{text:?} -> {answer}"
-    );
-    Ok(())
+// The same, where the text is an address as it stands exactly if it stands for itself.
+fn checked_answer(alloc: Global, text: &str) -> Option<String> {
+    let is_own = is_address_text(alloc, text.as_bytes()).ok()?;
+    let answer = answer(alloc, text).ok()?;
+    if is_own == (answer.as_str() == text) {
+        return Some(answer);
+    }
+    drop(answer);
+    None
 }
 
-fn are_answered<R: Abort + AllocGlobal>(rt: &R, rows: &str) -> Result<(), Fail> {
-    for row in rows.lines() {
-        let (text, want) = row.split_once(" -> ").ok_or("no column")?;
-        is_answered(rt, text, want)?;
+#[derive(Clone, Copy)]
+struct Answers;
+
+impl Telling for Answers {
+    fn tell(&self, alloc: Global, text: &str) -> Option<String> {
+        checked_answer(alloc, text)
     }
-    Ok(())
 }
 
 #[test]
-fn addresses_by_the_standard(rt: HostRuntime) -> Result<(), Fail> {
-    are_answered(&rt, FORMS)?;
-    are_answered(&rt, PORTS)?;
-    are_answered(&rt, DOT_SEGMENTS)?;
-    are_answered(&rt, PERCENT_FORMS)?;
-    are_answered(&rt, NUMBERED_HOSTS)?;
-    are_answered(&rt, NAMED_HOSTS)?;
-    are_answered(&rt, USERS)?;
-    are_answered(&rt, REFUSED)?;
-    is_answered(&rt, "", "not a URL")?;
-    is_answered(&rt, "\u{1} http://p.test/x \n", "http://p.test/x")?;
-    is_answered(&rt, "http://p.t\nest/a\tb", "http://p.test/ab")?;
-    assert!(rt; !is_address_text(rt.alloc(), b"http://p.test/\xFF".as_slice())?);
-    Ok(())
+fn addresses_by_the_standard(rt: HostRuntime) {
+    assert_rows(&rt, &Answers, FORMS);
+    assert_rows(&rt, &Answers, PORTS);
+    assert_rows(&rt, &Answers, DOT_SEGMENTS);
+    assert_rows(&rt, &Answers, PERCENT_FORMS);
+    assert_rows(&rt, &Answers, NUMBERED_HOSTS);
+    assert_rows(&rt, &Answers, NAMED_HOSTS);
+    assert_rows(&rt, &Answers, USERS);
+    assert_rows(&rt, &Answers, REFUSED);
+    for row in FEEDS.split('|') {
+        let (text, want) = parted(row, " -> ");
+        assert_told(&rt, text, checked_answer(rt.alloc(), text), want);
+    }
+    assert!(rt; is_address_text(rt.alloc(), b"http://p.test/\xFF".as_slice()) == Ok(false));
 }
 
 // What is answered where the parser has a fault.
-fn told_of(alloc: Global, fault: ParseError) -> Result<String, AllocError> {
+fn told_of(alloc: Global, fault: ParseError) -> Option<String> {
     let fault = UriFault::from(fault);
-    format!(in alloc; "{fault}")
+    format!(in alloc; "{fault}").ok()
 }
 
 #[test]
-fn faults_of_the_parser(rt: HostRuntime) -> Result<(), Fail> {
-    assert_eq!(rt;
-        told_of(rt.alloc(), ParseError::Overflow)?.as_str(),
-        "out of memory"
-    );
-    assert_eq!(rt; UriFault::from(ParseError::InvalidPort), UriFault::NotUrl);
-    Ok(())
+fn faults_of_the_parser(rt: HostRuntime) {
+    let told = told_of(rt.alloc(), ParseError::Overflow);
+    assert_told(&rt, "an overflow", told, "out of memory");
+    let told = told_of(rt.alloc(), ParseError::InvalidPort);
+    assert_told(&rt, "a port", told, "not a URL");
 }
 
 // The front, and then the letter until the text has so many bytes.
-fn filled(alloc: Global, front: &str, letter: &str, len: usize) -> Result<String, AllocError> {
+fn filled(alloc: Global, front: &str, letter: &str, len: usize) -> Result<String, Memory> {
     let mut text = front.to_string(alloc)?;
     for _ in text.len()..len {
         text.push_str(letter)?;
@@ -183,294 +185,268 @@ fn filled(alloc: Global, front: &str, letter: &str, len: usize) -> Result<String
 // A front, what it is filled with, a length, and the length of the address that this text stands for or the words of the
 // fault. The input is measured before it is read, and the URL's text after its scheme. A space becomes three bytes.
 const LONG_TEXTS: &str = "\
-http://p.test/|a|512|512
-http://p.test/|a|513|longer than 512 bytes
-http://p.test/ |a|510|512
-http://p.test/ |a|511|longer than 512 bytes
-http://p.test/| |513|longer than 512 bytes
-https://p.test/ |a|512|not an http URL
-https://p.test/|a|513|longer than 512 bytes
-p.test/|a|513|longer than 512 bytes
+http://p.test/|a|512 -> 512
+http://p.test/|a|513 -> longer than 512 bytes
+http://p.test/ |a|510 -> 512
+http://p.test/ |a|511 -> longer than 512 bytes
+http://p.test/| |513 -> longer than 512 bytes
+https://p.test/ |a|512 -> not an http URL
+https://p.test/|a|513 -> longer than 512 bytes
+p.test/|a|513 -> longer than 512 bytes
 ";
 
-fn length_of(alloc: Global, text: &str) -> Result<String, AllocError> {
+fn length_of(alloc: Global, text: &str) -> Result<String, Memory> {
     match address(alloc, text) {
         Ok(own) => format!(in alloc; "{}", own.as_str().len()),
         Err(fault) => format!(in alloc; "{fault}"),
     }
 }
 
-// The row of a front, a letter and a length.
-fn long_row(alloc: Global, front: &str, letter: &str, len: usize) -> Result<String, AllocError> {
-    let text = filled(alloc, front, letter, len)?;
-    let length = length_of(alloc, text.as_str())?;
-    format!(in alloc; "{front}|{letter}|{len}|{length}")
+#[derive(Clone, Copy)]
+struct Lengths;
+
+impl Telling for Lengths {
+    fn tell(&self, alloc: Global, text: &str) -> Option<String> {
+        let (front, columns) = parted(text, "|");
+        let (letter, len) = parted(columns, "|");
+        let text = filled(alloc, front, letter, len.parse().ok()?).ok()?;
+        length_of(alloc, text.as_str()).ok()
+    }
 }
 
 #[test]
-fn long_texts(rt: HostRuntime) -> Result<(), Fail> {
-    for row in LONG_TEXTS.lines() {
-        let (front, columns) = row.split_once('|').ok_or("no column")?;
-        let (letter, columns) = columns.split_once('|').ok_or("no column")?;
-        let (len, _) = columns.split_once('|').ok_or("no column")?;
-        let found = long_row(rt.alloc(), front, letter, len.parse()?)?;
-        assert_eq!(rt; found.as_str(), row);
-    }
-    Ok(())
+fn long_texts(rt: HostRuntime) {
+    assert_rows(&rt, &Lengths, LONG_TEXTS);
 }
 
 // A text, the authority of its address, the port, if there is one, and the target.
 const PARTS: &str = "\
-http://p.test/ p.test - /
-http://p.test:9000/c p.test:9000 9000 /c
-http://u:p@p.test:1/c/d?q=1#f p.test:1 1 /c/d?q=1
-http://[::1]:8080? [::1]:8080 8080 /?
-http://127.0.0.1#f 127.0.0.1 - /
-http://p.test:80/c p.test - /c
+http://p.test/ -> p.test None /
+http://p.test:9000/c -> p.test:9000 Some(9000) /c
+http://u:p@p.test:1/c/d?q=1#f -> p.test:1 Some(1) /c/d?q=1
+http://[::1]:8080? -> [::1]:8080 Some(8080) /?
+http://127.0.0.1#f -> 127.0.0.1 None /
+http://p.test:80/c -> p.test None /c
 ";
 
-// The row of a text, by its address.
-fn row_of(alloc: Global, text: &str, own: &Address) -> Result<String, AllocError> {
-    let (authority, target) = (own.authority(), own.target());
-    match own.port() {
-        Some(port) => format!(in alloc; "{text} {authority} {port} {target}"),
-        None => format!(in alloc; "{text} {authority} - {target}"),
-    }
-}
+#[derive(Clone, Copy)]
+struct Parts;
 
-fn parts_of(alloc: Global, text: &str) -> Result<String, Fail> {
-    let own = address(alloc, text)?;
-    let row = row_of(alloc, text, &own);
-    drop(own);
-    Ok(row?)
+impl Telling for Parts {
+    fn tell(&self, alloc: Global, text: &str) -> Option<String> {
+        let own = address(alloc, text).ok()?;
+        let (authority, port, target) = (own.authority(), own.port(), own.target());
+        format!(in alloc; "{authority} {port:?} {target}").ok()
+    }
 }
 
 #[test]
-fn parts_of_addresses(rt: HostRuntime) -> Result<(), Fail> {
-    for row in PARTS.lines() {
-        let (text, _) = row.split_once(' ').ok_or("no column")?;
-        assert_eq!(rt; parts_of(rt.alloc(), text)?.as_str(), row);
-    }
-    Ok(())
+fn parts_of_addresses(rt: HostRuntime) {
+    assert_rows(&rt, &Parts, PARTS);
 }
 
 // The text of a copy.
-fn copied(own: &Address) -> Result<String, Memory> {
-    let copy = own.copy()?;
-    Ok(String::from(copy))
+fn copied(alloc: Global, text: &str) -> Option<String> {
+    let own = address(alloc, text).ok()?;
+    let copy = own.copy();
+    drop(own);
+    Some(String::from(copy.ok()?))
 }
 
 #[test]
-fn copies(rt: HostRuntime) -> Result<(), Fail> {
-    let own = address(rt.alloc(), "http://p.test/c?q#f")?;
-    let text = copied(&own);
-    drop(own);
-    assert_eq!(rt; text?.as_str(), "http://p.test/c?q#f");
-    Ok(())
+fn copies(rt: HostRuntime) {
+    let text = "http://p.test/c?q#f";
+    assert_told(&rt, text, copied(rt.alloc(), text), text);
 }
 
-// Whether a text is a base, and the text.
+// A text, and whether it is a base.
 const BASES: &str = "\
-true http://127.0.0.1:8080/
-true http://p.test
-true http://u@[::1]:1/
-false http://p.test/x
-false http://p.test/x/
-false http://p.test//
-false http://p.test/?
-false http://p.test/#
-false http://p.test?/
-false http://p.test#/
+http://127.0.0.1:8080/ -> true
+http://p.test -> true
+http://u@[::1]:1/ -> true
+http://p.test/x -> false
+http://p.test/x/ -> false
+http://p.test// -> false
+http://p.test/? -> false
+http://p.test/# -> false
+http://p.test?/ -> false
+http://p.test#/ -> false
 ";
 
-fn is_base(alloc: Global, text: &str) -> Result<bool, UriFault> {
-    let own = address(alloc, text)?;
+fn is_base(alloc: Global, text: &str) -> Option<String> {
+    let own = address(alloc, text).ok()?;
     let is_base = own.is_base();
     drop(own);
-    Ok(is_base)
+    format!(in alloc; "{is_base}").ok()
+}
+
+#[derive(Clone, Copy)]
+struct IsBase;
+
+impl Telling for IsBase {
+    fn tell(&self, alloc: Global, text: &str) -> Option<String> {
+        is_base(alloc, text)
+    }
 }
 
 // Whether a text of so many bytes is one, to which a slash is added.
-fn is_long_base(alloc: Global, len: usize) -> Result<bool, Fail> {
-    let text = filled(alloc, "http://", "a", len)?;
-    Ok(is_base(alloc, text.as_str())?)
+fn is_long_base(alloc: Global, len: usize) -> Option<String> {
+    let text = filled(alloc, "http://", "a", len).ok()?;
+    is_base(alloc, text.as_str())
 }
 
 #[test]
-fn bases(rt: HostRuntime) -> Result<(), Fail> {
-    for row in BASES.lines() {
-        let (_, text) = row.split_once(' ').ok_or("no column")?;
-        let is_base = is_base(rt.alloc(), text)?;
-        assert_eq!(rt; format!(in rt.alloc(); "{is_base} {text}")?.as_str(), row);
-    }
-    assert!(rt; is_long_base(rt.alloc(), 399)?);
-    assert!(rt; !is_long_base(rt.alloc(), 400)?);
-    Ok(())
+fn bases(rt: HostRuntime) {
+    assert_rows(&rt, &IsBase, BASES);
+    assert_told(&rt, "399 bytes", is_long_base(rt.alloc(), 399), "true");
+    assert_told(&rt, "400 bytes", is_long_base(rt.alloc(), 400), "false");
 }
 
-// An instance, a number, and the UUID that they have together.
-const IDENTIFIERS: &str = "\
-7 1 00000000-0000-8007-8000-000000000001
-0 4611686018427387903 00000000-0000-8000-bfff-ffffffffffff
-1152921504606846975 255 ffffffff-ffff-8fff-8000-0000000000ff
-1152921504606846975 4611686018427387903 ffffffff-ffff-8fff-bfff-ffffffffffff
-";
+// The second try has memory where the first had none.
+fn base(alloc: Global) -> Option<Address> {
+    match address(alloc, "http://p.test/") {
+        Ok(base) => Some(base),
+        Err(_) => address(alloc, "http://p.test/").ok(),
+    }
+}
 
 // The URIs of the action and of the member of this number.
-fn uris_of(
-    alloc: Global,
-    instance: Instance,
-    n: u64,
-    base: &Address,
-) -> Result<(String, String), &'static str> {
+fn uris_of(alloc: Global, instance: Instance, n: u64, base: &Address) -> Option<(String, String)> {
     if n == 0 || n >= 1 << 62 || !base.is_base() {
-        return Err("no number or no base");
+        return None;
     }
-    let Ok(action) = spell_action(alloc, instance, n, base) else {
-        return Err("out of memory");
-    };
-    let Ok(recovery) = spell_recovery(alloc, instance, n, base) else {
-        return Err("out of memory");
-    };
-    Ok((action, recovery))
+    let action = spell_action(alloc, instance, n, base).ok()?;
+    let recovery = spell_recovery(alloc, instance, n, base).ok()?;
+    Some((action, recovery))
 }
 
-// Adds a text and what it is read as: an action's URI, a member's, or a UUID alone.
-fn push_reading(
-    found: &mut String,
-    text: &str,
-    instance: Instance,
-    base: &Address,
-) -> Result<(), AllocError> {
+// Adds what a text is read as: an action's URI, a member's, or a UUID alone.
+fn push_reading(told: &mut String, text: &str, instance: Instance, base: &Address) -> Option<()> {
     let action = read_action(text, instance, base);
     let recovery = read_recovery(text, instance, base);
     let id = read_id(text, instance);
-    write!(found, "{text} {action:?} {recovery:?} {id:?};")
+    write!(told, "{action:?} {recovery:?} {id:?}").ok()
 }
 
-// Adds the number's URIs, and what each is read as.
-fn push_spelled(
-    found: &mut String,
-    alloc: Global,
-    instance: Instance,
-    n: u64,
-    base: &Address,
-) -> Result<(), Fail> {
+// Adds a text and what it is read as.
+fn push_spelled(told: &mut String, text: &str, instance: Instance, base: &Address) -> Option<()> {
+    told.push_str(text).ok()?;
+    told.push(' ').ok()?;
+    push_reading(told, text, instance, base)
+}
+
+// An instance, a number, and the URIs that they have together, each with what it is read as.
+const IDENTIFIERS: &str = "\
+7 1 -> http://p.test/lra-coordinator/00000000-0000-8007-8000-000000000001 Some(1) None None http://p.test/lra-recovery/00000000-0000-8007-8000-000000000001 None Some(1) None
+0 4611686018427387903 -> http://p.test/lra-coordinator/00000000-0000-8000-bfff-ffffffffffff Some(4611686018427387903) None None http://p.test/lra-recovery/00000000-0000-8000-bfff-ffffffffffff None Some(4611686018427387903) None
+1152921504606846975 255 -> http://p.test/lra-coordinator/ffffffff-ffff-8fff-8000-0000000000ff Some(255) None None http://p.test/lra-recovery/ffffffff-ffff-8fff-8000-0000000000ff None Some(255) None
+1152921504606846975 4611686018427387903 -> http://p.test/lra-coordinator/ffffffff-ffff-8fff-bfff-ffffffffffff Some(4611686018427387903) None None http://p.test/lra-recovery/ffffffff-ffff-8fff-bfff-ffffffffffff None Some(4611686018427387903) None
+";
+
+fn spelled(alloc: Global, instance: Instance, n: u64, base: &Address) -> Option<String> {
     let (action, recovery) = uris_of(alloc, instance, n, base)?;
-    push_reading(found, action.as_str(), instance, base)?;
-    push_reading(found, recovery.as_str(), instance, base)?;
-    Ok(())
+    let mut told = String::new(alloc);
+    push_spelled(&mut told, action.as_str(), instance, base)?;
+    told.push(' ').ok()?;
+    push_spelled(&mut told, recovery.as_str(), instance, base)?;
+    Some(told)
 }
 
-// The number's URIs end in the text, and each is read as what it is and as nothing else.
-fn is_spelled<R: Abort + AllocGlobal>(
-    rt: &R,
-    instance: Instance,
-    n: u64,
-    text: &str,
-) -> Result<(), Fail> {
-    let want = format!(in rt.alloc();
-        "http://p.test/lra-coordinator/{text} Some({n}) None None;http://p.test/lra-recovery/{text} None Some({n}) None;"
-    )?;
-    let base = address(rt.alloc(), "http://p.test/")?;
-    let mut found = String::new(rt.alloc());
-    let spelled = push_spelled(&mut found, rt.alloc(), instance, n, &base);
-    drop(base);
-    spelled?;
-    assert_eq!(rt; found.as_str(), want.as_str());
-    Ok(())
+#[derive(Clone, Copy)]
+struct Spellings;
+
+impl Telling for Spellings {
+    fn tell(&self, alloc: Global, text: &str) -> Option<String> {
+        let (instance, n) = parted(text, " ");
+        let instance = Instance::new(instance.parse().ok()?)?;
+        let n = n.parse().ok()?;
+        let base = base(alloc)?;
+        let told = spelled(alloc, instance, n, &base);
+        drop(base);
+        told
+    }
 }
 
-// The text is read as a UUID alone, of this number if there is one.
-fn is_read<R: Abort + AllocGlobal>(
-    rt: &R,
-    instance: Instance,
-    text: &str,
-    id: Option<u64>,
-) -> Result<(), Fail> {
-    let want = format!(in rt.alloc(); "{text} None None {id:?};")?;
-    let base = address(rt.alloc(), "http://p.test/")?;
-    let mut found = String::new(rt.alloc());
-    let read = push_reading(&mut found, text, instance, &base);
+// An instance, a UUID alone, and what it is read as.
+const UUIDS: &str = "\
+7 00000000-0000-8007-8000-000000000001 -> None None Some(1)
+0 00000000-0000-8000-bfff-ffffffffffff -> None None Some(4611686018427387903)
+1152921504606846975 ffffffff-ffff-8fff-8000-0000000000ff -> None None Some(255)
+1152921504606846975 ffffffff-ffff-8fff-bfff-ffffffffffff -> None None Some(4611686018427387903)
+";
+
+// What a text is read as.
+fn reading(alloc: Global, instance: Instance, text: &str) -> Option<String> {
+    let base = base(alloc)?;
+    let mut told = String::new(alloc);
+    let done = push_reading(&mut told, text, instance, &base);
     drop(base);
-    read?;
-    assert_eq!(rt; found.as_str(), want.as_str());
-    Ok(())
+    done?;
+    Some(told)
+}
+
+#[derive(Clone, Copy)]
+struct Readings;
+
+impl Telling for Readings {
+    fn tell(&self, alloc: Global, text: &str) -> Option<String> {
+        let (instance, text) = parted(text, " ");
+        reading(alloc, Instance::new(instance.parse().ok()?)?, text)
+    }
 }
 
 #[test]
-fn spelled_identifiers(rt: HostRuntime) -> Result<(), Fail> {
-    for row in IDENTIFIERS.lines() {
-        let (instance, row) = row.split_once(' ').ok_or("no column")?;
-        let (n, text) = row.split_once(' ').ok_or("no column")?;
-        let instance = Instance::new(instance.parse()?).ok_or("refused")?;
-        let n = n.parse()?;
-        is_spelled(&rt, instance, n, text)?;
-        is_read(&rt, instance, text, Some(n))?;
-    }
-    Ok(())
+fn spelled_identifiers(rt: HostRuntime) {
+    assert_rows(&rt, &Spellings, IDENTIFIERS);
+    assert_rows(&rt, &Readings, UUIDS);
 }
 
 // Another instance, another base, and texts that are no UUID of the instance or not in their one spelling.
 const NO_IDENTIFIERS: &str = "\
-http://p.test/lra-coordinator/00000000-0000-8008-8000-000000000001
-http://p.test:81/lra-coordinator/00000000-0000-8007-8000-000000000001
-http://p.test/lra-coordinator/ffffffff-ffff-8fff-bfff-ffffffffffff
-http://p.test/lra-coordinator/00000000-0000-8007-8000-00000000000A
-00000000-0000-7007-8000-000000000001
-00000000-0000-8007-c000-000000000001
-00000000-0000-8007-8000-000000000000
-00000001-0000-8007-8000-000000000001
-00000000-0000-8007-8000-000000000001-
-00000000-0000-8007-8000-00000000001
-00000000000080078000000000000001
-{00000000-0000-8007-8000-000000000001}
-urn:uuid:00000000-0000-8007-8000-000000000001
+7 http://p.test/lra-coordinator/00000000-0000-8008-8000-000000000001 -> None None None
+7 http://p.test:81/lra-coordinator/00000000-0000-8007-8000-000000000001 -> None None None
+7 http://p.test/lra-coordinator/ffffffff-ffff-8fff-bfff-ffffffffffff -> None None None
+7 http://p.test/lra-coordinator/00000000-0000-8007-8000-00000000000A -> None None None
+7 00000000-0000-7007-8000-000000000001 -> None None None
+7 00000000-0000-8007-c000-000000000001 -> None None None
+7 00000000-0000-8007-8000-000000000000 -> None None None
+7 00000001-0000-8007-8000-000000000001 -> None None None
+7 00000000-0000-8007-8000-000000000001- -> None None None
+7 00000000-0000-8007-8000-00000000001 -> None None None
+7 00000000000080078000000000000001 -> None None None
+7 {00000000-0000-8007-8000-000000000001} -> None None None
+7 urn:uuid:00000000-0000-8007-8000-000000000001 -> None None None
+7\u{20} -> None None None
+7 00000000-0000-8007-8000-000000000001\u{20} -> None None None
+1152921504606846975 http://p.test/lra-coordinator/ffffffff-ffff-8fff-bfff-fffffffffffF -> None None None
 ";
 
 #[test]
-fn texts_that_are_no_identifiers(rt: HostRuntime) -> Result<(), Fail> {
-    let seven = Instance::new(7).ok_or("refused")?;
-    for text in NO_IDENTIFIERS.lines() {
-        is_read(&rt, seven, text, None)?;
-    }
-    is_read(&rt, seven, "", None)?;
-    is_read(&rt, seven, "00000000-0000-8007-8000-000000000001 ", None)?;
-    let last = Instance::new((1 << 60) - 1).ok_or("refused")?;
-    let capital = "http://p.test/lra-coordinator/ffffffff-ffff-8fff-bfff-fffffffffffF";
-    is_read(&rt, last, capital, None)
+fn texts_that_are_no_identifiers(rt: HostRuntime) {
+    assert_rows(&rt, &Readings, NO_IDENTIFIERS);
 }
 
-// The second try has memory where the first had none.
-fn base_again(alloc: Global) -> Result<Address, UriFault> {
-    match address(alloc, "http://p.test/") {
-        Ok(base) => Ok(base),
-        Err(_) => address(alloc, "http://p.test/"),
-    }
-}
-
-fn uris_again(
-    alloc: Global,
-    instance: Instance,
-    base: &Address,
-) -> Result<(String, String), &'static str> {
+fn uris_again(alloc: Global, instance: Instance, base: &Address) -> Option<(String, String)> {
     match uris_of(alloc, instance, 1, base) {
-        Ok(uris) => Ok(uris),
-        Err(_) => uris_of(alloc, instance, 1, base),
+        None => uris_of(alloc, instance, 1, base),
+        uris => uris,
     }
+}
+
+// The URI of an action.
+fn action_uri(alloc: Global) -> Option<String> {
+    let seven = Instance::new(7)?;
+    let base = base(alloc)?;
+    let uris = uris_again(alloc, seven, &base);
+    drop(base);
+    let (action, recovery) = uris?;
+    drop(recovery);
+    Some(action)
 }
 
 // Run with one allocation failing in turn: a spelling that takes a refused growth is refused, and the next one has memory.
 #[test]
-fn a_refused_growth_is_memory_at_a_spelling(rt: HostRuntime) -> Result<(), Fail> {
-    let seven = Instance::new(7).ok_or("refused")?;
-    let base = base_again(rt.alloc())?;
-    let uris = uris_again(rt.alloc(), seven, &base);
-    drop(base);
-    let (action, _) = uris?;
-    assert_eq!(rt;
-        action.as_str(),
-        "http://p.test/lra-coordinator/00000000-0000-8007-8000-000000000001"
-    );
-    Ok(())
+fn a_refused_growth_is_memory_at_a_spelling(rt: HostRuntime) {
+    let want = "http://p.test/lra-coordinator/00000000-0000-8007-8000-000000000001";
+    assert_told(&rt, "a spelling", action_uri(rt.alloc()), want);
 }

@@ -2,45 +2,72 @@
 
 mod fakes;
 
+use crate::texts::{Telling, assert_rows, assert_told, parted};
 use fakes::{Full, Halting, Halts, Shelf};
-use lra_reports::{Invocation, Question, RunFault, Sources, Usage, error_line, input_name, run};
+use lra_reports::{Invocation, Question, RunFault, Sources, error_line, input_name, run};
 use lra_runs::{Task, play_file, read_task};
-use std::alloc::Global;
+use std::alloc::{AllocError, Global};
 use std::io::Write;
-use std::test::Fail;
+use std::process::Abort;
+use std::str::from_utf8;
 
-/// What is done with an input.
-#[derive(Clone, Copy, Debug)]
-enum Work {
-    Report(Invocation<'static>),
-    Play(&'static str),
+/// The report that words ask for, if it is one.
+fn report(words: &str) -> Option<Invocation<'_>> {
+    let (verb, file) = parted(words, " ");
+    if verb == "audit" {
+        return Some(Invocation::Audit { file });
+    }
+    if verb == "show" {
+        return Some(Invocation::Show { file });
+    }
+    if verb == "upgrade" {
+        return Some(Invocation::Upgrade { file });
+    }
+    (verb == "input").then_some(Invocation::AuditInput)
 }
 
+/// Carries out the report that words ask for, or plays a script.
 fn carry_out<S: Sources, W: Write>(
     alloc: Global,
     sources: &S,
-    work: Work,
+    words: &str,
     writer: &mut W,
 ) -> Result<u8, RunFault> {
-    match work {
-        Work::Report(invocation) => run(alloc, sources, invocation, writer),
-        Work::Play(script) => play_file(alloc, sources, script, writer),
+    match report(words) {
+        Some(invocation) => run(alloc, sources, invocation, writer),
+        None => play_file(alloc, sources, parted(words, " ").1, writer),
     }
+}
+
+/// What is printed, and the outcome.
+fn shown(alloc: Global, printed: &[u8], outcome: Result<u8, RunFault>) -> Option<String> {
+    let printed = from_utf8(printed).ok()?;
+    format!(in alloc; "{printed}{outcome:?}").ok()
+}
+
+/// What is printed where words ask for something, and the outcome.
+fn told<S: Sources>(alloc: Global, sources: &S, words: &str) -> Option<String> {
+    let mut printed = Vec::new(alloc);
+    let outcome = carry_out(alloc, sources, words, &mut printed);
+    let told = shown(alloc, printed.as_slice(), outcome);
+    drop(printed);
+    told
 }
 
 const JOURNAL: &str = "lra-journal 1 7\n1 0 enrol\n1 0 start 1 * 0\n1 5 start 2 1 0\n";
 
-const AUDITED: &str = "sound entries 3 actions 2 unended 2 closed 0 cancelled 0 failed 0\n";
+/// What is printed, with the outcome behind it.
+const AUDITED: &str = "sound entries 3 actions 2 unended 2 closed 0 cancelled 0 failed 0\nOk(0)";
 
-const LISTED: &str = "action 1 * Active\naction 2 1 Active\n";
+const LISTED: &str = "action 1 * Active\naction 2 1 Active\nOk(0)";
 
-const UPGRADED: &str = "lra-journal 2 7\n1 0 enrol\n1 0 start 1 * 0\n1 5 start 2 1 0\n";
+const UPGRADED: &str = "lra-journal 2 7\n1 0 enrol\n1 0 start 1 * 0\n1 5 start 2 1 0\nOk(0)";
 
 const CLOSED: &str =
     "lra-journal 1 7\n1 0 enrol\n1 0 start 1 * 0\n1 5 close 1 client\n1 5 end 1 Closed\n";
 
 const CLOSED_UPGRADED: &str =
-    "lra-journal 2 7\n1 0 enrol\n1 0 start 1 * 0\n1 5 close 1 client\n1 5 end 1 Closed\n";
+    "lra-journal 2 7\n1 0 enrol\n1 0 start 1 * 0\n1 5 close 1 client\n1 5 end 1 Closed\nOk(0)";
 
 /// A journal whose action ends as it can't.
 const MISTAKEN: &str =
@@ -51,7 +78,7 @@ const SCRIPT: &str =
     "0 0 enrol\n1 0 start * 9\n1 1 join 1 http://p.test/u http://p.test/c * * *\n1 5 close 1\n1 6 ask\n1 7 reply 1 done\n1 8 reply 1 done\n";
 
 const PLAYED: &str =
-    "+ lra-journal 2 7\nclerk 1\n+ 1 0 enrol\naction 1\n+ 1 0 start 1 * 9\nmember 1\n+ 1 1 join 1 1 http://p.test/u http://p.test/c * * *\nnow Closing\n+ 1 5 close 1 client\nask 1 1 complete http://p.test/c\n+ 1 6 ask 1 1 complete\nrecorded\n+ 1 7 reply 1 done\n+ 1 7 end 1 Closed\nrefused NotAsked\n";
+    "+ lra-journal 2 7\nclerk 1\n+ 1 0 enrol\naction 1\n+ 1 0 start 1 * 9\nmember 1\n+ 1 1 join 1 1 http://p.test/u http://p.test/c * * *\nnow Closing\n+ 1 5 close 1 client\nask 1 1 complete http://p.test/c\n+ 1 6 ask 1 1 complete\nrecorded\n+ 1 7 reply 1 done\n+ 1 7 end 1 Closed\nrefused NotAsked\nOk(1)";
 
 /// A script whose second line is none.
 const BAD: &str = "0 0 enrol\n1 0 enrol\n1 0 start * 0\n";
@@ -63,201 +90,262 @@ const SHELF: Shelf = Shelf {
     bad: BAD,
 };
 
-/// What is asked for, what is printed, and the outcome.
-const RUNS: [(Work, &str, Result<u8, RunFault>); 7] = [
-    (
-        Work::Report(Invocation::AuditInput),
-        "unsound line 2 clerk\n",
-        Ok(1),
-    ),
-    (
-        Work::Report(Invocation::Audit { file: "journal" }),
-        AUDITED,
-        Ok(0),
-    ),
-    (
-        Work::Report(Invocation::Show { file: "journal" }),
-        LISTED,
-        Ok(0),
-    ),
-    (
-        Work::Report(Invocation::Upgrade { file: "journal" }),
-        UPGRADED,
-        Ok(0),
-    ),
-    (Work::Play("script"), PLAYED, Ok(1)),
-    (
-        Work::Play("bad"),
-        "+ lra-journal 2 7\nclerk 1\n+ 1 0 enrol\n",
-        Err(RunFault::Line(2)),
-    ),
-    (
-        Work::Report(Invocation::Audit { file: "elsewhere" }),
-        "",
-        Err(RunFault::Read),
-    ),
-];
-
-#[test]
-fn invocations_are_carried_out(rt: HostRuntime) -> Result<(), Fail> {
-    for (work, printed, outcome) in RUNS {
-        let mut out = Vec::new(rt.alloc());
-        let answer = carry_out(rt.alloc(), &SHELF, work, &mut out);
-        assert_eq!(rt; answer, outcome, "of {work:?}");
-        assert_eq!(rt; out.as_slice(), printed.as_bytes(), "of {work:?}");
-    }
-    Ok(())
+/// What words ask for of the shelf is printed so, with this outcome.
+fn assert_run<R: Abort + AllocGlobal>(rt: &R, words: &str, want: &str) {
+    assert_told(rt, words, told(rt.alloc(), &SHELF, words), want);
 }
 
-/// What is asked for of a file, what is read there, what is printed, and the status.
-const FILES: [(Work, &str, &str, u8); 5] = [
-    (
-        Work::Report(Invocation::Audit { file: "it" }),
-        JOURNAL,
-        AUDITED,
-        0,
-    ),
-    (
-        Work::Report(Invocation::Show { file: "it" }),
-        JOURNAL,
-        LISTED,
-        0,
-    ),
-    (
-        Work::Report(Invocation::Upgrade { file: "it" }),
-        CLOSED,
-        CLOSED_UPGRADED,
-        0,
-    ),
-    (
-        Work::Report(Invocation::Upgrade { file: "it" }),
-        MISTAKEN,
-        "unsound line 5 ending\n",
-        1,
-    ),
-    (Work::Play("it"), SCRIPT, PLAYED, 1),
-];
+#[test]
+fn invocations_are_carried_out(rt: HostRuntime) {
+    assert_run(&rt, "input", "unsound line 2 clerk\nOk(1)");
+    assert_run(&rt, "audit journal", AUDITED);
+    assert_run(&rt, "show journal", LISTED);
+    assert_run(&rt, "upgrade journal", UPGRADED);
+    assert_run(&rt, "play script", PLAYED);
+    assert_run(
+        &rt,
+        "play bad",
+        "+ lra-journal 2 7\nclerk 1\n+ 1 0 enrol\nErr(Line(2))",
+    );
+    assert_run(&rt, "audit elsewhere", "Err(Read)");
+}
+
+/// What is asked for of a file, what is read there, what is printed with the outcome behind it, and the status.
+#[derive(Clone, Copy)]
+struct Case {
+    words: &'static str,
+    text: &'static str,
+    want: &'static str,
+    status: u8,
+}
+
+/// How many cases there are.
+const CASES: u8 = 5;
+
+fn case_of(words: &'static str, text: &'static str, want: &'static str, status: u8) -> Case {
+    Case {
+        words,
+        text,
+        want,
+        status,
+    }
+}
+
+fn case_at(place: u8) -> Case {
+    match place {
+        0 => case_of("audit it", JOURNAL, AUDITED, 0),
+        1 => case_of("show it", JOURNAL, LISTED, 0),
+        2 => case_of("upgrade it", CLOSED, CLOSED_UPGRADED, 0),
+        3 => case_of("upgrade it", MISTAKEN, "unsound line 5 ending\nOk(1)", 1),
+        _ => case_of("play it", SCRIPT, PLAYED, 1),
+    }
+}
+
+/// What comes of a case whose file is read haltingly.
+fn told_haltingly(alloc: Global, case: Case, fails: bool) -> Option<String> {
+    let source = Halts {
+        text: case.text,
+        fails,
+    };
+    told(alloc, &source, case.words)
+}
 
 #[test]
-fn an_input_may_halt(rt: HostRuntime) -> Result<(), Fail> {
-    for (work, text, printed, status) in FILES {
-        let mut out = Vec::new(rt.alloc());
-        let source = Halts { text, fails: false };
-        let answer = carry_out(rt.alloc(), &source, work, &mut out);
-        assert_eq!(rt; answer, Ok(status), "of {work:?}");
-        assert_eq!(rt; out.as_slice(), printed.as_bytes(), "of {work:?}");
+fn an_input_may_halt(rt: HostRuntime) {
+    for place in 0..CASES {
+        let case = case_at(place);
+        assert_told(
+            &rt,
+            case.words,
+            told_haltingly(rt.alloc(), case, false),
+            case.want,
+        );
     }
-    Ok(())
 }
 
 #[test]
 fn an_input_may_fail(rt: HostRuntime) {
-    for (work, text, _, _) in FILES {
-        let mut out = Vec::new(rt.alloc());
-        let source = Halts { text, fails: true };
-        let answer = carry_out(rt.alloc(), &source, work, &mut out);
-        assert_eq!(rt; answer, Err(RunFault::Read), "of {work:?}");
-        assert!(rt; out.is_empty(), "of {work:?}");
+    for place in 0..CASES {
+        let case = case_at(place);
+        assert_told(
+            &rt,
+            case.words,
+            told_haltingly(rt.alloc(), case, true),
+            "Err(Read)",
+        );
     }
+}
+
+/// The outcome of a case where there is so much room.
+fn outcome(alloc: Global, case: Case, room: usize) -> Result<u8, RunFault> {
+    let source = Halts {
+        text: case.text,
+        fails: false,
+    };
+    carry_out(alloc, &source, case.words, &mut Full { room })
+}
+
+/// Whether all of a case's output is written, and no less room will do.
+fn is_written_whole(alloc: Global, case: Case) -> bool {
+    let (printed, _) = parted(case.want, "Ok(");
+    let len = printed.len();
+    outcome(alloc, case, 0) == Err(RunFault::Write)
+        && outcome(alloc, case, len.saturating_sub(1)) == Err(RunFault::Write)
+        && outcome(alloc, case, len) == Ok(case.status)
 }
 
 #[test]
 fn an_output_may_fail(rt: HostRuntime) {
-    for (work, text, printed, status) in FILES {
-        for (room, wanted) in [
-            (0, Err(RunFault::Write)),
-            (printed.len().saturating_sub(1), Err(RunFault::Write)),
-            (printed.len(), Ok(status)),
-        ] {
-            let source = Halts { text, fails: false };
-            let answer = carry_out(rt.alloc(), &source, work, &mut Full { room });
-            assert_eq!(rt; answer, wanted, "of {work:?} with room for {room}");
-        }
+    for place in 0..CASES {
+        assert!(rt;
+            is_written_whole(rt.alloc(), case_at(place)),
+            "of case {place}"
+        );
     }
+}
+
+/// A writer that grows no more. Where memory for it is refused, the second try has it.
+fn grown(alloc: Global) -> Option<Vec<u8>> {
+    match Vec::with_capacity(alloc, 1024) {
+        Ok(out) => Some(out),
+        Err(_) => Vec::with_capacity(alloc, 1024).ok(),
+    }
+}
+
+/// Whether what is printed of a case is what is wanted, or where memory is refused the first part of it.
+fn is_begun(case: Case, outcome: Result<u8, RunFault>, out: &[u8]) -> bool {
+    let (printed, _) = parted(case.want, "Ok(");
+    if outcome == Err(RunFault::Memory) {
+        return printed.as_bytes().starts_with(out);
+    }
+    outcome == Ok(case.status) && out == printed.as_bytes()
+}
+
+/// The same of a case that is carried out.
+fn is_met(alloc: Global, case: Case) -> bool {
+    let Some(mut out) = grown(alloc) else {
+        return false;
+    };
+    let source = Halts {
+        text: case.text,
+        fails: false,
+    };
+    let outcome = carry_out(alloc, &source, case.words, &mut out);
+    let is_begun = is_begun(case, outcome, out.as_slice());
+    drop(out);
+    is_begun
 }
 
 /// Run with one allocation failing in turn: what is printed is what was wanted, or the first part of it.
 #[test]
-fn a_growth_may_be_refused(rt: HostRuntime) -> Result<(), Fail> {
-    for (work, text, printed, status) in FILES {
-        // The writer itself grows no more.
-        let mut out = match Vec::with_capacity(rt.alloc(), 1024) {
-            Ok(out) => out,
-            Err(_) => Vec::with_capacity(rt.alloc(), 1024)?,
-        };
-        let source = Halts { text, fails: false };
-        let answer = carry_out(rt.alloc(), &source, work, &mut out);
-        if answer == Err(RunFault::Memory) {
-            assert!(rt; printed.as_bytes().starts_with(out.as_slice()));
-        } else {
-            assert_eq!(rt; answer, Ok(status), "of {work:?}");
-            assert_eq!(rt; out.as_slice(), printed.as_bytes(), "of {work:?}");
-        }
+fn a_growth_may_be_refused(rt: HostRuntime) {
+    for place in 0..CASES {
+        assert!(rt; is_met(rt.alloc(), case_at(place)), "of case {place}");
     }
-    Ok(())
+}
+
+/// The line of a fault.
+fn line(alloc: Global, fault: RunFault) -> Option<String> {
+    error_line(alloc, fault, "a file").ok()
 }
 
 #[test]
-fn faults_are_told_in_a_line(rt: HostRuntime) -> Result<(), Fail> {
-    for (fault, line) in [
-        (RunFault::Read, "lra: cannot read a file\n"),
-        (RunFault::Write, "lra: cannot write -\n"),
-        (RunFault::TooLong, "lra: input too long\n"),
-        (RunFault::Memory, "lra: out of memory\n"),
-        (RunFault::Line(12), "lra: bad script line 12\n"),
-    ] {
-        let told = error_line(rt.alloc(), fault, "a file")?;
-        assert_eq!(rt; told.as_str(), line);
-    }
-    assert_eq!(rt; input_name(Invocation::AuditInput), "-");
-    Ok(())
-}
-
-/// The name of a report on the input `it`.
-fn reported(invocation: Invocation<'_>) -> Option<&'static str> {
-    match invocation {
-        Invocation::Audit { file: "it" } => Some("audit"),
-        Invocation::Show { file: "it" } => Some("show"),
-        Invocation::Upgrade { file: "it" } => Some("upgrade"),
-        _ => None,
-    }
-}
-
-/// What two words ask for: the name of the command, and of its input.
-fn asked(rt: &HostRuntime, verb: &str, file: &str) -> Result<Option<&'static str>, Fail> {
+fn faults_are_told_in_a_line(rt: HostRuntime) {
     let alloc = rt.alloc();
-    let words = vec![in alloc;
-        String::from_str(alloc, verb)?,
-        String::from_str(alloc, file)?,
-    ]?;
-    Ok(match read_task(&words) {
-        Ok(Task::Question(Question::Run(invocation))) => reported(invocation),
-        Ok(Task::Play { script: "it" }) => Some("play"),
-        _ => None,
-    })
+    assert_told(
+        &rt,
+        "a read",
+        line(alloc, RunFault::Read),
+        "lra: cannot read a file\n",
+    );
+    assert_told(
+        &rt,
+        "a write",
+        line(alloc, RunFault::Write),
+        "lra: cannot write -\n",
+    );
+    assert_told(
+        &rt,
+        "a length",
+        line(alloc, RunFault::TooLong),
+        "lra: input too long\n",
+    );
+    assert_told(
+        &rt,
+        "memory",
+        line(alloc, RunFault::Memory),
+        "lra: out of memory\n",
+    );
+    assert_told(
+        &rt,
+        "a line",
+        line(alloc, RunFault::Line(12)),
+        "lra: bad script line 12\n",
+    );
+    assert!(rt; input_name(Invocation::AuditInput) == "-");
 }
 
-#[test]
-fn words_are_tasks(rt: HostRuntime) -> Result<(), Fail> {
-    for (verb, file, wanted) in [
-        ("audit", "it", Some("audit")),
-        ("show", "it", Some("show")),
-        ("upgrade", "it", Some("upgrade")),
-        ("play", "it", Some("play")),
-        ("it", "audit", None),
-        ("audits", "it", None),
-    ] {
-        assert_eq!(rt; asked(&rt, verb, file)?, wanted, "of {verb} {file}");
+/// The name of a report on standard input, or on the input `it`.
+fn reported(invocation: Invocation<'_>) -> &'static str {
+    match invocation {
+        Invocation::AuditInput => "audit of the input",
+        Invocation::Audit { file: "it" } => "audit",
+        Invocation::Show { file: "it" } => "show",
+        Invocation::Upgrade { file: "it" } => "upgrade",
+        _ => "another report",
     }
-    let one = vec![in rt.alloc(); String::from_str(rt.alloc(), "audit")?]?;
-    assert!(rt;
-        matches!(
-            read_task(&[]),
-            Ok(Task::Question(Question::Run(Invocation::AuditInput)))
-        )
-    );
-    assert!(rt; matches!(read_task(&one), Err(Usage)));
-    let told = format!(in rt.alloc(); "{Usage}")?;
-    assert_eq!(rt; told.as_str(), "the words ask for nothing");
-    Ok(())
+}
+
+/// The name of a task, or the words of the fault.
+fn task(alloc: Global, words: &[String]) -> Option<String> {
+    let name = match read_task(words) {
+        Ok(Task::Question(Question::Run(invocation))) => reported(invocation),
+        Ok(Task::Play { script: "it" }) => "play",
+        Ok(_) => "another task",
+        Err(usage) => return format!(in alloc; "{usage}").ok(),
+    };
+    String::from_str(alloc, name).ok()
+}
+
+/// The words of a text.
+fn words(alloc: Global, text: &str) -> Result<Vec<String>, AllocError> {
+    let mut words = Vec::new(alloc);
+    for word in text.split_whitespace() {
+        push_word(alloc, &mut words, word)?;
+    }
+    Ok(words)
+}
+
+fn push_word(alloc: Global, words: &mut Vec<String>, word: &str) -> Result<(), AllocError> {
+    let word = String::from_str(alloc, word)?;
+    Ok(words.push(word)?)
+}
+
+#[derive(Clone, Copy)]
+struct Tasks;
+
+impl Telling for Tasks {
+    fn tell(&self, alloc: Global, text: &str) -> Option<String> {
+        let words = words(alloc, text).ok()?;
+        let told = task(alloc, words.as_slice());
+        drop(words);
+        told
+    }
+}
+
+/// Words, and what they ask for.
+const TASKS: &str = "\
+audit it -> audit
+show it -> show
+upgrade it -> upgrade
+play it -> play
+it audit -> the words ask for nothing
+audits it -> the words ask for nothing
+audit -> the words ask for nothing
+ -> audit of the input
+";
+
+#[test]
+fn words_are_tasks(rt: HostRuntime) {
+    assert_rows(&rt, &Tasks, TASKS);
 }

@@ -1,36 +1,34 @@
-//! What is told beside what is wanted.
+//! What is told beside what is wanted, and tables of both.
 
+use std::alloc::Global;
 use std::process::Abort;
 
-/// The text that is told of something is the one that is wanted.
-pub fn is_told<R: Abort, E: Drop>(
-    rt: &R,
-    of: &str,
-    told: Result<String, E>,
-    want: &str,
-) -> Result<(), E> {
+/// What stands before the first such sign, and behind it: all and nothing, where there is none.
+pub fn parted<'a>(row: &'a str, sign: &str) -> (&'a str, &'a str) {
+    row.split_once(sign).unwrap_or((row, ""))
+}
+
+/// What is told is what is wanted. Nothing is told where memory is refused.
+pub fn assert_told<R: Abort>(rt: &R, of: &str, told: Option<String>, want: &str) {
     match told {
-        Ok(told) => {
+        Some(told) => {
             assert_eq!(rt; told.as_str(), want, "of {of:?}");
             drop(told);
-            Ok(())
         }
-        Err(fault) => Err(fault),
+        None => panic!(rt; "nothing is told of {of:?}"),
     }
 }
 
-/// The bytes that are written are those that are wanted.
-pub fn is_written<R: Abort, E: Drop>(
-    rt: &R,
-    written: Result<Vec<u8>, E>,
-    want: &[u8],
-) -> Result<(), E> {
-    match written {
-        Ok(written) => {
-            assert_eq!(rt; written.as_slice(), want);
-            drop(written);
-            Ok(())
-        }
-        Err(fault) => Err(fault),
+/// Something that is told of texts.
+pub trait Telling {
+    /// What is told of a text. Nothing, where memory is refused.
+    fn tell(&self, alloc: Global, text: &str) -> Option<String>;
+}
+
+/// Each line is a text and what is to be told of it, with ` -> ` between.
+pub fn assert_rows<T: Telling, R: Abort + AllocGlobal>(rt: &R, telling: &T, rows: &str) {
+    for row in rows.lines() {
+        let (text, want) = parted(row, " -> ");
+        assert_told(rt, text, telling.tell(rt.alloc(), text), want);
     }
 }

@@ -1,8 +1,7 @@
 //! The agenda and the pauses.
+use crate::texts::assert_told;
 use lra_timers::{Agenda, Memory, pause};
 use std::alloc::Global;
-use std::process::Abort;
-use std::test::Fail;
 
 // Sets retries, of which some are at one moment, and one is set again.
 fn set_retries(agenda: &mut Agenda) -> Result<(), Memory> {
@@ -26,27 +25,36 @@ fn take_due(agenda: &mut Agenda, now: u64, order: &mut String) -> Result<(), Mem
     Ok(())
 }
 
-fn set_and_take(alloc: Global, agenda: &mut Agenda, now: u64) -> Result<String, Memory> {
-    set_retries(agenda)?;
+// The members that are due at a moment, in the order in which they come.
+fn due(alloc: Global, now: u64) -> Option<String> {
+    let mut agenda = Agenda::new(alloc);
     let mut order = String::new(alloc);
-    take_due(agenda, now, &mut order)?;
-    Ok(order)
-}
-
-// These members are due at a moment, in this order.
-fn are_due<R: Abort + AllocGlobal>(rt: &R, now: u64, want: &str) -> Result<(), Fail> {
-    let mut agenda = Agenda::new(rt.alloc());
-    let order = set_and_take(rt.alloc(), &mut agenda, now);
+    let is_set = set_retries(&mut agenda).is_ok();
+    let is_taken = take_due(&mut agenda, now, &mut order).is_ok();
     drop(agenda);
-    assert_eq!(rt; order?.as_str(), want);
-    Ok(())
+    if is_set && is_taken {
+        return Some(order);
+    }
+    drop(order);
+    None
 }
 
 #[test]
-fn the_first_moment_comes_first_and_then_the_least_number(rt: HostRuntime) -> Result<(), Fail> {
-    are_due(&rt, u64::MAX - 1, "9 18446744073709551615 3 7 2 ")?;
-    are_due(&rt, u64::MAX, "9 18446744073709551615 3 7 2 1 ")?;
-    are_due(&rt, 9, "")
+fn the_first_moment_comes_first_and_then_the_least_number(rt: HostRuntime) {
+    let (before, last) = (due(rt.alloc(), u64::MAX - 1), due(rt.alloc(), u64::MAX));
+    assert_told(
+        &rt,
+        "the last moment but one",
+        before,
+        "9 18446744073709551615 3 7 2 ",
+    );
+    assert_told(
+        &rt,
+        "the last moment",
+        last,
+        "9 18446744073709551615 3 7 2 1 ",
+    );
+    assert_told(&rt, "an early moment", due(rt.alloc(), 9), "");
 }
 
 // Sets a limit. Where one growth is refused, the second try has memory.
@@ -83,29 +91,27 @@ fn come_in_order(agenda: &mut Agenda) -> Result<bool, Memory> {
 }
 
 #[test]
-fn a_refused_growth_loses_no_moment(rt: HostRuntime) -> Result<(), Fail> {
+fn a_refused_growth_loses_no_moment(rt: HostRuntime) {
     let mut agenda = Agenda::new(rt.alloc());
     let are_in_order = come_in_order(&mut agenda);
     drop(agenda);
-    assert!(rt; are_in_order?);
-    Ok(())
+    assert!(rt; are_in_order == Ok(true));
 }
 
-// The pause before the kth try.
-fn is_pause<R: Abort>(rt: &R, base: u64, cap: u64, k: u64, want: u64) {
-    assert!(rt; k >= 1);
-    assert_eq!(rt; pause(base, cap, k), want, "{base} {cap} {k}");
+// Whether this is the pause before the kth try.
+fn is_pause(base: u64, cap: u64, k: u64, want: u64) -> bool {
+    k >= 1 && pause(base, cap, k) == want
 }
 
 #[test]
 fn a_pause_doubles_up_to_the_cap(rt: HostRuntime) {
-    is_pause(&rt, 100, 60_000, 1, 100);
-    is_pause(&rt, 100, 60_000, 2, 200);
-    is_pause(&rt, 100, 60_000, 10, 51_200);
-    is_pause(&rt, 100, 60_000, 11, 60_000);
-    is_pause(&rt, 100, 50, 1, 50);
-    is_pause(&rt, 0, 60_000, 70, 0);
-    is_pause(&rt, 1, u64::MAX, 64, 1 << 63);
-    is_pause(&rt, 3, u64::MAX, 64, u64::MAX);
-    is_pause(&rt, u64::MAX, u64::MAX, 2, u64::MAX);
+    assert!(rt; is_pause(100, 60_000, 1, 100));
+    assert!(rt; is_pause(100, 60_000, 2, 200));
+    assert!(rt; is_pause(100, 60_000, 10, 51_200));
+    assert!(rt; is_pause(100, 60_000, 11, 60_000));
+    assert!(rt; is_pause(100, 50, 1, 50));
+    assert!(rt; is_pause(0, 60_000, 70, 0));
+    assert!(rt; is_pause(1, u64::MAX, 64, 1 << 63));
+    assert!(rt; is_pause(3, u64::MAX, 64, u64::MAX));
+    assert!(rt; is_pause(u64::MAX, u64::MAX, 2, u64::MAX));
 }

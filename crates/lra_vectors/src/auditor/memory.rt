@@ -1,61 +1,54 @@
 //! What each call answers where a growth is refused: run with one allocation failing in turn. A call after it has memory.
-use super::{NESTED, NESTED_VERDICT, told_in_memory, told_in_pieces, told_whole};
-use crate::texts::is_told;
+use super::{NESTED, NESTED_VERDICT, journal_of, told_in_memory, told_in_pieces, told_whole};
+use crate::texts::assert_told;
 use lra_auditor::{Account, Auditor, AuditorFault, Memory};
 use std::alloc::Global;
-use std::process::Abort;
 
 /// The nested journal.
 fn nested(alloc: Global) -> Result<String, Memory> {
-    match NESTED.replace(alloc, ';', "\n") {
+    match journal_of(alloc, NESTED) {
         Ok(journal) => Ok(journal),
-        Err(_) => NESTED.replace(alloc, ';', "\n"),
+        Err(_) => journal_of(alloc, NESTED),
     }
 }
 
-fn audit_again(alloc: Global, bytes: &[u8]) -> Result<String, Memory> {
-    match told_whole(alloc, bytes) {
+fn audit_again(alloc: Global) -> Result<String, Memory> {
+    let journal = nested(alloc)?;
+    match told_whole(alloc, journal.as_bytes()) {
         Ok(verdict) => Ok(verdict),
-        Err(_) => told_whole(alloc, bytes),
+        Err(_) => told_whole(alloc, journal.as_bytes()),
     }
 }
 
 #[test]
-fn a_refused_growth_is_memory_at_an_audit(rt: HostRuntime) -> Result<(), Memory> {
-    let journal = nested(rt.alloc())?;
-    let verdict = audit_again(rt.alloc(), journal.as_bytes());
-    is_told(&rt, NESTED, verdict, NESTED_VERDICT)
+fn a_refused_growth_is_memory_at_an_audit(rt: HostRuntime) {
+    assert_told(&rt, NESTED, audit_again(rt.alloc()).ok(), NESTED_VERDICT);
 }
 
-fn check_again(alloc: Global, bytes: &[u8]) -> Result<String, Memory> {
-    match told_in_memory(alloc, bytes, 0) {
+fn check_again(alloc: Global) -> Result<String, Memory> {
+    let journal = nested(alloc)?;
+    match told_in_memory(alloc, journal.as_bytes(), 0) {
         Ok(verdict) => Ok(verdict),
-        Err(_) => told_in_memory(alloc, bytes, 0),
+        Err(_) => told_in_memory(alloc, journal.as_bytes(), 0),
     }
 }
 
 #[test]
-fn a_refused_growth_is_memory_at_a_check(rt: HostRuntime) -> Result<(), Memory> {
-    let journal = nested(rt.alloc())?;
-    let verdict = check_again(rt.alloc(), journal.as_bytes());
-    is_told(&rt, NESTED, verdict, NESTED_VERDICT)
+fn a_refused_growth_is_memory_at_a_check(rt: HostRuntime) {
+    assert_told(&rt, NESTED, check_again(rt.alloc()).ok(), NESTED_VERDICT);
 }
 
-fn feed_again<R: Abort + AllocGlobal>(rt: &R, bytes: &[u8]) -> Result<String, AuditorFault> {
-    match told_in_pieces(rt, bytes, 7) {
-        Ok(verdict) => Ok(verdict),
-        Err(fault) => {
-            assert_eq!(rt; fault, AuditorFault::Memory);
-            told_in_pieces(rt, bytes, 7)
-        }
+fn feed_again(alloc: Global) -> Result<String, AuditorFault> {
+    let journal = nested(alloc)?;
+    match told_in_pieces(alloc, journal.as_bytes(), 7) {
+        Err(AuditorFault::Memory) => told_in_pieces(alloc, journal.as_bytes(), 7),
+        verdict => verdict,
     }
 }
 
 #[test]
-fn a_refused_growth_spends_an_auditor(rt: HostRuntime) -> Result<(), AuditorFault> {
-    let journal = nested(rt.alloc())?;
-    let verdict = feed_again(&rt, journal.as_bytes());
-    is_told(&rt, NESTED, verdict, NESTED_VERDICT)
+fn a_refused_growth_spends_an_auditor(rt: HostRuntime) {
+    assert_told(&rt, NESTED, feed_again(rt.alloc()).ok(), NESTED_VERDICT);
 }
 
 /// Whether an auditor that was fed has an account of a legal history.
@@ -69,20 +62,19 @@ fn is_sound(auditor: Auditor) -> Result<bool, AuditorFault> {
     }
 }
 
-#[test]
-fn a_refused_growth_spends_a_listing(rt: HostRuntime) -> Result<(), Memory> {
-    let journal = nested(rt.alloc())?;
-    let mut auditor = Auditor::new(rt.alloc());
+/// Whether there is an account of a legal history, or else the auditor is spent since memory was refused to it.
+fn is_listed(alloc: Global) -> Result<bool, Memory> {
+    let journal = nested(alloc)?;
+    let mut auditor = Auditor::new(alloc);
     let fed = auditor.feed(journal.as_bytes());
-    match is_sound(auditor) {
-        Ok(is_sound) => {
-            assert_eq!(rt; fed, Ok(()));
-            assert!(rt; is_sound);
-        }
-        Err(fault) => {
-            assert_eq!(rt; fed, Err(AuditorFault::Memory));
-            assert_eq!(rt; fault, AuditorFault::Spent);
-        }
-    }
-    Ok(())
+    drop(journal);
+    Ok(match is_sound(auditor) {
+        Ok(is_sound) => is_sound && fed == Ok(()),
+        Err(fault) => fault == AuditorFault::Spent && fed == Err(AuditorFault::Memory),
+    })
+}
+
+#[test]
+fn a_refused_growth_spends_a_listing(rt: HostRuntime) {
+    assert!(rt; is_listed(rt.alloc()) == Ok(true));
 }

@@ -1,6 +1,7 @@
 //! What is a line, and what is none by a little.
 
 use super::*;
+use std::process::Abort;
 
 fn is_line(version: Version, line: &[u8]) -> bool {
     match read_borrowed(version, line) {
@@ -12,7 +13,6 @@ fn is_line(version: Version, line: &[u8]) -> bool {
     }
 }
 
-// Each without its line feed.
 const LINES: &str = "\
 0 0 enrol
 4294967295 18446744073709551615 enrol
@@ -80,34 +80,20 @@ const NO_WORDS: &str = "\
 1 0 renew 1 1 1
 ";
 
-// Whether a row with a line feed is a line.
-fn is_row(alloc: Global, version: Version, row: &str) -> Result<bool, Memory> {
-    let line = format!(in alloc; "{row}\n")?;
-    let is_line = is_line(version, line.as_bytes());
-    drop(line);
-    Ok(is_line)
-}
-
-// Each row with a line feed is a line, or none is.
-fn are_lines<R: Abort + AllocGlobal>(
-    rt: &R,
-    version: Version,
-    rows: &str,
-    want: bool,
-) -> Result<(), Memory> {
-    for row in rows.lines() {
-        assert!(rt; is_row(rt.alloc(), version, row)? == want, "{row:?}");
+// Each line is one, or none is.
+fn assert_lines<R: Abort>(rt: &R, version: Version, lines: &str, want: bool) {
+    for line in lines.split_inclusive('\n') {
+        assert!(rt; is_line(version, line.as_bytes()) == want, "{line:?}");
     }
-    Ok(())
 }
 
 #[test]
-fn numbers_and_words(rt: HostRuntime) -> Result<(), Memory> {
-    are_lines(&rt, Version::One, LINES, true)?;
-    are_lines(&rt, Version::Two, NO_NUMBERS, false)?;
-    are_lines(&rt, Version::Two, NO_WORDS, false)?;
-    are_lines(&rt, Version::Two, "1 0 renew 1 1", true)?;
-    are_lines(&rt, Version::One, "1 0 renew 1 1", false)
+fn numbers_and_words(rt: HostRuntime) {
+    assert_lines(&rt, Version::One, LINES, true);
+    assert_lines(&rt, Version::Two, NO_NUMBERS, false);
+    assert_lines(&rt, Version::Two, NO_WORDS, false);
+    assert_lines(&rt, Version::Two, "1 0 renew 1 1\n", true);
+    assert_lines(&rt, Version::One, "1 0 renew 1 1\n", false);
 }
 
 // Each ends before a `|`.
@@ -138,45 +124,35 @@ fn around(
     Ok(line)
 }
 
-// A `join` with such a compensate address is a line, or is none.
-fn is_address<R: Abort + AllocGlobal>(
-    rt: &R,
-    piece: &[u8],
-    times: u32,
-    want: bool,
-) -> Result<(), Memory> {
-    let line = around(
-        rt.alloc(),
-        "1 2 join 3 4 ",
-        piece,
-        times,
-        " complete * * *\n",
-    )?;
+// Whether a `join` with such a compensate address is a line.
+fn is_address(alloc: Global, piece: &[u8], times: u32) -> Option<bool> {
+    let line = around(alloc, "1 2 join 3 4 ", piece, times, " complete * * *\n").ok()?;
     let found = is_line(Version::One, line.as_slice());
     drop(line);
-    assert!(rt; found == want, "{times} of {piece:?}");
-    Ok(())
+    Some(found)
 }
 
 // Each ends before a `|`.
-fn are_addresses<R: Abort + AllocGlobal>(rt: &R, texts: &str, want: bool) -> Result<(), Memory> {
+fn assert_addresses<R: Abort + AllocGlobal>(rt: &R, texts: &str, want: bool) {
     for text in texts.split('|') {
-        is_address(rt, text.as_bytes(), 1, want)?;
+        assert!(rt;
+            is_address(rt.alloc(), text.as_bytes(), 1) == Some(want),
+            "{text:?}"
+        );
     }
-    Ok(())
 }
 
 #[test]
-fn addresses(rt: HostRuntime) -> Result<(), Memory> {
-    are_addresses(&rt, "*|**|!|~", true)?;
-    are_addresses(
+fn addresses(rt: HostRuntime) {
+    assert_addresses(&rt, "*|**|!|~", true);
+    assert_addresses(
         &rt,
         "|a b|a\tb|a\rb|a\nb|a\0|a\u{1f}|a\u{7f}|a\u{80}|é",
         false,
-    )?;
-    is_address(&rt, &[b'a', 0xff], 1, false)?;
-    is_address(&rt, b"a", 512, true)?;
-    is_address(&rt, b"a", 513, false)
+    );
+    assert!(rt; is_address(rt.alloc(), b"a\xFF", 1) == Some(false));
+    assert!(rt; is_address(rt.alloc(), b"a", 512) == Some(true));
+    assert!(rt; is_address(rt.alloc(), b"a", 513) == Some(false));
 }
 
 // Five addresses of 512 bytes, and the greatest numbers.
@@ -191,21 +167,24 @@ fn longest(alloc: Global, last: &str) -> Result<Vec<u8>, Memory> {
     )
 }
 
-// Whether that is a line, and how long it is.
-fn is_longest(alloc: Global, version: Version, last: &str) -> Result<(bool, usize), Memory> {
-    let line = longest(alloc, last)?;
-    let (found, len) = (is_line(version, line.as_slice()), line.len());
+// How long that is, where it is a line, and 0 where it is none.
+fn length_of_longest(alloc: Global, version: Version, last: &str) -> Option<usize> {
+    let line = longest(alloc, last).ok()?;
+    let len = if is_line(version, line.as_slice()) {
+        line.len()
+    } else {
+        0
+    };
     drop(line);
-    Ok((found, len))
+    Some(len)
 }
 
 #[test]
-fn the_longest_line(rt: HostRuntime) -> Result<(), Memory> {
-    let (found, len) = is_longest(rt.alloc(), Version::One, "\n")?;
-    assert!(rt; found && len == 2644);
-    for last in "a\n| \n|\n\n| *\n".split('|') {
-        let (found, _) = is_longest(rt.alloc(), Version::Two, last)?;
-        assert!(rt; !found, "{last:?}");
-    }
-    Ok(())
+fn the_longest_line(rt: HostRuntime) {
+    let alloc = rt.alloc();
+    assert!(rt; length_of_longest(alloc, Version::One, "\n") == Some(2644));
+    assert!(rt; length_of_longest(alloc, Version::Two, "a\n") == Some(0));
+    assert!(rt; length_of_longest(alloc, Version::Two, " \n") == Some(0));
+    assert!(rt; length_of_longest(alloc, Version::Two, "\n\n") == Some(0));
+    assert!(rt; length_of_longest(alloc, Version::Two, " *\n") == Some(0));
 }

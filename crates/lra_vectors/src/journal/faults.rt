@@ -15,38 +15,39 @@ fn verdict(alloc: Global, bytes: &[u8]) -> Result<String, Memory> {
 
 // Line feeds are written as `;`.
 const JOURNALS: &str = "\
-line 1 is misspelled =\u{20}
-line 1 is misspelled = ;
-line 1 is misspelled = lra-journal 1 7
-line 1 is misspelled = lra-journal 3 7;
-line 1 is misspelled = 1 0 enrol;
-line 5 is misspelled = lra-journal 1 7;1 0 enrol;1 0 start 1 * 0;1 5 close 1 client;1 5 end 1 Closed
-line 2 is misspelled = lra-journal 1 7;1
-line 3 is misspelled = lra-journal 1 7;1 0 enrol;1 0 start 01 * 0;
-line 3 is misspelled = lra-journal 1 7;1 0 enrol;;1 0 start 1 * 0;
-line 2 is misspelled = lra-journal 1 7;;
-line 3 is misspelled = lra-journal 1 7;1 0 enrol;lra-journal 1 7;
-line 3 is misspelled = lra-journal 1 7;1 0 enrol;1 0 skip;1 0 leave 02;
-line 4 is misspelled = lra-journal 1 7;1 0 enrol;1 0 start 1 * 100;1 90 renew 1 100;
-whole = lra-journal 2 7;1 0 enrol;1 0 start 1 * 100;1 90 renew 1 100;
-whole = lra-journal 1 7;
-whole = lra-journal 2 0;
-whole = lra-journal 1 7;1 0 start 1 * 0;
-whole = lra-journal 1 7;9 5 close 1 limit;8 4 end 0 Active;
+; -> line 1 is misspelled
+ -> line 1 is misspelled
+lra-journal 1 7 -> line 1 is misspelled
+lra-journal 3 7; -> line 1 is misspelled
+1 0 enrol; -> line 1 is misspelled
+lra-journal 1 7;1 0 enrol;1 0 start 1 * 0;1 5 close 1 client;1 5 end 1 Closed -> line 5 is misspelled
+lra-journal 1 7;1 -> line 2 is misspelled
+lra-journal 1 7;1 0 enrol;1 0 start 01 * 0; -> line 3 is misspelled
+lra-journal 1 7;1 0 enrol;;1 0 start 1 * 0; -> line 3 is misspelled
+lra-journal 1 7;; -> line 2 is misspelled
+lra-journal 1 7;1 0 enrol;lra-journal 1 7; -> line 3 is misspelled
+lra-journal 1 7;1 0 enrol;1 0 skip;1 0 leave 02; -> line 3 is misspelled
+lra-journal 1 7;1 0 enrol;1 0 start 1 * 100;1 90 renew 1 100; -> line 4 is misspelled
+lra-journal 2 7;1 0 enrol;1 0 start 1 * 100;1 90 renew 1 100; -> whole
+lra-journal 1 7; -> whole
+lra-journal 2 0; -> whole
+lra-journal 1 7;1 0 start 1 * 0; -> whole
+lra-journal 1 7;9 5 close 1 limit;8 4 end 0 Active; -> whole
 ";
 
-fn verdict_on(alloc: Global, lines: &str) -> Result<String, Memory> {
-    let journal = lines.replace(alloc, ";", "\n")?;
-    let verdict = verdict(alloc, journal.as_bytes());
-    drop(journal);
-    verdict
+#[derive(Clone, Copy)]
+struct Verdicts;
+
+impl Telling for Verdicts {
+    fn tell(&self, alloc: Global, text: &str) -> Option<String> {
+        let journal = text.replace(alloc, ';', "\n").ok()?;
+        let verdict = verdict(alloc, journal.as_bytes());
+        drop(journal);
+        verdict.ok()
+    }
 }
 
 #[test]
-fn first_misspelled_lines(rt: HostRuntime) -> Result<(), Fail> {
-    for row in JOURNALS.lines() {
-        let (want, lines) = row.split_once(" = ").ok_or("no column")?;
-        is_told(&rt, lines, verdict_on(rt.alloc(), lines), want)?;
-    }
-    Ok(())
+fn first_misspelled_lines(rt: HostRuntime) {
+    assert_rows(&rt, &Verdicts, JOURNALS);
 }

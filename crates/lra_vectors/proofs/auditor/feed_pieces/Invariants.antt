@@ -1,8 +1,8 @@
 use Rattle.std.proofs.Common.{◌≡◌, ◌+◌, length}
 use Rattle.lra_vectors.proofs.auditor.feed_pieces.Given as goal
 
-abbrev pub invariant-loop-rt : goal.invariant-loop-rt
-invariant-loop-rt g l = l.auditor.fed + length l.rest ≡ length l.bytes
+abbrev pub invariant-loop-rest : goal.invariant-loop-rest
+invariant-loop-rest l = l.auditor.fed + length l.rest ≡ length l.bytes
 
-abbrev pub decreases-loop-rt : goal.decreases-loop-rt
-decreases-loop-rt g l = length l.rest
+abbrev pub decreases-loop-rest : goal.decreases-loop-rest
+decreases-loop-rest l = length l.rest
