@@ -11,7 +11,7 @@ mod desk;
 
 use crate::rows::{LIMITED, OPENED, SCRIPTS, TORN};
 use crate::same::assert_came;
-use crate::words::parted;
+use crate::words::{Words, parted};
 use desk::played;
 use lra_core::{
     Address, Command, Committed, Coordinator, Errand, Instance, Limits, OpenFault, Prepared, Told,
@@ -58,49 +58,53 @@ fn come(alloc: Global, place: Option<Coordinator>, version: Version, script: &st
     text
 }
 
+/// What comes of a script at a coordinator with the usual limits.
+fn come_usually(alloc: Global, script: &str) -> Vec<u8> {
+    let place = coordinator(alloc, Limits::usual());
+    come(alloc, place, Version::Two, script)
+}
+
 #[test]
 fn scripts_come_to_what_they_say(rt: HostRuntime) {
-    for script in SCRIPTS.split("\n\n") {
-        let place = coordinator(rt.alloc(), Limits::usual());
-        let text = come(rt.alloc(), place, Version::Two, script);
-        assert_came(&rt, text.as_slice(), script);
+    for script in SCRIPTS.split('|') {
+        assert_came(&rt, come_usually(rt.alloc(), script), script);
     }
 }
 
-/// A small number.
-fn small(text: &str) -> Option<u16> {
-    text.parse().ok()
+/// A small number, and 0 for any other text.
+fn small(text: &str) -> u16 {
+    text.parse().unwrap_or(0)
 }
 
 /// Limits of a line: clerks, actions, members, entries and depth.
-fn limits(line: &str) -> Option<Limits>
-    ensures { IfSome result AreKeepable }
+fn limits(line: &str) -> Limits
+    ensures { AreKeepable result }
 {
     let (clerks, line) = parted(line, " ");
     let (actions, line) = parted(line, " ");
     let (members, line) = parted(line, " ");
     let (entries, depth) = parted(line, " ");
-    Some(Limits {
-        clerks: u32::from(small(clerks)?),
-        actions: u64::from(small(actions)?),
-        members: u64::from(small(members)?),
-        entries: u64::from(small(entries)?),
-        depth: u64::from(small(depth)?),
+    Limits {
+        clerks: u32::from(small(clerks)),
+        actions: u64::from(small(actions)),
+        members: u64::from(small(members)),
+        entries: u64::from(small(entries)),
+        depth: u64::from(small(depth)),
         ..Limits::usual()
-    })
+    }
 }
 
-/// A coordinator with the limits of a line.
-fn limited(alloc: Global, line: &str) -> Option<Coordinator> {
-    coordinator(alloc, limits(line)?)
+/// What comes of a script at a coordinator with the limits of a line.
+fn come_within(alloc: Global, line: &str, script: &str) -> Vec<u8> {
+    let place = coordinator(alloc, limits(line));
+    come(alloc, place, Version::Two, script)
 }
 
 #[test]
 fn limits_are_kept(rt: HostRuntime) {
-    for row in LIMITED.split("\n\n") {
+    for row in LIMITED.split('|') {
         let (line, script) = parted(row, "\n");
-        let text = come(rt.alloc(), limited(rt.alloc(), line), Version::Two, script);
-        assert_came(&rt, text.as_slice(), script);
+        assert_came(&rt, come_within(rt.alloc(), line, script), script);
     }
 }
 
@@ -144,7 +148,8 @@ const NEST_BEGINS: &[u8] =
 const NEST_IS_CANCELLED: &[u8] =
     b"1 0 start 64 0 -> refused TooDeep\n1 1 cancel 1 -> Now(Cancelled)\n+ 1 1 cancel 1 client\n";
 
-const NEST_ENDS: &[u8] = b"audit 2 -> sound 193 entries 64 actions 0 unended 0 closed 64 cancelled";
+const NEST_ENDS: &[u8] =
+    b"audit 2 -> sound 193 entries 64 actions 0 unended 0 closed 64 cancelled\n";
 
 /// A script of a nest. Nothing, where memory is refused.
 fn nest(alloc: Global) -> Vec<u8> {
@@ -158,10 +163,9 @@ fn nest(alloc: Global) -> Vec<u8> {
 #[test]
 fn a_nest_is_cancelled_at_once(rt: HostRuntime) {
     let script = nest(rt.alloc());
-    let script = from_utf8(script.as_slice()).unwrap_or("no text");
-    let place = coordinator(rt.alloc(), Limits::usual());
-    let text = come(rt.alloc(), place, Version::Two, script);
-    assert_came(&rt, text.as_slice(), script);
+    let text = from_utf8(script.as_slice()).unwrap_or("no text");
+    assert_came(&rt, come_usually(rt.alloc(), text), text);
+    drop(script);
 }
 
 /// A coordinator that goes on from a journal, with so many entries at most.
@@ -187,18 +191,25 @@ fn open(alloc: Global, journal: &str, entries: u32) -> Result<Coordinator, OpenF
     }
 }
 
-/// Whether a journal isn't opened for this: a line and a rule, or too many entries.
+/// Whether a fault is this: a line and a rule, or too many entries.
+fn is_so(fault: OpenFault, wanted: &str) -> bool {
+    match fault {
+        OpenFault::Unsound { line, rule } => {
+            let (number, code) = parted(wanted, " ");
+            (Words { left: number }).number() == Some(line) && rule.name() == code
+        }
+        fault => fault == OpenFault::Full && wanted == "Full",
+    }
+}
+
+/// Whether a journal isn't opened for this.
 fn is_refused(alloc: Global, journal: &str, entries: u32, wanted: &str) -> bool {
     match open(alloc, journal, entries) {
         Ok(coordinator) => {
             drop(coordinator);
             false
         }
-        Err(OpenFault::Unsound { line, rule }) => {
-            let (number, code) = parted(wanted, " ");
-            number.parse() == Ok(line) && rule.name() == code
-        }
-        Err(fault) => fault == OpenFault::Full && wanted == "Full",
+        Err(fault) => is_so(fault, wanted),
     }
 }
 
@@ -206,10 +217,7 @@ fn is_refused(alloc: Global, journal: &str, entries: u32, wanted: &str) -> bool 
 fn row_is_refused(alloc: Global, row: &str) -> bool {
     let (line, journal) = parted(row, "\n");
     let (entries, wanted) = parted(line, " ");
-    match small(entries) {
-        Some(entries) => is_refused(alloc, journal, u32::from(entries), wanted),
-        None => false,
-    }
+    is_refused(alloc, journal, u32::from(small(entries)), wanted)
 }
 
 #[test]
@@ -219,12 +227,16 @@ fn journals_are_opened(rt: HostRuntime) {
     }
 }
 
+/// What comes of a script at a coordinator that goes on from a journal of version 1.
+fn come_later(alloc: Global, journal: &str, script: &str) -> Vec<u8> {
+    let place = open(alloc, journal, 100).ok();
+    come(alloc, place, Version::One, script)
+}
+
 #[test]
 fn what_a_torn_block_lacks_is_added(rt: HostRuntime) {
     let [journal, script] = TORN;
-    let place = open(rt.alloc(), journal, 100).ok();
-    let text = come(rt.alloc(), place, Version::One, script);
-    assert_came(&rt, text.as_slice(), script);
+    assert_came(&rt, come_later(rt.alloc(), journal, script), script);
 }
 
 /// Spends the errand of a command, where there is one.
@@ -282,5 +294,5 @@ fn close_anew(alloc: Global) -> [bool; 5] {
 
 #[test]
 fn what_is_prepared_is_written_by_commit_alone(rt: HostRuntime) {
-    assert_eq!(rt; close_anew(rt.alloc()), [true; 5]);
+    assert!(rt; close_anew(rt.alloc()) == [true; 5]);
 }

@@ -7,6 +7,7 @@ ghost use Rattle.std.specs.Prelude.{◌≡◌, IfSome};
 ghost use Rattle.lra_office.specs.Clerks.{IsClerkOf};
 ghost use Rattle.lra_ticket.specs.Locks.{lock_id, pass_id, pass_view};
 
+use crate::answers::{put_answer, put_known};
 use crate::coordinator::base;
 use crate::errands::Errands;
 use crate::rows::{REOPENED, SCRIPTS};
@@ -144,16 +145,6 @@ impl<V: Serving, R: Wait> Player<'_, V, R> {
         self.seen() == seen
     }
 
-    fn put(&mut self, answer: Result<Told, OfficeRefusal>) -> Option<()> {
-        match answer {
-            Ok(told) => writeln!(self.text, "{told:?}").ok(),
-            Err(OfficeRefusal::Refused(refusal)) => {
-                writeln!(self.text, "refused {refusal:?}").ok()
-            }
-            Err(OfficeRefusal::Worn) => None,
-        }
-    }
-
     /// Has a member join.
     fn join(&mut self, moment: u64, action: u64, addresses: &str) -> Option<()> {
         let uris = uris(self.alloc, addresses)?;
@@ -176,14 +167,14 @@ impl<V: Serving, R: Wait> Player<'_, V, R> {
             }
             answer = named(self.rt, &self.office, &mut self.clerk, moment, order);
         }
-        self.put(answer)
+        put(answer, self.text)
     }
 
     /// Asks what writes nothing, and takes down what is told.
     fn query(&mut self, query: Query) -> Option<()> {
         match self.office.query(self.rt, &mut self.clerk, query) {
-            Ok(known) => writeln!(self.text, "{known:?}").ok(),
-            Err(refusal) => self.put(Err(refusal)),
+            Ok(known) => put_known(Ok(known), self.text),
+            Err(refusal) => put(Err(refusal), self.text),
         }
     }
 
@@ -201,8 +192,8 @@ impl<V: Serving, R: Wait> Player<'_, V, R> {
     /// Asks, and holds the errand.
     fn ask(&mut self, moment: u64) -> Option<()> {
         match self.asked(moment) {
-            Err(refusal) => self.put(Err(refusal)),
-            Ok(None) => self.put(Ok(Told::Idle)),
+            Err(refusal) => put(Err(refusal), self.text),
+            Ok(None) => put(Ok(Told::Idle), self.text),
             Ok(Some(errand)) => self.held.hold(errand, self.text),
         }
     }
@@ -222,7 +213,7 @@ impl<V: Serving, R: Wait> Player<'_, V, R> {
             }
             answer = self.record_once(moment, ask, outcome)?;
         }
-        self.put(answer)
+        put(answer, self.text)
     }
 
     fn record_once(
@@ -246,6 +237,15 @@ impl<V: Serving, R: Wait> Player<'_, V, R> {
                 Some(Err(refusal))
             }
         }
+    }
+}
+
+/// Takes down an answer. Nothing, where the lock is worn.
+fn put(answer: Result<Told, OfficeRefusal>, text: &mut Vec<u8>) -> Option<()> {
+    match answer {
+        Ok(told) => put_answer(Ok(told), text),
+        Err(OfficeRefusal::Refused(refusal)) => put_answer(Err(refusal), text),
+        Err(OfficeRefusal::Worn) => None,
     }
 }
 
@@ -464,7 +464,7 @@ fn assert_script<R: Abort + Wait>(rt: &R, alloc: Global, script: &str) {
 
 #[test]
 fn scripts_come_to_what_they_say(rt: HostRuntime) {
-    for script in SCRIPTS.split("\n\n") {
+    for script in SCRIPTS.split('|') {
         assert_script(&rt, rt.alloc(), script);
     }
 }

@@ -1,4 +1,4 @@
-//! Scripts, each with what comes of it: a command and its answer, and then the lines that it appends. An empty line ends a script.
+//! Scripts, each with what comes of it: a command and its answer, and then the lines that it appends. Scripts stand between `|`.
 
 /// On a coordinator with the usual limits.
 pub const SCRIPTS: &str = "\
@@ -13,8 +13,7 @@ pub const SCRIPTS: &str = "\
 1 7 close 2 -> refused NoSuchAction
 2 8 start * 0 -> refused NoSuchClerk
 audit 2 -> sound 4 entries 1 actions 0 unended 1 closed 0 cancelled
-
-0 0 enrol -> Clerk(1)
+|0 0 enrol -> Clerk(1)
 + 1 0 enrol
 1 10 start * 0 -> Action(1)
 + 1 10 start 1 * 0
@@ -51,8 +50,7 @@ awaited 1 0 -> Awaits { place: 0, awaited: Member { member: 1, ask: None } }
 + 1 30 end 1 Closed
 awaited 1 0 -> AwaitsNothing
 awaited 2 0 -> refused NoSuchAction
-
-0 0 enrol -> Clerk(1)
+|0 0 enrol -> Clerk(1)
 + 1 0 enrol
 1 10 start * 0 -> Action(1)
 + 1 10 start 1 * 0
@@ -80,8 +78,7 @@ awaited 2 0 -> refused NoSuchAction
 1 132 reply 3 failed -> Recorded
 + 1 132 reply 3 failed
 1 133 member 1 -> MemberIs(Completed)
-
-0 0 enrol -> Clerk(1)
+|0 0 enrol -> Clerk(1)
 + 1 0 enrol
 1 10 start * 0 -> Action(1)
 + 1 10 start 1 * 0
@@ -97,8 +94,7 @@ discard 1 -> discarded
 1 22 ask -> ask 2 2 complete http://q.test/c
 + 1 22 ask 2 2 complete
 1 23 ask -> Idle
-
-0 0 enrol -> Clerk(1)
+|0 0 enrol -> Clerk(1)
 + 1 0 enrol
 1 0 start * 0 -> Action(1)
 + 1 0 start 1 * 0
@@ -112,8 +108,7 @@ discard 1 -> discarded
 + 1 4 end 1 Closed
 1 5 close 1 -> Already(Closed)
 1 6 ask -> Idle
-
-0 0 enrol -> Clerk(1)
+|0 0 enrol -> Clerk(1)
 + 1 0 enrol
 1 0 start * 0 -> Action(1)
 + 1 0 start 1 * 0
@@ -164,8 +159,7 @@ errand 3 -> 2 neither http://127.0.0.1:8080/lra-coordinator/00000000-0000-8007-8
 1 111 reply 4 done -> Recorded
 + 1 111 reply 4 done
 audit 2 -> sound 18 entries 2 actions 0 unended 0 closed 2 cancelled
-
-0 0 enrol -> Clerk(1)
+|0 0 enrol -> Clerk(1)
 + 1 0 enrol
 1 0 start * 0 -> Action(1)
 + 1 0 start 1 * 0
@@ -183,8 +177,7 @@ audit 2 -> sound 18 entries 2 actions 0 unended 0 closed 2 cancelled
 + 1 6 reply 1 done
 + 1 6 end 2 Closed
 + 1 6 cancel 2 parent
-
-0 0 enrol -> Clerk(1)
+|0 0 enrol -> Clerk(1)
 + 1 0 enrol
 1 0 start * 0 -> Action(1)
 + 1 0 start 1 * 0
@@ -209,8 +202,7 @@ audit 2 -> sound 18 entries 2 actions 0 unended 0 closed 2 cancelled
 1 9 ask -> ask 3 1 after http://n.test/a
 + 1 9 ask 3 1 after
 audit 2 -> sound 13 entries 2 actions 0 unended 0 closed 0 cancelled failed 1 FailedToClose 1 failed 2 FailedToClose 1
-
-0 0 enrol -> Clerk(1)
+|0 0 enrol -> Clerk(1)
 + 1 0 enrol
 1 0 start * 0 -> Action(1)
 + 1 0 start 1 * 0
@@ -229,8 +221,7 @@ audit 2 -> sound 13 entries 2 actions 0 unended 0 closed 0 cancelled failed 1 Fa
 + 1 6 close 1 client
 + 1 6 end 1 Closed
 audit 2 -> sound 10 entries 2 actions 0 unended 1 closed 1 cancelled
-
-0 1000 enrol -> Clerk(1)
+|0 1000 enrol -> Clerk(1)
 + 1 1000 enrol
 1 1000 start * 100 -> Action(1)
 + 1 1000 start 1 * 100
@@ -241,8 +232,7 @@ audit 2 -> sound 10 entries 2 actions 0 unended 1 closed 1 cancelled
 1 500 start * 18446744073709551615 -> refused LimitTooFar
 1 500 start * 18446744073709550515 -> Action(2)
 + 1 1100 start 2 * 18446744073709550515
-
-0 0 enrol -> Clerk(1)
+|0 0 enrol -> Clerk(1)
 + 1 0 enrol
 1 0 start * 0 -> Action(1)
 + 1 0 start 1 * 0
@@ -252,8 +242,7 @@ audit 2 -> sound 10 entries 2 actions 0 unended 1 closed 1 cancelled
 1 1 join 1 http://p.test/u * * * * -> Member(1)
 + 1 1 join 1 1 http://p.test/u * * * *
 1 2 join 1 http://p.test/u * * * * -> AlreadyMember(1)
-
-0 0 enrol -> Clerk(1)
+|0 0 enrol -> Clerk(1)
 + 1 0 enrol
 1 0 start * 0 -> Action(1)
 + 1 0 start 1 * 0
@@ -268,8 +257,7 @@ audit 2 -> sound 10 entries 2 actions 0 unended 1 closed 1 cancelled
 1 5 reply 1 done -> refused NotAsked
 1 6 ask -> ask 2 1 complete http://p.test/c
 + 1 6 ask 2 1 complete
-
-0 0 enrol -> Clerk(1)
+|0 0 enrol -> Clerk(1)
 + 1 0 enrol
 1 0 start * 0 -> Action(1)
 + 1 0 start 1 * 0
@@ -279,8 +267,7 @@ audit 2 -> sound 10 entries 2 actions 0 unended 1 closed 1 cancelled
 + 1 2 close 1 client
 + 1 2 skip 1
 + 1 2 end 1 Closed
-
-0 0 enrol -> Clerk(1)
+|0 0 enrol -> Clerk(1)
 + 1 0 enrol
 1 0 start * 100 -> Action(1)
 + 1 0 start 1 * 100
@@ -295,8 +282,7 @@ audit 2 -> sound 10 entries 2 actions 0 unended 1 closed 1 cancelled
 1 191 renew 1 5 -> refused NotActive(Cancelled)
 audit 2 -> sound 5 entries 1 actions 0 unended 0 closed 1 cancelled
 audit 1 -> unsound line 4 grammar
-
-0 0 enrol -> Clerk(1)
+|0 0 enrol -> Clerk(1)
 + 1 0 enrol
 1 0 start * 0 -> Action(1)
 + 1 0 start 1 * 0
@@ -323,7 +309,8 @@ audit 1 -> unsound line 4 grammar
 + 1 9 end 1 Closed
 1 10 cancel 1 -> refused NotActive(Closed)
 audit 2 -> sound 14 entries 2 actions 0 unended 1 closed 1 cancelled
-audit 1 -> unsound line 10 cause";
+audit 1 -> unsound line 10 cause
+";
 
 /// Where few clerks, actions, members and entries fit: how many of each, and how deep actions are nested, and what then comes of commands.
 pub const LIMITED: &str = "\
@@ -342,8 +329,7 @@ pub const LIMITED: &str = "\
 + 1 0 join 1 1 http://p.test/u * * * *
 1 0 report 1 Completed -> refused NotAsked
 1 0 leave 2 1 -> refused WrongAction
-
-1 2 0 4 2
+|1 2 0 4 2
 0 0 enrol -> Clerk(1)
 + 1 0 enrol
 0 0 enrol -> refused Full(Clerks)
@@ -355,8 +341,7 @@ pub const LIMITED: &str = "\
 1 0 join 1 http://p.test/u * * * * -> refused Full(Members)
 1 0 close 1 -> refused Full(Entries)
 1 0 status 1 -> ActionIs(Active)
-
-1 1 0 4 1
+|1 1 0 4 1
 0 0 enrol -> Clerk(1)
 + 1 0 enrol
 1 0 start * 0 -> Action(1)
@@ -366,8 +351,7 @@ pub const LIMITED: &str = "\
 + 1 0 end 1 Closed
 1 0 close 1 -> Already(Closed)
 1 0 start * 0 -> refused Full(Actions)
-
-1 0 0 1 0
+|1 0 0 1 0
 0 0 enrol -> Clerk(1)
 + 1 0 enrol
 2 1 start * 18446744073709551615 -> refused NoSuchClerk
@@ -376,14 +360,14 @@ pub const LIMITED: &str = "\
 2 0 close 2 -> refused NoSuchClerk
 1 0 close 2 -> refused NoSuchAction
 0 0 enrol -> refused Full(Clerks)
-
-1 1 0 3 1
+|1 1 0 3 1
 0 0 enrol -> Clerk(1)
 + 1 0 enrol
 1 1 start * 18446744073709551614 -> Action(1)
 + 1 1 start 1 * 18446744073709551614
 1 0 start * 18446744073709551615 -> refused LimitTooFar
-1 0 start * 0 -> refused Full(Actions)";
+1 0 start * 0 -> refused Full(Actions)
+";
 
 /// How many entries fit, what a journal opens as, and the journal.
 pub const OPENED: &str = "\
@@ -430,7 +414,8 @@ lra-journal 1 7
 + 2 9 end 1 Closed
 2 9 restart -> Restarted
 + 2 9 restart
-2 9 renew 1 5 -> refused OldJournal",
+2 9 renew 1 5 -> refused OldJournal
+",
 ];
 
 /// Between `|`: a moment and what a renewal is then refused by, the journal that is reopened, and after `>` what is written of it.

@@ -10,8 +10,8 @@ pub fn assert_same(rt: &impl Abort, came: &[u8], wanted: &[u8]) {
     assert_eq!(rt; came, wanted);
 }
 
-/// What came of a script is what it says. A line's end is behind its last line.
-pub fn assert_came(rt: &impl Abort, came: &[u8], script: &str) {
-    let came = from_utf8(came).unwrap_or("no text");
-    assert_eq!(rt; came.strip_suffix("\n").unwrap_or("no line"), script);
+/// What came of a script is what it says.
+pub fn assert_came(rt: &impl Abort, came: Vec<u8>, script: &str) {
+    assert_same(rt, came.as_slice(), script.as_bytes());
+    drop(came);
 }

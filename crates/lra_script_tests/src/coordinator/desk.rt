@@ -3,6 +3,7 @@
 ghost use Rattle.std.specs.Prelude.{◌≡◌, true};
 ghost use Rattle.lra_core.specs.Prepares.{is_suited};
 
+use crate::answers::{put_answer, put_known};
 use crate::errands::Errands;
 use crate::spelling::spell_entries;
 use crate::words::{Words, asks, uris};
@@ -12,6 +13,7 @@ use lra_core::{Command, Coordinator, Errand, Prepared, Refusal, Told, Version};
 use lra_model::{Entry, Memory, Outcome, suits};
 use std::alloc::{AllocError, Global};
 use std::io::{self, Write};
+use std::str::from_utf8;
 
 /// How many bytes come of a script at most.
 const ROOM: usize = 32_768;
@@ -170,24 +172,15 @@ impl Desk<'_> {
         self.has_changed = self.has_changed || self.kept() != kept || !self.has_journal();
     }
 
-    fn put_told(&mut self, told: Told) -> Option<()> {
-        writeln!(self.text, "{told:?}").ok()
-    }
-
-    fn put_refusal(&mut self, refusal: Refusal) -> Option<()> {
-        writeln!(self.text, "refused {refusal:?}").ok()
-    }
-
+    /// Takes down an answer, and the lines that its command has appended.
     fn put_answer(&mut self, answer: Result<Told, Refusal>) -> Option<()> {
-        match answer {
-            Ok(told) => self.put_told(told),
-            Err(refusal) => self.put_refusal(refusal),
-        }
+        put_answer(answer, &mut self.text)?;
+        self.put_lines()
     }
 
     /// Takes down the lines that a command has appended.
     fn put_lines(&mut self) -> Option<()> {
-        put_lines(self.lines.as_slice(), &mut self.text).ok()?;
+        put_lines(self.lines.as_slice(), &mut self.text)?;
         self.journal.extend_from_slice(self.lines.as_slice()).ok()?;
         self.lines.clear();
         Some(())
@@ -230,8 +223,7 @@ impl Desk<'_> {
             self.look_back(kept);
             answer = self.coordinator.enrol(moment);
         }
-        self.put_answer(answer)?;
-        self.put_lines()
+        self.put_answer(answer)
     }
 
     /// Has a member join. The addresses are read again where memory was refused.
@@ -255,16 +247,12 @@ impl Desk<'_> {
             self.look_back(kept);
             answer = named(self.coordinator, by, moment, order);
         }
-        self.put_answer(answer)?;
-        self.put_lines()
+        self.put_answer(answer)
     }
 
     /// Asks what writes nothing, and takes down what is told.
     fn query(&mut self, query: Query) -> Option<()> {
-        match self.coordinator.query(query) {
-            Ok(known) => writeln!(self.text, "{known:?}").ok(),
-            Err(refusal) => self.put_refusal(refusal),
-        }
+        put_known(self.coordinator.query(query), &mut self.text)
     }
 
     /// Asks, twice where memory was refused.
@@ -283,11 +271,13 @@ impl Desk<'_> {
     fn ask(&mut self, by: u32, moment: u64) -> Option<()> {
         self.look(by, moment, &Command::NextAsk);
         match self.asked(by, moment) {
-            Err(refusal) => self.put_refusal(refusal)?,
-            Ok(None) => self.put_told(Told::Idle)?,
-            Ok(Some(errand)) => self.held.hold(errand, &mut self.text)?,
+            Err(refusal) => self.put_answer(Err(refusal)),
+            Ok(None) => self.put_answer(Ok(Told::Idle)),
+            Ok(Some(errand)) => {
+                self.held.hold(errand, &mut self.text)?;
+                self.put_lines()
+            }
         }
-        self.put_lines()
     }
 
     fn discard(&mut self, ask: u64) -> Option<()> {
@@ -318,13 +308,12 @@ impl Desk<'_> {
         let errand = self.held.take(ask)?;
         self.look_at_record(by, moment, &errand, outcome);
         match self.recorded(by, moment, errand, outcome) {
-            Ok(told) => self.put_told(told)?,
+            Ok(told) => self.put_answer(Ok(told)),
             Err((refusal, errand)) => {
                 self.held.hold_again(errand)?;
-                self.put_refusal(refusal)?;
+                self.put_answer(Err(refusal))
             }
         }
-        self.put_lines()
     }
 
     /// Takes down the lines that a record would append.
@@ -345,15 +334,13 @@ impl Desk<'_> {
 }
 
 /// Takes down lines of the journal.
-fn put_lines(lines: &[u8], text: &mut Vec<u8>) -> Result<(), AllocError> {
-    for line in lines.split(|byte| *byte == b'\n') {
-        if !line.is_empty() {
-            text.extend_from_slice(b"+ ")?;
-            text.extend_from_slice(line)?;
-            text.push(b'\n')?;
-        }
+fn put_lines(lines: &[u8], text: &mut Vec<u8>) -> Option<()> {
+    for line in from_utf8(lines).ok()?.lines() {
+        text.extend_from_slice(b"+ ").ok()?;
+        text.extend_from_slice(line.as_bytes()).ok()?;
+        text.push(b'\n').ok()?;
     }
-    Ok(())
+    Some(())
 }
 
 /// What an audit says, made again where memory was refused.
