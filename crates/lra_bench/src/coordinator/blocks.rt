@@ -53,15 +53,15 @@ fn time(
     Ok(nanoseconds_each(seconds, entries))
 }
 
-/// The least of some blocks of one kind.
+/// The least of some blocks of one kind: of more where they are short.
 fn shortest(
     rt: &HostRuntime,
     coordinator: &mut Coordinator,
     origin: Origin,
     count: u64,
-    runs: u64,
 ) -> Result<f64> {
     let mut least = f64::MAX;
+    let runs = if count < 1_000 { 300 } else { 3 };
     for _ in 0..runs {
         least = least.min(time(rt, coordinator, origin, count)?);
     }
@@ -76,8 +76,8 @@ fn print_block(
     (what, count): (&str, u64),
     few: u64,
 ) -> Result<()> {
-    let ten = shortest(rt, coordinator, origin, few, 300)?;
-    let long = shortest(rt, coordinator, origin, count, 3)?;
+    let ten = shortest(rt, coordinator, origin, few)?;
+    let long = shortest(rt, coordinator, origin, count)?;
     let line = Line {
         what,
         size: count,

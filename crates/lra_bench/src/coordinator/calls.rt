@@ -1,8 +1,5 @@
 //! Commands to a coordinator, each by its one clerk.
 
-ghost use Rattle.std.specs.Prelude.{◌≡◌, true};
-ghost use Rattle.lra_model.specs.Words.{outcome_suits};
-
 use crate::setting::{CLERK, FAR, uris};
 use anyhow::{Result, bail, ensure};
 use lra_core::{Coordinator, Told};
