@@ -9,7 +9,7 @@ ghost use Rattle.lra_ids.specs.Addresses.{is_base};
 use crate::front::Still;
 use crate::line::Line;
 use crate::pieces::Pieces;
-use crate::setting::{CLERK, base, coordinator, instance, uris};
+use crate::setting::{CLERK, base, coordinator, instance};
 use crate::stopwatch::{Stopwatch, a_second};
 use crate::wire::read_stream;
 use anyhow::{Context, Result, ensure};
@@ -17,7 +17,8 @@ use lra_commands::{Counter, CounterFault};
 use lra_core::{Address, Bench};
 use lra_front::{StreamEnd, serve_stream};
 use lra_ids::spell_action;
-use lra_model::Uris;
+use lra_journal::UrisRef;
+use lra_model::{Memory, Uris};
 use std::alloc::Global;
 use std::io;
 use std::io::Write;
@@ -44,6 +45,18 @@ const OTHERS: [(&str, &str); 3] = [
     ("GET ", " HTTP/1.1\r\nHost: 127.0.0.1:8080\r\n\r\n"),
     ("PUT ", "/close HTTP/1.1\r\nHost: 127.0.0.1:8080\r\n\r\n"),
 ];
+
+/// The addresses that the member has there.
+fn uris(alloc: Global) -> Result<Uris, Memory> {
+    let uris = UrisRef {
+        compensate: Some("http://participant.test/undo"),
+        complete: Some("http://participant.test/done"),
+        status: None,
+        forget: None,
+        after: None,
+    };
+    uris.to_uris(alloc)
+}
 
 /// Takes all bytes.
 #[derive(Drop)]
@@ -192,7 +205,7 @@ fn print_with(rt: &HostRuntime, text: &mut Vec<u8>) -> Result<()> {
     let pushed = push_all(rt.alloc(), text, &base);
     drop(base);
     pushed?;
-    let uris = uris(rt.alloc(), 1, true)?;
+    let uris = uris(rt.alloc())?;
     let printed = print_all(rt, text.as_slice(), &uris);
     drop(uris);
     printed
