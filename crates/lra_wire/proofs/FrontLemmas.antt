@@ -1,5 +1,5 @@
 -- The request at the front of bytes that came.
-use Rattle.std.proofs.Common.{◌≡◌, ◌≢◌, ℕ, ◌+◌, ◌<◌, ◌≤◌, Bool, true, false, cond, ◌==◌, List, [], ◌∷◌, ◌++◌, length, map, take, drop, refl, sym, ap, subst, ◌∙◌, arith, append_assoc, Result, Ok, Err, inl, inr}
+use Rattle.std.proofs.Common.{◌≡◌, ◌≢◌, ℕ, ◌+◌, ◌<◌, ◌≤◌, Bool, true, false, cond, ◌==◌, List, [], ◌∷◌, ◌++◌, length, map, take, drop, refl, sym, ap, subst, ◌∙◌, arith, append_assoc, Result, Ok, Err, inl, inr, ◌⊎◌}
 use Rattle.std.specs.Prelude.{nat_le, slice_range}
 use Rattle.std.specs.List.{list_any}
 use Rattle.std.proofs.lemmas.Bool.{leb-true}
@@ -19,9 +19,9 @@ use Rattle.lra_wire.specs.Fronts.{RefusesFront, IsUnfinished, Sees}
 use Rattle.lra_wire.specs.inner.Sought.{LacksBody, StaysOpen}
 use Rattle.lra_wire.specs.inner.Heads.{IsHeadAt}
 use Rattle.lra_wire.specs.inner.Reading.{request_at}
-use Rattle.lra_wire.specs.Request.{IsRequest, HasHead, Request, RefusesBody, EndsInBody, IsOpenRequest, AwaitsRequest}
+use Rattle.lra_wire.specs.Request.{IsRequest, HasHead, Request, NeverLawful, RefusesBody, EndsInBody, IsOpenRequest, AwaitsRequest, fields_of}
 use Rattle.lra_wire.proofs.HeadLemmas.{up_to_all, no_request, no_request_yet}
-use Rattle.lra_wire.proofs.ReadingLemmas.{request_there, lacks_body}
+use Rattle.lra_wire.proofs.ReadingLemmas.{request_there, lacks_body, length_fault}
 use Rattle.lra_wire.proofs.RequestsLemmas.{exclusive, some_bytes}
 
 -- ---- what is found
@@ -40,6 +40,26 @@ request_front bytes headers spans size request at stated whole parts body =
     (body ∙ ap (λ xs. slice_range xs spans.len (spans.len + size)) (sym same)) in
     subst (λ (xs : List ℕ). IsRequest xs request (drop n bytes)) (append-nil (bytes ++ []) ∙ same)
     (subst (λ (ys : List ℕ). IsRequest ((bytes ++ []) ++ []) request ys) (append-nil (drop n (bytes ++ [])) ∙ ap (drop n) same) there)
+
+-- no head, whatever follows
+pub head_refuses : (bytes : List ℕ) (fault : WireFault) → fault ≡ BadHead → NeverLawful bytes → RefusesFront bytes fault
+head_refuses bytes fault bad never = subst (RefusesFront bytes) (sym bad) never
+
+-- a lawful head, and the length of its body is refused
+pub size_refuses : (bytes : List ℕ) (headers : List HeaderSpan) (spans : RequestSpans) (fault : WireFault) → IsHeadAt bytes headers spans
+    → body_length_of (map (header_bytes bytes) (take spans.headers headers)) ≡ Err fault → RefusesFront bytes fault
+size_refuses bytes headers spans fault at stated = says (length_fault (fields_of at.head) fault is)
+  where
+    is : body_length_of (fields_of at.head) ≡ Err fault
+    is = ap body_length_of (sym at.places.fields) ∙ stated
+
+    refuses : RefusesBody bytes fault
+    refuses = record { head = at.head; rest = drop spans.len bytes; found = record { reads = at.places.reads; lawful = at.lawful }; refused = is }
+
+    says : (fault ≡ Chunked) ⊎ ((fault ≡ BadLength) ⊎ (fault ≡ TooLarge)) → RefusesFront bytes fault
+    says (inl e) = subst (RefusesFront bytes) (sym e) (subst (RefusesBody bytes) e refuses)
+    says (inr (inl e)) = subst (RefusesFront bytes) (sym e) (subst (RefusesBody bytes) e refuses)
+    says (inr (inr e)) = subst (RefusesFront bytes) (sym e) (subst (RefusesBody bytes) e refuses)
 
 -- a head isn't whole
 pub head_unfinished : (bytes : List ℕ) → HasNoRequest bytes → MayBecomeRequest bytes → IsUnfinished bytes

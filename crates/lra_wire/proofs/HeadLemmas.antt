@@ -1,5 +1,5 @@
 -- A search for a head in what comes, which looks only where a line feed came.
-use Rattle.std.proofs.Common.{◌≡◌, ℕ, ◌≤◌, false, ◌||◌, ◌==◌, List, [], ◌∷◌, ◌++◌, length, take, drop, refl, sym, ap, subst, ◌∙◌, arith, append_assoc, Option, None, Result, Ok, Err, inl, inr}
+use Rattle.std.proofs.Common.{◌≡◌, ℕ, ◌≤◌, false, ◌||◌, ◌==◌, List, [], ◌∷◌, ◌++◌, length, take, drop, refl, sym, ap, subst, ◌∙◌, arith, append_assoc, Option, Some, None, Result, Ok, Err, inl, inr}
 use Rattle.std.specs.Prelude.{slice_range, IsTrue}
 use Rattle.std.specs.Char.{is_ascii_digit}
 use Rattle.std.specs.List.{list_any}
@@ -14,11 +14,11 @@ use Rattle.lra_wire.specs.declared.fault.WireFault.{WireFault}
 use Rattle.lra_wire.specs.declared.inbox.Inbox.{Inbox}
 use Rattle.lra_wire.specs.declared.response.Head.{Head}
 use Rattle.lra_wire.specs.Inbox.{kept_bytes, AsksAt}
-use Rattle.lra_wire.specs.Request.{IsOpenRequest, AwaitsRequest}
+use Rattle.lra_wire.specs.Request.{IsOpenRequest, AwaitsRequest, NeverLawful, EndsInHead}
 use Rattle.lra_wire.specs.Response.{IsOpenResponse, NeverShort}
 use Rattle.lra_wire.specs.Streams.{UpToLine}
 use Rattle.lra_wire.specs.inner.Growth.{Grows, Fills}
-use Rattle.lra_wire.specs.inner.Heads.{FindsNewHead}
+use Rattle.lra_wire.specs.inner.Heads.{IsHeadAt, FindsNewHead, EndsHead, ReadsHead}
 use Rattle.lra_wire.specs.inner.Steps.{FindsNewResponse, EndsResponse, ReadsHeadAt, IsHeadOf}
 use Rattle.lra_wire.proofs.InboxLemmas.{Grows_refl, Grows_trans, asks_more}
 use Rattle.lra_wire.proofs.RequestsLemmas.{example, example_is}
@@ -82,6 +82,17 @@ sought_more remaining old mid new seen sought none grows asks = record {
   none = subst IsOpenRequest (sym (ap (take (length (kept_bytes mid))) grows.kept ∙ take_at (kept_bytes mid) grows.more (length (kept_bytes mid)) refl)) none;
   asks = asks_more AwaitsRequest old mid new sought.asks asks (inl none);
 }
+
+-- what the stream ends in
+pub request_ended : {R : Type 0} (remaining : R → Option (List ℕ)) (old mid new : Inbox R) (bytes : List ℕ) (headers : List HeaderSpan) (found : Result (Option RequestSpans) WireFault)
+    → Grows remaining old mid → Fills remaining mid new (Ok false) → bytes ≡ kept_bytes new → EndsHead bytes headers found → ReadsHead remaining old new headers found
+request_ended remaining old mid new bytes headers (Ok (Some spans)) grows ended same h =
+    (Grows_trans grows ended.0, subst (λ (bs : List ℕ). IsHeadAt bs headers spans) same h)
+request_ended remaining old mid new bytes headers (Ok None) grows ended same h = (Grows_trans grows ended.0, ended.1, sym same ∙ h)
+request_ended remaining old mid new bytes headers (Err fault) grows ended same (inl (bad, never)) =
+    inr (Grows_trans grows ended.0, inl (bad, subst NeverLawful same never))
+request_ended remaining old mid new bytes headers (Err fault) grows ended same (inr (cut, ends)) =
+    inr (Grows_trans grows ended.0, inr (cut, ended.1, subst EndsInHead same ends))
 
 -- ---- responses
 

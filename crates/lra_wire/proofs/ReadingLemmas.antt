@@ -110,7 +110,7 @@ lacks_body bytes more headers spans size at stated few =
     }
 
 -- a lawful head stands there, and the length of its body is refused
-length_fault : (fields : List (List ℕ × List ℕ)) (fault : WireFault) → body_length_of fields ≡ Err fault → (fault ≡ Chunked) ⊎ ((fault ≡ BadLength) ⊎ (fault ≡ TooLarge))
+pub length_fault : (fields : List (List ℕ × List ℕ)) (fault : WireFault) → body_length_of fields ≡ Err fault → (fault ≡ Chunked) ⊎ ((fault ≡ BadLength) ⊎ (fault ≡ TooLarge))
 length_fault fields fault e = go (is_coded fields) (stated_of fields) e
   where
     within : (b : Bool) (n : ℕ) → ◌≡◌ {A = Result ℕ WireFault} (cond b (Ok n) (Err TooLarge)) (Err fault) → (fault ≡ Chunked) ⊎ ((fault ≡ BadLength) ⊎ (fault ≡ TooLarge))

@@ -1,8 +1,9 @@
 -- Why no continuation makes a head of a response within the limits, and what a stream has of the heads that were read.
-use Rattle.std.proofs.Common.{◌≡◌, ◌≢◌, ℕ, ◌+◌, ◌-◌, ◌*◌, ◌<◌, ◌≤◌, Bool, true, false, cond, List, [], ◌∷◌, ◌++◌, length, take, drop, refl, sym, ap, subst, ◌∙◌, arith, append_assoc, Option, Some, None, Ok, Err, inl, inr}
+use Rattle.std.proofs.Common.{◌≡◌, ◌≢◌, ℕ, ◌+◌, ◌-◌, ◌*◌, ◌<◌, ◌≤◌, Bool, true, false, cond, List, [], ◌∷◌, ◌++◌, length, take, drop, refl, sym, ap, subst, ◌∙◌, arith, append_assoc, Option, Some, None, Result, Ok, Err, inl, inr}
 use Rattle.std.specs.Prelude.{◌⊎◌, ◌||◌, ◌==◌, nat_le, codes, IfSome, slice_range}
 use Rattle.std.specs.Io.KnownBytes.{Keeps, prepend_known}
 use Rattle.std.specs.List.{flat_map}
+use Rattle.std.proofs.lemmas.Bool.{leb-true}
 use Rattle.std.proofs.lemmas.Grind.{flat_map-append}
 use Rattle.std.proofs.lemmas.List.{take-append-drop, take-append-le, take_at, drop-drop, length-drop, length-append, length-take, append-nil, drop_all, take_all}
 use Rattle.std.proofs.lemmas.List.Elements.{All-push, All-nil}
@@ -21,7 +22,7 @@ use Rattle.lra_wire.specs.Fields.{is_alike, values_of, stated_of}
 use Rattle.lra_wire.specs.Inbox.{kept_bytes, stream_of, IsOutside, AsksAt}
 use Rattle.lra_wire.specs.inner.Growth.{Grows, FillsTo, LacksBytes, Lacks}
 use Rattle.lra_wire.specs.Response.{IsShort, HasResponse, NeverShort, is_interim, IsInterim, Skips, HasFinal, fields_in, stated_framing, coded_framing, framing_of, IsResponse, RefusesFramed, RefusesRest, RefusesResponse, AwaitsBody, IsOpenResponse, AwaitsResponse}
-use Rattle.lra_wire.specs.inner.Steps.{IsHeadOf, ReadsHeadAt, FindsBody, LacksBody, ReadsToTheEnd, AsksBehind}
+use Rattle.lra_wire.specs.inner.Steps.{IsHeadOf, ReadsHeadAt, IsSmall, FindsBody, LacksBody, ReadsToTheEnd, AsksBehind}
 use Rattle.lra_wire.specs.Streams.{IfBothKnown}
 use Rattle.lra_wire.proofs.InboxLemmas.{Grows_refl, Grows_trans, asks_on, asks_weaker}
 use Rattle.lra_wire.proofs.StreamLemmas.{on_stream, on_stream_end, some_weaker, some_both, grown, drop_more_bytes, known}
@@ -184,6 +185,40 @@ head_known {R} {remaining} {old} {mid} {new} {start} {interim} {found} skipped r
     on_stream (Grows_trans skipped.grows read.0) (HeadIn remaining mid new start interim found read) (λ rest. head_in rest skipped read)
 
 -- more is asked for in a head behind those that were skipped
+-- where the head that was read ends
+pub head_behind : {R : Type 0} (remaining : R → Option (List ℕ)) (old mid new : Inbox R) (start interim : ℕ) (found : Head) → Skipped remaining old mid start interim
+    → ReadsHeadAt remaining start mid new (Ok found) → (start + found.len ≤ length (kept_bytes new)) × (start + found.len ≤ 73728)
+head_behind remaining old mid new start interim found skipped read = (
+  omega (arith, read.1.within, length-drop start (kept_bytes new), grown start read.0 skipped.within),
+  omega (arith, skipped.place, skipped.few, read.1.len, read.1.has.short.size),
+)
+
+-- a length that is stated is within the limit
+pub framing_small : (code : ℕ) (fields : List (List ℕ × List ℕ)) (framing : Framing) → framing_of code fields ≡ Ok framing → IsSmall framing
+framing_small code fields framing e = go ((code == 204) || (code == 304)) (values_of (codes "transfer-encoding") fields) (stated_of fields) e
+  where
+    is : (f : Framing) → IsSmall f → ◌≡◌ {A = Result Framing WireFault} (Ok f) (Ok framing) → IsSmall framing
+    is f small same = let e : f ≡ framing = cc in subst IsSmall e small
+
+    within : (b : Bool) (n : ℕ) → b ≡ nat_le n 65536 → ◌≡◌ {A = Result Framing WireFault} (cond b (Ok (Sized n)) (Err TooLarge)) (Ok framing) → IsSmall framing
+    within true n fits same = is (Sized n) (leb-true n 65536 (sym fits)) same
+    within false n fits same = absurd cc
+
+    stated : (s : Stated) → ◌≡◌ {A = Result Framing WireFault} (stated_framing s) (Ok framing) → IsSmall framing
+    stated Nothing same = is ToTheEnd tt same
+    stated (Length n) same = within (nat_le n 65536) n refl same
+    stated Malformed same = absurd cc
+
+    coded : (b : Bool) → ◌≡◌ {A = Result Framing WireFault} (cond b (Ok Chunks) (Err Chunked)) (Ok framing) → IsSmall framing
+    coded true same = is Chunks tt same
+    coded false same = absurd cc
+
+    go : (b : Bool) (codings : List (List ℕ)) (s : Stated) → ◌≡◌ {A = Result Framing WireFault} (cond b (Ok (Sized 0)) (coded_framing codings s)) (Ok framing) → IsSmall framing
+    go true codings s same = is (Sized 0) (omega arith) same
+    go false [] s same = stated s same
+    go false (coding ∷ []) s same = coded (is_alike coding (codes "chunked")) same
+    go false (coding ∷ other ∷ codings) s same = absurd cc
+
 pub asks_head : {R : Type 0} (remaining : R → Option (List ℕ)) (old mid new : Inbox R) (start interim : ℕ) → Skipped remaining old mid start interim
     → AsksBehind IsOpenResponse start mid new → AsksAt AwaitsResponse old new
 asks_head remaining old mid new start interim skipped then =

@@ -3,34 +3,51 @@ ghost use Rattle.std.specs.Prelude.{◌≡◌};
 ghost use Rattle.lra_wire.specs.declared.fault.WireFault.TheVariants.{Memory};
 
 use std::alloc::{AllocError, AllocFailed};
-use thiserror::Error;
+use std::error::Error;
+use std::fmt;
 
 /// Why a message could not be read or written.
-#[derive(Clone, Copy, Debug, PartialEq, Eq, Error)]
+#[derive(Clone, Copy, Debug, PartialEq, Eq)]
 pub enum WireFault {
     /// The head is no head of HTTP/1.0 or HTTP/1.1, is past the limits, or is one of HTTP/1.1
     /// without exactly one `Host`.
-    #[error("bad head")]
     BadHead,
     /// A coding or an expectation that isn't served here.
-    #[error("coding not served")]
     Chunked,
     /// The length of the body isn't stated as it should be.
-    #[error("bad length")]
     BadLength,
     /// The body is past the limit.
-    #[error("body too large")]
     TooLarge,
     /// The stream ends inside the message.
-    #[error("message cut short")]
     Cut,
     /// The reader or the writer failed.
-    #[error("input or output failed")]
     Io,
     /// A growth was refused.
-    #[error("out of memory")]
     Memory,
 }
+
+impl WireFault {
+    /// What a person is told.
+    const fn text(self) -> &'static str {
+        match self {
+            WireFault::BadHead => "bad head",
+            WireFault::Chunked => "coding not served",
+            WireFault::BadLength => "bad length",
+            WireFault::TooLarge => "body too large",
+            WireFault::Cut => "message cut short",
+            WireFault::Io => "input or output failed",
+            WireFault::Memory => "out of memory",
+        }
+    }
+}
+
+impl fmt::Display for WireFault {
+    fn fmt<W: fmt::Write>(&self, f: &mut fmt::Formatter<W>) -> fmt::Result {
+        f.write_str(self.text())
+    }
+}
+
+impl Error for WireFault {}
 
 impl From<AllocError> for WireFault {
     ghost from_gives = { λ _ e. e ≡ Memory };

@@ -9,7 +9,7 @@ ghost use Rattle.lra_wire.specs.Request.{Request, IsRequest};
 
 use crate::fault::WireFault;
 use crate::head::{MAX_FIELDS, MAX_HEAD};
-use crate::request::{RequestRead, body_length, head_at, request_at};
+use crate::request::{RequestRead, body_length_at, head_at, request_at};
 use httparse::spans::EMPTY_HEADER_SPAN;
 use std::alloc::Global;
 
@@ -70,7 +70,7 @@ fn find_front(alloc: Global, bytes: &[u8]) -> Result<Sought, WireFault>
     let Some(head) = head_at(bytes, &mut headers)? else {
         return Ok(Sought::OpenHead);
     };
-    let size = body_length(bytes, &headers[..head.headers])?;
+    let size = body_length_at(bytes, &headers, &head)?;
     let len = head.len + size;
     if bytes.len() < len {
         return Ok(Sought::OpenBody(len));

@@ -89,7 +89,7 @@ fn next_request<R: Read + Drop>(
     let Some(head) = next_head(inbox, &mut headers)? else {
         return Ok(None);
     };
-    let size = body_length(inbox.bytes(), &headers[..head.headers])?;
+    let size = body_length_at(inbox.bytes(), &headers, &head)?;
     let mut request = request_at(alloc, inbox.bytes(), &headers, &head)?;
     request.body = take_body(alloc, inbox, head.len, head.len + size)?;
     Ok(Some(request))
@@ -201,10 +201,24 @@ fn has_host(bytes: &[u8], minor: u8, fields: &[HeaderSpan]) -> bool
     }
 }
 
+/// How long the body is behind the head that is at the front of the bytes.
+pub(crate) fn body_length_at(
+    bytes: &[u8],
+    headers: &[HeaderSpan],
+    head: &RequestSpans,
+) -> Result<usize, WireFault>
+    requires { IsHeadAt bytes.now headers.now head.now }
+    ensures is { result ≡ body_length_of (map (header_bytes bytes.now) (take head.now.headers headers.now)) }
+    ensures small { IfOk result (λ size. size ≤ 65536) }
+{
+    body_length(bytes, &headers[..head.headers])
+}
+
 /// How long the body is (RFC 9112, section 6.3).
-pub(crate) fn body_length(bytes: &[u8], fields: &[HeaderSpan]) -> Result<usize, WireFault>
+fn body_length(bytes: &[u8], fields: &[HeaderSpan]) -> Result<usize, WireFault>
     requires { All (IsHeaderWithin (length bytes.now)) fields.now }
-    ensures { result ≡ body_length_of (map (header_bytes bytes.now) fields.now) }
+    ensures is { result ≡ body_length_of (map (header_bytes bytes.now) fields.now) }
+    ensures small { IfOk result (λ size. size ≤ 65536) }
 {
     if has(bytes, fields, b"transfer-encoding")
         || has(bytes, fields, b"content-encoding")

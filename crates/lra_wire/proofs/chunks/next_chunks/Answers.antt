@@ -42,3 +42,25 @@ returns-in-Last-clause-ok g c =
     subst (λ (p : Piece). ReadsPiece g.R.Read.remaining c.loop-body.at (65536 - c.len.result) c.loop-body.inbox c.next_piece.new.inbox (Ok p)) c.in-Last.is c.in_ok-from.ensures.reads in
     joins_end g.R.Read.remaining c.args.inbox.now c.loop-body.inbox c.next_piece.new.inbox c.args.start c.loop-body.at c.in-Last.end c.loop-body.body.items c.loop-body.invariant
     (subst (λ (n : ℕ). ReadsPiece g.R.Read.remaining c.loop-body.at (65536 - n) c.loop-body.inbox c.next_piece.new.inbox (Ok (Last c.in-Last.end))) count piece)
+
+pub slice_bounds-extend_from_slice-count : goal.slice_bounds-extend_from_slice-count
+slice_bounds-extend_from_slice-count g c =
+    let piece : ReadsPiece g.R.Read.remaining c.loop-body.at (65536 - c.len.result) c.loop-body.inbox c.next_piece.new.inbox (Ok (Content c.in-Content.from c.in-Content.to)) = subst (λ (p : Piece). ReadsPiece g.R.Read.remaining c.loop-body.at (65536 - c.len.result) c.loop-body.inbox c.next_piece.new.inbox (Ok p)) c.in-Content.is c.in_ok-from.ensures.reads in
+    omega (arith, piece.2)
+
+pub overflow_add-at : goal.overflow_add-at
+overflow_add-at g c =
+    let piece : ReadsPiece g.R.Read.remaining c.loop-body.at (65536 - c.len.result) c.loop-body.inbox c.next_piece.new.inbox (Ok (Content c.in-Content.from c.in-Content.to)) = subst (λ (p : Piece). ReadsPiece g.R.Read.remaining c.loop-body.at (65536 - c.len.result) c.loop-body.inbox c.next_piece.new.inbox (Ok p)) c.in-Content.is c.in_ok-from.ensures.reads in
+    omega (arith, piece.4)
+
+pub loop-body-smaller : goal.loop-body-smaller
+loop-body-smaller g c =
+    let piece : ReadsPiece g.R.Read.remaining c.loop-body.at (65536 - c.len.result) c.loop-body.inbox c.next_piece.new.inbox (Ok (Content c.in-Content.from c.in-Content.to)) = subst (λ (p : Piece). ReadsPiece g.R.Read.remaining c.loop-body.at (65536 - c.len.result) c.loop-body.inbox c.next_piece.new.inbox (Ok p)) c.in-Content.is c.in_ok-from.ensures.reads in
+    omega (arith, piece.1, piece.2, piece.4)
+
+pub next_piece-requires-clause-start : goal.next_piece-requires-clause-start
+next_piece-requires-clause-start g c = c.loop-body.invariant.within
+
+pub returns-in-Last-clause-asks : goal.returns-in-Last-clause-asks
+returns-in-Last-clause-asks g c =
+    joins_asks g.R.Read.remaining c.args.inbox.now c.loop-body.inbox c.next_piece.new.inbox c.args.start c.loop-body.at c.loop-body.body.items c.loop-body.invariant c.next_piece.ensures.asks

@@ -1,6 +1,8 @@
 use Rattle.std.proofs.Common.{drop, ◌+◌, ◌<◌, arith}
 use Rattle.std.proofs.lemmas.Result.{err_from_is_err_and}
+use Rattle.std.proofs.lemmas.List.{length-drop}
 use Rattle.lra_wire.specs.Inbox.{kept_bytes}
+use Rattle.lra_wire.proofs.StreamLemmas.{grown}
 use Rattle.lra_wire.proofs.PieceLemmas.{piece_without_line, piece_without_trailer, piece_without_content, piece_last, piece_content, line_some, asks_line, asks_behind, asks_trailer, asks_content}
 use Rattle.lra_wire.proofs.chunks.next_piece.Goals as goal
 
@@ -54,3 +56,13 @@ pub returns-clause-asks : goal.returns-clause-asks
 returns-clause-asks g c =
     asks_behind g.R.Read.remaining c.args.start (c.in_ok-line.line, c.in_ok-line.size) c.args.inbox.now c.next_line.new.inbox c.next_content.new.inbox c.requires.start c.in_ok-line.ensures.reads c.next_line.ensures.asks
     (asks_content (c.args.start + c.in_ok-line.line) c.in_ok-line.size c.next_line.new.inbox c.next_content.new.inbox (omega (arith, c.if-size-eq0.false)) c.next_content.ensures.asks)
+
+pub next_last-requires : goal.next_last-requires
+next_last-requires g c =
+    let line = c.in_ok-line.ensures.reads in
+    omega (arith, line.1.within, length-drop c.args.start (kept_bytes c.next_line.new.inbox), grown c.args.start line.0 c.requires.start)
+
+pub next_content-requires-clause-start : goal.next_content-requires-clause-start
+next_content-requires-clause-start g c =
+    let line = c.in_ok-line.ensures.reads in
+    omega (arith, line.1.within, length-drop c.args.start (kept_bytes c.next_line.new.inbox), grown c.args.start line.0 c.requires.start)

@@ -1,9 +1,9 @@
-use Rattle.std.proofs.Common.{[], map, take, sym, ap, ◌∙◌, subst, Option, Ok}
+use Rattle.std.proofs.Common.{[], List, ℕ, map, take, sym, ap, ◌∙◌, subst, arith, Option, Ok}
 use Rattle.std.proofs.lemmas.Result.{err_from_is_err_and}
 use Rattle.httparse.specs.declared.spans.RequestSpans.{RequestSpans}
 use Rattle.httparse.specs.Spans.{header_bytes}
 use Rattle.lra_wire.specs.declared.fault.WireFault.TheVariants.{Memory}
-use Rattle.lra_wire.specs.inner.Heads.{ReadsHead}
+use Rattle.lra_wire.specs.inner.Heads.{IsHeadAt, ReadsHead}
 use Rattle.lra_wire.specs.Fields.{body_length_of}
 use Rattle.lra_wire.specs.Inbox.{stream_of}
 use Rattle.lra_wire.specs.inner.Reading.{request_at}
@@ -33,7 +33,7 @@ returns-in_err-size-clause-next g c =
     let head = subst (λ (o : Option RequestSpans). ReadsHead g.R.Read.remaining c.args.inbox.now c.next_head.new.inbox c.next_head.new.headers (Ok o)) c.in-Some.is c.in_ok-head.ensures.reads in
     let p = err_from_is_err_and c.from_residual-in_err-size.result c.from_residual-in_err-size.ensures.1 in
     rw (p.1, p.2) (size_refused g.R.Read.remaining c.args.inbox.now c.next_head.new.inbox c.next_head.new.headers c.in-Some.head c.in_err-size.field-0.0 head.0 head.1
-    (ap (λ bytes. body_length_of (map (header_bytes bytes) (take c.in-Some.head.headers c.next_head.new.headers))) (sym c.bytes.ensures) ∙ sym c.in_err-size.ensures))
+    (ap (λ bytes. body_length_of (map (header_bytes bytes) (take c.in-Some.head.headers c.next_head.new.headers))) (sym c.bytes.ensures) ∙ sym c.in_err-size.ensures.is))
 
 pub returns-in_err-size-clause-asks : goal.returns-in_err-size-clause-asks
 returns-in_err-size-clause-asks g c = c.next_head.ensures.asks
@@ -51,13 +51,13 @@ returns-in_err-request-2-clause-next g c =
     let head = subst (λ (o : Option RequestSpans). ReadsHead g.R.Read.remaining c.args.inbox.now c.next_head.new.inbox c.next_head.new.headers (Ok o)) c.in-Some.is c.in_ok-head.ensures.reads in
     let p = err_from_is_err_and c.from_residual-in_err-request-2.result c.from_residual-in_err-request-2.ensures.1 in
     rw (p.1, p.2) (cut_body g.R.Read.remaining c.args.inbox.now c.next_head.new.inbox c.take_body.new.inbox c.next_head.new.headers c.in-Some.head c.in_ok-size.size c.in_err-request-2.field-0.0
-    head.0 head.1 (ap (λ bytes. body_length_of (map (header_bytes bytes) (take c.in-Some.head.headers c.next_head.new.headers))) (sym c.bytes.ensures) ∙ sym c.in_ok-size.ensures) c.in_err-request-2.ensures.body)
+    head.0 head.1 (ap (λ bytes. body_length_of (map (header_bytes bytes) (take c.in-Some.head.headers c.next_head.new.headers))) (sym c.bytes.ensures) ∙ sym c.in_ok-size.ensures.is) c.in_err-request-2.ensures.body)
 
 pub returns-in_err-request-2-clause-asks : goal.returns-in_err-request-2-clause-asks
 returns-in_err-request-2-clause-asks g c =
     let head = subst (λ (o : Option RequestSpans). ReadsHead g.R.Read.remaining c.args.inbox.now c.next_head.new.inbox c.next_head.new.headers (Ok o)) c.in-Some.is c.in_ok-head.ensures.reads in
     asks_body c.args.inbox.now c.next_head.new.inbox c.take_body.new.inbox c.next_head.new.headers c.in-Some.head c.in_ok-size.size head.1
-    (ap (λ bytes. body_length_of (map (header_bytes bytes) (take c.in-Some.head.headers c.next_head.new.headers))) (sym c.bytes.ensures) ∙ sym c.in_ok-size.ensures)
+    (ap (λ bytes. body_length_of (map (header_bytes bytes) (take c.in-Some.head.headers c.next_head.new.headers))) (sym c.bytes.ensures) ∙ sym c.in_ok-size.ensures.is)
     c.next_head.ensures.asks c.take_body.ensures.asks
 
 pub returns-clause-next : goal.returns-clause-next
@@ -66,7 +66,7 @@ returns-clause-next g c =
     let body = c.in_ok-request-2.ensures.body in
     found_request g.R.Read.remaining c.args.inbox.now c.next_head.new.inbox body.full c.take_body.new.inbox c.next_head.new.headers c.in-Some.head c.in_ok-size.size
     (record c.in_ok-request.request { body = c.in_ok-request-2.field-0 })
-    head.0 head.1 (ap (λ bytes. body_length_of (map (header_bytes bytes) (take c.in-Some.head.headers c.next_head.new.headers))) (sym c.bytes.ensures) ∙ sym c.in_ok-size.ensures)
+    head.0 head.1 (ap (λ bytes. body_length_of (map (header_bytes bytes) (take c.in-Some.head.headers c.next_head.new.headers))) (sym c.bytes.ensures) ∙ sym c.in_ok-size.ensures.is)
     (body.grows, body.whole)
     (ap (λ (r : Request). record r { body = [] }) c.in_ok-request.ensures ∙ ap (λ bytes. request_at bytes c.next_head.new.headers c.in-Some.head) c.bytes-2.ensures)
     body.is body.kept body.reader
@@ -75,5 +75,20 @@ pub returns-clause-asks : goal.returns-clause-asks
 returns-clause-asks g c =
     let head = subst (λ (o : Option RequestSpans). ReadsHead g.R.Read.remaining c.args.inbox.now c.next_head.new.inbox c.next_head.new.headers (Ok o)) c.in-Some.is c.in_ok-head.ensures.reads in
     asks_body c.args.inbox.now c.next_head.new.inbox c.take_body.new.inbox c.next_head.new.headers c.in-Some.head c.in_ok-size.size head.1
-    (ap (λ bytes. body_length_of (map (header_bytes bytes) (take c.in-Some.head.headers c.next_head.new.headers))) (sym c.bytes.ensures) ∙ sym c.in_ok-size.ensures)
+    (ap (λ bytes. body_length_of (map (header_bytes bytes) (take c.in-Some.head.headers c.next_head.new.headers))) (sym c.bytes.ensures) ∙ sym c.in_ok-size.ensures.is)
     c.next_head.ensures.asks c.take_body.ensures.asks
+
+pub body_length_at-requires : goal.body_length_at-requires
+body_length_at-requires g c =
+    let head = subst (λ (o : Option RequestSpans). ReadsHead g.R.Read.remaining c.args.inbox.now c.next_head.new.inbox c.next_head.new.headers (Ok o)) c.in-Some.is c.in_ok-head.ensures.reads in
+    subst (λ (bs : List ℕ). IsHeadAt bs c.next_head.new.headers c.in-Some.head) (sym c.bytes.ensures) head.1
+
+pub request_at-requires : goal.request_at-requires
+request_at-requires g c =
+    let head = subst (λ (o : Option RequestSpans). ReadsHead g.R.Read.remaining c.args.inbox.now c.next_head.new.inbox c.next_head.new.headers (Ok o)) c.in-Some.is c.in_ok-head.ensures.reads in
+    subst (λ (bs : List ℕ). IsHeadAt bs c.next_head.new.headers c.in-Some.head) (sym c.bytes-2.ensures) head.1
+
+pub overflow_add-head : goal.overflow_add-head
+overflow_add-head g c =
+    let head = subst (λ (o : Option RequestSpans). ReadsHead g.R.Read.remaining c.args.inbox.now c.next_head.new.inbox c.next_head.new.headers (Ok o)) c.in-Some.is c.in_ok-head.ensures.reads in
+    omega (arith, head.1.places.len, head.1.lawful.size, c.in_ok-size.ensures.small)

@@ -1,9 +1,10 @@
 use Rattle.std.proofs.Common.{ℕ, sym, ◌∙◌, arith}
 use Rattle.std.proofs.Common.{subst}
 use Rattle.std.proofs.lemmas.Result.{err_from_is_err_and}
-use Rattle.lra_wire.proofs.ResponseLemmas.{Skipped, skipped_more, ninth_refused, head_refused, framing_refused, body_refused, response_found, asks_head, asks_rest}
-use Rattle.lra_wire.specs.Response.{AwaitsResponse}
+use Rattle.lra_wire.proofs.ResponseLemmas.{Skipped, skipped_none, head_behind, framing_small, skipped_more, ninth_refused, head_refused, framing_refused, body_refused, response_found, asks_head, asks_rest}
+use Rattle.lra_wire.specs.Response.{fields_in, AwaitsResponse}
 use Rattle.lra_wire.proofs.InboxLemmas.{asks_taken}
+use Rattle.httparse.specs.Grammar.{status_code}
 use Rattle.lra_wire.proofs.response.next_response.Goals as goal
 
 pub returns-in_err-head-clause-next : goal.returns-in_err-head-clause-next
@@ -60,3 +61,27 @@ pub returns-then-not-is_interim-clause-asks : goal.returns-then-not-is_interim-c
 returns-then-not-is_interim-clause-asks g c =
     asks_taken AwaitsResponse c.args.inbox.now c.next_body.new.inbox c.take.new.self (asks_rest g.R.Read.remaining c.args.inbox.now c.loop-head.inbox c.next_head.new.inbox c.next_body.new.inbox c.loop-head.start c.loop-head.interim c.in_ok-head.head c.in_ok-head-2.field-0 c.loop-head.invariant c.in_ok-head.ensures.reads
     c.next_head.ensures.asks (sym c.is_interim.ensures ∙ c.if-not-is_interim.true) c.in_ok-head-2.was c.next_body.ensures.asks) c.take.ensures.reader c.take.ensures.asked
+
+pub loop-head-init : goal.loop-head-init
+loop-head-init g c = skipped_none g.R.Read.remaining c.args.inbox.now
+
+pub overflow_add-start : goal.overflow_add-start
+overflow_add-start g c =
+    let behind = head_behind g.R.Read.remaining c.args.inbox.now c.loop-head.inbox c.next_head.new.inbox c.loop-head.start c.loop-head.interim c.in_ok-head.head c.loop-head.invariant c.in_ok-head.ensures.reads in
+    omega (arith, behind.1)
+
+pub next_body-requires-clause-start : goal.next_body-requires-clause-start
+next_body-requires-clause-start g c =
+    (head_behind g.R.Read.remaining c.args.inbox.now c.loop-head.inbox c.next_head.new.inbox c.loop-head.start c.loop-head.interim c.in_ok-head.head c.loop-head.invariant c.in_ok-head.ensures.reads).0
+
+pub next_body-requires-clause-limit : goal.next_body-requires-clause-limit
+next_body-requires-clause-limit g c =
+    (head_behind g.R.Read.remaining c.args.inbox.now c.loop-head.inbox c.next_head.new.inbox c.loop-head.start c.loop-head.interim c.in_ok-head.head c.loop-head.invariant c.in_ok-head.ensures.reads).1
+
+pub next_body-requires-clause-small : goal.next_body-requires-clause-small
+next_body-requires-clause-small g c =
+    let head = c.in_ok-head.ensures.reads.1 in
+    framing_small (status_code head.head) (fields_in head.head) c.in_ok-head-2.field-0 (sym head.framing ∙ c.in_ok-head-2.was)
+
+pub take-requires : goal.take-requires
+take-requires g c = c.in_ok-body.ensures.ok.within
