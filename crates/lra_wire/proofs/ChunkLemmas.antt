@@ -129,7 +129,7 @@ trailer_found remaining start len old new within found =
 -- ---- contents
 
 -- two bytes of the list, and the rest
-two_at : (bytes : List ℕ) (n : ℕ) → n + 2 ≤ length bytes → drop n bytes ≡ get_or bytes n 0 ∷ get_or bytes (n + 1) 0 ∷ drop (n + 2) bytes
+pub two_at : (bytes : List ℕ) (n : ℕ) → n + 2 ≤ length bytes → drop n bytes ≡ get_or bytes n 0 ∷ get_or bytes (n + 1) 0 ∷ drop (n + 2) bytes
 two_at bytes n h =
     let first : drop n bytes ≡ get_or bytes n 0 ∷ drop (n + 1) bytes = drop_more bytes n 0 (omega arith) in
     let second : drop (n + 1) bytes ≡ get_or bytes (n + 1) 0 ∷ drop (n + 1 + 1) bytes = drop_more bytes (n + 1) 0 (omega arith) in

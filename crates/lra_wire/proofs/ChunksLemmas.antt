@@ -80,7 +80,7 @@ joins_asks remaining old mid new start at body joins then =
     })
 
 -- one more
-joined_more : (kept : List ℕ) (start at from to : ℕ) (body : List ℕ) → length body + length (slice_range kept from to) ≤ 65536
+pub joined_more : (kept : List ℕ) (start at from to : ℕ) (body : List ℕ) → length body + length (slice_range kept from to) ≤ 65536
     → Joined kept start at body → IsPieceAt at kept from to → Joined kept start (to + 2) (body ++ slice_range kept from to)
 joined_more kept start at from to body room joined piece =
     let content : content_of (joined.chunks ++ piece.chunk ∷ []) ≡ body ++ slice_range kept from to =

@@ -12,3 +12,4 @@ pub mod ChunksLemmas
 pub mod ResponseLemmas
 pub mod RequestsLemmas
 pub mod HeadLemmas
+pub mod ComingLemmas

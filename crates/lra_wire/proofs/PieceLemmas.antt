@@ -89,7 +89,7 @@ piece_last remaining start end found old mid new within read size last = (
 )
 
 -- the content of a chunk and its line end
-content_there : (from to size : ℕ) (kept : List ℕ) → to ≡ from + size → to + 2 ≤ length kept → drop to kept ≡ crlf_bytes ++ drop (to + 2) kept
+pub content_there : (from to size : ℕ) (kept : List ℕ) → to ≡ from + size → to + 2 ≤ length kept → drop to kept ≡ crlf_bytes ++ drop (to + 2) kept
     → (drop from kept ≡ (slice_range kept from to ++ crlf_bytes) ++ drop (to + 2) kept) × (length (slice_range kept from to) ≡ size)
 content_there from to size kept is within ends = (
   let n : ℕ = to - from in

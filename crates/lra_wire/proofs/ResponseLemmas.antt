@@ -43,7 +43,7 @@ never_after_open bytes none long more head rest found =
     let front : take n bytes ≡ print_response head = sym (take-append-le n bytes more short) ∙ ap (take n) found.reads.1 ∙ take_at (print_response head) rest n refl in
     none head (drop n bytes) (found.reads.0, sym (take-append-drop n bytes) ∙ ap (λ bs. bs ++ drop n bytes) front)
 
-NeverShort-append : (text rest : List ℕ) → NeverShort text → NeverShort (text ++ rest)
+pub NeverShort-append : (text rest : List ℕ) → NeverShort text → NeverShort (text ++ rest)
 NeverShort-append text rest never more head behind found =
     never (rest ++ more) head behind (subst (λ (bs : List ℕ). HasResponse bs head behind) (append_assoc text rest more) found)
 
@@ -149,7 +149,7 @@ skips_known {R} {remaining} {old} {mid} {start} {interim} skipped =
     on_stream skipped.grows (λ stream. SkipsTo stream start interim) (λ rest. skips_in (kept_bytes mid ++ rest) rest skipped refl)
 
 -- the head that was read, in more bytes
-response_there : (start : ℕ) (kept rest : List ℕ) (found : Head) → start ≤ length kept → (at : IsHeadOf (drop start kept) found)
+pub response_there : (start : ℕ) (kept rest : List ℕ) (found : Head) → start ≤ length kept → (at : IsHeadOf (drop start kept) found)
     → HasResponse (drop start (kept ++ rest)) at.head (drop (start + found.len) (kept ++ rest))
 response_there start kept rest found within at =
     let inside : start + found.len ≤ length kept = omega (arith, at.within, length-drop start kept) in
@@ -298,7 +298,7 @@ head_refused remaining old mid new start interim fault skipped (inr (grows, inr 
 -- ---- behind the final head
 
 -- the faults of a framing are among those of a body
-rest_says : (stream : List ℕ) (fault : WireFault) → fault ≢ BadHead → RefusesRest stream fault → RefusesResponse stream fault
+pub rest_says : (stream : List ℕ) (fault : WireFault) → fault ≢ BadHead → RefusesRest stream fault → RefusesResponse stream fault
 rest_says stream BadHead other refused = absurd (other refl)
 rest_says stream Chunked other refused = refused
 rest_says stream BadLength other refused = refused
@@ -360,7 +360,7 @@ coded_other (coding ∷ []) stated e = go (is_alike coding (codes "chunked")) e
     go false f = cc
 coded_other (coding ∷ other ∷ codings) stated e = cc
 
-framing_other : (code : ℕ) (fields : List (List ℕ × List ℕ)) → framing_of code fields ≢ Err BadHead
+pub framing_other : (code : ℕ) (fields : List (List ℕ × List ℕ)) → framing_of code fields ≢ Err BadHead
 framing_other code fields e = go ((code == 204) || (code == 304)) e
   where
     go : (b : Bool) → cond b (Ok (Sized 0)) (coded_framing (values_of (codes "transfer-encoding") fields) (stated_of fields)) ≡ Err BadHead → ⊥
@@ -395,7 +395,7 @@ chunk_other : (place room : ℕ) (text : List ℕ) → ¬ (RefusesChunk place ro
 chunk_other place room text (inl refused) = line_other place text refused
 chunk_other place room text (inr refused) = behind_other refused
 
-framed_other : (framing : Framing) (place : ℕ) (bytes : List ℕ) → ¬ (RefusesFramed framing place bytes BadHead)
+pub framed_other : (framing : Framing) (place : ℕ) (bytes : List ℕ) → ¬ (RefusesFramed framing place bytes BadHead)
 framed_other (Sized n) place bytes (e, h) = cc
 framed_other Chunks place bytes refused = chunk_other (place + (length bytes - length refused.text)) (65536 - length (content_of refused.chunks)) refused.text refused.refused
 framed_other ToTheEnd place bytes (e, h) = cc

@@ -5,6 +5,7 @@ pub mod Request
 pub mod Streams
 pub mod Writing
 pub mod Chunks
+pub mod Coming
 pub mod Response
 pub mod Requests
 pub mod inner

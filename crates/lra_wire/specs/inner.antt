@@ -5,3 +5,4 @@ pub mod Heads
 pub mod Reading
 pub mod Sought
 pub mod Steps
+pub mod Parts

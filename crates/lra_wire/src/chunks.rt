@@ -100,7 +100,7 @@ fn next_content<R: Read + Drop>(
 }
 
 /// Whether a line ends there in CRLF.
-fn has_line_end(bytes: &[u8], at: usize) -> bool
+pub(crate) fn has_line_end(bytes: &[u8], at: usize) -> bool
     requires { at + 2 ≤ length bytes.now }
     ensures { result ≡ has_line_end bytes.now at }
 {
@@ -158,7 +158,7 @@ fn new_line(bytes: &[u8], searched: usize) -> Result<Option<(usize, u64)>, WireF
     line_at(bytes)
 }
 
-fn line_at(bytes: &[u8]) -> Result<Option<(usize, u64)>, WireFault>
+pub(crate) fn line_at(bytes: &[u8]) -> Result<Option<(usize, u64)>, WireFault>
     ensures { FindsLine bytes.now result }
 {
     match parse_chunk_size(bytes) {
@@ -206,7 +206,7 @@ fn new_trailer(bytes: &[u8], searched: usize) -> Result<Option<usize>, WireFault
     trailer_at(bytes)
 }
 
-fn trailer_at(bytes: &[u8]) -> Result<Option<usize>, WireFault>
+pub(crate) fn trailer_at(bytes: &[u8]) -> Result<Option<usize>, WireFault>
     ensures { FindsTrailer bytes.now result }
 {
     let mut headers = [EMPTY_HEADER_SPAN; MAX_FIELDS];

@@ -6,6 +6,7 @@
 #![tactic(auto)]
 
 mod chunks;
+mod coming;
 mod fault;
 mod fields;
 mod framing;
@@ -16,6 +17,7 @@ mod request;
 mod response;
 mod write;
 
+pub use coming::{Coming, response_front};
 pub use fault::WireFault;
 pub use front::{Front, Seen, end_fault, one_front, request_front, request_front_seen};
 pub use inbox::Inbox;

@@ -17,7 +17,7 @@ use std::alloc::Global;
 use std::io::Read;
 
 /// The most heads of status 100 to 199 before a response.
-const MAX_INTERIM: usize = 8;
+pub(crate) const MAX_INTERIM: usize = 8;
 
 /// A response as its bytes say it.
 #[derive(Debug, Drop)]
@@ -30,10 +30,10 @@ pub struct ResponseRead {
 /// What a head says.
 #[derive(Clone, Copy)]
 pub(crate) struct Head {
-    code: u16,
+    pub(crate) code: u16,
     /// How many bytes the head has.
-    len: usize,
-    framing: Result<Framing, WireFault>,
+    pub(crate) len: usize,
+    pub(crate) framing: Result<Framing, WireFault>,
 }
 
 /// Reads the next response that isn't an interim one.
@@ -92,7 +92,7 @@ fn next_response<R: Read + Drop>(
 }
 
 /// A status of 100 to 199 (RFC 9110, section 15.2).
-fn is_interim(code: u16) -> bool
+pub(crate) fn is_interim(code: u16) -> bool
     ensures { result ≡ is_interim code }
 {
     100 <= code && code < 200
@@ -143,7 +143,7 @@ fn last_head(bytes: &[u8]) -> Result<Head, WireFault>
 }
 
 /// The head at the front of the bytes, or none where more bytes may complete it.
-fn head_at(bytes: &[u8]) -> Result<Option<Head>, WireFault>
+pub(crate) fn head_at(bytes: &[u8]) -> Result<Option<Head>, WireFault>
     ensures { FindsResponse bytes.now result }
 {
     let mut headers = [EMPTY_HEADER_SPAN; MAX_FIELDS];

@@ -1,0 +1,556 @@
+-- The parts of a response in the bytes that came so far, whatever follows them.
+use Rattle.std.proofs.Common.{◌≡◌, ◌≢◌, get_or, ℕ, ◌+◌, ◌-◌, ◌*◌, ◌<◌, ◌≤◌, Bool, true, false, cond, List, [], ◌∷◌, ◌++◌, length, take, drop, refl, sym, ap, subst, ◌∙◌, arith, append_assoc, Result, Ok, Err, inl, inr}
+use Rattle.std.specs.Prelude.{◌⊎◌, ◌||◌, ◌==◌, nat_le, codes, slice_range}
+use Rattle.std.specs.List.{flat_map}
+use Rattle.std.proofs.lemmas.Grind.{flat_map-append}
+use Rattle.std.proofs.lemmas.List.{take-append-drop, drop-drop, length-drop, length-append, length-take, append-nil}
+use Rattle.std.proofs.lemmas.List.Elements.{All-push, All-nil}
+use Rattle.httparse.specs.Ascii.{crlf_bytes}
+use Rattle.httparse.specs.Grammar.{print_response, HasNoResponse, MayBecomeResponse, status_code, print_chunk_line, chunk_size, HasNoChunkLine, NeverHasChunkLine, HasNoSection}
+use Rattle.httparse.specs.Spans.{SectionOverflows}
+use Rattle.lra_wire.specs.declared.coming.Part.{Part}
+use Rattle.lra_wire.specs.declared.coming.Part.TheVariants.{Content, Last, Open}
+use Rattle.lra_wire.specs.declared.fault.WireFault.{WireFault}
+use Rattle.lra_wire.specs.declared.fault.WireFault.TheVariants.{BadHead, Chunked, BadLength, TooLarge, Cut, Io, Memory}
+use Rattle.lra_wire.specs.declared.fields.Stated.{Stated}
+use Rattle.lra_wire.specs.declared.fields.Stated.TheVariants.{Nothing, Length, Malformed}
+use Rattle.lra_wire.specs.declared.framing.Framing.{Framing}
+use Rattle.lra_wire.specs.declared.framing.Framing.TheVariants.{Sized, Chunks, ToTheEnd}
+use Rattle.lra_wire.specs.declared.response.Head.{Head}
+use Rattle.lra_wire.specs.Chunks.{IsChunk, print_chunk, content_of, HasLast, RefusesTrailer, RefusesContent, RefusesChunk, RefusesChunks, AwaitsChunk}
+use Rattle.lra_wire.specs.Coming.{Lasts, IsWhole, IsOpen}
+use Rattle.lra_wire.specs.Fields.{is_alike, values_of, stated_of}
+use Rattle.lra_wire.specs.Response.{NeverShort, is_interim, IsInterim, fields_in, stated_framing, coded_framing, framing_of, IsBody, RefusesFramed, RefusesResponse, AwaitsBody, AwaitsHead, AwaitsResponse}
+use Rattle.lra_wire.specs.inner.Parts.{IsFinalOf, IsOpenAt, LastsAt, IsTrailerTo, FindsEnd, FindsContent, FindsPart, IsBodyTo}
+use Rattle.lra_wire.specs.inner.Steps.{IsHeadOf, IsLineOf, IsTrailerOf, IsPieceAt}
+use Rattle.lra_wire.proofs.HeadLemmas.{up_to_all}
+use Rattle.lra_wire.proofs.StreamLemmas.{drop_more_bytes}
+use Rattle.lra_wire.proofs.ChunkLemmas.{NeverHasChunkLine-append, SectionOverflows-append, passes, line_there, trailer_there, two_at}
+use Rattle.lra_wire.proofs.PieceLemmas.{IsOpenBehind, content_there, line_some}
+use Rattle.lra_wire.proofs.ChunksLemmas.{Joined, joined_more}
+use Rattle.lra_wire.proofs.ResponseLemmas.{SkipsTo, NeverShort-append, response_there, rest_says, framing_other, framed_other}
+
+-- ---- what follows
+
+-- no byte follows
+none_more : (bytes more : List ℕ) → length (bytes ++ more) < length bytes + 1 → more ≡ []
+none_more bytes [] few = refl
+none_more bytes (b ∷ more) few = absurd (omega (arith, few, length-append bytes (b ∷ more)))
+
+same_bytes : (bytes more : List ℕ) → length (bytes ++ more) < length bytes + 1 → bytes ≡ bytes ++ more
+same_bytes bytes more few = sym (append-nil bytes) ∙ ap (λ bs. bytes ++ bs) (sym (none_more bytes more few))
+
+-- a text is open at the end of the bytes
+pub open_now : (Awaits : List ℕ → Type 0) (start : ℕ) (bytes : List ℕ) (wanted : ℕ) → Awaits (drop start bytes) → wanted ≡ length bytes + 1 → length bytes < 1048576
+    → IsOpenAt Awaits start bytes wanted
+open_now Awaits start bytes wanted there is room = record {
+  few = omega (arith, is);
+  bound = omega (arith, is, room);
+  awaits = λ more few. subst (λ (bs : List ℕ). Awaits (drop start bs)) (same_bytes bytes more (omega (arith, few, is))) there;
+}
+
+-- a fault that lasts, from one reason to another
+pub lasts_map : (P Q : List ℕ → WireFault → Type 0) (bytes : List ℕ) (fault : WireFault) → ((more : List ℕ) (f : WireFault) → P (bytes ++ more) f → Q (bytes ++ more) f)
+    → Lasts P bytes fault → Lasts Q bytes fault
+lasts_map P Q bytes BadHead h p = λ more. h more BadHead (p more)
+lasts_map P Q bytes Chunked h p = λ more. h more Chunked (p more)
+lasts_map P Q bytes BadLength h p = λ more. h more BadLength (p more)
+lasts_map P Q bytes TooLarge h p = λ more. h more TooLarge (p more)
+lasts_map P Q bytes Memory h p = tt
+lasts_map P Q bytes Cut h p = absurd p
+lasts_map P Q bytes Io h p = absurd p
+
+-- ---- heads
+
+-- what the loop over the heads keeps
+pub record Heads (bytes : List ℕ) (start interim : ℕ) : Type 0 where
+  pub within : start ≤ length bytes
+  pub place : start ≤ interim * 8192
+  pub few : interim ≤ 8
+  pub so_far : SkipsTo bytes start interim
+
+pub heads_none : (bytes : List ℕ) → Heads bytes 0 0
+heads_none bytes = record {
+  within = omega arith;
+  place = omega arith;
+  few = omega arith;
+  so_far = record { heads = []; skips = record { each = All-nil IsInterim; few = omega arith; front = refl }; counted = refl };
+}
+
+-- one more was skipped
+pub heads_more : (bytes : List ℕ) (start interim : ℕ) (found : Head) → Heads bytes start interim → IsHeadOf (drop start bytes) found → is_interim found.code ≡ true → interim < 8
+    → Heads bytes (start + found.len) (interim + 1)
+heads_more bytes start interim found heads at status room =
+    let head = at.head in
+    let before = heads.so_far in
+    record {
+      within = omega (arith, at.within, length-drop start bytes, heads.within);
+      place = omega (arith, heads.place, at.len, at.has.short.size);
+      few = omega arith;
+      so_far = record {
+        heads = before.heads ++ head ∷ [];
+        skips = record {
+          each = All-push IsInterim before.heads head before.skips.each (record { valid = at.has.reads.0; short = at.has.short; status = ap is_interim (sym at.code) ∙ status });
+          few = omega (arith, length-append before.heads (head ∷ []), before.counted);
+          front = before.skips.front ∙ ap (λ bs. flat_map print_response before.heads ++ bs) (at.has.reads.1 ∙ ap (λ bs. print_response head ++ bs) (drop-drop found.len start bytes))
+              ∙ sym (append_assoc (flat_map print_response before.heads) (print_response head) (drop (start + found.len) bytes))
+              ∙ ap (λ bs. (flat_map print_response before.heads ++ bs) ++ drop (start + found.len) bytes) (sym (append-nil (print_response head)))
+              ∙ ap (λ bs. bs ++ drop (start + found.len) bytes) (sym (flat_map-append print_response before.heads (head ∷ [])));
+        };
+        counted = length-append before.heads (head ∷ []) ∙ ap (λ n. n + 1) before.counted;
+      };
+    }
+
+-- the same heads in more bytes
+heads_ahead : (bytes more : List ℕ) (start interim : ℕ) → Heads bytes start interim → SkipsTo (bytes ++ more) start interim
+heads_ahead bytes more start interim heads =
+    let before = heads.so_far in
+    record {
+      heads = before.heads;
+      skips = record {
+        each = before.skips.each;
+        few = before.skips.few;
+        front = ap (λ bs. bs ++ more) before.skips.front ∙ append_assoc (flat_map print_response before.heads) (drop start bytes) more
+            ∙ ap (λ bs. flat_map print_response before.heads ++ bs) (drop_more_bytes start bytes more heads.within);
+      };
+      counted = before.counted;
+    }
+
+-- the final one
+pub heads_final : (bytes : List ℕ) (start interim : ℕ) (found : Head) → Heads bytes start interim → IsHeadOf (drop start bytes) found → is_interim found.code ≡ false
+    → IsFinalOf bytes (record found { len = start + found.len })
+heads_final bytes start interim found heads at status = record {
+  head = at.head;
+  within = omega (arith, at.within, length-drop start bytes, heads.within);
+  bound = omega (arith, heads.place, heads.few, at.len, at.has.short.size);
+  code = at.code;
+  framing = at.framing;
+  final = λ more.
+      let before = heads_ahead bytes more start interim heads in
+      record {
+        interim = before.heads;
+        behind = drop start (bytes ++ more);
+        skips = before.skips;
+        found = response_there start bytes more found heads.within at;
+        status = ap is_interim (sym at.code) ∙ status;
+      };
+}
+
+-- one isn't whole
+pub heads_open : (bytes : List ℕ) (start interim : ℕ) → Heads bytes start interim → HasNoResponse (drop start bytes) → MayBecomeResponse (drop start bytes) → length (drop start bytes) < 8192
+    → AwaitsHead bytes × (length bytes < 73728)
+heads_open bytes start interim heads none may few = (
+  record { interim = heads.so_far.heads; rest = drop start bytes; skips = heads.so_far.skips; open_head = (none, up_to_all MayBecomeResponse (drop start bytes) may) },
+  omega (arith, heads.place, heads.few, few, length-drop start bytes, heads.within),
+)
+
+-- none comes
+pub heads_refused : (bytes : List ℕ) (start interim : ℕ) → Heads bytes start interim → NeverShort (drop start bytes) → Lasts RefusesResponse bytes BadHead
+heads_refused bytes start interim heads never = λ more.
+    let before = heads_ahead bytes more start interim heads in
+    record {
+      interim = before.heads;
+      rest = drop start (bytes ++ more);
+      skips = before.skips;
+      refused = inl (subst NeverShort (drop_more_bytes start bytes more heads.within) (NeverShort-append (drop start bytes) more never));
+    }
+
+-- a ninth interim head
+pub heads_ninth : (bytes : List ℕ) (start : ℕ) (found : Head) → Heads bytes start 8 → IsHeadOf (drop start bytes) found → is_interim found.code ≡ true → Lasts RefusesResponse bytes BadHead
+heads_ninth bytes start found heads at status = λ more.
+    let before = heads_ahead bytes more start 8 heads in
+    record {
+      interim = before.heads;
+      rest = drop start (bytes ++ more);
+      skips = before.skips;
+      refused = inr (before.counted, at.head, drop (start + found.len) (bytes ++ more), response_there start bytes more found heads.within at, ap is_interim (sym at.code) ∙ status);
+    }
+
+-- ---- the end of a chunked body
+
+pub end_found : (bytes : List ℕ) (start len : ℕ) → start ≤ length bytes → IsTrailerOf (drop start bytes) len → start + len ≤ 1048576 → IsTrailerTo start (start + len) bytes
+end_found bytes start len within at bound = record {
+  behind = omega arith;
+  within = omega (arith, at.within, length-drop start bytes, within);
+  bound = bound;
+  there = λ more. trailer_there start bytes more len within at;
+}
+
+-- it ends behind the limit
+pub end_long : (bytes : List ℕ) (start len : ℕ) → start ≤ length bytes → IsTrailerOf (drop start bytes) len → 1048576 < start + len → LastsAt (RefusesTrailer start) start bytes TooLarge
+end_long bytes start len within at long = λ more.
+    let stream : List ℕ = bytes ++ more in
+    let inside : len ≤ length (drop start bytes) = at.within in
+    inr (inr (inl (
+      refl,
+      drop (start + len) stream,
+      trailer_there start bytes more len within at,
+      omega (arith, inside, within, long, length-drop start bytes, length-drop start stream, length-drop (start + len) stream, length-append bytes more),
+    )))
+
+-- it isn't whole, and the limit is reached
+pub end_open_long : (bytes : List ℕ) (start : ℕ) → start ≤ length bytes → HasNoSection (drop start bytes) → 1048576 ≤ length bytes → LastsAt (RefusesTrailer start) start bytes TooLarge
+end_open_long bytes start within none long = λ more. inr (inl (refl, passes HasNoSection start bytes more within long none))
+
+-- it has too many fields
+pub end_refused : (bytes : List ℕ) (start : ℕ) → start ≤ length bytes → SectionOverflows 64 (drop start bytes) → LastsAt (RefusesTrailer start) start bytes BadLength
+end_refused bytes start within over = λ more.
+    inl (refl, subst (SectionOverflows 64) (drop_more_bytes start bytes more within) (SectionOverflows-append (drop start bytes) more over))
+
+-- ---- the content of a chunk
+
+-- no CRLF stands behind it
+pub content_refused : (bytes : List ℕ) (start room size : ℕ) → start ≤ length bytes → start + size + 2 ≤ length bytes
+    → (get_or bytes (start + size) 0 ≢ 13) ⊎ (get_or bytes (start + size + 1) 0 ≢ 10) → LastsAt (RefusesContent start room size) start bytes BadLength
+content_refused bytes start room size within there other = λ more.
+    let text : List ℕ = drop start bytes in
+    inl (
+      refl,
+      record {
+        content = take size text;
+        behind = drop (start + size) bytes ++ more;
+        whole = sym (drop_more_bytes start bytes more within) ∙ ap (λ bs. bs ++ more) (sym (take-append-drop size text))
+            ∙ append_assoc (take size text) (drop size text) more ∙ ap (λ bs. take size text ++ (bs ++ more)) (drop-drop size start bytes);
+        count = omega (arith, there, within, length-take size text, length-drop start bytes);
+        none = λ tail rest e. differ (drop (start + size) bytes) more tail rest (two_at bytes (start + size) there) other e;
+      },
+    )
+  where
+    differ : {a b : ℕ} (behind more tail rest : List ℕ) {left : List ℕ} → behind ≡ a ∷ b ∷ left → (a ≢ 13) ⊎ (b ≢ 10) → ¬ ((behind ++ more) ++ tail ≡ 13 ∷ 10 ∷ rest)
+    differ behind more tail rest is (inl other) e = other (let f = sym (ap (λ bs. (bs ++ more) ++ tail) is) ∙ e in cc)
+    differ behind more tail rest is (inr other) e = other (let f = sym (ap (λ bs. (bs ++ more) ++ tail) is) ∙ e in cc)
+
+-- ---- parts of a chunked body
+
+-- a line isn't whole, and the limit is reached
+pub line_open_long : (bytes : List ℕ) (start room : ℕ) → start ≤ length bytes → HasNoChunkLine (drop start bytes) → 1048576 ≤ length bytes → LastsAt (RefusesChunk start room) start bytes TooLarge
+line_open_long bytes start room within none long = λ more. inl (inr (inl (refl, passes HasNoChunkLine start bytes more within long none)))
+
+-- none comes
+pub line_refused_now : (bytes : List ℕ) (start room : ℕ) → start ≤ length bytes → NeverHasChunkLine (drop start bytes) → LastsAt (RefusesChunk start room) start bytes BadLength
+line_refused_now bytes start room within never = λ more.
+    inl (inl (refl, subst NeverHasChunkLine (drop_more_bytes start bytes more within) (NeverHasChunkLine-append (drop start bytes) more never)))
+
+-- behind a line of size 0
+pub last_found : (bytes : List ℕ) (start end : ℕ) (found : ℕ × ℕ) → start ≤ length bytes → IsLineOf (drop start bytes) found → found.1 ≡ 0 → IsTrailerTo (start + found.0) end bytes
+    → (start ≤ end) × (end ≤ length bytes) × (end ≤ 1048576) × ((more : List ℕ) → HasLast (drop start (bytes ++ more)) (drop end (bytes ++ more)))
+last_found bytes start end found within at zero trailer = (
+  omega (arith, trailer.behind),
+  trailer.within,
+  trailer.bound,
+  λ more. record {
+    line = at.line;
+    behind = drop (start + found.0) (bytes ++ more);
+    reads = line_there start bytes more found within at;
+    size = sym at.size ∙ zero;
+    trailer = trailer.there more;
+  },
+)
+
+pub last_open : (bytes : List ℕ) (start wanted : ℕ) (found : ℕ × ℕ) → start ≤ length bytes → IsLineOf (drop start bytes) found → found.1 ≡ 0
+    → IsOpenAt HasNoSection (start + found.0) bytes wanted → IsOpenAt AwaitsChunk start bytes wanted
+last_open bytes start wanted found within at zero o = record {
+  few = o.few;
+  bound = o.bound;
+  awaits = λ more few. inr (
+    at.line,
+    drop (start + found.0) (bytes ++ more),
+    line_there start bytes more found within at,
+    subst (λ (n : ℕ). IsOpenBehind n (drop (start + found.0) (bytes ++ more))) at.size (inl (zero, o.awaits more few)),
+  );
+}
+
+pub last_refused : (bytes : List ℕ) (start room : ℕ) (found : ℕ × ℕ) (fault : WireFault) → start ≤ length bytes → IsLineOf (drop start bytes) found → found.1 ≡ 0
+    → LastsAt (RefusesTrailer (start + found.0)) (start + found.0) bytes fault → LastsAt (RefusesChunk start room) start bytes fault
+last_refused bytes start room found fault within at zero refused =
+    lasts_map (λ text f. RefusesTrailer (start + found.0) (drop (start + found.0) text) f) (λ text f. RefusesChunk start room (drop start text) f) bytes fault
+    (λ more f q. inr (record {
+      line = at.line;
+      behind = drop (start + found.0) (bytes ++ more);
+      reads = line_there start bytes more found within at;
+      refused = inl (sym at.size ∙ zero, subst (λ (n : ℕ). RefusesTrailer (start + n) (drop (start + found.0) (bytes ++ more)) f) at.len q);
+    })) refused
+
+-- behind the line of a chunk
+pub chunk_found : (bytes : List ℕ) (start room from to : ℕ) (found : ℕ × ℕ) → start ≤ length bytes → IsLineOf (drop start bytes) found → 0 < found.0 → 0 < found.1
+    → (from ≡ start + found.0) × (to ≡ start + found.0 + found.1) × (found.1 ≤ room) × (to + 2 ≤ length bytes) × (to + 2 ≤ 1048576) × (drop to bytes ≡ crlf_bytes ++ drop (to + 2) bytes)
+    → (start < from) × (from < to) × (to + 2 ≤ length bytes) × (to + 2 ≤ 1048576) × (to ≤ from + room) × IsPieceAt start bytes from to
+chunk_found bytes start room from to found within at line some h =
+    let behind : drop (start + found.0) bytes ≡ drop from bytes = ap (λ n. drop n bytes) (sym h.0) in
+    let there = content_there from to found.1 bytes (omega (arith, h.0, h.1)) h.3 h.5 in (
+      omega (arith, h.0, line),
+      omega (arith, h.0, h.1, some),
+      h.3,
+      h.4,
+      omega (arith, h.0, h.1, h.2),
+      record {
+        chunk = record { line = at.line; content = slice_range bytes from to };
+        valid = record { line = at.reads.0; size = sym at.size ∙ sym there.1; some = omega (arith, there.1, some) };
+        content = refl;
+        front = at.reads.1 ∙ ap (λ bs. print_chunk_line at.line ++ bs) (drop-drop found.0 start bytes ∙ behind ∙ there.0)
+            ∙ sym (append_assoc (print_chunk_line at.line) (slice_range bytes from to ++ crlf_bytes) (drop (to + 2) bytes));
+      },
+    )
+
+pub chunk_open : (bytes : List ℕ) (start wanted : ℕ) (found : ℕ × ℕ) → start ≤ length bytes → IsLineOf (drop start bytes) found → 0 < found.1
+    → (length bytes < wanted) × (wanted ≡ start + found.0 + found.1 + 2) × (wanted ≤ 1048576) → IsOpenAt AwaitsChunk start bytes wanted
+chunk_open bytes start wanted found within at some h = record {
+  few = h.0;
+  bound = h.2;
+  awaits = λ more few. inr (
+    at.line,
+    drop (start + found.0) (bytes ++ more),
+    line_there start bytes more found within at,
+    subst (λ (n : ℕ). IsOpenBehind n (drop (start + found.0) (bytes ++ more))) at.size
+        (inr (some, omega (arith, few, h.1, length-drop (start + found.0) (bytes ++ more)))),
+  );
+}
+
+pub chunk_refused : (bytes : List ℕ) (start room : ℕ) (found : ℕ × ℕ) (fault : WireFault) → start ≤ length bytes → IsLineOf (drop start bytes) found → 0 < found.1
+    → LastsAt (RefusesContent (start + found.0) room found.1) (start + found.0) bytes fault → LastsAt (RefusesChunk start room) start bytes fault
+chunk_refused bytes start room found fault within at some refused =
+    lasts_map (λ text f. RefusesContent (start + found.0) room found.1 (drop (start + found.0) text) f) (λ text f. RefusesChunk start room (drop start text) f) bytes fault
+    (λ more f q. inr (record {
+      line = at.line;
+      behind = drop (start + found.0) (bytes ++ more);
+      reads = line_there start bytes more found within at;
+      refused = inr (
+        subst (λ (n : ℕ). 0 < n) at.size some,
+        subst (λ (n : ℕ). RefusesContent (start + n) room (chunk_size at.line) (drop (start + found.0) (bytes ++ more)) f) at.len
+            (subst (λ (n : ℕ). RefusesContent (start + found.0) room n (drop (start + found.0) (bytes ++ more)) f) at.size q),
+      );
+    })) refused
+
+-- what stands behind the line
+pub part_last : (bytes : List ℕ) (start room : ℕ) (found : ℕ × ℕ) (result : Result Part WireFault) → start ≤ length bytes → IsLineOf (drop start bytes) found → found.1 ≡ 0
+    → FindsEnd (start + found.0) bytes result → FindsPart start room bytes result
+part_last bytes start room found (Ok (Last end)) within at zero h = last_found bytes start end found within at zero h
+part_last bytes start room found (Ok (Open wanted)) within at zero h = last_open bytes start wanted found within at zero h
+part_last bytes start room found (Ok (Content from to)) within at zero h = absurd h
+part_last bytes start room found (Err fault) within at zero h = last_refused bytes start room found fault within at zero h
+
+pub part_content : (bytes : List ℕ) (start room : ℕ) (found : ℕ × ℕ) (result : Result Part WireFault) → start ≤ length bytes → IsLineOf (drop start bytes) found → 0 < found.1
+    → FindsContent (start + found.0) room found.1 bytes result → FindsPart start room bytes result
+part_content bytes start room found (Ok (Content from to)) within at some h = chunk_found bytes start room from to found within at (line_some (drop start bytes) found at) some h
+part_content bytes start room found (Ok (Open wanted)) within at some h = chunk_open bytes start wanted found within at some h
+part_content bytes start room found (Ok (Last end)) within at some h = absurd h
+part_content bytes start room found (Err fault) within at some h = chunk_refused bytes start room found fault within at some h
+
+-- ---- chunked bodies
+
+-- what the loop over the chunks keeps
+pub record ChunksTo (bytes : List ℕ) (start at : ℕ) (body : List ℕ) : Type 0 where
+  pub behind : start ≤ at
+  pub within : at ≤ length bytes
+  pub limit : at ≤ 1048576
+  pub room : length body ≤ 65536
+  pub so_far : Joined bytes start at body
+
+pub chunks_none : (bytes : List ℕ) (start : ℕ) → start ≤ length bytes → start ≤ 73728 → ChunksTo bytes start start []
+chunks_none bytes start within limit = record {
+  behind = omega arith;
+  within = within;
+  limit = omega (arith, limit);
+  room = omega arith;
+  so_far = record { chunks = []; has = record { each = All-nil IsChunk; front = refl; limit = omega arith }; body_is = refl };
+}
+
+-- one more
+pub chunks_more : (bytes : List ℕ) (start at from to : ℕ) (body : List ℕ) → ChunksTo bytes start at body
+    → (at < from) × (from < to) × (to + 2 ≤ length bytes) × (to + 2 ≤ 1048576) × (to ≤ from + (65536 - length body)) × IsPieceAt at bytes from to
+    → ChunksTo bytes start (to + 2) (body ++ slice_range bytes from to)
+chunks_more bytes start at from to body chunks piece =
+    let count : length (slice_range bytes from to) ≤ to - from = omega (arith, length-take (to - from) (drop from bytes)) in
+    let all : length body + length (slice_range bytes from to) ≤ 65536 = omega (arith, count, piece.4, chunks.room, piece.1) in
+    record {
+      behind = omega (arith, chunks.behind, piece.0, piece.1);
+      within = piece.2;
+      limit = piece.3;
+      room = omega (arith, all, length-append body (slice_range bytes from to));
+      so_far = joined_more bytes start at from to body all chunks.so_far piece.5;
+    }
+
+-- the same chunks in more bytes
+chunks_ahead : (bytes more : List ℕ) (start at : ℕ) (body : List ℕ) → ChunksTo bytes start at body → Joined (bytes ++ more) start at body
+chunks_ahead bytes more start at body chunks =
+    let joined = chunks.so_far in
+    record {
+      chunks = joined.chunks;
+      has = record {
+        each = joined.has.each;
+        front = sym (drop_more_bytes start bytes more (omega (arith, chunks.behind, chunks.within))) ∙ ap (λ bs. bs ++ more) joined.has.front
+            ∙ append_assoc (flat_map print_chunk joined.chunks) (drop at bytes) more ∙ ap (λ bs. flat_map print_chunk joined.chunks ++ bs) (drop_more_bytes at bytes more chunks.within);
+        limit = joined.has.limit;
+      };
+      body_is = joined.body_is;
+    }
+
+pub chunks_whole : (bytes : List ℕ) (start at end : ℕ) (body : List ℕ) → ChunksTo bytes start at body
+    → (at ≤ end) × (end ≤ length bytes) × (end ≤ 1048576) × ((more : List ℕ) → HasLast (drop at (bytes ++ more)) (drop end (bytes ++ more)))
+    → IsBodyTo Chunks start bytes body end
+chunks_whole bytes start at end body chunks last = record {
+  behind = omega (arith, chunks.behind, last.0);
+  within = last.1;
+  bound = last.2;
+  there = λ more.
+      let joined = chunks_ahead bytes more start at body chunks in
+      record { chunks = joined.chunks; last = drop at (bytes ++ more); has = joined.has; ends = last.3 more; joined = joined.body_is };
+}
+
+pub chunks_open : (bytes : List ℕ) (start at wanted : ℕ) (body : List ℕ) → ChunksTo bytes start at body → IsOpenAt AwaitsChunk at bytes wanted → IsOpenAt (AwaitsBody Chunks) start bytes wanted
+chunks_open bytes start at wanted body chunks o = record {
+  few = o.few;
+  bound = o.bound;
+  awaits = λ more few.
+      let joined = chunks_ahead bytes more start at body chunks in
+      record { chunks = joined.chunks; text = drop at (bytes ++ more); has = joined.has; open_text = o.awaits more few };
+}
+
+pub chunks_refused : (bytes : List ℕ) (start at : ℕ) (body : List ℕ) (fault : WireFault) → ChunksTo bytes start at body
+    → LastsAt (RefusesChunk at (65536 - length body)) at bytes fault → LastsAt (RefusesFramed Chunks start) start bytes fault
+chunks_refused bytes start at body fault chunks refused =
+    lasts_map (λ text f. RefusesChunk at (65536 - length body) (drop at text) f) (λ text f. RefusesChunks start (drop start text) f) bytes fault
+    (λ more f q.
+    let stream : List ℕ = bytes ++ more in
+    let joined = chunks_ahead bytes more start at body chunks in
+    let place : start + (length (drop start stream) - length (drop at stream)) ≡ at =
+    omega (arith, chunks.behind, chunks.within, length-append bytes more, length-drop start stream, length-drop at stream) in
+    record {
+      chunks = joined.chunks;
+      text = drop at stream;
+      has = joined.has;
+      refused = subst (λ (n : ℕ). RefusesChunk n (65536 - length (content_of joined.chunks)) (drop at stream) f) (sym place)
+          (subst (λ (bs : List ℕ). RefusesChunk at (65536 - length bs) (drop at stream) f) joined.body_is q);
+    }) refused
+
+-- ---- other bodies
+
+pub sized_whole : (bytes body : List ℕ) (start size : ℕ) → start + size ≤ length bytes → start ≤ 73728 → size ≤ 65536 → body ≡ slice_range bytes start (start + size)
+    → IsBodyTo (Sized size) start bytes body (start + size)
+sized_whole bytes body start size whole limit small is = record {
+  behind = omega arith;
+  within = whole;
+  bound = omega (arith, limit, small);
+  there = λ more.
+      let n : ℕ = start + size - start in
+      let same : start + n ≡ start + size = omega arith in
+      let here : start ≤ length bytes = omega (arith, whole) in (
+        sym (drop_more_bytes start bytes more here)
+            ∙ ap (λ bs. bs ++ more) (sym (take-append-drop n (drop start bytes)) ∙ ap (λ bs. slice_range bytes start (start + size) ++ bs) (drop-drop n start bytes ∙ ap (λ k. drop k bytes) same))
+            ∙ append_assoc (slice_range bytes start (start + size)) (drop (start + size) bytes) more
+            ∙ ap (λ bs. slice_range bytes start (start + size) ++ bs) (drop_more_bytes (start + size) bytes more whole)
+            ∙ ap (λ bs. bs ++ drop (start + size) (bytes ++ more)) (sym is),
+        omega (arith, ap length is, length-take n (drop start bytes), length-drop start bytes, whole),
+      );
+}
+
+pub sized_open : (bytes : List ℕ) (start size : ℕ) → start ≤ length bytes → length bytes < start + size → start ≤ 73728 → size ≤ 65536 → IsOpenAt (AwaitsBody (Sized size)) start bytes (start + size)
+sized_open bytes start size within few limit small = record {
+  few = few;
+  bound = omega (arith, limit, small);
+  awaits = λ more less. omega (arith, less, few, within, length-drop start (bytes ++ more), length-append bytes more);
+}
+
+pub rest_open : (bytes : List ℕ) (start : ℕ) → start ≤ 73728 → length bytes ≤ start + 65536 → IsOpenAt (AwaitsBody ToTheEnd) start bytes (start + 65536 + 1)
+rest_open bytes start limit few = record { few = omega (arith, few); bound = omega (arith, limit); awaits = λ more less. tt }
+
+pub rest_large : (bytes : List ℕ) (start : ℕ) → start + 65536 < length bytes → LastsAt (RefusesFramed ToTheEnd start) start bytes TooLarge
+rest_large bytes start long = λ more. (refl, omega (arith, long, length-drop start (bytes ++ more), length-append bytes more))
+
+-- ---- responses
+
+-- which faults a framing has
+stated_lasts : (P : List ℕ → WireFault → Type 0) (bytes : List ℕ) (stated : Stated) (fault : WireFault) → stated_framing stated ≡ Err fault → ((more : List ℕ) → P (bytes ++ more) fault) → Lasts P bytes fault
+stated_lasts P bytes Nothing fault e h = absurd cc
+stated_lasts P bytes (Length n) fault e h = go (nat_le n 65536) e
+  where
+    go : (b : Bool) → cond b (Ok (Sized n)) (Err TooLarge) ≡ Err fault → Lasts P bytes fault
+    go true f = absurd cc
+    go false f = let same : TooLarge ≡ fault = cc in subst (λ (x : WireFault). Lasts P bytes x) same (λ more. subst (λ (x : WireFault). P (bytes ++ more) x) (sym same) (h more))
+stated_lasts P bytes Malformed fault e h =
+    let same : BadLength ≡ fault = cc in subst (λ (x : WireFault). Lasts P bytes x) same (λ more. subst (λ (x : WireFault). P (bytes ++ more) x) (sym same) (h more))
+
+coded_lasts : (P : List ℕ → WireFault → Type 0) (bytes : List ℕ) (codings : List (List ℕ)) (stated : Stated) (fault : WireFault) → coded_framing codings stated ≡ Err fault
+    → ((more : List ℕ) → P (bytes ++ more) fault) → Lasts P bytes fault
+coded_lasts P bytes [] stated fault e h = stated_lasts P bytes stated fault e h
+coded_lasts P bytes (coding ∷ []) stated fault e h = go (is_alike coding (codes "chunked")) e
+  where
+    go : (b : Bool) → cond b (Ok Chunks) (Err Chunked) ≡ Err fault → Lasts P bytes fault
+    go true f = absurd cc
+    go false f = let same : Chunked ≡ fault = cc in subst (λ (x : WireFault). Lasts P bytes x) same (λ more. subst (λ (x : WireFault). P (bytes ++ more) x) (sym same) (h more))
+coded_lasts P bytes (coding ∷ other ∷ codings) stated fault e h =
+    let same : Chunked ≡ fault = cc in subst (λ (x : WireFault). Lasts P bytes x) same (λ more. subst (λ (x : WireFault). P (bytes ++ more) x) (sym same) (h more))
+
+framing_lasts : (P : List ℕ → WireFault → Type 0) (bytes : List ℕ) (code : ℕ) (fields : List (List ℕ × List ℕ)) (fault : WireFault) → framing_of code fields ≡ Err fault
+    → ((more : List ℕ) → P (bytes ++ more) fault) → Lasts P bytes fault
+framing_lasts P bytes code fields fault e h = go ((code == 204) || (code == 304)) e
+  where
+    go : (b : Bool) → cond b (Ok (Sized 0)) (coded_framing (values_of (codes "transfer-encoding") fields) (stated_of fields)) ≡ Err fault → Lasts P bytes fault
+    go true f = absurd cc
+    go false f = coded_lasts P bytes (values_of (codes "transfer-encoding") fields) (stated_of fields) fault f h
+
+pub framing_refused_now : (bytes : List ℕ) (found : Head) (fault : WireFault) → IsFinalOf bytes found → found.framing ≡ Err fault → Lasts RefusesResponse bytes fault
+framing_refused_now bytes found fault final framed =
+    let is : framing_of (status_code final.head) (fields_in final.head) ≡ Err fault = sym final.framing ∙ framed in
+    framing_lasts RefusesResponse bytes (status_code final.head) (fields_in final.head) fault is (λ more.
+    rest_says (bytes ++ more) fault (λ bad. framing_other (status_code final.head) (fields_in final.head) (is ∙ ap Err bad))
+    (record { head = final.head; behind = drop found.len (bytes ++ more); final = final.final more; refused = inl is }))
+
+pub body_refused_now : (bytes : List ℕ) (found : Head) (framing : Framing) (fault : WireFault) → IsFinalOf bytes found → found.framing ≡ Ok framing
+    → LastsAt (RefusesFramed framing found.len) found.len bytes fault → Lasts RefusesResponse bytes fault
+body_refused_now bytes found framing fault final framed refused =
+    let is : framing_of (status_code final.head) (fields_in final.head) ≡ Ok framing = sym final.framing ∙ framed in
+    let place : ℕ = found.len in
+    lasts_map (λ text f. RefusesFramed framing place (drop place text) f) RefusesResponse bytes fault
+    (λ more f lacks.
+    let stream : List ℕ = bytes ++ more in
+    let same : place ≡ length stream - length (drop place stream) = omega (arith, final.within, length-append bytes more, length-drop place stream) in
+    rest_says stream f
+    (λ bad. framed_other framing place (drop place stream) (subst (λ (x : WireFault). RefusesFramed framing place (drop place stream) x) bad lacks))
+    (record {
+      head = final.head;
+      behind = drop place stream;
+      final = final.final more;
+      refused = inr (framing, is, subst (λ (n : ℕ). RefusesFramed framing n (drop place stream) f) same lacks);
+    })) refused
+
+pub response_whole : (bytes : List ℕ) (found : Head) (framing : Framing) (body : List ℕ) (len : ℕ) → IsFinalOf bytes found → found.framing ≡ Ok framing
+    → IsBodyTo framing found.len bytes body len → IsWhole bytes found.code body len
+response_whole bytes found framing body len final framed content = record {
+  within = content.within;
+  stays = λ more.
+      let same : drop len (bytes ++ more) ≡ drop len bytes ++ more = sym (drop_more_bytes len bytes more content.within) in
+      record {
+        head = final.head;
+        behind = drop found.len (bytes ++ more);
+        final = final.final more;
+        status = final.code;
+        framing = framing;
+        framed = sym final.framing ∙ framed;
+        content = subst (λ (rest : List ℕ). IsBody framing (drop found.len (bytes ++ more)) body rest) same (content.there more);
+        size = omega (arith, content.bound, length-append bytes more, length-append (drop len bytes) more, length-drop len bytes);
+      };
+}
+
+pub response_open_now : (bytes : List ℕ) (found : Head) (framing : Framing) (wanted : ℕ) → IsFinalOf bytes found → found.framing ≡ Ok framing
+    → IsOpenAt (AwaitsBody framing) found.len bytes wanted → IsOpen bytes wanted
+response_open_now bytes found framing wanted final framed o = record {
+  few = o.few;
+  bound = o.bound;
+  awaits = λ more few. inr (record {
+    head = final.head;
+    behind = drop found.len (bytes ++ more);
+    final = final.final more;
+    framing = framing;
+    framed = sym final.framing ∙ framed;
+    open_body = o.awaits more few;
+  });
+}
+
+-- a head isn't whole
+pub head_open_now : (bytes : List ℕ) → AwaitsHead bytes → length bytes < 73728 → IsOpen bytes (length bytes + 1)
+head_open_now bytes head few = record {
+  few = omega arith;
+  bound = omega (arith, few);
+  awaits = λ more less. subst AwaitsResponse (same_bytes bytes more less) (inl head);
+}
