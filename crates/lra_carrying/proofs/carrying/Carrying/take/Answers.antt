@@ -1,0 +1,17 @@
+use Rattle.std.proofs.Common.{ℕ, List, length, ◌≤◌, sym, ap, subst, arith}
+use Rattle.lra_carrying.specs.Carried.{IsCarried, room_of}
+use Rattle.lra_carrying.specs.inner.Fields.{carried_of}
+use Rattle.lra_carrying.specs.inner.Told.{Seeks}
+use Rattle.lra_carrying.proofs.CarriedLemmas.{carried_took, seeks_more}
+use Rattle.lra_carrying.proofs.carrying.Carrying.take.Goals as goal
+
+pub invariant_of-self-2 : goal.invariant_of-self-2
+invariant_of-self-2 c =
+    let h = carried_of c.self.inside in
+    let fits : length c.args.bytes.now ≤ room_of h = omega (arith, c.if-bytes-room.false, c.room.ensures, ap room_of c.self.view_is) in
+    record {
+      carried = subst (λ (bytes : List ℕ). IsCarried (record h { taken = bytes })) (sym c.in_ok-extend_from_slice.ensures.items)
+          (carried_took h c.args.bytes.now c.self.invariant.carried fits);
+      seeks = subst (λ (bytes : List ℕ). Seeks c.self.inside.wanted bytes) (sym c.in_ok-extend_from_slice.ensures.items)
+          (seeks_more c.self.inside.wanted c.self.inside.kept.items c.args.bytes.now c.self.invariant.seeks);
+    }

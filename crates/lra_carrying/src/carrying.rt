@@ -1,0 +1,201 @@
+//! One callback.
+ghost use Rattle.std.specs.Prelude.{◌≡◌, ◌≢◌, ◌≤◌, ℕ, List, false, drop, length, option_map, Err, IfOk, IfErr, IfSome, IsTrue};
+ghost use Rattle.std.specs.Result.{result_unwrap_or};
+ghost use Rattle.lra_model.specs.declared.asks.Outcome.{Outcome};
+ghost use Rattle.lra_model.specs.Words.{outcome_suits};
+ghost use Rattle.lra_ids.specs.Addresses.{is_address};
+ghost use Rattle.lra_courier.specs.Callbacks.{Calling};
+ghost use Rattle.lra_courier.specs.Exchanges.{IsAnswer};
+ghost use Rattle.lra_carrying.specs.Carried.{IsReply, IsCarried, Comes, begun, room_of, went, finished, broken, tells};
+ghost use Rattle.lra_carrying.specs.Steps.{Takes, Steps};
+
+use crate::told::{Asked, look};
+use lra_courier::{CallFault, Callback, SendFault};
+use lra_model::{Memory, Outcome};
+use std::alloc::Global;
+use std::marker::Model;
+
+/// The most bytes that are kept: those of the largest response, with its interim heads.
+const MAX_KEPT: usize = 1 << 20;
+
+/// What stands next.
+#[derive(Clone, Copy, Debug, PartialEq, Eq)]
+pub enum Step {
+    /// Bytes of the request are to be handed out.
+    Sends,
+    /// More bytes of the response are wanted.
+    Wants,
+    /// What the callback came to: it stays so.
+    Came(Result<Outcome, CallFault>),
+}
+
+/// A callback, as steps. A contract sees what was carried of it.
+#[derive(Drop)]
+pub struct Carrying {
+    alloc: Global,
+    asked: Asked,
+    request: Vec<u8>,
+    /// How many bytes of the request were handed out.
+    gone: usize,
+    kept: Vec<u8>,
+    /// How many bytes have to be kept before the response can be whole, as far as that is known.
+    wanted: usize,
+    closed: bool,
+    failed: bool,
+    came: Option<Result<Outcome, CallFault>>,
+}
+
+impl Model for Carrying {
+    ghost use Rattle.lra_carrying.specs.Carried.{Carried};
+
+    ghost Value = { Carried };
+
+    ghost use Rattle.lra_carrying.specs.inner.Fields.{carried_of, Holds};
+
+    ghost view = { carried_of };
+
+    ghost invariant = { Holds };
+}
+
+impl Carrying {
+    /// A callback of which nothing is carried yet.
+    pub fn new(alloc: Global, callback: &Callback<'_>) -> Result<Carrying, SendFault>
+        ensures ok { IfOk result (λ made. made ≡ begun callback.now) }
+        ensures address { result ≡ Err SendFault.BadAddress → is_address callback.now.address ≡ false }
+        ensures err { IfErr result (λ fault. fault ≢ SendFault.Io) }
+    {
+        let mut request = Vec::new(alloc);
+        match callback.send(alloc, &mut request) {
+            Ok(()) => Ok(Carrying {
+                alloc,
+                asked: Asked {
+                    kind: callback.kind,
+                    direction: callback.direction,
+                },
+                request,
+                gone: 0,
+                kept: Vec::new(alloc),
+                wanted: 0,
+                closed: false,
+                failed: false,
+                came: None,
+            }),
+            Err(SendFault::BadAddress) => Err(SendFault::BadAddress),
+            // A list takes all bytes, unless memory is refused.
+            Err(_) => Err(SendFault::Memory),
+        }
+    }
+
+    /// What is true of every callback that is carried.
+    pub fn carried(&self)
+        ensures { IsCarried self.now }
+    {
+        let _gone = self.gone;
+    }
+
+    /// The bytes of the request that may be handed out.
+    pub fn out(&self) -> &[u8]
+        ensures { result.now ≡ drop self.now.gone self.now.request }
+    {
+        &self.request.as_slice()[self.gone..]
+    }
+
+    /// So many of them were handed out.
+    pub fn gone(&mut self, count: usize)
+        requires { count ≤ length (drop self.old.gone self.old.request) }
+        ensures { self.new ≡ went self.old count }
+    {
+        self.gone += count;
+    }
+
+    /// How many bytes may be taken.
+    pub fn room(&self) -> usize
+        ensures { result ≡ room_of self.now }
+    {
+        if self.closed || self.failed || self.came.is_some() {
+            0
+        } else {
+            MAX_KEPT - self.kept.len()
+        }
+    }
+
+    /// These bytes came, if there is room for them: else they aren't taken.
+    pub fn take(&mut self, bytes: &[u8]) -> Result<bool, Memory>
+        ensures { Takes result bytes.now self.old self.new }
+    {
+        if bytes.len() > self.room() {
+            return Ok(false);
+        }
+        self.kept.extend_from_slice(bytes)?;
+        Ok(true)
+    }
+
+    /// No more bytes come.
+    pub fn ended(&mut self)
+        ensures { self.new ≡ finished self.old }
+    {
+        self.closed = true;
+    }
+
+    /// The stream has failed: no byte goes or comes any more.
+    pub fn failed(&mut self)
+        ensures { self.new ≡ broken self.old }
+    {
+        self.failed = true;
+    }
+
+    /// The next step. Where memory is refused nothing changes.
+    pub fn next(&mut self) -> Result<Step, Memory>
+        ensures { Steps result self.old self.new }
+    {
+        if let Some(told) = self.came {
+            return Ok(Step::Came(told));
+        }
+        if self.gone < self.request.len() {
+            if !self.failed {
+                return Ok(Step::Sends);
+            }
+            return Ok(self.tell(Err(CallFault::Send(SendFault::Io))));
+        }
+        match look(
+            self.alloc,
+            self.kept.as_slice(),
+            &mut self.wanted,
+            self.closed,
+            self.failed,
+            self.asked,
+        )? {
+            Some(Ok(outcome)) => Ok(self.tell(Ok(outcome))),
+            Some(Err(fault)) => Ok(self.tell(Err(CallFault::Reply(fault)))),
+            None => Ok(Step::Wants),
+        }
+    }
+
+    /// What it came to, where it came to something: any fault is [`Outcome::Silent`].
+    pub fn outcome(&self) -> Option<Outcome>
+        ensures comes { result ≡ option_map (λ told. result_unwrap_or told Outcome.Silent) self.now.came }
+        ensures suits { IfSome result (λ outcome. IsTrue (outcome_suits self.now.kind outcome)) }
+    {
+        match self.came {
+            Some(Ok(outcome)) => Some(outcome),
+            Some(Err(_)) => Some(Outcome::Silent),
+            None => None,
+        }
+    }
+
+    /// It came to that.
+    fn tell(&mut self, told: Result<Outcome, CallFault>) -> Step
+        requires { Comes self.old told }
+        ensures new { self.new ≡ tells self.old told }
+        ensures result { result ≡ Step.Came told }
+    {
+        self.came = Some(told);
+        Step::Came(told)
+    }
+}
+
+/// What a response comes to is what it comes to for [`Callback::exchange`](lra_courier::Callback::exchange).
+pub fn replies_are_answers()
+    ensures { (calling : Calling) (bytes rest : List ℕ) (outcome : Outcome)
+        → IsReply calling.kind calling.direction bytes rest outcome → IsAnswer calling bytes rest outcome }
+{}
