@@ -1,4 +1,5 @@
 //! Callbacks: what is written, what replies come to, and streams that fail.
+mod carrying;
 mod dialling;
 mod errands;
 mod limits;
