@@ -3,8 +3,8 @@
 ghost use Rattle.std.specs.Prelude.{◌≡◌};
 
 use crate::calling::DiallingCourier;
-use crate::deadline::{seconds_on, time_until};
 use crate::dialler::Dialler;
+use lra_clocks::{seconds_on, time_until};
 use std::alloc::Global;
 use std::io;
 use std::io::{Read, Write};

@@ -2,7 +2,7 @@
 
 ghost use Rattle.lra_front.specs.Transcripts.{AreTranscripts, AreWrittenInTurn};
 
-use crate::stream::Clock;
+use lra_clocks::Clock;
 use lra_commands::Counter;
 
 /// Where the bytes of a stream and of its writer are known, what `serve_stream` does is a transcript: the requests that the

@@ -13,6 +13,7 @@ mod wish;
 pub use answer::Answer;
 pub use denial::Denial;
 pub use laws::{streams_are_transcripts, streams_write_in_turn};
+pub use lra_clocks::Clock;
 pub use route::{Place, Route, Routes, id_in};
-pub use stream::{Clock, Served, StreamEnd, fault_answer, serve_request, serve_stream};
+pub use stream::{Served, StreamEnd, fault_answer, serve_request, serve_stream};
 pub use wish::Wish;

@@ -11,22 +11,11 @@ use crate::answer::Answer;
 use crate::denial::Denial;
 use crate::route::Routes;
 use http::Method;
+use lra_clocks::Clock;
 use lra_commands::{Counter, Refusal};
 use lra_wire::{Inbox, RequestRead, WireFault, read_request};
 use std::alloc::Global;
 use std::io::{Read, Write};
-
-/// What gives the moments at which requests are answered.
-pub trait Clock {
-    ghost use Rattle.std.specs.Prelude.{ℕ};
-
-    // What a call may tell, and the clock after it.
-    ghost tells: { Self → ℕ → Self → Type 0 };
-
-    /// The moment, in milliseconds.
-    fn now(&mut self) -> u64
-        ensures { tells self.old result self.new };
-}
 
 /// How a stream ended.
 #[derive(Clone, Copy, Debug, PartialEq, Eq)]

@@ -1,3 +1,4 @@
 pub mod Identifiers
 pub mod Addresses
+pub mod Bases
 pub mod inner

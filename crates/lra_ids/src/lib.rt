@@ -3,11 +3,13 @@
 #![tactic(auto)]
 
 mod addresses;
+mod base;
 mod fault;
 mod identifier;
 mod reading;
 
 pub use addresses::Address;
+pub use base::base_of;
 pub use fault::UriFault;
 pub use identifier::{read_action, read_id, read_recovery, spell_action, spell_recovery};
 pub use lra_model::{Instance, Memory};

@@ -1,3 +1,1 @@
-pub mod Refused
-pub mod Mending
 pub mod Pushed

@@ -1,6 +1,2 @@
-pub mod Faults
 pub mod Outcomes
-pub mod Places
-pub mod Opened
-pub mod Ends
 pub mod inner

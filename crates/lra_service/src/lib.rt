@@ -2,28 +2,22 @@
 #![tactic(auto)]
 
 mod base;
-mod client;
-mod clock;
 mod disk;
 mod entrance;
-mod fault;
-mod file;
-mod opening;
 mod patient;
 mod pause;
-mod place;
 mod post;
 mod running;
 mod session;
 mod shift;
 
-pub use clock::SystemClock;
 pub use disk::{FilePen, JournalFile};
 pub use entrance::Entrance;
-pub use fault::{ServeFault, fault_line};
-pub use opening::open_office;
+pub use lra_clocks::SystemClock;
+pub use lra_opening::{
+    Found, Place, ServeFault, fault_line, find_journal, open_office, ready_file,
+};
 pub use patient::Patient;
 pub use pause::Pause;
-pub use place::{Found, Place, find_journal, ready_file};
 pub use running::{serve, serve_from};
 pub use session::Session;

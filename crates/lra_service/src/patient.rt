@@ -4,7 +4,7 @@ ghost use Rattle.std.specs.Prelude.{◌≡◌};
 
 use lra_core::Errand;
 use lra_courier::Courier;
-use lra_durable::{Disk, Progress};
+use lra_durable::{Disk, Progress, once_kept};
 use lra_model::Outcome;
 use std::sync::Wait;
 
@@ -39,8 +39,9 @@ impl<R: Wait, D: Disk, C: Courier + Drop> Courier for Patient<'_, R, D, C> {
     ghost gives = { λ ask kind outcome. (HasLeave D.took D.keeps × C.gives ask kind outcome) ⊎ (outcome ≡ Silent) };
 
     fn carry(&mut self, errand: &Errand) -> Outcome {
-        match self.progress.tally(self.rt).settle(self.rt) {
-            Ok(_) => self.courier.carry(errand),
+        let courier = &mut self.courier;
+        match once_kept(self.rt, self.progress, || courier.carry(errand)) {
+            Ok(outcome) => outcome,
             Err(_) => Outcome::Silent,
         }
     }

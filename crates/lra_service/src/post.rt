@@ -1,13 +1,11 @@
 //! The clerks of a service.
 
 ghost use Rattle.std.specs.Prelude.{All, IfOk, IfErr, OnOk};
-ghost use Rattle.lra_service.specs.Faults.{IsOfNoScript};
+ghost use Rattle.lra_opening.specs.Faults.{IsOfNoScript};
 ghost use Rattle.lra_service.specs.inner.Opened.{IsAt};
 
-use crate::fault::ServeFault;
-use lra_commands::Refusal;
-use lra_office::{Clerk, OfficeOf, OfficeRefusal, Serving};
-use lra_reports::RunFault;
+use lra_office::{Clerk, OfficeOf, Serving};
+use lra_opening::{ServeFault, enrol_fault};
 use std::alloc::Global;
 use std::sync::Wait;
 
@@ -18,17 +16,6 @@ pub(crate) enum Duty {
     Answer,
     /// To let limits fire and carry errands.
     Carry,
-}
-
-/// Why nothing is served, where that is what keeps a clerk from being enrolled.
-pub(crate) fn enrol_fault(refusal: OfficeRefusal) -> ServeFault
-    ensures { IsOfNoScript result }
-{
-    match refusal {
-        OfficeRefusal::Refused(Refusal::Memory) => ServeFault::Run(RunFault::Memory),
-        OfficeRefusal::Refused(Refusal::Stopped) => ServeFault::File,
-        _ => ServeFault::Address,
-    }
 }
 
 /// Gives a clerk its duty, and enrols another beside it.

@@ -1,29 +1,27 @@
 //! The run of a service.
 
-ghost use Rattle.std.specs.Prelude.{◌≡◌, ◌≢◌, ℕ, List, true, Ok, None, option_map, IsFalse, IfSome, IfOk, IfErr, OnOk, IsErrAnd};
+ghost use Rattle.std.specs.Prelude.{◌≡◌, ℕ, List, true, None, option_map, IsFalse, IfSome, IfOk, IfErr, OnOk, IsErrAnd};
 ghost use Rattle.std.specs.Io.KnownBytes.{Appends};
 ghost use Rattle.lra_ids.specs.Addresses.{is_base};
+ghost use Rattle.lra_ids.specs.Bases.{base_text};
 ghost use Rattle.lra_office.specs.Wholes.{whole_lines};
-ghost use Rattle.lra_reports.specs.Report.{ReportsAudit};
-ghost use Rattle.lra_service.specs.Ends.{serving_line, IsSaid, IsRefused, IsOfAddress};
-ghost use Rattle.lra_service.specs.Faults.{base_text, IsOfNoScript};
-ghost use Rattle.lra_service.specs.Places.{IsFound};
+ghost use Rattle.lra_opening.specs.Ends.{serving_line, IsSaid, IsRefused, IsOfAddress};
+ghost use Rattle.lra_opening.specs.Faults.{IsOfNoScript};
+ghost use Rattle.lra_opening.specs.Places.{IsFound};
 ghost use Rattle.lra_service.specs.inner.Opened.{IsOpenAt};
 
-use crate::base::{base_of, bind};
-use crate::clock::milliseconds;
+use crate::base::{base_at, bind};
 use crate::disk::{FilePen, JournalFile};
-use crate::fault::ServeFault;
-use crate::file::NamedFile;
-use crate::opening::open_office;
-use crate::place::{Found, Place, find_journal, ready_file};
 use crate::post::hire_all;
 use crate::shift::{Shift, work};
+use lra_clocks::milliseconds;
 use lra_durable::{Keeper, Progress};
 use lra_ids::Address;
-use lra_journal::whole;
 use lra_office::{Clerk, Desk, Office};
-use lra_reports::{RunFault, audit_run};
+use lra_opening::{
+    Found, NamedFile, Place, ServeFault, find_journal, open_office, ready_file, refuse,
+};
+use lra_reports::RunFault;
 use std::alloc::Global;
 use std::fs::File;
 use std::io::Write;
@@ -33,26 +31,6 @@ use std::rt::Files;
 use std::sync::Wait;
 use std::thread::Threads;
 use std::time::Clock;
-
-/// Audits the front of a journal: a sound one leaves the output as it is, and else the fault is written as `lra audit` does, and the
-/// answer is the program's status.
-fn audit_front<W: Write>(alloc: Global, front: &[u8], writer: &mut W) -> Result<u8, ServeFault>
-    ensures sound { result ≡ Ok 0 → W.contents writer.new ≡ W.contents writer.old }
-    ensures unsound { IfOk result (λ status. status ≢ 0 → ReportsAudit front.now status (W.contents writer.old) (W.contents writer.new)) }
-    ensures fault { (address : List ℕ) → IfErr result (IsSaid address (W.contents writer.old) (W.contents writer.new)) }
-{
-    let mut report = Vec::new(alloc);
-    match audit_run(alloc, front, &mut report) {
-        Ok(0) => Ok(0),
-        Ok(status) => match writer.write_all(&report) {
-            Ok(()) => Ok(status),
-            Err(_) => Err(ServeFault::Run(RunFault::Write)),
-        },
-        // The report is written into memory.
-        Err(RunFault::Write) => Err(ServeFault::Run(RunFault::Memory)),
-        Err(fault) => Err(ServeFault::Run(fault)),
-    }
-}
 
 /// What serves, and the words that say what.
 #[derive(Drop)]
@@ -267,24 +245,6 @@ impl<
         }
     }
 
-    /// Audits what was found: nothing is told where it can be served.
-    fn refuse<W: Write>(&self, journal: &[u8], writer: &mut W) -> Option<Result<u8, ServeFault>>
-        requires { IfSome (P.had self.now.place.now) (λ had. journal.now ≡ had) }
-        ensures sound { result ≡ None → W.contents writer.new ≡ W.contents writer.old }
-        ensures unsound { IfSome result (λ told. IfOk told (IsRefused (P.had self.now.place.now) (W.contents writer.old) (W.contents writer.new))) }
-        ensures fault { IfSome result (λ told. IfErr told (IsSaid self.now.address.now (W.contents writer.old) (W.contents writer.new))) }
-    {
-        if journal.is_empty() {
-            return None;
-        }
-        let front = whole(journal);
-        match audit_front(self.alloc, &journal[..front], writer) {
-            Ok(status) if status != 0 => Some(Ok(status)),
-            Ok(_) => None,
-            Err(fault) => Some(Err(fault)),
-        }
-    }
-
     /// Serves what the place has, once its lock is taken and its journal is audited.
     fn serve_place<W: Write>(&self, base: Address, writer: &mut W) -> Result<u8, ServeFault>
         requires base { is_base base ≡ true }
@@ -293,7 +253,7 @@ impl<
         ensures fault { IfErr result (IsSaid self.now.address.now (W.contents writer.old) (W.contents writer.new)) }
     {
         let (found, journal) = find_journal(self.alloc, self.place)?;
-        if let Some(told) = self.refuse(&journal, writer) {
+        if let Some(told) = refuse(self.alloc, &journal, writer) {
             drop(found);
             drop(journal);
             drop(base);
@@ -324,7 +284,7 @@ pub fn serve_from<
     ensures base { IsFalse (is_base (base_text address.now)) → IsErrAnd result IsOfAddress × (W.contents writer.new ≡ W.contents writer.old) }
 {
     let alloc = rt.alloc();
-    let base = base_of(alloc, address)?;
+    let base = base_at(alloc, address)?;
     let service = Service {
         rt,
         alloc,

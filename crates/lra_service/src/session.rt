@@ -4,7 +4,7 @@ ghost use Rattle.std.specs.Prelude.{◌≡◌, IfOk};
 ghost use Rattle.std.specs.Io.{ReadsAtMost, WritesAtMost};
 ghost use Rattle.lra_durable.specs.Leaves.{HasLeave};
 
-use crate::client::Client;
+use lra_client::Client;
 use lra_durable::{Disk, Progress};
 use lra_workers::Line;
 use std::io;

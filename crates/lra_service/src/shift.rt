@@ -3,12 +3,12 @@
 ghost use Rattle.std.specs.Prelude.{◌≡◌, All};
 ghost use Rattle.lra_service.specs.inner.Opened.{IsAt};
 
-use crate::clock::SystemClock;
 use crate::disk::JournalFile;
 use crate::entrance::Entrance;
 use crate::patient::Patient;
 use crate::pause::Pause;
 use crate::post::Duty;
+use lra_clocks::SystemClock;
 use lra_courier::TcpCourier;
 use lra_durable::Progress;
 use lra_office::{Clerk, OfficeOf, Serving};

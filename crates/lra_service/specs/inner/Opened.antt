@@ -7,7 +7,7 @@ use Rattle.lra_office.specs.declared.office.OfficeOf.{OfficeOf}
 use Rattle.lra_office.specs.Clerks.{clerk_view, IsClerkOf}
 use Rattle.lra_office.specs.Origins.{Origin}
 use Rattle.lra_office.specs.Windows.{IsOfficeOf}
-use Rattle.lra_service.specs.Opened.{GoesOn}
+use Rattle.lra_opening.specs.Opened.{GoesOn}
 
 -- a clerk is one of an office, which keeps a copy of what its coordinator was made with
 pub record IsAt {X O : Type 0} {g : Ghosts X O} (setting : O → Setting) (office : OfficeOf X O) (clerk : Clerk X O g) : Type 0 where

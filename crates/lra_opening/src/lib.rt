@@ -1,0 +1,15 @@
+//! What a service has to be before it serves: its journal's file found, locked, audited and cut to its whole lines, and the office that goes
+//! on from it; and why nothing is served.
+#![tactic(auto)]
+
+mod auditing;
+mod fault;
+mod file;
+mod opening;
+mod place;
+
+pub use auditing::refuse;
+pub use fault::{ServeFault, enrol_fault, fault_line};
+pub use file::NamedFile;
+pub use opening::open_office;
+pub use place::{Found, Place, find_journal, ready_file};

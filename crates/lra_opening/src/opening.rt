@@ -1,0 +1,100 @@
+//! The office of a service, and its first clerk.
+
+ghost use Rattle.std.specs.Prelude.{◌≡◌, true, IfOk, IfErr};
+ghost use Rattle.lra_commands.specs.Terms.{usual};
+ghost use Rattle.lra_ids.specs.Addresses.{is_base};
+ghost use Rattle.lra_office.specs.Made.{new_origin};
+ghost use Rattle.lra_opening.specs.Faults.{IsOfNoScript};
+ghost use Rattle.lra_opening.specs.Opened.{IsBegun, GoesOn};
+
+use crate::fault::{ServeFault, enrol_fault};
+use lra_commands::Limits;
+use lra_ids::{Address, Instance};
+use lra_office::{Clerk, Desk, Office, ReopenFault, StartFault};
+use lra_reports::RunFault;
+use std::alloc::Global;
+use std::io::Write;
+use std::sync::Wait;
+
+/// Why nothing is served, where that is what keeps a new office from being made.
+fn start_fault(fault: StartFault) -> ServeFault
+    ensures { IsOfNoScript result }
+{
+    match fault {
+        StartFault::Stopped => ServeFault::File,
+        StartFault::Memory => ServeFault::Run(RunFault::Memory),
+    }
+}
+
+/// Why nothing is served, where that is what keeps a journal from being gone on from.
+fn reopen_fault(fault: ReopenFault) -> ServeFault
+    ensures { IsOfNoScript result }
+{
+    match fault {
+        ReopenFault::Stopped => ServeFault::File,
+        ReopenFault::Memory => ServeFault::Run(RunFault::Memory),
+        ReopenFault::Full | ReopenFault::Unsound { .. } => ServeFault::Address,
+    }
+}
+
+/// The instance of a new journal: the moment.
+fn instance_at(moment: u64) -> Result<Instance, ServeFault>
+    ensures instance { IfOk result (λ instance. instance ≡ moment) }
+    ensures fault { IfErr result IsOfNoScript }
+{
+    match Instance::new(moment) {
+        Some(instance) => Ok(instance),
+        None => Err(ServeFault::Address),
+    }
+}
+
+/// An office with a new journal, whose instance is the moment.
+fn begin<W: Write + Drop, R: Wait>(
+    rt: &R,
+    alloc: Global,
+    base: Address,
+    writer: W,
+    moment: u64,
+) -> Result<(Office<W>, Clerk<Desk<W>>), ServeFault>
+    requires { is_base base ≡ true }
+    ensures opened { IfOk result (λ opened. IsBegun (new_origin moment base usual (W.contents writer)) moment opened.0 opened.1) }
+    ensures fault { IfErr result IsOfNoScript }
+{
+    let instance = instance_at(moment)?;
+    match Office::create(alloc, instance, base, Limits::usual(), writer) {
+        Ok((office, pass)) => match office.clerk(rt, pass, moment) {
+            Ok(clerk) => Ok((office, clerk)),
+            Err((pass, refusal)) => {
+                drop(pass);
+                drop(office);
+                Err(enrol_fault(refusal))
+            }
+        },
+        Err((fault, writer)) => {
+            drop(writer);
+            Err(start_fault(fault))
+        }
+    }
+}
+
+/// An office that goes on from a journal, or begins one where there is none.
+pub fn open_office<W: Write + Drop, R: Wait>(
+    rt: &R,
+    alloc: Global,
+    base: Address,
+    journal: Vec<u8>,
+    writer: W,
+    moment: u64,
+) -> Result<(Office<W>, Clerk<Desk<W>>), ServeFault>
+    requires { is_base base ≡ true }
+    ensures opened { IfOk result (λ opened. GoesOn base journal.items moment (W.contents writer) opened.0 opened.1) }
+    ensures fault { IfErr result IsOfNoScript }
+{
+    if journal.is_empty() {
+        return begin(rt, alloc, base, writer, moment);
+    }
+    match Office::reopen(alloc, journal, base, Limits::usual(), writer, moment) {
+        Ok(opened) => Ok(opened),
+        Err((fault, _)) => Err(reopen_fault(fault)),
+    }
+}
