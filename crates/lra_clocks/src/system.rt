@@ -1,10 +1,12 @@
-//! The system's clock.
+//! The system's clocks.
 
-ghost use Rattle.std.specs.Prelude.{◌≡◌, max, unwrap_or};
+ghost use Rattle.std.specs.Prelude.{◌≡◌, ◌+◌, ◌-◌, ◌/◌, max, unwrap_or, Some, IfSome};
+ghost use Rattle.std.specs.Duration.{as_nanos};
+ghost use Rattle.std.specs.Time.{instant_nanos};
 
 use crate::clock::Clock;
 use std::time;
-use std::time::{SystemTime, UNIX_EPOCH};
+use std::time::{Duration, Instant, SystemTime, UNIX_EPOCH};
 
 /// The milliseconds since 1970, where the system's clock tells them.
 pub fn milliseconds<R: time::Clock>(rt: &R) -> Option<u64> {
@@ -22,19 +24,68 @@ fn later(last: u64, read: Option<u64>) -> u64
     }
 }
 
-/// The system's clock, in milliseconds since 1970. Where it can't be read, or was set back, it stands still.
+/// A moment, and the steady clock's when it was told.
+#[derive(Clone, Copy)]
+struct Anchor {
+    moment: u64,
+    told: Instant,
+}
+
+impl Anchor {
+    /// The moment once so much time has passed by the steady clock.
+    fn moment_at(&self, now: Instant) -> Option<u64>
+        ensures { IfSome result (λ moment. moment ≡ self.now.moment + (instant_nanos now - instant_nanos self.now.told) / 1_000_000) }
+    {
+        let passed = now.saturating_duration_since(self.told);
+        self.moment.checked_add(milliseconds_of(passed)?)
+    }
+}
+
+/// How many whole milliseconds some time has.
+fn milliseconds_of(time: Duration) -> Option<u64>
+    ensures { IfSome result (λ count. count ≡ as_nanos time / 1_000_000) }
+{
+    u64::try_from(time.as_millis()).ok()
+}
+
+/// The system's clock, in milliseconds since 1970. It goes on by the system's steady clock from the moment that it was given, and where the
+/// system's clock is ahead of that, from there. So it stands still only where neither can be read, and where the system's clock was
+/// set back, or the moment lies ahead of it, it goes on at its own pace.
 #[derive(Drop)]
 pub struct SystemClock<'a, R> {
     rt: &'a R,
     last: u64,
+    anchor: Option<Anchor>,
 }
 
 impl<'a, R: time::Clock> SystemClock<'a, R> {
-    /// A clock that stands at a moment until it is read.
+    /// A clock that goes on from a moment.
     pub fn new(rt: &'a R, moment: u64) -> SystemClock<'a, R>
         ensures { result.last ≡ moment }
     {
-        SystemClock { rt, last: moment }
+        let mut clock = SystemClock {
+            rt,
+            last: moment,
+            anchor: None,
+        };
+        clock.set(moment);
+        clock
+    }
+
+    /// From now on it goes on from that moment.
+    fn set(&mut self, moment: u64)
+        ensures { self.new.last ≡ self.old.last }
+    {
+        self.anchor = match Instant::now(self.rt) {
+            Ok(told) => Some(Anchor { moment, told }),
+            Err(_) => None,
+        };
+    }
+
+    /// The moment by the steady clock.
+    fn steady(&self) -> Option<u64> {
+        let now = Instant::now(self.rt).ok()?;
+        self.anchor?.moment_at(now)
     }
 }
 
@@ -44,7 +95,12 @@ impl<R: time::Clock> Clock for SystemClock<'_, R> {
     ghost tells = { λ before moment after. (before.last ≤ moment) × (after.last ≡ moment) };
 
     fn now(&mut self) -> u64 {
-        self.last = later(self.last, milliseconds(self.rt));
-        self.last
+        let steady = later(self.last, self.steady());
+        let moment = later(steady, milliseconds(self.rt));
+        if steady < moment {
+            self.set(moment);
+        }
+        self.last = moment;
+        moment
     }
 }
