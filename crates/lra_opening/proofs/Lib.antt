@@ -1,2 +1,3 @@
+mod LineLemmas
 pub mod Refused
 pub mod Mending

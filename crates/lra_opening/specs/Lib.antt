@@ -2,3 +2,4 @@ pub mod Faults
 pub mod Places
 pub mod Opened
 pub mod Ends
+pub mod Latest
