@@ -1,0 +1,147 @@
+//! Writes that are whole, or are taken back, and what leaves when.
+
+use crate::platter::{Begun, begin};
+use lra_durable::{Keeper, Unkept, release};
+use std::alloc::Global;
+use std::io::{ErrorKind, Write};
+use std::sync::Wait;
+use std::test::Fail;
+
+/// What became of a write.
+fn outcome<W: Write>(keeper: &mut W, bytes: &[u8]) -> Option<ErrorKind> {
+    match keeper.write_all(bytes) {
+        Ok(()) => None,
+        Err(error) => Some(error.kind()),
+    }
+}
+
+/// Whether a write that the disk takes in part is taken back, and the next one stands behind those that were whole.
+fn takes_back<R: Wait>(rt: &R, alloc: Global) -> Option<bool> {
+    let Begun {
+        platter,
+        pen,
+        progress,
+    } = begin(alloc, 6, false)?;
+    let mut keeper = Keeper::new(rt, &progress, pen, u64::MAX);
+    let whole = outcome(&mut keeper, b"abcd").is_none();
+    let cut = outcome(&mut keeper, b"efgh") == Some(ErrorKind::WriteZero);
+    let is_back = platter.has(4, 0);
+    platter.make_room(9, false);
+    let next = outcome(&mut keeper, b"ij").is_none() && platter.has(6, 0);
+    Some(whole && cut && is_back && next && !progress.has_failed(rt))
+}
+
+#[test]
+fn a_write_stands_whole_or_not_at_all(rt: HostRuntime) {
+    assert!(rt; takes_back(&rt, rt.alloc()) == Some(true));
+}
+
+/// Whether a write that can't be taken back is the disk's failure: nothing is written from then on, and nobody waits.
+fn fails<R: Wait>(rt: &R, alloc: Global) -> Option<bool> {
+    let Begun {
+        platter,
+        pen,
+        progress,
+    } = begin(alloc, 6, false)?;
+    let mut keeper = Keeper::new(rt, &progress, pen, u64::MAX);
+    let whole = outcome(&mut keeper, b"abcd").is_none();
+    platter.make_room(1, true);
+    let cut = outcome(&mut keeper, b"efgh") == Some(ErrorKind::WriteZero);
+    platter.make_room(9, false);
+    let shut = outcome(&mut keeper, b"i") == Some(ErrorKind::Other);
+    let unkept = progress.keep(rt, &progress.due(rt)) == Err(Unkept);
+    Some(whole && cut && shut && unkept && platter.syncs() == 1 && platter.has(5, 0))
+}
+
+#[test]
+fn a_write_that_cannot_be_taken_back_is_the_end(rt: HostRuntime) {
+    assert!(rt; fails(&rt, rt.alloc()) == Some(true));
+}
+
+/// Whether writes stop before the room that there is, and go on where they fit.
+fn keeps_within<R: Wait>(rt: &R, alloc: Global) -> Option<bool> {
+    let Begun {
+        platter,
+        pen,
+        progress,
+    } = begin(alloc, 100, false)?;
+    let mut keeper = Keeper::new(rt, &progress, pen, 5);
+    let first = outcome(&mut keeper, b"abc").is_none();
+    let past = outcome(&mut keeper, b"def") == Some(ErrorKind::FileTooLarge);
+    let last = outcome(&mut keeper, b"de").is_none();
+    let full = outcome(&mut keeper, b"f") == Some(ErrorKind::FileTooLarge);
+    Some(first && past && last && full && platter.has(5, 0))
+}
+
+#[test]
+fn a_write_past_the_room_is_refused_whole(rt: HostRuntime) {
+    assert!(rt; keeps_within(&rt, rt.alloc()) == Some(true));
+}
+
+/// Whether bytes leave once what is due is kept, and not before.
+fn leaves_late<R: Wait>(rt: &R, alloc: Global) -> Option<bool> {
+    let Begun {
+        platter,
+        pen,
+        progress,
+    } = begin(alloc, 100, false)?;
+    let mut keeper = Keeper::new(rt, &progress, pen, u64::MAX);
+    let mut page = Vec::new(alloc);
+    let nothing = progress.due(rt);
+    let at_once = release(rt, &progress, &nothing, &mut page, b"200").ok()?;
+    keeper.write_all(b"abcde").ok()?;
+    let due = progress.due(rt);
+    let early = release(rt, &progress, &due, &mut page, b"201").ok()?;
+    let older = release(rt, &progress, &nothing, &mut page, b"404").ok()?;
+    let kept = progress.keep(rt, &due) == Ok(5) && platter.has(5, 5);
+    let late = release(rt, &progress, &due, &mut page, b"201").ok()?;
+    let is_right = page.as_slice() == b"200404201".as_slice();
+    let at_once = at_once == Some((3, 0)) && older == Some((3, 0));
+    Some(at_once && early.is_none() && kept && late == Some((3, 5)) && is_right)
+}
+
+#[test]
+fn bytes_leave_once_what_is_due_is_kept(rt: HostRuntime) {
+    assert!(rt; leaves_late(&rt, rt.alloc()) == Some(true));
+}
+
+/// Whether after a failed sync nothing is kept, written or handed out any more.
+fn leaves_never<R: Wait>(rt: &R, alloc: Global) -> Option<bool> {
+    let Begun {
+        platter,
+        pen,
+        progress,
+    } = begin(alloc, 100, false)?;
+    let mut keeper = Keeper::new(rt, &progress, pen, u64::MAX);
+    let written = outcome(&mut keeper, b"ab").is_none();
+    let due = progress.due(rt);
+    platter.set(true, false);
+    let failed = progress.keep(rt, &due) == Err(Unkept);
+    platter.set(false, false);
+    let again = progress.keep(rt, &due) == Err(Unkept) && progress.kept(rt, &due) == Err(Unkept);
+    let shut = outcome(&mut keeper, b"c") == Some(ErrorKind::Other);
+    let mut page = Vec::new(alloc);
+    let held = release(rt, &progress, &due, &mut page, b"201").is_err() && page.is_empty();
+    Some(
+        written
+            && failed
+            && again
+            && shut
+            && held
+            && progress.has_failed(rt)
+            && platter.syncs() == 2,
+    )
+}
+
+#[test]
+fn nothing_leaves_after_a_failed_sync(rt: HostRuntime) {
+    assert!(rt; leaves_never(&rt, rt.alloc()) == Some(true));
+}
+
+#[test]
+fn a_disk_that_fails_at_once_is_refused(rt: HostRuntime) -> Result<(), Fail> {
+    assert!(rt; begin(rt.alloc(), 100, true).is_none());
+    let text = format!(in rt.alloc(); "{Unkept}")?;
+    assert!(rt; text.as_str() == "the disk does not keep what it took");
+    Ok(())
+}
