@@ -1,5 +1,5 @@
 -- What stays true of a callback that is carried.
-use Rattle.std.proofs.Common.{◌≡◌, ℕ, ◌+◌, ◌<◌, ◌≤◌, Bool, true, false, List, [], ◌∷◌, ◌++◌, length, drop, refl, sym, ap, subst, ◌∙◌, arith, append_assoc, Option, Some, None, Result, Ok, Err}
+use Rattle.std.proofs.Common.{◌≡◌, ℕ, ◌+◌, ◌<◌, ◌≤◌, Bool, true, false, List, [], ◌∷◌, ◌++◌, length, drop, refl, sym, ap, subst, ◌∙◌, arith, Option, Some, None, Result, Ok, Err}
 use Rattle.std.specs.Prelude.{◌-◌, ◌||◌, if◌then◌else◌, is_some, IfSome, IsTrue}
 use Rattle.std.specs.Result.{result_unwrap_or}
 use Rattle.std.proofs.lemmas.List.{append-nil, length-append, length-drop}
@@ -20,7 +20,7 @@ use Rattle.lra_courier.specs.Callbacks.{Calling}
 use Rattle.lra_courier.specs.Exchanges.{IsAnswer}
 use Rattle.lra_courier.specs.Replies.{classify}
 use Rattle.lra_carrying.specs.Carried.{Carried, IsReply, Replies, IsSent, Comes, IsCarried, room_of, went, took, finished, broken, tells}
-use Rattle.lra_carrying.specs.inner.Told.{Seeks, TellsSoFar, TellsAtEnd, Looks}
+use Rattle.lra_carrying.specs.inner.Told.{TellsSoFar, TellsAtEnd, Looks}
 
 -- ---- what is found
 
@@ -70,29 +70,12 @@ pub end_refuses : (bytes : List ℕ) (old : Option (List ℕ)) (fault : WireFaul
 end_refuses bytes None fault e h = absurd cc
 end_refuses bytes (Some all) fault e h = let same : all ≡ bytes = cc in subst (λ (bs : List ℕ). RefusesResponse bs fault) same h
 
--- what is open is sought
-pub open_seeks : (bytes : List ℕ) (wanted : ℕ) → IsOpen bytes wanted → Seeks wanted bytes
-open_seeks bytes wanted o = record { bound = o.bound; awaits = o.awaits }
-
--- fewer bytes than are wanted
-pub seeks_here : (wanted : ℕ) (bytes : List ℕ) → Seeks wanted bytes → length bytes < wanted → AwaitsResponse bytes × (length bytes < 1048576)
-seeks_here wanted bytes s few = (
-  subst AwaitsResponse (append-nil bytes) (s.awaits [] (subst (λ (bs : List ℕ). length bs < wanted) (sym (append-nil bytes)) few)),
-  omega (arith, few, s.bound),
-)
-
+-- what is open awaits more
 pub open_here : (bytes : List ℕ) (wanted : ℕ) → IsOpen bytes wanted → AwaitsResponse bytes × (length bytes < 1048576)
-open_here bytes wanted o = seeks_here wanted bytes (open_seeks bytes wanted o) o.few
-
-pub seeks_none : (bytes : List ℕ) → Seeks 0 bytes
-seeks_none bytes = record { bound = omega arith; awaits = λ more few. absurd (omega (arith, few)) }
-
--- more bytes came
-pub seeks_more : (wanted : ℕ) (bytes more : List ℕ) → Seeks wanted bytes → Seeks wanted (bytes ++ more)
-seeks_more wanted bytes more s = record {
-  bound = s.bound;
-  awaits = λ tail few. subst AwaitsResponse (sym (append_assoc bytes more tail)) (s.awaits (more ++ tail) (subst (λ (bs : List ℕ). length bs < wanted) (append_assoc bytes more tail) few));
-}
+open_here bytes wanted o = (
+  subst AwaitsResponse (append-nil bytes) (o.awaits [] (subst (λ (bs : List ℕ). length bs < wanted) (sym (append-nil bytes)) o.few)),
+  omega (arith, o.few, o.bound),
+)
 
 -- ---- what it came to stays
 

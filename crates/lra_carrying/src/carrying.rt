@@ -12,11 +12,9 @@ ghost use Rattle.lra_carrying.specs.Steps.{Takes, Steps};
 use crate::told::{Asked, look};
 use lra_courier::{CallFault, Callback, SendFault};
 use lra_model::{Memory, Outcome};
+use lra_wire::{MAX_RESPONSE, SeenResponse};
 use std::alloc::Global;
 use std::marker::Model;
-
-/// The most bytes that are kept: those of the largest response, with its interim heads.
-const MAX_KEPT: usize = 1 << 20;
 
 /// What stands next.
 #[derive(Clone, Copy, Debug, PartialEq, Eq)]
@@ -38,8 +36,8 @@ pub struct Carrying {
     /// How many bytes of the request were handed out.
     gone: usize,
     kept: Vec<u8>,
-    /// How many bytes have to be kept before the response can be whole, as far as that is known.
-    wanted: usize,
+    /// What was found of what is kept, so that it isn't read anew with each piece.
+    seen: SeenResponse,
     closed: bool,
     failed: bool,
     came: Option<Result<Outcome, CallFault>>,
@@ -75,7 +73,7 @@ impl Carrying {
                 request,
                 gone: 0,
                 kept: Vec::new(alloc),
-                wanted: 0,
+                seen: SeenResponse::nothing(alloc),
                 closed: false,
                 failed: false,
                 came: None,
@@ -115,7 +113,7 @@ impl Carrying {
         if self.closed || self.failed || self.came.is_some() {
             0
         } else {
-            MAX_KEPT - self.kept.len()
+            MAX_RESPONSE - self.kept.len()
         }
     }
 
@@ -160,7 +158,7 @@ impl Carrying {
         match look(
             self.alloc,
             self.kept.as_slice(),
-            &mut self.wanted,
+            &mut self.seen,
             self.closed,
             self.failed,
             self.asked,

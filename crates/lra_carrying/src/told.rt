@@ -2,11 +2,14 @@
 ghost use Rattle.std.specs.Prelude.{◌≡◌, IsTrue};
 ghost use Rattle.lra_courier.specs.Replies.{classify};
 ghost use Rattle.lra_model.specs.Words.{outcome_suits};
-ghost use Rattle.lra_carrying.specs.inner.Told.{Seeks, TellsSoFar, TellsAtEnd, Looks};
+ghost use Rattle.lra_wire.specs.Seen.{SeesResponse};
+ghost use Rattle.lra_carrying.specs.inner.Told.{TellsSoFar, TellsAtEnd, Looks};
 
 use lra_courier::classify;
 use lra_model::{AskKind, Direction, Memory, Outcome};
-use lra_wire::{Coming, Inbox, ResponseRead, WireFault, read_response, response_front};
+use lra_wire::{
+    Coming, Inbox, ResponseRead, SeenResponse, WireFault, read_response, response_front_seen,
+};
 use std::alloc::{AllocError, Global};
 
 /// What was asked for.
@@ -16,27 +19,20 @@ pub(crate) struct Asked {
     pub direction: Direction,
 }
 
-/// What the bytes that came so far come to, or nothing where more are wanted. They aren't read before as many came as were
-/// wanted.
+/// What the bytes that came so far come to, or nothing where more are wanted. What was seen of them isn't read anew.
 fn told_so_far(
     alloc: Global,
     bytes: &[u8],
-    wanted: &mut usize,
+    seen: &mut SeenResponse,
     asked: Asked,
 ) -> Result<Option<Result<Outcome, WireFault>>, Memory>
-    requires { Seeks wanted.old bytes.now }
-    ensures seeks { Seeks wanted.new bytes.now }
+    requires { SeesResponse seen.old bytes.now }
+    ensures sees { SeesResponse seen.new bytes.now }
     ensures tells { TellsSoFar asked.kind asked.direction bytes.now result }
 {
-    if bytes.len() < *wanted {
-        return Ok(None);
-    }
-    match response_front(alloc, bytes) {
+    match response_front_seen(alloc, bytes, seen) {
         Ok(Coming::Whole(response, _)) => Ok(Some(Ok(asked.outcome(&response)))),
-        Ok(Coming::Open(more)) => {
-            *wanted = more;
-            Ok(None)
-        }
+        Ok(Coming::Open(_)) => Ok(None),
         Err(fault) => {
             if fault == WireFault::Memory {
                 return Err(AllocError);
@@ -71,16 +67,16 @@ fn told_at_end(
 pub(crate) fn look(
     alloc: Global,
     bytes: &[u8],
-    wanted: &mut usize,
+    seen: &mut SeenResponse,
     closed: bool,
     failed: bool,
     asked: Asked,
 ) -> Result<Option<Result<Outcome, WireFault>>, Memory>
-    requires { Seeks wanted.old bytes.now }
-    ensures seeks { Seeks wanted.new bytes.now }
+    requires { SeesResponse seen.old bytes.now }
+    ensures sees { SeesResponse seen.new bytes.now }
     ensures looks { Looks closed failed asked.kind asked.direction bytes.now result }
 {
-    if let Some(told) = told_so_far(alloc, bytes, wanted, asked)? {
+    if let Some(told) = told_so_far(alloc, bytes, seen, asked)? {
         return Ok(Some(told));
     }
     if failed {

@@ -9,18 +9,13 @@ use Rattle.lra_wire.specs.declared.chunks.Piece.TheVariants.{Content, Last}
 use Rattle.lra_wire.specs.declared.fault.WireFault.{WireFault}
 use Rattle.lra_wire.specs.declared.framing.Framing.TheVariants.{Chunks}
 use Rattle.lra_wire.specs.declared.inbox.Inbox.{Inbox}
-use Rattle.lra_wire.specs.Chunks.{Chunk, IsChunk, print_chunk, content_of, HasChunks, HasLast, IsChunked, RefusesChunk, RefusesChunks, AwaitsChunk, AwaitsChunks}
+use Rattle.lra_wire.specs.Chunks.{Chunk, IsChunk, print_chunk, content_of, HasLast, IsChunked, RefusesChunk, RefusesChunks, AwaitsChunk, AwaitsChunks}
 use Rattle.lra_wire.specs.Inbox.{kept_bytes, stream_of}
 use Rattle.lra_wire.specs.inner.Growth.{Grows, Lacks}
+use Rattle.lra_wire.specs.inner.Parts.{Joined}
 use Rattle.lra_wire.specs.inner.Steps.{IsPieceAt, ReadsPiece, FindsBody, LacksBody, AsksBehind}
 use Rattle.lra_wire.proofs.InboxLemmas.{Grows_trans, Grows_refl, asks_on}
 use Rattle.lra_wire.proofs.StreamLemmas.{on_stream, some_both, drop_more_bytes}
-
--- the chunks up to a place of the bytes
-pub record Joined (bytes : List ℕ) (start at : ℕ) (body : List ℕ) : Type 0 where
-  pub chunks : List Chunk
-  pub has : HasChunks (drop start bytes) chunks (drop at bytes)
-  pub body_is : body ≡ content_of chunks
 
 -- what the loop over the chunks keeps
 pub record Joins {R : Type 0} (remaining : R → Option (List ℕ)) (old new : Inbox R) (start at : ℕ) (body : List ℕ) : Type 0 where

@@ -1,15 +1,21 @@
 -- The parts of a response in the bytes that came so far, whatever follows them.
-use Rattle.std.proofs.Common.{◌≡◌, ◌≢◌, get_or, ℕ, ◌+◌, ◌-◌, ◌*◌, ◌<◌, ◌≤◌, Bool, true, false, cond, List, [], ◌∷◌, ◌++◌, length, take, drop, refl, sym, ap, subst, ◌∙◌, arith, append_assoc, Result, Ok, Err, inl, inr}
+use Rattle.std.proofs.Common.{◌≡◌, ◌≢◌, get_or, ℕ, ◌+◌, ◌-◌, ◌<◌, ◌≤◌, Bool, true, false, cond, List, [], ◌∷◌, ◌++◌, length, take, drop, refl, sym, ap, subst, ◌∙◌, arith, append_assoc, Option, Some, None, Result, Ok, Err, inl, inr}
 use Rattle.std.specs.Prelude.{◌⊎◌, ◌||◌, ◌==◌, nat_le, codes, slice_range}
-use Rattle.std.specs.List.{flat_map}
+use Rattle.std.specs.List.{flat_map, list_any}
+use Rattle.std.proofs.Math.Seq.{drop-append_seam}
 use Rattle.std.proofs.lemmas.Grind.{flat_map-append}
-use Rattle.std.proofs.lemmas.List.{take-append-drop, drop-drop, length-drop, length-append, length-take, append-nil}
+use Rattle.std.proofs.lemmas.List.{take-append-drop, take_at, drop-drop, drop_all, length-drop, length-append, length-take, append-nil}
+use Rattle.std.proofs.lemmas.List.Folds.{list_any-append}
 use Rattle.std.proofs.lemmas.List.Elements.{All-push, All-nil}
 use Rattle.httparse.specs.Ascii.{crlf_bytes}
 use Rattle.httparse.specs.Grammar.{print_response, HasNoResponse, MayBecomeResponse, status_code, print_chunk_line, chunk_size, HasNoChunkLine, NeverHasChunkLine, HasNoSection}
 use Rattle.httparse.specs.Spans.{SectionOverflows}
+use Rattle.lra_wire.specs.declared.coming.ChunksRead.{ChunksRead}
 use Rattle.lra_wire.specs.declared.coming.Part.{Part}
 use Rattle.lra_wire.specs.declared.coming.Part.TheVariants.{Content, Last, Open}
+use Rattle.lra_wire.specs.declared.coming.SeenResponse.{SeenResponse}
+use Rattle.lra_wire.specs.declared.coming.Wanted.{Wanted}
+use Rattle.lra_wire.specs.declared.coming.Wanted.TheVariants.{Feed, Bytes}
 use Rattle.lra_wire.specs.declared.fault.WireFault.{WireFault}
 use Rattle.lra_wire.specs.declared.fault.WireFault.TheVariants.{BadHead, Chunked, BadLength, TooLarge, Cut, Io, Memory}
 use Rattle.lra_wire.specs.declared.fields.Stated.{Stated}
@@ -20,15 +26,17 @@ use Rattle.lra_wire.specs.declared.response.Head.{Head}
 use Rattle.lra_wire.specs.Chunks.{IsChunk, print_chunk, content_of, HasLast, RefusesTrailer, RefusesContent, RefusesChunk, RefusesChunks, AwaitsChunk}
 use Rattle.lra_wire.specs.Coming.{Lasts, IsWhole, IsOpen}
 use Rattle.lra_wire.specs.Fields.{is_alike, values_of, stated_of}
-use Rattle.lra_wire.specs.Response.{NeverShort, is_interim, IsInterim, fields_in, stated_framing, coded_framing, framing_of, IsBody, RefusesFramed, RefusesResponse, AwaitsBody, AwaitsHead, AwaitsResponse}
-use Rattle.lra_wire.specs.inner.Parts.{IsFinalOf, IsOpenAt, LastsAt, IsTrailerTo, FindsEnd, FindsContent, FindsPart, IsBodyTo}
-use Rattle.lra_wire.specs.inner.Steps.{IsHeadOf, IsLineOf, IsTrailerOf, IsPieceAt}
-use Rattle.lra_wire.proofs.HeadLemmas.{up_to_all}
-use Rattle.lra_wire.proofs.StreamLemmas.{drop_more_bytes}
+use Rattle.lra_wire.specs.Response.{NeverShort, is_interim, IsInterim, HasFinal, fields_in, stated_framing, coded_framing, framing_of, IsBody, RefusesFramed, RefusesResponse, IsOpenResponse, AwaitsBody, AwaitsResponse}
+use Rattle.lra_wire.specs.Seen.{SeesResponse}
+use Rattle.lra_wire.specs.inner.Parts.{IsMissing, count_wanted, HasLooked, IsOpenAt, Seeks, SkipsTo, Heads, IsFinalOf, FindsHead, LastsAt, IsTrailerTo, FindsEnd, FindsContent, FindsPart, Joined, ChunksTo, HasRead, SeesBody, IsBodyTo}
+use Rattle.lra_wire.specs.inner.Steps.{IsHeadOf, IsLineOf, IsTrailerOf, IsPieceAt, IsSmall}
+use Rattle.lra_wire.proofs.HeadLemmas.{up_to_all, no_response}
+use Rattle.lra_wire.proofs.SearchLemmas.{no_feed, no_line, no_section}
+use Rattle.lra_wire.proofs.StreamLemmas.{drop_more_bytes, behind_in}
 use Rattle.lra_wire.proofs.ChunkLemmas.{NeverHasChunkLine-append, SectionOverflows-append, passes, line_there, trailer_there, two_at}
 use Rattle.lra_wire.proofs.PieceLemmas.{IsOpenBehind, content_there, line_some}
-use Rattle.lra_wire.proofs.ChunksLemmas.{Joined, joined_more}
-use Rattle.lra_wire.proofs.ResponseLemmas.{SkipsTo, NeverShort-append, response_there, rest_says, framing_other, framed_other}
+use Rattle.lra_wire.proofs.ChunksLemmas.{joined_more}
+use Rattle.lra_wire.proofs.ResponseLemmas.{NeverShort-append, response_there, rest_says, framing_small, framing_other, framed_other}
 
 -- ---- what follows
 
@@ -37,16 +45,34 @@ none_more : (bytes more : List ℕ) → length (bytes ++ more) < length bytes + 
 none_more bytes [] few = refl
 none_more bytes (b ∷ more) few = absurd (omega (arith, few, length-append bytes (b ∷ more)))
 
-same_bytes : (bytes more : List ℕ) → length (bytes ++ more) < length bytes + 1 → bytes ≡ bytes ++ more
-same_bytes bytes more few = sym (append-nil bytes) ∙ ap (λ bs. bytes ++ bs) (sym (none_more bytes more few))
+-- no line feed came behind what was there
+feed_none : (bytes more : List ℕ) → list_any (λ b. b == 10) (drop (length bytes) (bytes ++ more)) ≡ false → list_any (λ b. b == 10) more ≡ false
+feed_none bytes more none = subst (λ (bs : List ℕ). list_any (λ b. b == 10) bs ≡ false) (drop-append_seam bytes more) none
 
--- a text is open at the end of the bytes
-pub open_now : (Awaits : List ℕ → Type 0) (start : ℕ) (bytes : List ℕ) (wanted : ℕ) → Awaits (drop start bytes) → wanted ≡ length bytes + 1 → length bytes < 1048576
-    → IsOpenAt Awaits start bytes wanted
-open_now Awaits start bytes wanted there is room = record {
-  few = omega (arith, is);
-  bound = omega (arith, is, room);
-  awaits = λ more few. subst (λ (bs : List ℕ). Awaits (drop start bs)) (same_bytes bytes more (omega (arith, few, is))) there;
+new_feed : (text more : List ℕ) → list_any (λ b. b == 10) more ≡ false → list_any (λ b. b == 10) (slice_range (text ++ more) (length text) (length (text ++ more))) ≡ false
+new_feed text more none =
+    subst (λ (bs : List ℕ). list_any (λ b. b == 10) bs ≡ false) (sym (behind_in {bytes = text ++ more} {kept = text ++ more} (length text) refl ∙ drop-append_seam text more)) none
+
+-- what is open stays so until one comes: a head, a chunk line, a trailer
+response_stays : (text more : List ℕ) → IsOpenResponse text → list_any (λ b. b == 10) more ≡ false → IsOpenResponse (text ++ more)
+response_stays text more here none =
+    no_response (text ++ more) (length text) (omega (arith, length-append text more)) (subst IsOpenResponse (sym (take_at text more (length text) refl)) here) (new_feed text more none)
+
+line_stays : (text more : List ℕ) → HasNoChunkLine text → list_any (λ b. b == 10) more ≡ false → HasNoChunkLine (text ++ more)
+line_stays text more here none =
+    no_line (text ++ more) (length text) (omega (arith, length-append text more)) (subst HasNoChunkLine (sym (take_at text more (length text) refl)) here) (new_feed text more none)
+
+section_stays : (text more : List ℕ) → HasNoSection text → list_any (λ b. b == 10) more ≡ false → HasNoSection (text ++ more)
+section_stays text more here none =
+    no_section (text ++ more) (length text) (omega (arith, length-append text more)) (subst HasNoSection (sym (take_at text more (length text) refl)) here) (new_feed text more none)
+
+-- such a text is open at the end of the bytes
+open_now : (Awaits : List ℕ → Type 0) → ((text more : List ℕ) → Awaits text → list_any (λ b. b == 10) more ≡ false → Awaits (text ++ more)) → (start : ℕ) (bytes : List ℕ)
+    → start ≤ length bytes → Awaits (drop start bytes) → length bytes < 1048576 → IsOpenAt Awaits start bytes (Feed (length bytes))
+open_now Awaits stays start bytes within there room = record {
+  next = refl;
+  bound = omega (arith, room);
+  awaits = λ more missing. subst Awaits (drop_more_bytes start bytes more within) (stays (drop start bytes) more there (feed_none bytes more missing));
 }
 
 -- a fault that lasts, from one reason to another
@@ -61,13 +87,6 @@ lasts_map P Q bytes Cut h p = absurd p
 lasts_map P Q bytes Io h p = absurd p
 
 -- ---- heads
-
--- what the loop over the heads keeps
-pub record Heads (bytes : List ℕ) (start interim : ℕ) : Type 0 where
-  pub within : start ≤ length bytes
-  pub place : start ≤ interim * 8192
-  pub few : interim ≤ 8
-  pub so_far : SkipsTo bytes start interim
 
 pub heads_none : (bytes : List ℕ) → Heads bytes 0 0
 heads_none bytes = record {
@@ -116,6 +135,15 @@ heads_ahead bytes more start interim heads =
       counted = before.counted;
     }
 
+-- the same in more bytes
+heads_on : (bytes more : List ℕ) (start interim : ℕ) → Heads bytes start interim → Heads (bytes ++ more) start interim
+heads_on bytes more start interim heads = record {
+  within = omega (arith, heads.within, length-append bytes more);
+  place = heads.place;
+  few = heads.few;
+  so_far = heads_ahead bytes more start interim heads;
+}
+
 -- the final one
 pub heads_final : (bytes : List ℕ) (start interim : ℕ) (found : Head) → Heads bytes start interim → IsHeadOf (drop start bytes) found → is_interim found.code ≡ false
     → IsFinalOf bytes (record found { len = start + found.len })
@@ -137,12 +165,21 @@ heads_final bytes start interim found heads at status = record {
 }
 
 -- one isn't whole
-pub heads_open : (bytes : List ℕ) (start interim : ℕ) → Heads bytes start interim → HasNoResponse (drop start bytes) → MayBecomeResponse (drop start bytes) → length (drop start bytes) < 8192
-    → AwaitsHead bytes × (length bytes < 73728)
-heads_open bytes start interim heads none may few = (
-  record { interim = heads.so_far.heads; rest = drop start bytes; skips = heads.so_far.skips; open_head = (none, up_to_all MayBecomeResponse (drop start bytes) may) },
-  omega (arith, heads.place, heads.few, few, length-drop start bytes, heads.within),
-)
+pub head_open : (text : List ℕ) → HasNoResponse text → MayBecomeResponse text → length text < 8192 → IsOpenResponse text × (length text < 8192)
+head_open text none may few = ((none, up_to_all MayBecomeResponse text may), few)
+
+pub heads_open : (bytes : List ℕ) (start interim : ℕ) → Heads bytes start interim → IsOpenResponse (drop start bytes) → length (drop start bytes) < 8192
+    → IsOpenAt AwaitsResponse 0 bytes (Feed (length bytes))
+heads_open bytes start interim heads here few =
+    let room : length bytes < 1048576 = omega (arith, heads.place, heads.few, few, length-drop start bytes, heads.within) in
+    let o = open_now IsOpenResponse response_stays start bytes heads.within here room in
+    record {
+      next = refl;
+      bound = o.bound;
+      awaits = λ more missing.
+          let before = heads_ahead bytes more start interim heads in
+          inl (record { interim = before.heads; rest = drop start (bytes ++ more); skips = before.skips; open_head = o.awaits more missing });
+    }
 
 -- none comes
 pub heads_refused : (bytes : List ℕ) (start interim : ℕ) → Heads bytes start interim → NeverShort (drop start bytes) → Lasts RefusesResponse bytes BadHead
@@ -188,6 +225,11 @@ end_long bytes start len within at long = λ more.
       omega (arith, inside, within, long, length-drop start bytes, length-drop start stream, length-drop (start + len) stream, length-append bytes more),
     )))
 
+-- it isn't whole
+pub end_open : (bytes : List ℕ) (start : ℕ) (wanted : Wanted) → start ≤ length bytes → HasNoSection (drop start bytes) → (wanted ≡ Feed (length bytes)) × (length bytes < 1048576)
+    → IsOpenAt HasNoSection start bytes wanted
+end_open bytes start wanted within none more = subst (IsOpenAt HasNoSection start bytes) (sym more.0) (open_now HasNoSection section_stays start bytes within none more.1)
+
 -- it isn't whole, and the limit is reached
 pub end_open_long : (bytes : List ℕ) (start : ℕ) → start ≤ length bytes → HasNoSection (drop start bytes) → 1048576 ≤ length bytes → LastsAt (RefusesTrailer start) start bytes TooLarge
 end_open_long bytes start within none long = λ more. inr (inl (refl, passes HasNoSection start bytes more within long none))
@@ -222,6 +264,13 @@ content_refused bytes start room size within there other = λ more.
 
 -- ---- parts of a chunked body
 
+-- a line isn't whole
+pub line_open : (bytes : List ℕ) (start : ℕ) (wanted : Wanted) → start ≤ length bytes → HasNoChunkLine (drop start bytes) → (wanted ≡ Feed (length bytes)) × (length bytes < 1048576)
+    → IsOpenAt AwaitsChunk start bytes wanted
+line_open bytes start wanted within none more =
+    let o = open_now HasNoChunkLine line_stays start bytes within none more.1 in
+    subst (IsOpenAt AwaitsChunk start bytes) (sym more.0) (record { next = refl; bound = o.bound; awaits = λ tail missing. inl (o.awaits tail missing) })
+
 -- a line isn't whole, and the limit is reached
 pub line_open_long : (bytes : List ℕ) (start room : ℕ) → start ≤ length bytes → HasNoChunkLine (drop start bytes) → 1048576 ≤ length bytes → LastsAt (RefusesChunk start room) start bytes TooLarge
 line_open_long bytes start room within none long = λ more. inl (inr (inl (refl, passes HasNoChunkLine start bytes more within long none)))
@@ -247,16 +296,16 @@ last_found bytes start end found within at zero trailer = (
   },
 )
 
-pub last_open : (bytes : List ℕ) (start wanted : ℕ) (found : ℕ × ℕ) → start ≤ length bytes → IsLineOf (drop start bytes) found → found.1 ≡ 0
+pub last_open : (bytes : List ℕ) (start : ℕ) (wanted : Wanted) (found : ℕ × ℕ) → start ≤ length bytes → IsLineOf (drop start bytes) found → found.1 ≡ 0
     → IsOpenAt HasNoSection (start + found.0) bytes wanted → IsOpenAt AwaitsChunk start bytes wanted
 last_open bytes start wanted found within at zero o = record {
-  few = o.few;
+  next = o.next;
   bound = o.bound;
-  awaits = λ more few. inr (
+  awaits = λ more missing. inr (
     at.line,
     drop (start + found.0) (bytes ++ more),
     line_there start bytes more found within at,
-    subst (λ (n : ℕ). IsOpenBehind n (drop (start + found.0) (bytes ++ more))) at.size (inl (zero, o.awaits more few)),
+    subst (λ (n : ℕ). IsOpenBehind n (drop (start + found.0) (bytes ++ more))) at.size (inl (zero, o.awaits more missing)),
   );
 }
 
@@ -292,19 +341,19 @@ chunk_found bytes start room from to found within at line some h =
       },
     )
 
-pub chunk_open : (bytes : List ℕ) (start wanted : ℕ) (found : ℕ × ℕ) → start ≤ length bytes → IsLineOf (drop start bytes) found → 0 < found.1
-    → (length bytes < wanted) × (wanted ≡ start + found.0 + found.1 + 2) × (wanted ≤ 1048576) → IsOpenAt AwaitsChunk start bytes wanted
-chunk_open bytes start wanted found within at some h = record {
-  few = h.0;
+pub chunk_open : (bytes : List ℕ) (start : ℕ) (wanted : Wanted) (found : ℕ × ℕ) → start ≤ length bytes → IsLineOf (drop start bytes) found → 0 < found.1
+    → (wanted ≡ Bytes (start + found.0 + found.1 + 2)) × (length bytes < start + found.0 + found.1 + 2) × (start + found.0 + found.1 + 2 ≤ 1048576) → IsOpenAt AwaitsChunk start bytes wanted
+chunk_open bytes start wanted found within at some h = subst (IsOpenAt AwaitsChunk start bytes) (sym h.0) (record {
+  next = h.1;
   bound = h.2;
   awaits = λ more few. inr (
     at.line,
     drop (start + found.0) (bytes ++ more),
     line_there start bytes more found within at,
     subst (λ (n : ℕ). IsOpenBehind n (drop (start + found.0) (bytes ++ more))) at.size
-        (inr (some, omega (arith, few, h.1, length-drop (start + found.0) (bytes ++ more)))),
+        (inr (some, omega (arith, few, length-drop (start + found.0) (bytes ++ more)))),
   );
-}
+})
 
 pub chunk_refused : (bytes : List ℕ) (start room : ℕ) (found : ℕ × ℕ) (fault : WireFault) → start ≤ length bytes → IsLineOf (drop start bytes) found → 0 < found.1
     → LastsAt (RefusesContent (start + found.0) room found.1) (start + found.0) bytes fault → LastsAt (RefusesChunk start room) start bytes fault
@@ -338,15 +387,7 @@ part_content bytes start room found (Err fault) within at some h = chunk_refused
 
 -- ---- chunked bodies
 
--- what the loop over the chunks keeps
-pub record ChunksTo (bytes : List ℕ) (start at : ℕ) (body : List ℕ) : Type 0 where
-  pub behind : start ≤ at
-  pub within : at ≤ length bytes
-  pub limit : at ≤ 1048576
-  pub room : length body ≤ 65536
-  pub so_far : Joined bytes start at body
-
-pub chunks_none : (bytes : List ℕ) (start : ℕ) → start ≤ length bytes → start ≤ 73728 → ChunksTo bytes start start []
+pub chunks_none : (bytes : List ℕ) (start : ℕ) → start ≤ length bytes → start ≤ 1048576 → ChunksTo bytes start start []
 chunks_none bytes start within limit = record {
   behind = omega arith;
   within = within;
@@ -385,6 +426,24 @@ chunks_ahead bytes more start at body chunks =
       body_is = joined.body_is;
     }
 
+-- they are read still
+chunks_on : (bytes more : List ℕ) (start at : ℕ) (body : List ℕ) → ChunksTo bytes start at body → ChunksTo (bytes ++ more) start at body
+chunks_on bytes more start at body chunks = record {
+  behind = chunks.behind;
+  within = omega (arith, chunks.within, length-append bytes more);
+  limit = chunks.limit;
+  room = chunks.room;
+  so_far = chunks_ahead bytes more start at body chunks;
+}
+
+-- none is read any more
+pub read_again : (bytes : List ℕ) (old new : ChunksRead) → HasRead bytes old → new.start ≡ old.start → new.end ≡ old.start → new.body.items ≡ [] → HasRead bytes new
+read_again bytes old new read start end none =
+    subst (λ (bs : List ℕ). ChunksTo bytes new.start new.end bs) (sym none)
+    (subst (λ (n : ℕ). ChunksTo bytes new.start n []) (sym end)
+    (subst (λ (n : ℕ). ChunksTo bytes n old.start []) (sym start)
+    (chunks_none bytes old.start (omega (arith, read.behind, read.within)) (omega (arith, read.behind, read.limit)))))
+
 pub chunks_whole : (bytes : List ℕ) (start at end : ℕ) (body : List ℕ) → ChunksTo bytes start at body
     → (at ≤ end) × (end ≤ length bytes) × (end ≤ 1048576) × ((more : List ℕ) → HasLast (drop at (bytes ++ more)) (drop end (bytes ++ more)))
     → IsBodyTo Chunks start bytes body end
@@ -397,13 +456,13 @@ chunks_whole bytes start at end body chunks last = record {
       record { chunks = joined.chunks; last = drop at (bytes ++ more); has = joined.has; ends = last.3 more; joined = joined.body_is };
 }
 
-pub chunks_open : (bytes : List ℕ) (start at wanted : ℕ) (body : List ℕ) → ChunksTo bytes start at body → IsOpenAt AwaitsChunk at bytes wanted → IsOpenAt (AwaitsBody Chunks) start bytes wanted
+pub chunks_open : (bytes : List ℕ) (start at : ℕ) (wanted : Wanted) (body : List ℕ) → ChunksTo bytes start at body → IsOpenAt AwaitsChunk at bytes wanted → IsOpenAt (AwaitsBody Chunks) start bytes wanted
 chunks_open bytes start at wanted body chunks o = record {
-  few = o.few;
+  next = o.next;
   bound = o.bound;
-  awaits = λ more few.
+  awaits = λ more missing.
       let joined = chunks_ahead bytes more start at body chunks in
-      record { chunks = joined.chunks; text = drop at (bytes ++ more); has = joined.has; open_text = o.awaits more few };
+      record { chunks = joined.chunks; text = drop at (bytes ++ more); has = joined.has; open_text = o.awaits more missing };
 }
 
 pub chunks_refused : (bytes : List ℕ) (start at : ℕ) (body : List ℕ) (fault : WireFault) → ChunksTo bytes start at body
@@ -444,15 +503,15 @@ sized_whole bytes body start size whole limit small is = record {
       );
 }
 
-pub sized_open : (bytes : List ℕ) (start size : ℕ) → start ≤ length bytes → length bytes < start + size → start ≤ 73728 → size ≤ 65536 → IsOpenAt (AwaitsBody (Sized size)) start bytes (start + size)
+pub sized_open : (bytes : List ℕ) (start size : ℕ) → start ≤ length bytes → length bytes < start + size → start ≤ 73728 → size ≤ 65536 → IsOpenAt (AwaitsBody (Sized size)) start bytes (Bytes (start + size))
 sized_open bytes start size within few limit small = record {
-  few = few;
+  next = few;
   bound = omega (arith, limit, small);
   awaits = λ more less. omega (arith, less, few, within, length-drop start (bytes ++ more), length-append bytes more);
 }
 
-pub rest_open : (bytes : List ℕ) (start : ℕ) → start ≤ 73728 → length bytes ≤ start + 65536 → IsOpenAt (AwaitsBody ToTheEnd) start bytes (start + 65536 + 1)
-rest_open bytes start limit few = record { few = omega (arith, few); bound = omega (arith, limit); awaits = λ more less. tt }
+pub rest_open : (bytes : List ℕ) (start : ℕ) → start ≤ 73728 → length bytes ≤ start + 65536 → IsOpenAt (AwaitsBody ToTheEnd) start bytes (Bytes (start + 65536 + 1))
+rest_open bytes start limit few = record { next = omega (arith, few); bound = omega (arith, limit); awaits = λ more less. tt }
 
 pub rest_large : (bytes : List ℕ) (start : ℕ) → start + 65536 < length bytes → LastsAt (RefusesFramed ToTheEnd start) start bytes TooLarge
 rest_large bytes start long = λ more. (refl, omega (arith, long, length-drop start (bytes ++ more), length-append bytes more))
@@ -532,25 +591,102 @@ response_whole bytes found framing body len final framed content = record {
       };
 }
 
-pub response_open_now : (bytes : List ℕ) (found : Head) (framing : Framing) (wanted : ℕ) → IsFinalOf bytes found → found.framing ≡ Ok framing
-    → IsOpenAt (AwaitsBody framing) found.len bytes wanted → IsOpen bytes wanted
+pub response_open_now : (bytes : List ℕ) (found : Head) (framing : Framing) (wanted : Wanted) → IsFinalOf bytes found → found.framing ≡ Ok framing
+    → IsOpenAt (AwaitsBody framing) found.len bytes wanted → IsOpenAt AwaitsResponse 0 bytes wanted
 response_open_now bytes found framing wanted final framed o = record {
-  few = o.few;
+  next = o.next;
   bound = o.bound;
-  awaits = λ more few. inr (record {
+  awaits = λ more missing. inr (record {
     head = final.head;
     behind = drop found.len (bytes ++ more);
     final = final.final more;
     framing = framing;
     framed = sym final.framing ∙ framed;
-    open_body = o.awaits more few;
+    open_body = o.awaits more missing;
   });
 }
 
--- a head isn't whole
-pub head_open_now : (bytes : List ℕ) → AwaitsHead bytes → length bytes < 73728 → IsOpen bytes (length bytes + 1)
-head_open_now bytes head few = record {
-  few = omega arith;
-  bound = omega (arith, few);
-  awaits = λ more less. subst AwaitsResponse (same_bytes bytes more less) (inl head);
+-- a stated length is within its limit
+pub final_small : (bytes : List ℕ) (found : Head) (framing : Framing) → IsFinalOf bytes found → found.framing ≡ Ok framing → IsSmall framing
+final_small bytes found framing final framed = framing_small (status_code final.head) (fields_in final.head) framing (sym final.framing ∙ framed)
+
+-- ---- what is wanted
+
+-- so many bytes there are at least before a response is whole
+pub open_tells : (bytes : List ℕ) (wanted : Wanted) → IsOpenAt AwaitsResponse 0 bytes wanted → IsOpen bytes (count_wanted wanted)
+open_tells bytes (Feed looked) o = record {
+  few = omega (arith, o.next);
+  bound = o.bound;
+  awaits = λ more less.
+      let none : more ≡ [] = none_more bytes more (omega (arith, less, o.next)) in
+      let missing = ap (list_any (λ b. b == 10)) (drop_all looked (bytes ++ []) (omega (arith, o.next, length-append {A = ℕ} bytes []))) in
+      subst (λ (bs : List ℕ). AwaitsResponse (bytes ++ bs)) (sym none) (o.awaits [] missing);
 }
+open_tells bytes (Bytes count) o = record { few = o.next; bound = o.bound; awaits = λ more less. o.awaits more less }
+
+-- it is sought from there on
+open_seeks : (bytes : List ℕ) (wanted : Wanted) → IsOpenAt AwaitsResponse 0 bytes wanted → Seeks wanted bytes
+open_seeks bytes (Feed looked) o = record { looked = omega (arith, o.next); bound = o.bound; awaits = λ more missing. o.awaits more missing }
+open_seeks bytes (Bytes count) o = record { looked = tt; bound = o.bound; awaits = λ more missing. o.awaits more missing }
+
+-- it hasn't come
+pub still_feed : (bytes : List ℕ) (looked : ℕ) → Seeks (Feed looked) bytes → length bytes < 1048576 → list_any (λ b. b == 10) (slice_range bytes looked (length bytes)) ≡ false
+    → IsOpenAt AwaitsResponse 0 bytes (Feed (length bytes))
+still_feed bytes looked s few none = record {
+  next = refl;
+  bound = omega (arith, few);
+  awaits = λ more missing. s.awaits more
+      (ap (list_any (λ b. b == 10)) (sym (drop_more_bytes looked bytes more s.looked)) ∙ list_any-append (λ b. b == 10) (drop looked bytes) more
+      ∙ ap (λ t. t || list_any (λ b. b == 10) more) (no_feed bytes looked none) ∙ feed_none bytes more missing);
+}
+
+pub still_bytes : (bytes : List ℕ) (count : ℕ) → Seeks (Bytes count) bytes → length bytes < count → IsOpenAt AwaitsResponse 0 bytes (Bytes count)
+still_bytes bytes count s few = record { next = few; bound = s.bound; awaits = λ more missing. s.awaits more missing }
+
+-- ---- what was seen
+
+-- the final head that was found, and where its body begins
+pub seen_final : (seen : SeenResponse) (bytes : List ℕ) (found : Option Head) (head : Head) → SeesResponse seen bytes → found ≡ Some head → FindsHead seen.head bytes (Ok found)
+    → IsFinalOf bytes head × (seen.chunks.start ≡ head.len) × HasRead bytes seen.chunks
+seen_final seen bytes found head s is finds =
+    let same : seen.head ≡ Some head = subst (λ (o : Option Head). FindsHead seen.head bytes (Ok o)) is finds in
+    subst (λ (o : Option Head). SeesBody o seen.chunks bytes) same s.body
+
+-- it holds of more bytes
+final_on : (bytes more : List ℕ) (found : Head) → IsFinalOf bytes found → IsFinalOf (bytes ++ more) found
+final_on bytes more found final = record {
+  head = final.head;
+  within = omega (arith, final.within, length-append bytes more);
+  bound = final.bound;
+  code = final.code;
+  framing = final.framing;
+  final = λ tail. subst (λ (bs : List ℕ). HasFinal bs final.head (drop found.len bs)) (sym (append_assoc bytes more tail)) (final.final (more ++ tail));
+}
+
+body_on : (head : Option Head) (read : ChunksRead) (bytes more : List ℕ) → SeesBody head read bytes → SeesBody head read (bytes ++ more)
+body_on None read bytes more none = none
+body_on (Some head) read bytes more b = (final_on bytes more head b.0, b.1, chunks_on bytes more read.start read.end read.body.items b.2)
+
+looked_on : (wanted : Wanted) (bytes more : List ℕ) → HasLooked wanted bytes → HasLooked wanted (bytes ++ more)
+looked_on (Feed looked) bytes more within = omega (arith, within, length-append bytes more)
+looked_on (Bytes count) bytes more within = tt
+
+pub sees_more : (seen : SeenResponse) (bytes more : List ℕ) → SeesResponse seen bytes → SeesResponse seen (bytes ++ more)
+sees_more seen bytes more s = record {
+  passed = heads_on bytes more seen.passed.end seen.passed.count s.passed;
+  body = body_on seen.head seen.chunks bytes more s.body;
+  wanted = record {
+    looked = looked_on seen.wanted bytes more s.wanted.looked;
+    bound = s.wanted.bound;
+    awaits = λ tail missing. subst AwaitsResponse (sym (append_assoc bytes more tail))
+        (s.wanted.awaits (more ++ tail) (subst (IsMissing seen.wanted) (append_assoc bytes more tail) missing));
+  };
+}
+
+-- a new one says nothing of them
+pub sees_nothing : (bytes : List ℕ) → Seeks (Bytes 0) bytes
+sees_nothing bytes = record { looked = tt; bound = omega arith; awaits = λ more few. absurd (omega (arith, few)) }
+
+-- more is wanted
+pub sees_open : (seen : SeenResponse) (bytes : List ℕ) (wanted : Wanted) → SeesResponse seen bytes → IsOpenAt AwaitsResponse 0 bytes wanted → SeesResponse (record seen { wanted = wanted }) bytes
+sees_open seen bytes wanted s o = record { passed = s.passed; body = s.body; wanted = open_seeks bytes wanted o }

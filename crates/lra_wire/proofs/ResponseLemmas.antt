@@ -21,7 +21,8 @@ use Rattle.lra_wire.specs.Chunks.{content_of, RefusesLine, RefusesTrailer, Refus
 use Rattle.lra_wire.specs.Fields.{is_alike, values_of, stated_of}
 use Rattle.lra_wire.specs.Inbox.{kept_bytes, stream_of, IsOutside, AsksAt}
 use Rattle.lra_wire.specs.inner.Growth.{Grows, FillsTo, LacksBytes, Lacks}
-use Rattle.lra_wire.specs.Response.{IsShort, HasResponse, NeverShort, is_interim, IsInterim, Skips, HasFinal, fields_in, stated_framing, coded_framing, framing_of, IsResponse, RefusesFramed, RefusesRest, RefusesResponse, AwaitsBody, IsOpenResponse, AwaitsResponse}
+use Rattle.lra_wire.specs.Response.{IsShort, HasResponse, NeverShort, is_interim, IsInterim, HasFinal, fields_in, stated_framing, coded_framing, framing_of, IsResponse, RefusesFramed, RefusesRest, RefusesResponse, AwaitsBody, IsOpenResponse, AwaitsResponse}
+use Rattle.lra_wire.specs.inner.Parts.{SkipsTo}
 use Rattle.lra_wire.specs.inner.Steps.{IsHeadOf, ReadsHeadAt, IsSmall, FindsBody, LacksBody, ReadsToTheEnd, AsksBehind}
 use Rattle.lra_wire.specs.Streams.{IfBothKnown}
 use Rattle.lra_wire.proofs.InboxLemmas.{Grows_refl, Grows_trans, asks_on, asks_weaker}
@@ -101,12 +102,6 @@ rest_refused remaining start old new fault within (inr (large, grows, long)) =
     (λ rest. (large, omega (arith, long, length-append (kept_bytes new) rest, length-drop start (kept_bytes new ++ rest)))))
 
 -- ---- the heads before a body
-
--- interim heads up to a place of the bytes
-pub record SkipsTo (bytes : List ℕ) (start count : ℕ) : Type 0 where
-  pub heads : List ResponseHead
-  pub skips : Skips bytes heads (drop start bytes)
-  pub counted : length heads ≡ count
 
 -- what the loop over the heads keeps
 pub record Skipped {R : Type 0} (remaining : R → Option (List ℕ)) (old new : Inbox R) (start interim : ℕ) : Type 0 where

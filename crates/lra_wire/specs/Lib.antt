@@ -7,5 +7,6 @@ pub mod Writing
 pub mod Chunks
 pub mod Coming
 pub mod Response
+pub mod Seen
 pub mod Requests
 pub mod inner

@@ -17,7 +17,7 @@ use std::alloc::Global;
 use std::io::Read;
 
 /// The most bytes of a response, with the interim heads before it.
-pub(crate) const MAX_RESPONSE: usize = 1 << 20;
+pub const MAX_RESPONSE: usize = 1 << 20;
 
 /// A part of a chunked body.
 #[derive(Clone, Copy)]

@@ -1,15 +1,20 @@
 //! The response at the front of bytes that came, with no reader.
-ghost use Rattle.std.specs.Prelude.{◌≡◌, ◌≤◌, length, drop};
+ghost use Rattle.std.specs.Prelude.{◌≡◌, ◌≤◌, ℕ, List, ◌++◌, [], length, drop, IfSome};
+ghost use Rattle.lra_wire.specs.declared.coming.SeenResponse.{SeenResponse};
 ghost use Rattle.lra_wire.specs.Coming.{IsComing};
-ghost use Rattle.lra_wire.specs.inner.Parts.{FindsFinal, OneMore, FindsEnd, FindsContent, FindsPart, FindsBodyFront};
+ghost use Rattle.lra_wire.specs.Response.{AwaitsResponse};
+ghost use Rattle.lra_wire.specs.Seen.{SeesResponse};
+ghost use Rattle.lra_wire.specs.inner.Parts.{count_wanted, IsOpenAt, Passes, HasRead, FindsHead, FindsFinal, OneMore, FindsEnd, FindsContent, FindsPart, FindsBodyFront};
 ghost use Rattle.lra_wire.specs.inner.Steps.{IsSmall};
 
 use crate::chunks::{MAX_RESPONSE, has_line_end, line_at, trailer_at};
 use crate::fault::WireFault;
 use crate::framing::Framing;
+use crate::head::MAX_HEAD;
 use crate::request::MAX_BODY;
 use crate::response::{Head, MAX_INTERIM, ResponseRead, head_at, is_interim};
 use std::alloc::Global;
+use std::mem;
 
 /// What stands at the front of bytes that came.
 #[derive(Debug, Drop)]
@@ -20,12 +25,21 @@ pub enum Coming {
     Open(usize),
 }
 
+/// What has to come before more can be said.
+#[derive(Clone, Copy)]
+enum Wanted {
+    /// A line feed, behind so many bytes.
+    Feed(usize),
+    /// So many bytes.
+    Bytes(usize),
+}
+
 /// What stands behind a head.
 #[derive(Drop)]
 enum BodyFront {
     /// A whole body, and where it ends.
     Whole(Vec<u8>, usize),
-    Open(usize),
+    Open(Wanted),
 }
 
 /// What stands behind the chunks that were read.
@@ -35,7 +49,128 @@ enum Part {
     Content(usize, usize),
     /// The last line and the trailer, which end here.
     Last(usize),
-    Open(usize),
+    Open(Wanted),
+}
+
+/// The interim heads that were read.
+#[derive(Clone, Copy)]
+struct Passed {
+    /// Where they end.
+    end: usize,
+    count: usize,
+}
+
+/// The chunks of a body that were read.
+#[derive(Drop)]
+struct ChunksRead {
+    start: usize,
+    end: usize,
+    body: Vec<u8>,
+}
+
+impl ChunksRead {
+    /// The whole body. It may be read anew from where it began.
+    fn hand_out(&mut self, alloc: Global) -> Vec<u8>
+        ensures body { result.items ≡ self.old.body.items }
+        ensures start { self.new.start ≡ self.old.start }
+        ensures end { self.new.end ≡ self.old.start }
+        ensures none { self.new.body.items ≡ [] }
+    {
+        self.end = self.start;
+        mem::replace(&mut self.body, Vec::new(alloc))
+    }
+}
+
+/// What was found of bytes that hold no whole response, so that they needn't be read anew with each piece that follows.
+#[derive(Drop)]
+pub struct SeenResponse {
+    passed: Passed,
+    /// The final head, once it was read.
+    head: Option<Head>,
+    /// What was read of a chunked body behind it.
+    chunks: ChunksRead,
+    wanted: Wanted,
+}
+
+impl SeenResponse {
+    /// Nothing was looked at.
+    pub fn nothing(alloc: Global) -> SeenResponse
+        ensures { (bytes : List ℕ) → SeesResponse result bytes }
+    {
+        SeenResponse {
+            passed: Passed { end: 0, count: 0 },
+            head: None,
+            chunks: ChunksRead {
+                start: 0,
+                end: 0,
+                body: Vec::new(alloc),
+            },
+            wanted: Wanted::Bytes(0),
+        }
+    }
+
+    /// How many bytes there may be where a line isn't whole.
+    fn most(&self) -> usize
+        requires { self.now.passed.end ≤ 65536 }
+        ensures { result ≤ 1048576 }
+    {
+        match self.head {
+            None => self.passed.end + MAX_HEAD,
+            Some(_) => MAX_RESPONSE,
+        }
+    }
+
+    /// What is wanted still of these bytes, of which a front was seen: nothing, where it came.
+    fn still_wanted(&self, bytes: &[u8]) -> Option<Wanted>
+        requires { SeesResponse self.now bytes.now }
+        ensures { IfSome result (IsOpenAt AwaitsResponse 0 bytes.now) }
+    {
+        match self.wanted {
+            Wanted::Feed(looked) => {
+                if bytes.len() >= self.most() || bytes[looked..].contains(&b'\n') {
+                    return None;
+                }
+                Some(Wanted::Feed(bytes.len()))
+            }
+            Wanted::Bytes(count) => {
+                if bytes.len() >= count {
+                    return None;
+                }
+                Some(Wanted::Bytes(count))
+            }
+        }
+    }
+
+    /// The final head, or none where more bytes may complete it. Once it was read it isn't looked for.
+    fn find_head(&mut self, bytes: &[u8]) -> Result<Option<Head>, WireFault>
+        requires { SeesResponse self.old bytes.now }
+        ensures sees { SeesResponse self.new bytes.now }
+        ensures finds { FindsHead self.new.head bytes.now result }
+    {
+        if let Some(head) = self.head {
+            return Ok(Some(head));
+        }
+        let Some(head) = final_head(bytes, &mut self.passed)? else {
+            return Ok(None);
+        };
+        self.head = Some(head);
+        self.chunks.start = head.len;
+        self.chunks.end = head.len;
+        Ok(Some(head))
+    }
+
+    /// That is wanted before a response can be whole.
+    fn open(&mut self, wanted: Wanted) -> Coming
+        requires { count_wanted wanted ≤ 1048576 }
+        ensures new { self.new ≡ record self.old { wanted = wanted } }
+        ensures result { result ≡ Coming.Open (count_wanted wanted) }
+    {
+        self.wanted = wanted;
+        match wanted {
+            Wanted::Feed(looked) => Coming::Open(looked + 1),
+            Wanted::Bytes(count) => Coming::Open(count),
+        }
+    }
 }
 
 /// The bytes from a place on.
@@ -47,38 +182,39 @@ fn behind(bytes: &[u8], start: usize) -> &[u8]
 }
 
 /// The head behind the interim ones, with the place where it ends, or none where more bytes may complete it.
-fn final_head(bytes: &[u8]) -> Result<Option<Head>, WireFault>
-    ensures { FindsFinal bytes.now result }
+fn final_head(bytes: &[u8], passed: &mut Passed) -> Result<Option<Head>, WireFault>
+    requires { Passes bytes.now passed.old }
+    ensures passes { Passes bytes.now passed.new }
+    ensures finds { FindsFinal passed.new.end bytes.now result }
 {
-    let mut start = 0;
-    let mut interim = 0;
     loop {
-        let Some(head) = head_at(behind(bytes, start))? else {
+        let Some(head) = head_at(behind(bytes, passed.end))? else {
             return Ok(None);
         };
-        start += head.len;
+        let end = passed.end + head.len;
         if !is_interim(head.code) {
             return Ok(Some(Head {
                 code: head.code,
-                len: start,
+                len: end,
                 framing: head.framing,
             }));
         }
-        if interim == MAX_INTERIM {
+        if passed.count == MAX_INTERIM {
             return Err(WireFault::BadHead);
         }
-        interim += 1;
+        passed.end = end;
+        passed.count += 1;
     }
 }
 
-/// How many bytes there have to be at least, where a line or a trailer is open at the end of these.
-fn next_byte(bytes: &[u8]) -> Result<usize, WireFault>
+/// A line or a trailer is open at the end of these bytes.
+fn next_feed(bytes: &[u8]) -> Result<Wanted, WireFault>
     ensures { OneMore bytes.now result }
 {
     if bytes.len() >= MAX_RESPONSE {
         return Err(WireFault::TooLarge);
     }
-    Ok(bytes.len() + 1)
+    Ok(Wanted::Feed(bytes.len()))
 }
 
 /// The trailer that begins at `start`, behind the last line.
@@ -87,7 +223,7 @@ fn last_at(bytes: &[u8], start: usize) -> Result<Part, WireFault>
     ensures { FindsEnd start bytes.now result }
 {
     let Some(len) = trailer_at(behind(bytes, start))? else {
-        return Ok(Part::Open(next_byte(bytes)?));
+        return Ok(Part::Open(next_feed(bytes)?));
     };
     let end = start + len;
     if end > MAX_RESPONSE {
@@ -110,7 +246,7 @@ fn content_at(bytes: &[u8], start: usize, room: usize, size: u64) -> Result<Part
         return Err(WireFault::TooLarge);
     }
     if bytes.len() < to + 2 {
-        return Ok(Part::Open(to + 2));
+        return Ok(Part::Open(Wanted::Bytes(to + 2)));
     }
     if !has_line_end(bytes, to) {
         return Err(WireFault::BadLength);
@@ -125,7 +261,7 @@ fn part_at(bytes: &[u8], start: usize, room: usize) -> Result<Part, WireFault>
     ensures { FindsPart start room bytes.now result }
 {
     let Some((line, size)) = line_at(behind(bytes, start))? else {
-        return Ok(Part::Open(next_byte(bytes)?));
+        return Ok(Part::Open(next_feed(bytes)?));
     };
     if size == 0 {
         last_at(bytes, start + line)
@@ -134,44 +270,46 @@ fn part_at(bytes: &[u8], start: usize, room: usize) -> Result<Part, WireFault>
     }
 }
 
-/// The chunks and the trailer that begin at `start`.
-fn chunks_at(alloc: Global, bytes: &[u8], start: usize) -> Result<BodyFront, WireFault>
-    requires start { start ≤ length bytes.now }
-    requires limit { start ≤ 73728 }
-    ensures { FindsBodyFront Framing.Chunks start bytes.now result }
+/// The rest of the chunks, and the trailer.
+fn chunks_at(alloc: Global, bytes: &[u8], chunks: &mut ChunksRead) -> Result<BodyFront, WireFault>
+    requires { HasRead bytes.now chunks.old }
+    ensures start { chunks.new.start ≡ chunks.old.start }
+    ensures read { HasRead bytes.now chunks.new }
+    ensures finds { FindsBodyFront Framing.Chunks chunks.old.start bytes.now result }
 {
-    let mut body = Vec::new(alloc);
-    let mut at = start;
     loop {
-        match part_at(bytes, at, MAX_BODY - body.len())? {
+        match part_at(bytes, chunks.end, MAX_BODY - chunks.body.len())? {
             Part::Content(from, to) => {
-                body.extend_from_slice(&bytes[from..to])?;
-                at = to + 2;
+                chunks.body.extend_from_slice(&bytes[from..to])?;
+                chunks.end = to + 2;
             }
-            Part::Last(end) => return Ok(BodyFront::Whole(body, end)),
+            Part::Last(end) => return Ok(BodyFront::Whole(chunks.hand_out(alloc), end)),
             Part::Open(wanted) => return Ok(BodyFront::Open(wanted)),
         }
     }
 }
 
-/// The body that begins at `start`. One that ends with the stream isn't whole before that.
+/// The body whose chunks were read so far, if it has some. One that ends with the stream isn't whole before that.
 fn body_at(
     alloc: Global,
     bytes: &[u8],
-    start: usize,
     framing: Framing,
+    chunks: &mut ChunksRead,
 ) -> Result<BodyFront, WireFault>
-    requires start { start ≤ length bytes.now }
-    requires limit { start ≤ 73728 }
+    requires limit { chunks.old.start ≤ 73728 }
     requires small { IsSmall framing }
-    ensures { FindsBodyFront framing start bytes.now result }
+    requires read { HasRead bytes.now chunks.old }
+    ensures start { chunks.new.start ≡ chunks.old.start }
+    ensures read { HasRead bytes.now chunks.new }
+    ensures finds { FindsBodyFront framing chunks.old.start bytes.now result }
 {
+    let start = chunks.start;
     match framing {
-        Framing::Chunks => chunks_at(alloc, bytes, start),
+        Framing::Chunks => chunks_at(alloc, bytes, chunks),
         Framing::Sized(size) => {
             let end = start + size;
             if bytes.len() < end {
-                return Ok(BodyFront::Open(end));
+                return Ok(BodyFront::Open(Wanted::Bytes(end)));
             }
             let body = Vec::from_slice(alloc, &bytes[start..end])?;
             Ok(BodyFront::Whole(body, end))
@@ -181,7 +319,7 @@ fn body_at(
             if bytes.len() > most {
                 return Err(WireFault::TooLarge);
             }
-            Ok(BodyFront::Open(most + 1))
+            Ok(BodyFront::Open(Wanted::Bytes(most + 1)))
         }
     }
 }
@@ -192,14 +330,36 @@ fn body_at(
 pub fn response_front(alloc: Global, bytes: &[u8]) -> Result<Coming, WireFault>
     ensures { IsComing bytes.now result }
 {
-    let Some(head) = final_head(bytes)? else {
-        return Ok(Coming::Open(bytes.len() + 1));
+    response_front_seen(alloc, bytes, &mut SeenResponse::nothing(alloc))
+}
+
+/// The same of bytes of which a front was seen: it is gone on from there, and only where a line may end in what came since, or a body.
+pub fn response_front_seen(
+    alloc: Global,
+    bytes: &[u8],
+    seen: &mut SeenResponse,
+) -> Result<Coming, WireFault>
+    requires { SeesResponse seen.old bytes.now }
+    ensures coming { IsComing bytes.now result }
+    ensures seen { SeesResponse seen.new bytes.now }
+{
+    if let Some(wanted) = seen.still_wanted(bytes) {
+        return Ok(seen.open(wanted));
+    }
+    let Some(head) = seen.find_head(bytes)? else {
+        return Ok(seen.open(Wanted::Feed(bytes.len())));
     };
-    match body_at(alloc, bytes, head.len, head.framing?)? {
+    match body_at(alloc, bytes, head.framing?, &mut seen.chunks)? {
         BodyFront::Whole(body, len) => {
             let code = head.code;
             Ok(Coming::Whole(ResponseRead { code, body }, len))
         }
-        BodyFront::Open(wanted) => Ok(Coming::Open(wanted)),
+        BodyFront::Open(wanted) => Ok(seen.open(wanted)),
     }
 }
+
+/// What was seen of bytes holds of them and more.
+pub fn seen_stays()
+    ensures { (seen : SeenResponse) (bytes more : List ℕ)
+        → SeesResponse seen bytes → SeesResponse seen (bytes ++ more) }
+{}

@@ -17,7 +17,8 @@ mod request;
 mod response;
 mod write;
 
-pub use coming::{Coming, response_front};
+pub use chunks::MAX_RESPONSE;
+pub use coming::{Coming, SeenResponse, response_front, response_front_seen, seen_stays};
 pub use fault::WireFault;
 pub use front::{Front, Seen, end_fault, one_front, request_front, request_front_seen};
 pub use inbox::Inbox;

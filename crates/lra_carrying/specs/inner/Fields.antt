@@ -1,7 +1,7 @@
 -- What the fields of a callback that is carried say.
+use Rattle.lra_wire.specs.Seen.{SeesResponse}
 use Rattle.lra_carrying.specs.declared.carrying.Carrying.TheInside.{Inside}
 use Rattle.lra_carrying.specs.Carried.{Carried, IsCarried}
-use Rattle.lra_carrying.specs.inner.Told.{Seeks}
 
 abbrev pub carried_of : Inside → Carried
 carried_of c = record {
@@ -15,7 +15,7 @@ carried_of c = record {
   came = c.came;
 }
 
--- what holds of all that was carried, and how many bytes are wanted
+-- what holds of all that was carried, and what was seen of the bytes that came
 pub record Holds (c : Inside) : Type 0 where
   pub carried : IsCarried (carried_of c)
-  pub seeks : Seeks c.wanted c.kept.items
+  pub sees : SeesResponse c.seen c.kept.items

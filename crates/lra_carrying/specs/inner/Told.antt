@@ -1,5 +1,5 @@
 -- What is found of the bytes behind a request.
-use Rattle.std.specs.Prelude.{◌≢◌, ℕ, ◌<◌, ◌≤◌, Bool, List, ◌++◌, length, Option, Some, None, Result, Ok, Err, IsFalse, ⊤}
+use Rattle.std.specs.Prelude.{◌≢◌, ℕ, ◌<◌, Bool, List, ◌++◌, length, Option, Some, None, Result, Ok, Err, IsFalse, ⊤}
 use Rattle.std.specs.declared.alloc.AllocError.{AllocError}
 use Rattle.lra_model.specs.declared.asks.AskKind.{AskKind}
 use Rattle.lra_model.specs.declared.asks.Direction.{Direction}
@@ -9,11 +9,6 @@ use Rattle.lra_wire.specs.declared.fault.WireFault.TheVariants.{Io, Memory}
 use Rattle.lra_wire.specs.Coming.{Lasts}
 use Rattle.lra_wire.specs.Response.{RefusesResponse, AwaitsResponse}
 use Rattle.lra_carrying.specs.Carried.{IsReply, Replies}
-
--- with fewer bytes than that, no response is whole
-pub record Seeks (wanted : ℕ) (bytes : List ℕ) : Type 0 where
-  pub bound : wanted ≤ 1048576
-  pub awaits : (more : List ℕ) → length (bytes ++ more) < wanted → AwaitsResponse (bytes ++ more)
 
 -- the outcome of a response, or why there is none, whatever follows; or more bytes are wanted
 abbrev pub TellsSoFar : AskKind → Direction → List ℕ → Result (Option (Result Outcome WireFault)) AllocError → Type 0

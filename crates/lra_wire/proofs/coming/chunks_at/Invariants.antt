@@ -1,11 +1,11 @@
-use Rattle.std.proofs.Common.{◌-◌}
-use Rattle.lra_wire.proofs.ComingLemmas.{ChunksTo}
+use Rattle.std.proofs.Common.{◌≡◌, ◌-◌}
+use Rattle.lra_wire.specs.inner.Parts.{HasRead}
 use Rattle.lra_wire.proofs.coming.chunks_at.Given as goal
 
--- the body so far is that of the chunks so far
-abbrev pub invariant-loop-body : goal.invariant-loop-body
-invariant-loop-body l = ChunksTo l.bytes l.start l.at l.body.items
+-- the chunks so far begin where they began
+abbrev pub invariant-loop-from : goal.invariant-loop-from
+invariant-loop-from l = HasRead l.bytes l.chunks × (l.chunks.start ≡ l.initial.chunks.start)
 
 -- how far the response may go still
-abbrev pub decreases-loop-body : goal.decreases-loop-body
-decreases-loop-body l = 1048576 - l.at
+abbrev pub decreases-loop-from : goal.decreases-loop-from
+decreases-loop-from l = 1048576 - l.chunks.end

@@ -5,7 +5,7 @@ use Rattle.httparse.specs.Spans.{SectionOverflows}
 use Rattle.lra_wire.specs.declared.fault.WireFault.{WireFault}
 use Rattle.lra_wire.specs.inner.Parts.{FindsEnd}
 use Rattle.lra_wire.specs.inner.Steps.{FindsTrailer, IsTrailerOf}
-use Rattle.lra_wire.proofs.ComingLemmas.{end_refused, end_open_long, end_long}
+use Rattle.lra_wire.proofs.ComingLemmas.{end_refused, end_open, end_open_long, end_long}
 use Rattle.lra_wire.proofs.coming.last_at.Goals as goal
 
 pub returns-in_err-len : goal.returns-in_err-len
@@ -15,10 +15,15 @@ returns-in_err-len c =
     rw (p.1, p.2) (subst (λ (fault : WireFault). FindsEnd c.args.start c.args.bytes.now (Err fault)) (sym bad.0)
     (end_refused c.args.bytes.now c.args.start c.requires (subst (SectionOverflows 64) c.behind.ensures bad.1)))
 
-pub returns-in_err-next_byte : goal.returns-in_err-next_byte
-returns-in_err-next_byte c =
-    let p = err_from_is_err_and c.from_residual-in_err-next_byte.result c.from_residual-in_err-next_byte.ensures.1 in
-    let long = c.in_err-next_byte.ensures in
+pub returns-in_default : goal.returns-in_default
+returns-in_default c =
+    let none = subst (λ (o : Option ℕ). FindsTrailer c.behind.result.now (Ok o)) c.in_default.is c.in_ok-len.ensures in
+    end_open c.args.bytes.now c.args.start c.in_ok-next_feed.field-0 c.requires (subst HasNoSection c.behind.ensures none.0) c.in_ok-next_feed.ensures
+
+pub returns-in_err-next_feed : goal.returns-in_err-next_feed
+returns-in_err-next_feed c =
+    let p = err_from_is_err_and c.from_residual-in_err-next_feed.result c.from_residual-in_err-next_feed.ensures.1 in
+    let long = c.in_err-next_feed.ensures in
     let none = subst (λ (o : Option ℕ). FindsTrailer c.behind.result.now (Ok o)) c.in_default.is c.in_ok-len.ensures in
     rw (p.1, p.2) (subst (λ (fault : WireFault). FindsEnd c.args.start c.args.bytes.now (Err fault)) (sym long.0)
     (end_open_long c.args.bytes.now c.args.start c.requires (subst HasNoSection c.behind.ensures none.0) long.1))

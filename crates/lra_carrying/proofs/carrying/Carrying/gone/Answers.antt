@@ -7,5 +7,5 @@ use Rattle.lra_carrying.proofs.carrying.Carrying.gone.Goals as goal
 pub invariant_of-self : goal.invariant_of-self
 invariant_of-self c = record {
   carried = carried_went (carried_of c.self.inside) c.args.count c.self.invariant.carried (subst (λ (h : Carried). c.args.count ≤ length (drop h.gone h.request)) (sym c.self.view_is) c.requires);
-  seeks = c.self.invariant.seeks;
+  sees = c.self.invariant.sees;
 }

@@ -1,8 +1,9 @@
 use Rattle.std.proofs.Common.{ℕ, List, length, ◌≤◌, sym, ap, subst, arith}
+use Rattle.lra_wire.specs.Seen.{SeesResponse}
+use Rattle.lra_wire.proofs.ComingLemmas.{sees_more}
 use Rattle.lra_carrying.specs.Carried.{IsCarried, room_of}
 use Rattle.lra_carrying.specs.inner.Fields.{carried_of}
-use Rattle.lra_carrying.specs.inner.Told.{Seeks}
-use Rattle.lra_carrying.proofs.CarriedLemmas.{carried_took, seeks_more}
+use Rattle.lra_carrying.proofs.CarriedLemmas.{carried_took}
 use Rattle.lra_carrying.proofs.carrying.Carrying.take.Goals as goal
 
 pub invariant_of-self-2 : goal.invariant_of-self-2
@@ -12,6 +13,6 @@ invariant_of-self-2 c =
     record {
       carried = subst (λ (bytes : List ℕ). IsCarried (record h { taken = bytes })) (sym c.in_ok-extend_from_slice.ensures.items)
           (carried_took h c.args.bytes.now c.self.invariant.carried fits);
-      seeks = subst (λ (bytes : List ℕ). Seeks c.self.inside.wanted bytes) (sym c.in_ok-extend_from_slice.ensures.items)
-          (seeks_more c.self.inside.wanted c.self.inside.kept.items c.args.bytes.now c.self.invariant.seeks);
+      sees = subst (λ (bytes : List ℕ). SeesResponse c.self.inside.seen bytes) (sym c.in_ok-extend_from_slice.ensures.items)
+          (sees_more c.self.inside.seen c.self.inside.kept.items c.args.bytes.now c.self.invariant.sees);
     }

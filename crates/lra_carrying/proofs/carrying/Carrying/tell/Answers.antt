@@ -7,5 +7,5 @@ use Rattle.lra_carrying.proofs.carrying.Carrying.tell.Goals as goal
 pub invariant_of-self : goal.invariant_of-self
 invariant_of-self c = record {
   carried = carried_tells (carried_of c.self.inside) c.args.told c.self.invariant.carried (subst (λ (h : Carried). Comes h c.args.told) (sym c.self.view_is) c.requires);
-  seeks = c.self.invariant.seeks;
+  sees = c.self.invariant.sees;
 }
