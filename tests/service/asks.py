@@ -6,6 +6,8 @@ from participant import Participant, wait_until
 from service import check, equal, number_of
 
 ALL = ("compensate", "complete", "status", "forget", "after")
+# How many milliseconds a year has.
+YEAR = 365 * 24 * 3600 * 1000
 METHODS = {"compensate": "PUT", "complete": "PUT", "status": "GET", "forget": "DELETE", "after": "PUT"}
 
 
@@ -216,7 +218,8 @@ def test_a_member_that_reports_is_not_asked_again(setting):
         check("it was asked again", len(member.requests) <= 2)
 
 
-def test_a_limit_cancels(setting):
+def limit_cancels(setting):
+    """A limit passes in time, by the clock and by the journal's moments."""
     with setting.serve() as service, Participant() as member, service.client() as client:
         action = client.start(limit=300)
         client.join(action, **member.addresses("compensate"))
@@ -225,3 +228,15 @@ def test_a_limit_cancels(setting):
         moments = {it.deed: it.moment for it in journal.entries(setting.journal) if it.deed in ("start", "cancel")}
         late = moments["cancel"] - moments["start"] - 300
         check(f"it was cancelled {late} ms after its limit", 0 <= late <= 1000)
+
+
+def test_a_limit_cancels(setting):
+    limit_cancels(setting)
+
+
+def test_a_limit_cancels_where_the_journal_lies_a_year_ahead(setting):
+    ahead = int(time.time() * 1000) + YEAR
+    journal.write(setting.journal, f"lra-journal 2 1\n1 {ahead} enrol\n".encode())
+    limit_cancels(setting)
+    last = journal.entries(setting.journal)[-1].moment
+    check(f"the journal goes on at its own pace, {last - ahead} ms", 300 <= last - ahead < 60_000)
