@@ -3,6 +3,7 @@ mod carrying;
 mod dialling;
 mod errands;
 mod limits;
+mod memory;
 mod replies;
 mod streams;
 mod tcp;

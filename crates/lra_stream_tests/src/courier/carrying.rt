@@ -1,10 +1,10 @@
 //! Callbacks carried as steps, in pieces, and by `exchange`.
 use crate::pieces::{Pieces, Sink};
-use crate::rows::{parted, written_out};
+use crate::rows::{parted, repeated, written_out};
 use lra_carrying::{Carrying, Step};
 use lra_courier::{CallFault, Callback};
 use lra_model::{AskKind, Direction, Outcome};
-use std::alloc::Global;
+use std::alloc::{AllocError, Global};
 
 // A response, `~` for each line's end, and what comes of it where a member was asked to complete. No byte of it is left out.
 const WHOLE: &str = "\
@@ -37,7 +37,7 @@ HTTP/1.1 200 OK~Content-Length: 65537~~|no response: body too large
 HTTP/1.1 200 OK~Transfer-Encoding: chunked~~1~abc|no response: bad length
 HTTP/1.1 200 OK~Transfer-Encoding: chunked~~10001~|no response: body too large";
 
-fn asked() -> Callback<'static> {
+pub(super) fn asked() -> Callback<'static> {
     Callback {
         kind: AskKind::Complete,
         direction: Direction::Completion,
@@ -84,7 +84,7 @@ fn moved(
     sent: &mut Vec<u8>,
 ) -> Option<Result<Outcome, CallFault>> {
     let mut left = bytes;
-    for _ in 0..10_000 {
+    for _ in 0..30_000 {
         match carrying.next().ok()? {
             Step::Came(told) => return Some(told),
             Step::Sends => hand_out(carrying, size, sent)?,
@@ -238,4 +238,27 @@ fn what_is_no_response_is_told_at_once(rt: HostRuntime) {
     for row in FAULTY.lines() {
         assert!(rt; faulty_row_holds(rt.alloc(), row), "{row}");
     }
+}
+
+/// A response whose body comes in so many chunks of one byte.
+fn in_chunks(alloc: Global, count: usize) -> Result<String, AllocError> {
+    let mut response = String::from_str(
+        alloc,
+        "HTTP/1.1 410 x\r\nTransfer-Encoding: chunked\r\n\r\n",
+    )?;
+    let body = repeated(alloc, "1\r\nx\r\n", count, "0\r\n\r\n")?;
+    response.push_str(body.as_str())?;
+    Ok(response)
+}
+
+fn chunks_come_to(alloc: Global, count: usize, outcome: &str) -> bool {
+    match in_chunks(alloc, count) {
+        Ok(response) => whole_comes_to(alloc, response.as_bytes(), outcome),
+        Err(_) => false,
+    }
+}
+
+#[test]
+fn a_body_comes_in_many_chunks_byte_by_byte(rt: HostRuntime) {
+    assert!(rt; chunks_come_to(rt.alloc(), 2000, "done"));
 }
