@@ -640,6 +640,12 @@ still_feed bytes looked s few none = record {
       ∙ ap (λ t. t || list_any (λ b. b == 10) more) (no_feed bytes looked none) ∙ feed_none bytes more missing);
 }
 
+-- it came
+pub came_feed : (bytes : List ℕ) (looked : ℕ) → list_any (λ b. b == 10) (slice_range bytes looked (length bytes)) ≡ true → ¬ (list_any (λ b. b == 10) (drop looked bytes) ≡ false)
+came_feed bytes looked came missing =
+    let same = ap (list_any (λ b. b == 10)) (behind_in {bytes = bytes} {kept = bytes} looked refl) in
+    let e : true ≡ false = sym came ∙ same ∙ missing in cc
+
 pub still_bytes : (bytes : List ℕ) (count : ℕ) → Seeks (Bytes count) bytes → length bytes < count → IsOpenAt AwaitsResponse 0 bytes (Bytes count)
 still_bytes bytes count s few = record { next = few; bound = s.bound; awaits = λ more missing. s.awaits more missing }
 

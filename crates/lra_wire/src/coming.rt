@@ -1,10 +1,10 @@
 //! The response at the front of bytes that came, with no reader.
-ghost use Rattle.std.specs.Prelude.{◌≡◌, ◌≤◌, ℕ, List, ◌++◌, [], length, drop, IfSome};
+ghost use Rattle.std.specs.Prelude.{◌≡◌, ◌≤◌, ℕ, List, ◌++◌, [], length, drop, IfSome, IfNone};
 ghost use Rattle.lra_wire.specs.declared.coming.SeenResponse.{SeenResponse};
 ghost use Rattle.lra_wire.specs.Coming.{IsComing};
 ghost use Rattle.lra_wire.specs.Response.{AwaitsResponse};
 ghost use Rattle.lra_wire.specs.Seen.{SeesResponse};
-ghost use Rattle.lra_wire.specs.inner.Parts.{count_wanted, IsOpenAt, Passes, HasRead, FindsHead, FindsFinal, OneMore, FindsEnd, FindsContent, FindsPart, FindsBodyFront};
+ghost use Rattle.lra_wire.specs.inner.Parts.{IsMissing, count_wanted, most_bytes, IsOpenAt, Passes, HasRead, FindsHead, FindsFinal, OneMore, FindsEnd, FindsContent, FindsPart, FindsBodyFront};
 ghost use Rattle.lra_wire.specs.inner.Steps.{IsSmall};
 
 use crate::chunks::{MAX_RESPONSE, has_line_end, line_at, trailer_at};
@@ -112,7 +112,8 @@ impl SeenResponse {
     /// How many bytes there may be where a line isn't whole.
     fn most(&self) -> usize
         requires { self.now.passed.end ≤ 65536 }
-        ensures { result ≤ 1048576 }
+        ensures is { result ≡ most_bytes self.now.head self.now.passed }
+        ensures limit { result ≤ 1048576 }
     {
         match self.head {
             None => self.passed.end + MAX_HEAD,
@@ -123,11 +124,18 @@ impl SeenResponse {
     /// What is wanted still of these bytes, of which a front was seen: nothing, where it came.
     fn still_wanted(&self, bytes: &[u8]) -> Option<Wanted>
         requires { SeesResponse self.now bytes.now }
-        ensures { IfSome result (IsOpenAt AwaitsResponse 0 bytes.now) }
+        ensures some { IfSome result (IsOpenAt AwaitsResponse 0 bytes.now) }
+
+        // Nothing is read anew before, but where there are too many bytes for a line that isn't whole.
+        ensures none { IfNone result (IsMissing self.now.wanted bytes.now
+            → most_bytes self.now.head self.now.passed ≤ length bytes.now) }
     {
         match self.wanted {
             Wanted::Feed(looked) => {
-                if bytes.len() >= self.most() || bytes[looked..].contains(&b'\n') {
+                if bytes.len() >= self.most() {
+                    return None;
+                }
+                if bytes[looked..].contains(&b'\n') {
                     return None;
                 }
                 Some(Wanted::Feed(bytes.len()))

@@ -69,6 +69,11 @@ pub record Heads (bytes : List ℕ) (start interim : ℕ) : Type 0 where
 abbrev pub Passes : List ℕ → Passed → Type 0
 Passes bytes passed = Heads bytes passed.end passed.count
 
+-- how many bytes there may be where a line isn't whole: those of the interim heads and one more, or of the largest response
+abbrev pub most_bytes : Option Head → Passed → ℕ
+most_bytes None passed = passed.end + 8192
+most_bytes (Some head) passed = 1048576
+
 -- interim heads and a final one, of which it is told what it says and where it ends
 pub record IsFinalOf (bytes : List ℕ) (found : Head) : Type 0 where
   pub head : ResponseHead
