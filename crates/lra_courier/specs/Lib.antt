@@ -3,4 +3,5 @@ pub mod Callbacks
 pub mod Exchanges
 pub mod Sockets
 pub mod Calls
+pub mod Carriages
 pub mod inner

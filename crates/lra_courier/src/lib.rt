@@ -3,6 +3,7 @@
 
 mod callback;
 mod calling;
+mod carriage;
 mod carrying;
 mod conversing;
 mod courier;
@@ -16,6 +17,7 @@ mod writing;
 
 pub use callback::Callback;
 pub use calling::DiallingCourier;
+pub use carriage::Carriage;
 pub use carrying::{exchange, receive, send};
 pub use courier::Courier;
 pub use dialler::Dialler;

@@ -1,3 +1,4 @@
 pub mod Answering
 pub mod Working
 pub mod Refusing
+pub mod Holding

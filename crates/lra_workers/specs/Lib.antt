@@ -1,2 +1,3 @@
 pub mod Connections
 pub mod Work
+pub mod inner

@@ -1,5 +1,9 @@
 //! What a worker is let do.
 
+ghost use Rattle.std.specs.Prelude.{◌≡◌};
+
+use std::sync::atomic::{AtomicBool, Ordering};
+
 /// Whether an errand is carried now.
 #[derive(Clone, Copy, Debug, PartialEq, Eq)]
 pub enum Go {
@@ -28,4 +32,30 @@ pub trait Gate {
 
     /// What came of an ask is recorded.
     fn answered(&mut self, ask: u64);
+}
+
+/// A gate that lets each turn be made until a flag is set, and holds no errand back.
+#[derive(Drop)]
+pub struct OpenUntil<'a> {
+    is_over: &'a AtomicBool,
+}
+
+impl<'a> OpenUntil<'a> {
+    pub fn new(is_over: &'a AtomicBool) -> OpenUntil<'a>
+        ensures { result.is_over ≡ is_over.entry }
+    {
+        OpenUntil { is_over }
+    }
+}
+
+impl Gate for OpenUntil<'_> {
+    fn more(&mut self) -> bool {
+        !self.is_over.load(Ordering::SeqCst)
+    }
+
+    fn hold(&mut self, _ask: u64) -> Go {
+        Go::Carry
+    }
+
+    fn answered(&mut self, _ask: u64) {}
 }

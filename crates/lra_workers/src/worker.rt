@@ -36,7 +36,7 @@ pub enum WorkerEnd {
 }
 
 /// Lets limits fire until none has passed.
-fn fire<V: Serving, R: Wait, C: Courier, K: Clock>(
+pub(crate) fn fire<V: Serving, R: Wait, C: Courier, K: Clock>(
     rt: &R,
     office: &OfficeOf<V>,
     clerk: &mut Clerk<V>,
@@ -85,7 +85,7 @@ fn after_refusal(refusal: OfficeRefusal) -> Result<(), WorkerEnd>
 }
 
 /// The errand of something that is due, where anything is.
-fn next_errand<V: Serving, R: Wait, C: Courier, K: Clock>(
+pub(crate) fn next_errand<V: Serving, R: Wait, C: Courier, K: Clock>(
     rt: &R,
     office: &OfficeOf<V>,
     clerk: &mut Clerk<V>,
@@ -105,7 +105,7 @@ fn next_errand<V: Serving, R: Wait, C: Courier, K: Clock>(
 }
 
 /// Records what came of an errand. One whose ask isn't outstanding any more is let go.
-fn record<V: Serving, R: Wait, C: Courier, G: Gate, K: Clock>(
+pub(crate) fn record<V: Serving, R: Wait, C: Courier, G: Gate, K: Clock>(
     rt: &R,
     office: &OfficeOf<V>,
     clerk: &mut Clerk<V>,

@@ -1,0 +1,22 @@
+-- Errands that are under way, each at a place of its own.
+use Rattle.std.specs.Prelude.{◌≡◌, ◌≢◌, ℕ, Option, Some, None}
+use Rattle.lra_commands.specs.Errands.{Asking}
+
+-- which errand is under way at each place
+abbrev pub Places : Type 0
+Places = ℕ → Option Asking
+
+-- the same errands are under way, at the same places
+abbrev pub AreSame : Places → Places → Type 0
+AreSame old new = (place : ℕ) → new place ≡ old place
+
+-- none is under way
+abbrev pub AreFree : Places → Type 0
+AreFree places = (place : ℕ) → places place ≡ None
+
+-- one errand more is under way, at a place that was free; the others are at theirs
+pub record Gains (old new : Places) (errand : Asking) : Type 0 where
+  pub place : ℕ
+  pub free : old place ≡ None
+  pub here : new place ≡ Some errand
+  pub others : (other : ℕ) → other ≢ place → new other ≡ old other

@@ -1,0 +1,45 @@
+//! What carries many errands at once.
+
+ghost use Rattle.std.specs.Prelude.{◌≡◌, ℕ, Option, true, OnOk, IfErr, IfSome, IfNone};
+ghost use Rattle.lra_model.specs.declared.asks.AskKind.{AskKind};
+ghost use Rattle.lra_model.specs.declared.asks.Outcome.{Outcome};
+ghost use Rattle.lra_model.specs.declared.asks.Outcome.TheVariants.{Silent};
+ghost use Rattle.lra_model.specs.Words.{outcome_suits};
+ghost use Rattle.lra_commands.specs.Errands.{Asking};
+ghost use Rattle.lra_courier.specs.Carriages.{Gains, AreSame};
+
+use lra_core::Errand;
+use lra_model::Outcome;
+
+/// What carries errands to members, many at once. Those that are under way when it is let go of are discarded: their asks stay outstanding
+/// until a restart.
+pub trait Carriage {
+    // Which errands are under way, each at a place of its own.
+    ghost held: { Self → ℕ → Option Asking };
+
+    // Which outcomes may come of an ask of this number and kind.
+    ghost gives: { ℕ → AskKind → Outcome → Type 0 };
+
+    /// Whether one more is taken, where memory isn't refused.
+    fn has_room(&self) -> bool;
+
+    /// Takes an errand. Where memory is refused it is given back.
+    fn take(&mut self, errand: Errand) -> Result<(), Errand>
+        ensures ok { OnOk result (Gains (held self.old) (held self.new) errand) }
+        ensures err { IfErr result (λ back. (back ≡ errand) × AreSame (held self.old) (held self.new)) };
+
+    /// Moves what can be moved, and waits for a while where nothing can be.
+    fn carry(&mut self)
+        ensures { AreSame (held self.old) (held self.new) };
+
+    /// An errand of which something has come, and what. It is under way no longer.
+    fn done(&mut self) -> Option<(Errand, Outcome)>
+        ensures some { IfSome result (λ came. Gains (held self.new) (held self.old) came.0 × gives came.0.ask came.0.kind came.1) }
+        ensures none { IfNone result (AreSame (held self.old) (held self.new)) };
+
+    // Whatever comes suits the kind.
+    ghost suits: { (ask : ℕ) (kind : AskKind) (outcome : Outcome) → gives ask kind outcome → outcome_suits kind outcome ≡ true };
+
+    // Of each ask nothing may come.
+    ghost silent: { (ask : ℕ) (kind : AskKind) → gives ask kind Silent };
+}

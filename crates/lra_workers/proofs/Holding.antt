@@ -1,0 +1,102 @@
+-- What stays true of the errands that are under way.
+use Rattle.std.proofs.Common.{◌≡◌, ◌≢◌, ℕ, zero, suc, Bool, true, false, List, [], ◌∷◌, ◌++◌, Option, Some, None, inl, inr, refl, sym, ap, ◌∙◌, subst, append_assoc, append-nil}
+use Rattle.std.specs.Prelude.{◌==◌, Result, Ok, Err, OnOk, MatchResult}
+use Rattle.std.specs.Option.{option_map_or, option_or}
+use Rattle.std.proofs.lemmas.Bool.{eqb-true, eqb-false}
+use Rattle.std.proofs.lemmas.Option.{same_Some}
+use mathlib.Core.List.{IsPrefix}
+use Rattle.lra_model.specs.declared.asks.AskKind.{AskKind}
+use Rattle.lra_model.specs.declared.asks.Outcome.{Outcome}
+use Rattle.lra_model.specs.declared.entry.Entry.{Entry}
+use Rattle.lra_model.specs.History.{History}
+use Rattle.lra_model.specs.Members.{Asked, asked_at, ask_of}
+use Rattle.lra_model.specs.Words.{when}
+use Rattle.lra_laws.proofs.Push.{step, ask_of_push}
+use Rattle.lra_ticket.specs.declared.view.View.{View}
+use Rattle.lra_ticket.proofs.Histories.{prefix_refl, prefix_trans}
+use Rattle.lra_commands.specs.Answers.{growth}
+use Rattle.lra_commands.specs.Counters.{Setting, terms_of}
+use Rattle.lra_commands.specs.Errands.{Asking}
+use Rattle.lra_commands.specs.Given.{ask_carried, IsOfAsk}
+use Rattle.lra_commands.specs.Calls.{Call}
+use Rattle.lra_commands.specs.declared.refusal.Refusal.TheVariants.{NotAsked}
+use Rattle.lra_courier.specs.Carriages.{Places, AreSame, AreFree, Gains}
+use Rattle.lra_office.specs.declared.fault.OfficeRefusal.TheVariants as office
+use Rattle.lra_office.specs.Orders.{IsNotGiven}
+use Rattle.lra_workers.specs.Work.{Post, post, Does, Fails, WorksIn, Works}
+use Rattle.lra_workers.specs.inner.Held.{AreOfAsks}
+use Rattle.lra_workers.proofs.Working.{works_none}
+
+-- ---- an ask in a history is one in each that goes on from it
+
+asked_push : (J : History) (e : Entry) (n : ℕ) (x : Asked) → ask_of J n ≡ Some x → ask_of (J ++ e ∷ []) n ≡ Some x
+asked_push J e n x h = ask_of_push J e n ∙ ap (λ (o : Option Asked). option_or o (option_map_or (λ (a : Asked). when (a.number == n) a) (asked_at (step J e)) None)) h
+
+asked_on : (es J : History) (n : ℕ) (x : Asked) → ask_of J n ≡ Some x → ask_of (J ++ es) n ≡ Some x
+asked_on [] J n x h = subst (λ (K : History). ask_of K n ≡ Some x) (sym (append-nil J)) h
+asked_on (e ∷ es) J n x h = subst (λ (K : History). ask_of K n ≡ Some x) (append_assoc J (e ∷ []) es) (asked_on es (J ++ e ∷ []) n x (asked_push J e n x h))
+
+pub of_ask_on : (J K : History) (e : Asking) → IsPrefix J K → IsOfAsk J e → IsOfAsk K e
+of_ask_on J K e p h = subst (λ (M : History). IsOfAsk M e) p.1 (asked_on p.0 J e.ask (ask_carried e) h)
+
+pub asks_stay : (J K : History) (places : Places) → IsPrefix J K → AreOfAsks J places → AreOfAsks K places
+asks_stay J K places p h place e here = of_ask_on J K e p (h place e here)
+
+-- ---- errands come and go
+
+pub same_asks : (J : History) (old new : Places) → AreSame old new → AreOfAsks J old → AreOfAsks J new
+same_asks J old new same h place e here = h place e (sym (same place) ∙ here)
+
+pub no_asks : (J : History) (places : Places) → AreFree places → AreOfAsks J places
+no_asks J places free place e here = absurd (none (sym (free place) ∙ here))
+  where
+    none : None ≡ Some e → ⊥
+    none h = absurd cc
+
+pub gained_asks : (J : History) (old new : Places) (e : Asking) → Gains old new e → IsOfAsk J e → AreOfAsks J old → AreOfAsks J new
+gained_asks J old new e g is h place x here = at (place == g.place) refl
+  where
+    at : (b : Bool) → (place == g.place) ≡ b → IsOfAsk J x
+    at true same = subst (IsOfAsk J) (same_Some e x (sym g.here ∙ (ap new (sym (eqb-true place g.place same)) ∙ here))) is
+    at false other = h place x (sym (g.others place (eqb-false place g.place other)) ∙ here)
+
+pub lost_ask : (J : History) (old new : Places) (e : Asking) → Gains new old e → AreOfAsks J old → IsOfAsk J e
+lost_ask J old new e g h = h g.place e g.here
+
+pub lost_asks : (J : History) (old new : Places) (e : Asking) → Gains new old e → AreOfAsks J old → AreOfAsks J new
+lost_asks J old new e g h place x here = at (place == g.place) refl
+  where
+    none : None ≡ Some x → IsOfAsk J x
+    none c = absurd cc
+
+    at : (b : Bool) → (place == g.place) ≡ b → IsOfAsk J x
+    at true same = none (sym g.free ∙ (ap new (sym (eqb-true place g.place same)) ∙ here))
+    at false other = h place x (g.others place (eqb-false place g.place other) ∙ here)
+
+-- ---- calls show all that was seen
+
+module _ {O K : Type 0} (setting : O → Setting) (gives : ℕ → AskKind → Outcome → Type 0) (tells : K → ℕ → K → Type 0) where
+  done_seen : (s t : Post O K) → Does setting gives tells s t → IsPrefix s.view.seen t.view.seen
+  done_seen s t d =
+      let J = d.given.history in
+      let more = growth (terms_of (setting s.view.origin)) J d.call in
+      subst (λ (w : View O). IsPrefix s.view.seen w.seen) (sym d.given.after) (prefix_trans s.view.seen J (J ++ more) d.given.met.begins (more, refl))
+
+  refused_seen : (v w : View O) (c : Call) → IsNotGiven (setting v.origin) v c (office.Refused NotAsked) w → IsPrefix v.seen w.seen
+  refused_seen v w c (J, met, back, after) = subst (λ (x : View O). IsPrefix v.seen x.seen) (sym after) met.begins
+
+  worked_in : (n : ℕ) (s t : Post O K) → WorksIn setting gives tells n s t → IsPrefix s.view.seen t.view.seen
+  unfolding WorksIn
+  worked_in zero s t h = subst (λ (u : Post O K). IsPrefix s.view.seen u.view.seen) h (prefix_refl s.view.seen)
+  worked_in (suc n) s t (u, before, inl d) = prefix_trans s.view.seen u.view.seen t.view.seen (worked_in n s u before) (done_seen u t d)
+  worked_in (suc n) s t (u, before, inr f) = prefix_trans s.view.seen u.view.seen t.view.seen (worked_in n s u before) (refused_seen u.view t.view f.call f.given)
+
+  -- whoever works has seen all that it had
+  pub worked : (s t : Post O K) → ((r : Post O K) → Works setting gives tells r s → Works setting gives tells r t) → IsPrefix s.view.seen t.view.seen
+  worked s t h = let w = h s (works_none setting gives tells s) in worked_in w.0 s t w.1
+
+  -- after a call that isn't refused each errand is of an ask in what is seen then
+  pub held_on : {A E : Type 0} (s t : Post O K) (places : Places) (r : Result A E) (F : Post O K → E → Type 0) → ((x : Post O K) → Works setting gives tells x s → MatchResult r (λ _. Works setting gives tells x t) (F x))
+      → AreOfAsks s.view.seen places → OnOk r (AreOfAsks t.view.seen places)
+  held_on s t places (Ok a) F h asks = asks_stay s.view.seen t.view.seen places (worked s t h) asks
+  held_on s t places (Err e) F h asks = tt

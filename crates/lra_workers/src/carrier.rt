@@ -1,0 +1,242 @@
+//! A worker that has many errands under way.
+
+ghost use Rattle.std.specs.Prelude.{◌≡◌, ℕ, OnOk, IfErr, MatchResult};
+ghost use Rattle.lra_office.specs.Clerks.{clerk_view, IsClerkOf};
+ghost use Rattle.lra_commands.specs.Given.{IsOfAsk};
+ghost use Rattle.lra_courier.specs.Carriages.{AreFree};
+ghost use Rattle.lra_office.specs.Stops.{HasStopped};
+ghost use Rattle.lra_workers.specs.Work.{Post, post, Works, TellsWhy, EndsWork};
+ghost use Rattle.lra_workers.specs.inner.Held.{AreOfAsks};
+
+use crate::gate::Gate;
+use crate::worker::{WorkerEnd, fire, next_errand, record};
+use lra_core::Errand;
+use lra_courier::{Carriage, Courier};
+use lra_front::Clock;
+use lra_model::Outcome;
+use lra_office::{Clerk, OfficeOf, Serving};
+use std::marker::PhantomData;
+use std::sync::Wait;
+
+/// How many errands are taken in one turn at most: between two turns the office is others'.
+const MOST_TAKEN: u32 = 64;
+
+/// A courier that hears nothing of any errand. What it answers is known to be no more than what may come of a carriage's.
+struct Unheard<C>(PhantomData<C>);
+
+impl<C: Carriage> Courier for Unheard<C> {
+    ghost gives = { λ ask kind outcome. C.gives ask kind outcome };
+
+    fn carry(&mut self, _errand: &Errand) -> Outcome {
+        Outcome::Silent
+    }
+
+    ghost suits = { λ ask kind outcome given. C.suits ask kind outcome given };
+}
+
+/// Hands an errand over to be carried. Where memory is refused it is recorded that nothing came of it, so that its member is asked again.
+fn hand_over<V: Serving, R: Wait, C: Carriage, G: Gate, K: Clock>(
+    rt: &R,
+    office: &OfficeOf<V>,
+    clerk: &mut Clerk<V>,
+    carriage: &mut C,
+    gate: &mut G,
+    clock: &mut K,
+    errand: Errand,
+) -> Result<(), WorkerEnd>
+    requires clerk { IsClerkOf office.now.lock clerk.old }
+    requires held { AreOfAsks (clerk_view clerk.old).seen (C.held carriage.old) }
+    requires of_ask { IsOfAsk (clerk_view clerk.old).seen errand }
+    ensures clerk { IsClerkOf office.now.lock clerk.new }
+    ensures number { clerk.new.number ≡ clerk.old.number }
+    ensures held { OnOk result (AreOfAsks (clerk_view clerk.new).seen (C.held carriage.new)) }
+    ensures work { (s : Post V.Origin K) → Works V.setting C.gives K.tells s (post (clerk_view clerk.old) clock.old)
+        → MatchResult result (λ _. Works V.setting C.gives K.tells s (post (clerk_view clerk.new) clock.new)) (λ end. EndsWork V.setting C.gives K.tells s end (post (clerk_view clerk.new) clock.new)) }
+    ensures why { IfErr result (TellsWhy (G.is_shut gate.new) (G.holds gate.new) (HasStopped V.origin V.history V.lawful V.has_stopped (clerk_view clerk.new)) (clerk_view clerk.new).seen) }
+{
+    match carriage.take(errand) {
+        Ok(()) => Ok(()),
+        Err(errand) => record::<V, R, Unheard<C>, G, K>(
+            rt,
+            office,
+            clerk,
+            gate,
+            clock,
+            errand,
+            Outcome::Silent,
+        ),
+    }
+}
+
+/// Takes the errand of something that is due, and tells whether there was one.
+fn take_one<V: Serving, R: Wait, C: Carriage, G: Gate, K: Clock>(
+    rt: &R,
+    office: &OfficeOf<V>,
+    clerk: &mut Clerk<V>,
+    carriage: &mut C,
+    gate: &mut G,
+    clock: &mut K,
+) -> Result<bool, WorkerEnd>
+    requires clerk { IsClerkOf office.now.lock clerk.old }
+    requires held { AreOfAsks (clerk_view clerk.old).seen (C.held carriage.old) }
+    ensures clerk { IsClerkOf office.now.lock clerk.new }
+    ensures number { clerk.new.number ≡ clerk.old.number }
+    ensures held { OnOk result (AreOfAsks (clerk_view clerk.new).seen (C.held carriage.new)) }
+    ensures work { (s : Post V.Origin K) → Works V.setting C.gives K.tells s (post (clerk_view clerk.old) clock.old)
+        → MatchResult result (λ _. Works V.setting C.gives K.tells s (post (clerk_view clerk.new) clock.new)) (λ end. EndsWork V.setting C.gives K.tells s end (post (clerk_view clerk.new) clock.new)) }
+    ensures why { IfErr result (TellsWhy (G.is_shut gate.new) (G.holds gate.new) (HasStopped V.origin V.history V.lawful V.has_stopped (clerk_view clerk.new)) (clerk_view clerk.new).seen) }
+{
+    match next_errand::<V, R, Unheard<C>, K>(rt, office, clerk, clock) {
+        Ok(Some(errand)) => match hand_over(rt, office, clerk, carriage, gate, clock, errand) {
+            Ok(()) => Ok(true),
+            Err(end) => Err(end),
+        },
+        Ok(None) => Ok(false),
+        Err(refusal) => Err(WorkerEnd::Refused(refusal)),
+    }
+}
+
+/// Takes the errands of what is due, while there is room.
+fn take_due<V: Serving, R: Wait, C: Carriage, G: Gate, K: Clock>(
+    rt: &R,
+    office: &OfficeOf<V>,
+    clerk: &mut Clerk<V>,
+    carriage: &mut C,
+    gate: &mut G,
+    clock: &mut K,
+) -> Result<(), WorkerEnd>
+    requires clerk { IsClerkOf office.now.lock clerk.old }
+    requires held { AreOfAsks (clerk_view clerk.old).seen (C.held carriage.old) }
+    ensures clerk { IsClerkOf office.now.lock clerk.new }
+    ensures number { clerk.new.number ≡ clerk.old.number }
+    ensures held { OnOk result (AreOfAsks (clerk_view clerk.new).seen (C.held carriage.new)) }
+    ensures work { (s : Post V.Origin K) → Works V.setting C.gives K.tells s (post (clerk_view clerk.old) clock.old)
+        → MatchResult result (λ _. Works V.setting C.gives K.tells s (post (clerk_view clerk.new) clock.new)) (λ end. EndsWork V.setting C.gives K.tells s end (post (clerk_view clerk.new) clock.new)) }
+    ensures why { IfErr result (TellsWhy (G.is_shut gate.new) (G.holds gate.new) (HasStopped V.origin V.history V.lawful V.has_stopped (clerk_view clerk.new)) (clerk_view clerk.new).seen) }
+{
+    for _taken in 0..MOST_TAKEN {
+        if !carriage.has_room() {
+            return Ok(());
+        }
+        match take_one(rt, office, clerk, carriage, gate, clock) {
+            Ok(true) => {}
+            Ok(false) => return Ok(()),
+            Err(end) => return Err(end),
+        }
+    }
+    Ok(())
+}
+
+/// Records what came of one errand, and tells whether something had come of any.
+fn record_one<V: Serving, R: Wait, C: Carriage, G: Gate, K: Clock>(
+    rt: &R,
+    office: &OfficeOf<V>,
+    clerk: &mut Clerk<V>,
+    carriage: &mut C,
+    gate: &mut G,
+    clock: &mut K,
+) -> Result<bool, WorkerEnd>
+    requires clerk { IsClerkOf office.now.lock clerk.old }
+    requires held { AreOfAsks (clerk_view clerk.old).seen (C.held carriage.old) }
+    ensures clerk { IsClerkOf office.now.lock clerk.new }
+    ensures number { clerk.new.number ≡ clerk.old.number }
+    ensures held { OnOk result (AreOfAsks (clerk_view clerk.new).seen (C.held carriage.new)) }
+    ensures work { (s : Post V.Origin K) → Works V.setting C.gives K.tells s (post (clerk_view clerk.old) clock.old)
+        → MatchResult result (λ _. Works V.setting C.gives K.tells s (post (clerk_view clerk.new) clock.new)) (λ end. EndsWork V.setting C.gives K.tells s end (post (clerk_view clerk.new) clock.new)) }
+    ensures why { IfErr result (TellsWhy (G.is_shut gate.new) (G.holds gate.new) (HasStopped V.origin V.history V.lawful V.has_stopped (clerk_view clerk.new)) (clerk_view clerk.new).seen) }
+{
+    let Some((errand, outcome)) = carriage.done() else {
+        return Ok(false);
+    };
+    match record::<V, R, Unheard<C>, G, K>(rt, office, clerk, gate, clock, errand, outcome) {
+        Ok(()) => Ok(true),
+        Err(end) => Err(end),
+    }
+}
+
+/// Records what came of each errand of which something has come.
+fn record_done<V: Serving, R: Wait, C: Carriage, G: Gate, K: Clock>(
+    rt: &R,
+    office: &OfficeOf<V>,
+    clerk: &mut Clerk<V>,
+    carriage: &mut C,
+    gate: &mut G,
+    clock: &mut K,
+) -> Result<(), WorkerEnd>
+    requires clerk { IsClerkOf office.now.lock clerk.old }
+    requires held { AreOfAsks (clerk_view clerk.old).seen (C.held carriage.old) }
+    ensures clerk { IsClerkOf office.now.lock clerk.new }
+    ensures number { clerk.new.number ≡ clerk.old.number }
+    ensures held { OnOk result (AreOfAsks (clerk_view clerk.new).seen (C.held carriage.new)) }
+    ensures work { (s : Post V.Origin K) → Works V.setting C.gives K.tells s (post (clerk_view clerk.old) clock.old)
+        → MatchResult result (λ _. Works V.setting C.gives K.tells s (post (clerk_view clerk.new) clock.new)) (λ end. EndsWork V.setting C.gives K.tells s end (post (clerk_view clerk.new) clock.new)) }
+    ensures why { IfErr result (TellsWhy (G.is_shut gate.new) (G.holds gate.new) (HasStopped V.origin V.history V.lawful V.has_stopped (clerk_view clerk.new)) (clerk_view clerk.new).seen) }
+{
+    for _ in rt.forever() {
+        match record_one(rt, office, clerk, carriage, gate, clock) {
+            Ok(true) => {}
+            Ok(false) => return Ok(()),
+            Err(end) => return Err(end),
+        }
+    }
+    unreachable!()
+}
+
+/// Lets limits fire and takes what is due, has all that is under way carried, and records what came of it.
+fn take_turn<V: Serving, R: Wait, C: Carriage, G: Gate, K: Clock>(
+    rt: &R,
+    office: &OfficeOf<V>,
+    clerk: &mut Clerk<V>,
+    carriage: &mut C,
+    gate: &mut G,
+    clock: &mut K,
+) -> Result<(), WorkerEnd>
+    requires clerk { IsClerkOf office.now.lock clerk.old }
+    requires held { AreOfAsks (clerk_view clerk.old).seen (C.held carriage.old) }
+    ensures clerk { IsClerkOf office.now.lock clerk.new }
+    ensures number { clerk.new.number ≡ clerk.old.number }
+    ensures held { OnOk result (AreOfAsks (clerk_view clerk.new).seen (C.held carriage.new)) }
+    ensures work { (s : Post V.Origin K) → Works V.setting C.gives K.tells s (post (clerk_view clerk.old) clock.old)
+        → MatchResult result (λ _. Works V.setting C.gives K.tells s (post (clerk_view clerk.new) clock.new)) (λ end. EndsWork V.setting C.gives K.tells s end (post (clerk_view clerk.new) clock.new)) }
+    ensures why { IfErr result (TellsWhy (G.is_shut gate.new) (G.holds gate.new) (HasStopped V.origin V.history V.lawful V.has_stopped (clerk_view clerk.new)) (clerk_view clerk.new).seen) }
+{
+    if let Err(refusal) = fire::<V, R, Unheard<C>, K>(rt, office, clerk, clock) {
+        return Err(WorkerEnd::Refused(refusal));
+    }
+    if let Err(end) = take_due(rt, office, clerk, carriage, gate, clock) {
+        return Err(end);
+    }
+    carriage.carry();
+    record_done(rt, office, clerk, carriage, gate, clock)
+}
+
+/// Works as a clerk of an office, with many errands under way: lets limits fire, takes the errands of what is due in the order in which it is, and
+/// records what comes of each when it comes, turn by turn as long as the gate lets it. An errand is taken at once: the gate isn't asked to hold it.
+///
+/// The errands that are under way when it ends stay in the carriage.
+pub fn run_carrier<V: Serving, R: Wait, C: Carriage, G: Gate, K: Clock>(
+    rt: &R,
+    office: &OfficeOf<V>,
+    clerk: Clerk<V>,
+    carriage: &mut C,
+    gate: &mut G,
+    clock: &mut K,
+) -> (Clerk<V>, WorkerEnd)
+    requires clerk { IsClerkOf office.now.lock clerk }
+    requires none { AreFree (C.held carriage.old) }
+    ensures clerk { IsClerkOf office.now.lock result.0 }
+    ensures number { result.0.number ≡ clerk.number }
+    ensures work { EndsWork V.setting C.gives K.tells (post (clerk_view clerk) clock.old) result.1 (post (clerk_view result.0) clock.new) }
+    ensures why { TellsWhy (G.is_shut gate.new) (G.holds gate.new) (HasStopped V.origin V.history V.lawful V.has_stopped (clerk_view result.0)) (clerk_view result.0).seen result.1 }
+{
+    let mut clerk = clerk;
+    for _ in rt.forever() {
+        if !gate.more() {
+            return (clerk, WorkerEnd::Ended);
+        }
+        if let Err(end) = take_turn(rt, office, &mut clerk, carriage, gate, clock) {
+            return (clerk, end);
+        }
+    }
+    unreachable!()
+}
