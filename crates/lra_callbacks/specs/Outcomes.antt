@@ -1,0 +1,52 @@
+-- What may come of an errand.
+use Rattle.std.specs.Prelude.{◌≡◌, ◌⊎◌, ℕ, Bool, true, Some, Result, refl}
+use Rattle.std.specs.Result.{result_unwrap_or}
+use Rattle.std.proofs.Common.{ap, inl, inr}
+use Rattle.lra_model.specs.declared.asks.AskKind.{AskKind}
+use Rattle.lra_model.specs.declared.asks.AskKind.TheVariants as ask
+use Rattle.lra_model.specs.declared.asks.Outcome.{Outcome}
+use Rattle.lra_model.specs.declared.asks.Outcome.TheVariants.{Silent}
+use Rattle.lra_model.specs.Words.{outcome_suits}
+use Rattle.lra_commands.specs.Errands.{Asking}
+use Rattle.lra_courier.specs.declared.fault.CallFault.{CallFault}
+use Rattle.lra_courier.specs.Callbacks.{calling_of, request_bytes}
+use Rattle.lra_carrying.specs.Carried.{Carried, IsCarried}
+use Rattle.lra_durable.specs.Leaves.{HasLeave}
+
+-- what was carried is the callback of an errand
+pub record IsFor (carried : Carried) (errand : Asking) : Type 0 where
+  pub kind : carried.kind ≡ errand.kind
+  pub direction : carried.direction ≡ errand.direction
+  pub request : carried.request ≡ request_bytes (calling_of errand)
+
+-- An outcome came of a callback for an ask of this number and kind: the request was made once the disk kept all that it had taken when the
+-- errand was given, and this is what the callback came to.
+pub record Comes (took keeps : ℕ → Bool) (ask : ℕ) (kind : AskKind) (outcome : Outcome) : Type 0 where
+  pub leave : HasLeave took keeps
+  pub errand : Asking
+  pub of_ask : errand.ask ≡ ask
+  pub of_kind : errand.kind ≡ kind
+  pub carried : Carried
+  pub steps : IsCarried carried
+  pub own : IsFor carried errand
+  pub told : Result Outcome CallFault
+  pub came : carried.came ≡ Some told
+  pub as_told : outcome ≡ result_unwrap_or told Silent
+  pub suits : outcome_suits kind outcome ≡ true
+
+-- it came of such a callback, or it is silence
+abbrev pub MayCome : (ℕ → Bool) → (ℕ → Bool) → ℕ → AskKind → Outcome → Type 0
+MayCome took keeps ask kind outcome = Comes took keeps ask kind outcome ⊎ (outcome ≡ Silent)
+
+-- silence suits every kind of ask
+silence_suits : (kind : AskKind) (outcome : Outcome) → outcome ≡ Silent → outcome_suits kind outcome ≡ true
+silence_suits ask.Complete outcome e = refl
+silence_suits ask.Compensate outcome e = refl
+silence_suits ask.Status outcome e = refl
+silence_suits ask.Forget outcome e = ap (λ (o : Outcome). outcome_suits ask.Forget o) e
+silence_suits ask.After outcome e = ap (λ (o : Outcome). outcome_suits ask.After o) e
+
+-- what may come suits the kind
+pub coming_suits : (took keeps : ℕ → Bool) (ask : ℕ) (kind : AskKind) (outcome : Outcome) → MayCome took keeps ask kind outcome → outcome_suits kind outcome ≡ true
+coming_suits took keeps ask kind outcome (inl came) = came.suits
+coming_suits took keeps ask kind outcome (inr silent) = silence_suits kind outcome silent

@@ -1,0 +1,178 @@
+//! An errand from when it is taken until something has come of it.
+
+ghost use Rattle.std.specs.Prelude.{◌≡◌, Some, IfSome, IsTrue, option_map};
+ghost use Rattle.std.specs.Option.{ForSome};
+ghost use Rattle.lra_durable.specs.Leaves.{MayLeave};
+ghost use Rattle.lra_callbacks.specs.Outcomes.{IsFor, MayCome};
+
+use crate::pumping::{Moved, pump};
+use lra_carrying::Carrying;
+use lra_core::Errand;
+use lra_courier::{Callback, socket_text};
+use lra_durable::{Disk, Due, Progress};
+use lra_ids::address;
+use lra_model::Outcome;
+use std::alloc::Global;
+use std::io::{Read, Write};
+use std::marker::Model;
+use std::sync::Wait;
+
+/// An errand that is held: where it is let go of, it is discarded.
+pub(crate) struct Held {
+    errand: Option<Errand>,
+}
+
+impl Model for Held {
+    ghost use Rattle.std.specs.Prelude.{Option};
+    ghost use Rattle.lra_commands.specs.Errands.{Asking};
+
+    ghost Value = { Option Asking };
+
+    ghost view = { λ held. held.errand };
+}
+
+impl Drop for Held {
+    fn drop(self) {
+        let Held { errand } = self;
+        if let Some(errand) = errand {
+            errand.discard();
+        }
+    }
+}
+
+impl Held {
+    fn new(errand: Errand) -> Held
+        ensures { result ≡ Some errand }
+    {
+        Held {
+            errand: Some(errand),
+        }
+    }
+
+    fn get(&self) -> Option<&Errand>
+        ensures { option_map (λ errand. errand.now) result ≡ self.now }
+    {
+        self.errand.as_ref()
+    }
+
+    fn into_errand(self) -> Option<Errand>
+        ensures { result ≡ self }
+    {
+        let Held { errand } = self;
+        errand
+    }
+}
+
+/// Whether a callback may leave.
+#[derive(Clone, Copy, Debug, PartialEq, Eq)]
+pub(crate) enum Leave {
+    Now,
+    /// Once the disk keeps what it had taken when the errand was given.
+    Later,
+    /// The disk has failed, or there is no request.
+    Never,
+}
+
+/// A callback that has leave: so many bytes of the journal were kept when it began.
+#[derive(Drop)]
+pub(crate) struct Flight {
+    carrying: Carrying,
+    kept: u64,
+}
+
+/// An errand that was taken. Its request is made once the disk keeps all that it had taken by then.
+#[derive(Drop)]
+pub(crate) struct Attempt<D: Disk> {
+    errand: Held,
+    due: Due<D>,
+    flight: Option<Flight>,
+    ghost leave: { ForSome flight (λ f. IsTrue (D.took due) × MayLeave D.keeps due f.kept) },
+    ghost own: { ForSome flight (λ f. ForSome errand (IsFor f.carrying)) },
+}
+
+impl<D: Disk> Attempt<D> {
+    /// An errand that is taken now.
+    pub(crate) fn new(errand: Errand, due: Due<D>) -> Attempt<D>
+        ensures { result.errand ≡ Some errand }
+    {
+        Attempt {
+            errand: Held::new(errand),
+            due,
+            flight: None,
+        }
+    }
+
+    /// What the disk has to keep before it leaves.
+    pub(crate) fn due(&self) -> &Due<D> {
+        &self.due
+    }
+
+    /// The callback of the errand. Nothing, where it has no address or memory is refused.
+    fn callback(&self, alloc: Global) -> Option<Carrying>
+        ensures { IfSome result (λ carrying. ForSome self.now.errand (IsFor carrying)) }
+    {
+        match self.errand.get() {
+            Some(errand) => Carrying::new(alloc, &Callback::of(errand)).ok(),
+            None => None,
+        }
+    }
+
+    /// Makes the callback, where it may leave.
+    pub(crate) fn begin<R: Wait>(&mut self, rt: &R, alloc: Global, progress: &Progress<D>) -> Leave
+        ensures { self.new.errand ≡ self.old.errand }
+    {
+        let Ok(kept) = progress.kept(rt, &self.due) else {
+            return Leave::Never;
+        };
+        let Some(kept) = kept else {
+            return Leave::Later;
+        };
+        match self.callback(alloc) {
+            Some(carrying) => {
+                self.flight = Some(Flight { carrying, kept });
+                Leave::Now
+            }
+            None => Leave::Never,
+        }
+    }
+
+    /// The host and port that are asked.
+    pub(crate) fn socket(&self, alloc: Global) -> Option<String> {
+        let to = address(alloc, self.errand.get()?.address()).ok()?;
+        socket_text(alloc, &to).ok()
+    }
+
+    /// Moves bytes between the callback and its stream.
+    pub(crate) fn pump<S: Read + Write>(&mut self, stream: &mut S, buffer: &mut [u8]) -> Moved
+        ensures { self.new.errand ≡ self.old.errand }
+    {
+        match &mut self.flight {
+            Some(flight) => pump(&mut flight.carrying, stream, buffer),
+            None => Moved::Ended,
+        }
+    }
+
+    /// What has come of the callback: silence, where nothing has.
+    fn outcome(&self) -> Outcome
+        ensures { IfSome self.now.errand (λ e. MayCome D.took D.keeps e.ask e.kind result) }
+    {
+        let Some(flight) = &self.flight else {
+            return Outcome::Silent;
+        };
+        flight.carrying.carried();
+        flight.carrying.outcome().unwrap_or(Outcome::Silent)
+    }
+
+    /// The errand, and what has come of it.
+    pub(crate) fn finish(self) -> Option<(Errand, Outcome)>
+        ensures errand { option_map (λ came. came.0) result ≡ self.errand }
+        ensures came { IfSome result (λ came. MayCome D.took D.keeps came.0.ask came.0.kind came.1) }
+    {
+        let outcome = self.outcome();
+        let Attempt { errand, .. } = self;
+        match errand.into_errand() {
+            Some(errand) => Some((errand, outcome)),
+            None => None,
+        }
+    }
+}

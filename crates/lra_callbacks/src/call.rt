@@ -1,0 +1,188 @@
+//! An errand with its socket.
+
+ghost use Rattle.std.specs.Prelude.{◌≡◌, Some, IfSome, option_map};
+ghost use Rattle.lra_callbacks.specs.Outcomes.{MayCome};
+
+use crate::attempt::{Attempt, Leave};
+use crate::pumping::Moved;
+use lra_core::Errand;
+use lra_durable::{Disk, Due, Progress};
+use lra_model::Outcome;
+use mio::net::TcpStream;
+use mio::{Interest, Registry, Token};
+use std::alloc::Global;
+use std::io::ErrorKind;
+use std::net::{Net, SocketAddr};
+use std::sync::Wait;
+
+/// What a look at a socket found.
+#[derive(Clone, Copy, Debug, PartialEq, Eq)]
+pub(crate) enum Seen {
+    /// It has to be waited for.
+    Waits,
+    /// It has just been connected, and has to be waited for.
+    Connected,
+    /// The peer didn't take the connection.
+    Refused,
+    /// Nothing more will come of the callback.
+    Ended,
+    /// It has no socket: what was reported was of another before it.
+    Idle,
+}
+
+/// An errand that was taken, and the socket of its callback, once it has one.
+#[derive(Drop)]
+pub(crate) struct Call<D: Disk> {
+    attempt: Attempt<D>,
+    stream: Option<TcpStream>,
+    is_connected: bool,
+    /// The host that it goes to, by its number.
+    host: usize,
+    /// How many of the host's addresses were tried.
+    tried: usize,
+    /// When it began to connect, in milliseconds.
+    began: u64,
+}
+
+impl<D: Disk> Call<D> {
+    pub(crate) fn new(errand: Errand, due: Due<D>) -> Call<D>
+        ensures { result.attempt.errand ≡ Some errand }
+    {
+        Call {
+            attempt: Attempt::new(errand, due),
+            stream: None,
+            is_connected: false,
+            host: 0,
+            tried: 0,
+            began: 0,
+        }
+    }
+
+    /// Makes the callback, where it may leave.
+    pub(crate) fn begin<R: Wait>(&mut self, rt: &R, alloc: Global, progress: &Progress<D>) -> Leave
+        ensures { self.new.attempt.errand ≡ self.old.attempt.errand }
+    {
+        self.attempt.begin(rt, alloc, progress)
+    }
+
+    /// What the disk has to keep before it leaves.
+    pub(crate) fn due(&self) -> &Due<D> {
+        self.attempt.due()
+    }
+
+    /// The host and port that are asked.
+    pub(crate) fn socket(&self, alloc: Global) -> Option<String> {
+        self.attempt.socket(alloc)
+    }
+
+    /// The errand, and what came of it.
+    pub(crate) fn finish(self) -> Option<(Errand, Outcome)>
+        ensures errand { option_map (λ came. came.0) result ≡ self.attempt.errand }
+        ensures came { IfSome result (λ came. MayCome D.took D.keeps came.0.ask came.0.kind came.1) }
+    {
+        let Call { attempt, .. } = self;
+        attempt.finish()
+    }
+
+    pub(crate) fn host(&self) -> usize {
+        self.host
+    }
+
+    pub(crate) fn tried(&self) -> usize {
+        self.tried
+    }
+
+    pub(crate) fn began(&self) -> u64 {
+        self.began
+    }
+
+    /// It goes to that host from now on.
+    pub(crate) fn set_out(&mut self, host: usize, now: u64)
+        ensures { self.new.attempt.errand ≡ self.old.attempt.errand }
+    {
+        self.host = host;
+        self.began = now;
+    }
+
+    /// Begins to connect to an address of its host, and tells whether it could.
+    pub(crate) fn connect<R: Net>(
+        &mut self,
+        rt: &R,
+        registry: &Registry,
+        key: usize,
+        to: SocketAddr,
+    ) -> bool
+        ensures { self.new.attempt.errand ≡ self.old.attempt.errand }
+    {
+        self.tried = self.tried.saturating_add(1);
+        self.is_connected = false;
+        let Ok(mut stream) = TcpStream::connect(rt, to) else {
+            return false;
+        };
+        let interests = Interest::READABLE | Interest::WRITABLE;
+        let is_watched = registry
+            .register(&mut stream, Token(key), interests)
+            .is_ok();
+        self.stream = Some(stream);
+        is_watched
+    }
+
+    /// Ends its socket, and tells whether it had one.
+    pub(crate) fn hang_up(&mut self) -> bool
+        ensures { self.new.attempt.errand ≡ self.old.attempt.errand }
+    {
+        self.stream.take().is_some()
+    }
+
+    /// Moves what can be moved.
+    pub(crate) fn advance(&mut self, buffer: &mut [u8]) -> Seen
+        ensures { self.new.attempt.errand ≡ self.old.attempt.errand }
+    {
+        let Some(stream) = &mut self.stream else {
+            return Seen::Idle;
+        };
+        let was_connected = self.is_connected;
+        if !was_connected {
+            match connection_of(stream) {
+                Connection::Made => self.is_connected = true,
+                Connection::Pending => return Seen::Waits,
+                Connection::Failed => return Seen::Refused,
+            }
+        }
+        match self.attempt.pump(stream, buffer) {
+            Moved::Ended => Seen::Ended,
+            Moved::Waits => {
+                if was_connected {
+                    Seen::Waits
+                } else {
+                    Seen::Connected
+                }
+            }
+        }
+    }
+}
+
+/// Whether a socket is connected.
+#[derive(Clone, Copy, Debug, PartialEq, Eq)]
+enum Connection {
+    Made,
+    Pending,
+    Failed,
+}
+
+fn connection_of(stream: &TcpStream) -> Connection {
+    if !matches!(stream.take_error(), Ok(None)) {
+        return Connection::Failed;
+    }
+    match stream.peer_addr() {
+        Ok(_) => {
+            // What is written goes out at once, also where this can't be set.
+            let _ = stream.set_nodelay(true);
+            Connection::Made
+        }
+        Err(error) => match error.kind() {
+            ErrorKind::NotConnected => Connection::Pending,
+            _ => Connection::Failed,
+        },
+    }
+}

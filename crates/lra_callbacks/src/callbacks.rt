@@ -1,0 +1,345 @@
+//! All callbacks of one carrier.
+
+ghost use Rattle.std.specs.Prelude.{◌≡◌, [], IfOk, IfSome, IfNone};
+ghost use Rattle.lra_courier.specs.Carriages.{Gains, AreSame};
+ghost use Rattle.lra_callbacks.specs.Outcomes.{MayCome};
+ghost use Rattle.lra_callbacks.specs.Held.{errand_at};
+
+use crate::attempt::Leave;
+use crate::call::{Call, Seen};
+use crate::hosts::Next;
+use crate::names::Names;
+use crate::share::Share;
+use crate::traffic::Traffic;
+use lra_core::Errand;
+use lra_courier::Carriage;
+use lra_durable::{Disk, Progress};
+use lra_model::{Memory, Outcome};
+use mio::Poll;
+use slab::Slab;
+use std::alloc::{AllocError, Global};
+use std::marker::Model;
+use std::net::Net;
+use std::sync::Wait;
+use std::time::Clock;
+
+/// How many milliseconds a member has to take the connection.
+const CONNECT_MS: u64 = 5_000;
+
+/// How many there are in all, until the whole reply has come.
+const REPLY_MS: u64 = 30_000;
+
+/// How long a carrier waits for its sockets before it looks at its office again.
+const REST_MS: u64 = 50;
+
+/// How long it leaves its office alone in any case.
+const PAUSE_MS: u64 = 2;
+
+/// Callbacks to members, many at once. The request of each is made once the disk keeps all that it had taken when the errand was given; it waits
+/// while as many go to its host, or in all, as may. A contract sees which errand is under way at each place.
+#[derive(Drop)]
+pub struct Callbacks<'a, R, D: Disk> {
+    rt: &'a R,
+    alloc: Global,
+    progress: &'a Progress<D>,
+    names: &'a Names,
+    share: Share,
+    calls: Slab<Call<D>>,
+    traffic: Traffic,
+    /// When it looked at its office last.
+    looked: u64,
+}
+
+impl<'a, R, D: Disk> Model for Callbacks<'a, R, D> {
+    ghost use Rattle.std.specs.Prelude.{List, Option, map};
+    ghost use Rattle.std.specs.Option.{option_and_then};
+    ghost use Rattle.lra_commands.specs.Errands.{Asking};
+
+    ghost Value = { List (Option Asking) };
+
+    ghost view = { λ c. map (λ slot. option_and_then (λ call. call.attempt.errand) slot) c.calls.slots };
+}
+
+impl<'a, R: Wait + Net + Clock, D: Disk> Callbacks<'a, R, D> {
+    /// None is under way. The poll is one that [`bell`](crate::bell) gave.
+    pub fn new(
+        rt: &'a R,
+        alloc: Global,
+        progress: &'a Progress<D>,
+        names: &'a Names,
+        poll: Poll,
+        share: Share,
+    ) -> Result<Callbacks<'a, R, D>, Memory>
+        ensures { IfOk result (λ made. made ≡ []) }
+    {
+        let Some(traffic) = Traffic::new(alloc, poll, share) else {
+            return Err(AllocError);
+        };
+        Ok(Callbacks {
+            rt,
+            alloc,
+            progress,
+            names,
+            share,
+            calls: Slab::new(alloc),
+            traffic,
+            looked: 0,
+        })
+    }
+
+    /// Those leave the disk that may.
+    fn depart_all(&mut self)
+        ensures { self.new ≡ self.old }
+    {
+        for _ in 0..self.traffic.unkept.len() {
+            let Some(key) = self.traffic.unkept.front().copied() else {
+                return;
+            };
+            if !self.depart(key) {
+                return;
+            }
+            self.traffic.unkept.pop_front();
+        }
+    }
+
+    /// Has one wait for its host, where the disk keeps what it has to. Tells whether it waits for the disk no longer.
+    fn depart(&mut self, key: usize) -> bool
+        ensures { self.new ≡ self.old }
+    {
+        let Some(call) = self.calls.get_mut(key) else {
+            return true;
+        };
+        match call.begin(self.rt, self.alloc, self.progress) {
+            Leave::Later => return false,
+            Leave::Never => self.traffic.end(key),
+            Leave::Now => {
+                let socket = call.socket(self.alloc);
+                self.traffic.enlist(key, socket);
+            }
+        }
+        true
+    }
+
+    /// Waits for the disk, for all that do.
+    fn settle(&mut self)
+        ensures { self.new ≡ self.old }
+    {
+        let Some(key) = self.traffic.unkept.back().copied() else {
+            return;
+        };
+        if let Some(call) = self.calls.get(key) {
+            // Whether it is kept is asked again for each.
+            let _ = self.progress.keep(self.rt, call.due());
+        }
+    }
+
+    /// Those set out whose hosts may have one more.
+    fn start_all(&mut self, now: u64)
+        ensures { self.new ≡ self.old }
+    {
+        for _ in 0..u64::MAX {
+            match self.traffic.hosts.next(self.rt, self.names, now) {
+                Next::Goes(key, host) => self.start(key, host, now),
+                Next::Fails(key) => self.traffic.end(key),
+                Next::Nothing => return,
+            }
+        }
+    }
+
+    /// Has one set out to its host.
+    fn start(&mut self, key: usize, host: usize, now: u64)
+        ensures { self.new ≡ self.old }
+    {
+        let Some(call) = self.calls.get_mut(key) else {
+            self.traffic.hosts.leave(host);
+            return;
+        };
+        call.set_out(host, now);
+        if !self.traffic.allow(key, now.saturating_add(CONNECT_MS)) {
+            self.traffic.close(key, host);
+            self.traffic.end(key);
+            return;
+        }
+        self.connect(key);
+    }
+
+    /// Has one connect to the first of its host's addresses that wasn't tried and may take it.
+    fn connect(&mut self, key: usize)
+        ensures { self.new ≡ self.old }
+    {
+        for _ in 0..u64::MAX {
+            if self.is_connecting(key) {
+                return;
+            }
+        }
+    }
+
+    /// Has one connect to the next of its host's addresses. Where there is none it has ended. Tells whether there is nothing more to try.
+    fn is_connecting(&mut self, key: usize) -> bool
+        ensures { self.new ≡ self.old }
+    {
+        let Some(call) = self.calls.get_mut(key) else {
+            return true;
+        };
+        match self.traffic.hosts.address(call.host(), call.tried()) {
+            Some(to) => call.connect(self.rt, self.traffic.poll.registry(), key, to),
+            None => {
+                call.hang_up();
+                self.traffic.close(key, call.host());
+                self.traffic.end(key);
+                true
+            }
+        }
+    }
+
+    /// Looks at one whose socket was reported.
+    fn advance(&mut self, key: usize)
+        ensures { self.new ≡ self.old }
+    {
+        let Some(call) = self.calls.get_mut(key) else {
+            return;
+        };
+        match call.advance(self.traffic.buffer.as_mut_slice()) {
+            Seen::Waits | Seen::Idle => {}
+            Seen::Connected => {
+                let until = call.began().saturating_add(REPLY_MS);
+                self.traffic.allow(key, until);
+            }
+            Seen::Refused => self.connect(key),
+            Seen::Ended => self.finish(key),
+        }
+    }
+
+    /// Nothing more will come of one that has set out.
+    fn finish(&mut self, key: usize)
+        ensures { self.new ≡ self.old }
+    {
+        let Some(call) = self.calls.get_mut(key) else {
+            return;
+        };
+        if call.hang_up() {
+            self.traffic.close(key, call.host());
+            self.traffic.end(key);
+        }
+    }
+
+    /// The errand of one that has ended, and what came of it.
+    fn remove(&mut self, key: usize) -> Option<(Errand, Outcome)>
+        ensures some { IfSome result (λ came. Gains (errand_at self.new) (errand_at self.old) came.0 × MayCome D.took D.keeps came.0.ask came.0.kind came.1) }
+        ensures none { IfNone result (AreSame (errand_at self.old) (errand_at self.new)) }
+    {
+        let Some(call) = self.calls.try_remove(key) else {
+            return None;
+        };
+        call.finish()
+    }
+
+    /// Looks at all whose sockets were reported.
+    fn advance_all(&mut self)
+        ensures { self.new ≡ self.old }
+    {
+        for place in 0..self.traffic.reported.len() {
+            if let Some(key) = self.traffic.reported.get(place).copied() {
+                self.advance(key);
+            }
+        }
+    }
+
+    /// Nothing more will come of those whose time is up.
+    fn finish_late(&mut self, now: u64)
+        ensures { self.new ≡ self.old }
+    {
+        for _ in 0..u64::MAX {
+            let Some(key) = self.traffic.late(now) else {
+                return;
+            };
+            self.finish(key);
+        }
+    }
+
+    /// Waits so long at most for sockets, and moves what can be moved.
+    fn turn(&mut self, millis: u64)
+        ensures { self.new ≡ self.old }
+    {
+        let now = self.traffic.moment(self.rt);
+        self.traffic.hosts.ask_again();
+        self.start_all(now);
+        self.traffic.wait(millis);
+        self.advance_all();
+        let now = self.traffic.moment(self.rt);
+        self.finish_late(now);
+        self.start_all(now);
+    }
+
+    /// How long sockets may be waited for.
+    fn rest(&self) -> u64 {
+        if self.traffic.unkept.is_empty() && self.traffic.ended.is_empty() {
+            REST_MS
+        } else {
+            0
+        }
+    }
+
+    /// Moves what can be moved until the office may be looked at again.
+    fn linger(&mut self)
+        ensures { self.new ≡ self.old }
+    {
+        for _ in 0..PAUSE_MS * 32 {
+            let now = self.traffic.moment(self.rt);
+            let until = self.looked.saturating_add(PAUSE_MS);
+            if now >= until {
+                break;
+            }
+            self.turn(until - now);
+        }
+        self.looked = self.traffic.moment(self.rt);
+    }
+}
+
+impl<R: Wait + Net + Clock, D: Disk> Carriage for Callbacks<'_, R, D> {
+    ghost use Rattle.lra_callbacks.specs.Outcomes.{MayCome, coming_suits};
+    ghost use Rattle.lra_callbacks.specs.Held.{errand_at};
+    ghost use Rattle.std.proofs.Common.{inr, refl};
+
+    ghost held = { λ errands place. errand_at errands place };
+
+    ghost gives = { λ ask kind outcome. MayCome D.took D.keeps ask kind outcome };
+
+    fn has_room(&self) -> bool {
+        self.calls.len() < self.share.held as usize
+    }
+
+    fn take(&mut self, errand: Errand) -> Result<(), Errand> {
+        if self.traffic.make_room(self.calls.len()).is_none() {
+            return Err(errand);
+        }
+        if self.calls.reserve(1).is_err() {
+            return Err(errand);
+        }
+        let due = self.progress.due(self.rt);
+        let key = self.calls.insert_reserved(Call::new(errand, due));
+        let _ = self.traffic.unkept.push_back(key);
+        Ok(())
+    }
+
+    fn carry(&mut self) {
+        self.depart_all();
+        self.turn(self.rest());
+        if !self.traffic.unkept.is_empty() {
+            self.settle();
+            self.depart_all();
+        }
+        self.linger();
+    }
+
+    fn done(&mut self) -> Option<(Errand, Outcome)> {
+        match self.traffic.ended.pop_front() {
+            Some(key) => self.remove(key),
+            None => None,
+        }
+    }
+
+    ghost suits = { λ ask kind outcome came. coming_suits D.took D.keeps ask kind outcome came };
+
+    ghost silent = { λ ask kind. inr refl };
+}

@@ -1,0 +1,266 @@
+//! The hosts that callbacks go to, and what waits for each.
+
+use crate::book::Found;
+use crate::bounds::Bounds;
+use crate::names::Names;
+use crate::share::Share;
+use slab::Slab;
+use std::alloc::Global;
+use std::collections::{BTreeMap, VecDeque};
+use std::net::SocketAddr;
+use std::sync::Wait;
+
+/// How many milliseconds a host's name may take to be looked up.
+const NAME_MS: u64 = 10_000;
+
+/// A host and port, and the callbacks to it.
+#[derive(Drop)]
+struct Host {
+    socket: String,
+    /// Its addresses: none, while they aren't known.
+    addresses: Vec<SocketAddr>,
+    /// Until when they count, in milliseconds.
+    until: u64,
+    /// Until when they are waited for.
+    patience: u64,
+    /// How many sockets to it are open.
+    open: u32,
+    /// The callbacks that wait for it.
+    waiting: VecDeque<usize>,
+    /// Whether it stands in line.
+    is_lined: bool,
+    /// Whether its name is waited for.
+    is_unknown: bool,
+}
+
+/// What is next.
+#[derive(Clone, Copy, Debug, PartialEq, Eq)]
+pub(crate) enum Next {
+    /// This callback sets out to that host, and is counted there.
+    Goes(usize, usize),
+    /// Nothing comes of this callback: its host isn't found.
+    Fails(usize),
+    /// None can set out now.
+    Nothing,
+}
+
+/// The hosts that callbacks go to. Those that may have one more stand in line, so that each has its turn.
+#[derive(Drop)]
+pub(crate) struct Hosts {
+    alloc: Global,
+    bounds: Bounds,
+    hosts: Slab<Host>,
+    by_socket: BTreeMap<String, usize>,
+    /// The hosts that may have one more, by number.
+    line: VecDeque<usize>,
+    /// Those whose names are waited for.
+    unknown: VecDeque<usize>,
+}
+
+impl Hosts {
+    pub(crate) fn new(alloc: Global, share: Share) -> Hosts {
+        Hosts {
+            alloc,
+            bounds: Bounds::new(share.sockets, share.each),
+            hosts: Slab::new(alloc),
+            by_socket: BTreeMap::new(alloc),
+            line: VecDeque::new(alloc),
+            unknown: VecDeque::new(alloc),
+        }
+    }
+
+    /// A callback waits for its host. Where memory is refused it doesn't.
+    pub(crate) fn enlist(&mut self, key: usize, socket: String) -> Option<()> {
+        let number = self.number_of(socket)?;
+        let host = self.hosts.get_mut(number)?;
+        host.waiting.push_back(key).ok()?;
+        self.line_up(number);
+        Some(())
+    }
+
+    /// The number of a host, which is a new one where there is none yet.
+    fn number_of(&mut self, socket: String) -> Option<usize> {
+        if let Some(number) = self.by_socket.get(socket.as_str()) {
+            return Some(*number);
+        }
+        let key = String::from_str(self.alloc, socket.as_str()).ok()?;
+        // Each host stands at most once in each.
+        self.line.reserve(self.hosts.len().saturating_add(1)).ok()?;
+        self.unknown
+            .reserve(self.hosts.len().saturating_add(1))
+            .ok()?;
+        let number = self.hosts.insert(Host::new(self.alloc, socket)).ok()?;
+        if self.by_socket.insert(key, number).is_err() {
+            self.hosts.try_remove(number);
+            return None;
+        }
+        Some(number)
+    }
+
+    /// A host may have one more.
+    fn line_up(&mut self, number: usize) {
+        if let Some(host) = self.hosts.get_mut(number) {
+            if !host.is_lined {
+                host.is_lined = true;
+                let _ = self.line.push_back(number);
+            }
+        }
+    }
+
+    /// A callback to a host has ended.
+    pub(crate) fn leave(&mut self, number: usize) {
+        if let Some(host) = self.hosts.get_mut(number) {
+            self.bounds.leave(&mut host.open);
+        }
+        self.line_up(number);
+    }
+
+    /// One of a host's addresses.
+    pub(crate) fn address(&self, number: usize, place: usize) -> Option<SocketAddr> {
+        self.hosts.get(number)?.addresses.get(place).copied()
+    }
+
+    /// Those whose names may be known by now stand in line again.
+    pub(crate) fn ask_again(&mut self) {
+        for _ in 0..self.unknown.len() {
+            let Some(number) = self.unknown.pop_front() else {
+                return;
+            };
+            if let Some(host) = self.hosts.get_mut(number) {
+                host.is_unknown = false;
+            }
+            self.line_up(number);
+        }
+    }
+
+    /// The callback that is next, of those whose hosts stand in line.
+    pub(crate) fn next<R: Wait>(&mut self, rt: &R, names: &Names, now: u64) -> Next {
+        for _ in 0..self.line.len() {
+            if self.bounds.are_met() {
+                return Next::Nothing;
+            }
+            let Some(number) = self.line.pop_front() else {
+                return Next::Nothing;
+            };
+            let next = self.next_of(rt, names, number, now);
+            if next != Next::Nothing {
+                return next;
+            }
+        }
+        Next::Nothing
+    }
+
+    /// The callback that is next to a host, which has stood in line. It does so again, where another can be.
+    fn next_of<R: Wait>(&mut self, rt: &R, names: &Names, number: usize, now: u64) -> Next {
+        let Some(host) = self.hosts.get_mut(number) else {
+            return Next::Nothing;
+        };
+        host.is_lined = false;
+        if host.waiting.is_empty() {
+            if host.open == 0 && !host.is_unknown {
+                self.forget(number);
+            }
+            return Next::Nothing;
+        }
+        match host.look_up(rt, names, now) {
+            Known::Yes => {
+                if !self.bounds.enter(&mut host.open) {
+                    return Next::Nothing;
+                }
+                self.first_of(number, true)
+            }
+            Known::No => self.first_of(number, false),
+            Known::NotYet => {
+                if !host.is_unknown {
+                    host.is_unknown = true;
+                    let _ = self.unknown.push_back(number);
+                }
+                Next::Nothing
+            }
+        }
+    }
+
+    /// The first callback that waits for a host leaves it, to go or to fail.
+    fn first_of(&mut self, number: usize, goes: bool) -> Next {
+        let Some(host) = self.hosts.get_mut(number) else {
+            return Next::Nothing;
+        };
+        let first = host.waiting.pop_front();
+        self.line_up(number);
+        match first {
+            Some(key) if goes => Next::Goes(key, number),
+            Some(key) => Next::Fails(key),
+            None => Next::Nothing,
+        }
+    }
+
+    /// Nothing goes to a host, and nothing waits for it.
+    fn forget(&mut self, number: usize) {
+        if let Some(host) = self.hosts.try_remove(number) {
+            self.by_socket.remove(host.socket.as_str());
+        }
+    }
+}
+
+/// Whether a host's addresses are known.
+#[derive(Clone, Copy, Debug, PartialEq, Eq)]
+enum Known {
+    Yes,
+    No,
+    NotYet,
+}
+
+impl Host {
+    /// One whose address stands in numbers has that one for ever.
+    fn new(alloc: Global, socket: String) -> Host {
+        let mut addresses = Vec::new(alloc);
+        let mut until = 0;
+        if let Ok(address) = socket.as_str().parse::<SocketAddr>() {
+            if addresses.push(address).is_ok() {
+                until = u64::MAX;
+            }
+        }
+        Host {
+            socket,
+            addresses,
+            until,
+            patience: 0,
+            open: 0,
+            waiting: VecDeque::new(alloc),
+            is_lined: false,
+            is_unknown: false,
+        }
+    }
+
+    /// Learns the host's addresses, where those that are known don't count any more.
+    fn look_up<R: Wait>(&mut self, rt: &R, names: &Names, now: u64) -> Known {
+        if now < self.until {
+            return Known::Yes;
+        }
+        match names.find(rt, self.socket.as_str(), now) {
+            Found::Known(addresses, until) => {
+                self.addresses = addresses;
+                self.until = until;
+                Known::Yes
+            }
+            Found::Missed => Known::No,
+            Found::Asked => {
+                self.patience = now.saturating_add(NAME_MS);
+                Known::NotYet
+            }
+            Found::Pending => self.wait_on(now),
+        }
+    }
+
+    /// Its name is waited for, up to a time.
+    fn wait_on(&mut self, now: u64) -> Known {
+        if self.patience == 0 {
+            self.patience = now.saturating_add(NAME_MS);
+        }
+        if now < self.patience {
+            Known::NotYet
+        } else {
+            Known::No
+        }
+    }
+}

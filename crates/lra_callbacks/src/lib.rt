@@ -1,0 +1,18 @@
+//! Callbacks to members, many at once over sockets: a thread with a poll carries all that are under way.
+#![tactic(auto)]
+
+mod attempt;
+mod book;
+mod bounds;
+mod call;
+mod callbacks;
+mod hosts;
+mod names;
+mod pumping;
+mod share;
+mod traffic;
+
+pub use callbacks::Callbacks;
+pub use names::Names;
+pub use share::Share;
+pub use traffic::bell;

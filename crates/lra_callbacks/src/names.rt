@@ -1,0 +1,78 @@
+//! The addresses of hosts that have names.
+
+use crate::book::{Book, Found};
+use mio::Waker;
+use std::alloc::Global;
+use std::net::{Net, SocketAddr, ToSocketAddrs};
+use std::sync::{Condvar, Mutex, Wait};
+use std::time::Clock;
+
+/// What was found of hosts that have names, for all carriers: threads of its own look them up, since the system lets who asks wait.
+#[derive(Drop)]
+pub struct Names {
+    alloc: Global,
+    book: Mutex<Book>,
+    /// Here those wait that look names up.
+    asked: Condvar,
+}
+
+/// The milliseconds of the steady clock.
+pub(crate) fn steady_now<R: Clock>(rt: &R) -> Option<u64> {
+    u64::try_from(rt.monotonic().ok()?.as_millis()).ok()
+}
+
+/// The addresses of a host and port, where the system finds any.
+fn look_up<R: Net>(rt: &R, alloc: Global, socket: &str) -> Option<Vec<SocketAddr>> {
+    let mut found = Vec::new(alloc);
+    for address in socket.to_socket_addrs(rt).ok()? {
+        found.push(address).ok()?;
+    }
+    if found.is_empty() {
+        return None;
+    }
+    Some(found)
+}
+
+impl Names {
+    /// No name is asked for.
+    pub fn new(alloc: Global) -> Names {
+        Names {
+            alloc,
+            book: Mutex::new(Book::new(alloc)),
+            asked: Condvar::new(),
+        }
+    }
+
+    /// What is known of a host and port at a moment. Where nothing is, it is looked up.
+    pub(crate) fn find<R: Wait>(&self, rt: &R, socket: &str, now: u64) -> Found {
+        let found = self.book.lock(rt).find(self.alloc, socket, now);
+        if matches!(found, Found::Asked) {
+            self.asked.notify_one();
+        }
+        found
+    }
+
+    /// Looks up what is asked for, and rings after each, until it is told that nothing more will be. A thread of its own is to call it, or several.
+    pub fn run<R: Wait + Net + Clock>(&self, rt: &R, bells: &[Waker]) {
+        for _ in rt.forever() {
+            let book = self.book.lock(rt);
+            let mut book = self.asked.wait_while(rt, book, |book| book.is_idle());
+            let Some(socket) = book.next() else {
+                return;
+            };
+            drop(book);
+            let found = look_up(rt, self.alloc, socket.as_str());
+            let now = steady_now(rt).unwrap_or(0);
+            self.book.lock(rt).tell(socket.as_str(), found, now);
+            for bell in bells {
+                let _ = bell.wake();
+            }
+        }
+    }
+
+    /// Nothing more will be asked for: who looks up ends.
+    pub fn close<R: Wait>(&self, rt: &R) {
+        self.book.lock(rt).close();
+        self.asked.notify_all();
+    }
+}

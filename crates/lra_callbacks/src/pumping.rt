@@ -1,0 +1,78 @@
+//! The bytes of one callback.
+
+ghost use Rattle.lra_callbacks.specs.inner.Attempts.{IsOfSame};
+
+use lra_carrying::{Carrying, Step};
+use std::io::{ErrorKind, Read, Write};
+
+/// How many steps a callback takes at most: more than it has bytes.
+const MOST_STEPS: u32 = 1 << 22;
+
+/// How far a callback got.
+#[derive(Clone, Copy, Debug, PartialEq, Eq)]
+pub(crate) enum Moved {
+    /// Its stream takes and has no more bytes now.
+    Waits,
+    /// Nothing more will come of it.
+    Ended,
+}
+
+/// Hands bytes of the request to a stream, and tells whether it may take more now.
+fn hand_out<S: Write>(carrying: &mut Carrying, stream: &mut S) -> bool
+    ensures { IsOfSame carrying.old carrying.new }
+{
+    match stream.write(carrying.out()) {
+        Ok(0) => carrying.failed(),
+        Ok(count) => carrying.gone(count),
+        Err(error) => match error.kind() {
+            ErrorKind::WouldBlock => return false,
+            ErrorKind::Interrupted => {}
+            _ => carrying.failed(),
+        },
+    }
+    true
+}
+
+/// Takes bytes of the response from a stream, and tells whether it may have more now.
+fn take_in<S: Read>(carrying: &mut Carrying, stream: &mut S, buffer: &mut [u8]) -> bool
+    ensures { IsOfSame carrying.old carrying.new }
+{
+    let room = carrying.room().min(buffer.len());
+    match stream.read(&mut buffer[..room]) {
+        Ok(0) => carrying.ended(),
+        Ok(count) => {
+            // Where memory is refused for what came, the stream is as good as cut.
+            if !carrying.take(&buffer[..count]).unwrap_or(false) {
+                carrying.failed();
+            }
+        }
+        Err(error) => match error.kind() {
+            ErrorKind::WouldBlock => return false,
+            ErrorKind::Interrupted => {}
+            _ => carrying.failed(),
+        },
+    }
+    true
+}
+
+/// Moves bytes until the stream has to be waited for, or something has come of the callback.
+pub(crate) fn pump<S: Read + Write>(
+    carrying: &mut Carrying,
+    stream: &mut S,
+    buffer: &mut [u8],
+) -> Moved
+    ensures { IsOfSame carrying.old carrying.new }
+{
+    for _ in 0..MOST_STEPS {
+        let goes_on = match carrying.next() {
+            Ok(Step::Sends) => hand_out(carrying, stream),
+            Ok(Step::Wants) => take_in(carrying, stream, buffer),
+            Ok(Step::Came(_)) => return Moved::Ended,
+            Err(_) => return Moved::Ended,
+        };
+        if !goes_on {
+            return Moved::Waits;
+        }
+    }
+    Moved::Ended
+}

@@ -1,0 +1,133 @@
+//! The sockets that are open, and the times that they have.
+
+use crate::hosts::Hosts;
+use crate::names::steady_now;
+use crate::share::Share;
+use lra_timers::Agenda;
+use mio::{Events, Poll, Token, Waker};
+use std::alloc::Global;
+use std::collections::VecDeque;
+use std::io;
+use std::net::Net;
+use std::time::{Clock, Duration};
+
+/// The token of what rings.
+const BELL: Token = Token(usize::MAX);
+
+/// How many events one look at the sockets finds at most.
+const MOST_EVENTS: usize = 1_024;
+
+/// How many bytes are read at once.
+const BUFFER: usize = 1 << 16;
+
+/// A poll, and what rings there from other threads: a carrier that waits then looks at its office.
+pub fn bell<R: Net>(rt: &R) -> io::Result<(Poll, Waker)> {
+    let poll = Poll::new(rt)?;
+    let waker = Waker::new(poll.registry(), BELL)?;
+    Ok((poll, waker))
+}
+
+/// What goes on at the sockets, apart from the errands themselves. Each is named by the place of its errand.
+#[derive(Drop)]
+pub(crate) struct Traffic {
+    pub(crate) poll: Poll,
+    events: Events,
+    pub(crate) buffer: Vec<u8>,
+    pub(crate) hosts: Hosts,
+    /// Until when each socket has time.
+    agenda: Agenda,
+    /// Those whose sockets were reported.
+    pub(crate) reported: Vec<usize>,
+    /// Those that wait for the disk, oldest first.
+    pub(crate) unkept: VecDeque<usize>,
+    /// Those of which something has come, or nothing will.
+    pub(crate) ended: VecDeque<usize>,
+    /// The moment that was read last, in milliseconds.
+    now: u64,
+}
+
+impl Traffic {
+    pub(crate) fn new(alloc: Global, poll: Poll, share: Share) -> Option<Traffic> {
+        Some(Traffic {
+            poll,
+            events: Events::with_capacity(alloc, MOST_EVENTS).ok()?,
+            buffer: Vec::from_elem(alloc, 0u8, BUFFER).ok()?,
+            hosts: Hosts::new(alloc, share),
+            agenda: Agenda::new(alloc),
+            reported: Vec::with_capacity(alloc, MOST_EVENTS).ok()?,
+            unkept: VecDeque::new(alloc),
+            ended: VecDeque::new(alloc),
+            now: 0,
+        })
+    }
+
+    /// The moment: where the clock can't be read it stands still.
+    pub(crate) fn moment<R: Clock>(&mut self, rt: &R) -> u64 {
+        if let Some(now) = steady_now(rt) {
+            if self.now < now {
+                self.now = now;
+            }
+        }
+        self.now
+    }
+
+    /// Makes room for one more errand, so that it can wait and end.
+    pub(crate) fn make_room(&mut self, held: usize) -> Option<()> {
+        let room = held.saturating_add(1);
+        self.unkept
+            .reserve(room.saturating_sub(self.unkept.len()))
+            .ok()?;
+        self.ended
+            .reserve(room.saturating_sub(self.ended.len()))
+            .ok()
+    }
+
+    /// One waits for its host. Where that has no address, or memory is refused, nothing comes of it.
+    pub(crate) fn enlist(&mut self, key: usize, socket: Option<String>) {
+        let is_listed = match socket {
+            Some(socket) => self.hosts.enlist(key, socket).is_some(),
+            None => false,
+        };
+        if !is_listed {
+            self.end(key);
+        }
+    }
+
+    /// Waits so long at most for something to be reported, and takes it down.
+    pub(crate) fn wait(&mut self, millis: u64) {
+        self.reported.clear();
+        let timeout = Some(Duration::from_millis(millis));
+        if self.poll.poll(&mut self.events, timeout).is_err() {
+            return;
+        }
+        for event in self.events.iter() {
+            if event.token() != BELL {
+                // There is room for all events.
+                let _ = self.reported.push(event.token().0);
+            }
+        }
+    }
+
+    /// A socket has time until then. Where memory is refused it has none.
+    pub(crate) fn allow(&mut self, key: usize, until: u64) -> bool {
+        self.agenda.set_limit(key as u64, until).is_ok()
+    }
+
+    /// A socket whose time is up.
+    pub(crate) fn late(&mut self, now: u64) -> Option<usize> {
+        let key = self.agenda.first_due(now)?;
+        self.agenda.drop_limit(key);
+        usize::try_from(key).ok()
+    }
+
+    /// A socket was closed.
+    pub(crate) fn close(&mut self, key: usize, host: usize) {
+        self.agenda.drop_limit(key as u64);
+        self.hosts.leave(host);
+    }
+
+    /// Something has come of an errand, or nothing will.
+    pub(crate) fn end(&mut self, key: usize) {
+        let _ = self.ended.push_back(key);
+    }
+}
