@@ -69,13 +69,18 @@ impl Hosts {
         }
     }
 
-    /// A callback waits for its host. Where memory is refused it doesn't.
-    pub(crate) fn enlist(&mut self, key: usize, socket: String) -> Option<()> {
-        let number = self.number_of(socket)?;
-        let host = self.hosts.get_mut(number)?;
-        host.waiting.push_back(key).ok()?;
+    /// Has a callback wait for its host, and tells whether it does: not where memory is refused.
+    pub(crate) fn enlist(&mut self, key: usize, socket: String) -> bool {
+        let Some(number) = self.number_of(socket) else {
+            return false;
+        };
+        let is_waiting = match self.hosts.get_mut(number) {
+            Some(host) => host.waiting.push_back(key).is_ok(),
+            None => false,
+        };
+        // In line it is forgotten, too, where nothing waits for it.
         self.line_up(number);
-        Some(())
+        is_waiting
     }
 
     /// The number of a host, which is a new one where there is none yet.

@@ -85,7 +85,7 @@ impl Traffic {
     /// One waits for its host. Where that has no address, or memory is refused, nothing comes of it.
     pub(crate) fn enlist(&mut self, key: usize, socket: Option<String>) {
         let is_listed = match socket {
-            Some(socket) => self.hosts.enlist(key, socket).is_some(),
+            Some(socket) => self.hosts.enlist(key, socket),
             None => false,
         };
         if !is_listed {
