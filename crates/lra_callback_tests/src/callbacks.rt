@@ -1,0 +1,212 @@
+//! Callbacks to members that answer, and to members that don't.
+
+use crate::members::{listen, serve, serve_all, socket_at};
+use crate::setting::{Held, NoPen, NoSync, Ready, errands};
+use lra_callbacks::{Callbacks, Names, Share, bell};
+use lra_courier::Carriage;
+use lra_durable::Progress;
+use lra_model::Outcome;
+use mio::Waker;
+use std::alloc::Global;
+use std::net::{Net, TcpListener, TcpStream};
+use std::sync::Wait;
+use std::test::Fail;
+use std::thread::{Threads, join};
+use std::time::{Clock, Duration, Instant};
+
+/// How many errands were done, and how many came to something else.
+#[derive(Clone, Copy)]
+struct Count {
+    done: u64,
+    other: u64,
+}
+
+/// Takes what there is memory for.
+fn take_all<C: Carriage>(carriage: &mut C, errands: Vec<Held>) {
+    for held in errands {
+        if let Some(errand) = held.take() {
+            if let Err(errand) = carriage.take(errand) {
+                errand.discard();
+            }
+        }
+    }
+}
+
+/// Counts those of which something has come.
+fn count_done<C: Carriage>(carriage: &mut C, count: &mut Count) {
+    for _ in 0..u64::MAX {
+        let Some((errand, outcome)) = carriage.done() else {
+            return;
+        };
+        errand.discard();
+        if outcome == Outcome::Done {
+            count.done = count.done.saturating_add(1);
+        } else {
+            count.other = count.other.saturating_add(1);
+        }
+    }
+}
+
+/// Carries until something has come of so many, or 20 seconds have passed.
+fn carry_until<R: Clock, C: Carriage>(rt: &R, carriage: &mut C, wanted: u64) -> Count {
+    let mut count = Count { done: 0, other: 0 };
+    let Ok(start) = Instant::now(rt) else {
+        return count;
+    };
+    for _ in 0..u64::MAX {
+        carriage.carry();
+        count_done(carriage, &mut count);
+        let passed = start.elapsed(rt).unwrap_or(Duration::MAX);
+        if count.done.saturating_add(count.other) >= wanted || passed > Duration::from_secs(20) {
+            break;
+        }
+    }
+    count
+}
+
+/// Carries errands with threads for names beside, until something has come of so many of them.
+fn carry<R: Wait + Net + Clock>(
+    rt: &R,
+    alloc: Global,
+    names: &Names,
+    held: Vec<Held>,
+    wanted: u64,
+) -> Count {
+    let mut count = Count { done: 0, other: 0 };
+    let Ok((poll, _bell)) = bell(rt) else {
+        return count;
+    };
+    let Ok(progress) = Progress::<Ready>::open(&NoPen, NoSync) else {
+        return count;
+    };
+    if let Ok(mut callbacks) = Callbacks::new(rt, alloc, &progress, names, poll, Share::of(1)) {
+        take_all(&mut callbacks, held);
+        count = carry_until(rt, &mut callbacks, wanted);
+        drop(callbacks);
+    }
+    names.close(rt);
+    count
+}
+
+/// The same while names are looked up.
+fn carry_by_name<R>(rt: &R, alloc: Global, held: Vec<Held>, wanted: u64) -> Count
+where
+    R: Wait + Clock + Threads + Net<Listener = TcpListener, Stream = TcpStream> + Sync,
+{
+    let names = Names::new(alloc);
+    let bells: [Waker; 0] = [];
+    let (count, _) = join(
+        rt,
+        || carry(rt, alloc, &names, held, wanted),
+        || names.run(rt, &bells),
+    );
+    count
+}
+
+const DONE: &str = "HTTP/1.1 204 No Content\r\n\r\n";
+
+/// The errands of so many members at one port of this host, and of so many at another.
+fn errands_at(alloc: Global, first: (u16, u64), second: (u16, u64)) -> Option<Vec<Held>> {
+    let one = socket_at(alloc, "127.0.0.1", first.0);
+    let other = socket_at(alloc, "localhost", second.0);
+    let held = errands(alloc, (one.as_str(), first.1), (other.as_str(), second.1));
+    drop(one);
+    drop(other);
+    held
+}
+
+/// How long it takes until one member has answered that is asked after 200 others at another port, which take connections and answer nothing.
+fn passed_beside<R>(rt: &R, alloc: Global) -> Option<Duration>
+where
+    R: Wait + Clock + Threads + Net<Listener = TcpListener, Stream = TcpStream> + Sync,
+{
+    let (silent, silent_port) = listen(rt).ok()?;
+    let (good, good_port) = listen(rt).ok()?;
+    let held = errands_at(alloc, (silent_port, 200), (good_port, 1))?;
+    let start = Instant::now(rt).ok()?;
+    let (count, _) = join(
+        rt,
+        || carry_by_name(rt, alloc, held, 1),
+        || serve_all(&good, DONE, 1),
+    );
+    drop(silent);
+    if count.done == 1 && count.other == 0 {
+        start.elapsed(rt).ok()
+    } else {
+        None
+    }
+}
+
+#[test]
+fn a_member_is_called_beside_silent_ones(rt: HostRuntime) {
+    let passed = passed_beside(&rt, rt.alloc()).unwrap_or(Duration::MAX);
+    assert!(rt; passed < Duration::from_secs(3));
+}
+
+/// How one of five members answers, how many bytes at once, and whether its errand is done then.
+fn manner(place: u64) -> (&'static str, usize, bool) {
+    match place {
+        0 => (DONE, 4096, true),
+        1 => (DONE, 1, true),
+        2 => (
+            "HTTP/1.1 200 OK\r\nContent-Length: 11\r\n\r\n\"Completed\"",
+            5,
+            true,
+        ),
+        3 => ("HTTP/1.1 500 Oops\r\n\r\n", 4096, false),
+        _ => ("", 4096, false),
+    }
+}
+
+/// Whether the errand of a member that answers so is done, if something comes of it.
+fn is_done_by<R>(rt: &R, alloc: Global, response: &str, at_once: usize) -> Option<bool>
+where
+    R: Wait + Clock + Threads + Net<Listener = TcpListener, Stream = TcpStream> + Sync,
+{
+    let (listener, port) = listen(rt).ok()?;
+    let held = errands_at(alloc, (port, 1), (port, 0))?;
+    let (count, _) = join(
+        rt,
+        || carry_by_name(rt, alloc, held, 1),
+        || {
+            let _ = serve(&listener, response, at_once);
+        },
+    );
+    if count.done.saturating_add(count.other) == 1 {
+        Some(count.done == 1)
+    } else {
+        None
+    }
+}
+
+#[test]
+fn what_a_member_answers_comes_of_its_errand(rt: HostRuntime) {
+    for place in 0..5 {
+        let (response, at_once, is_done) = manner(place);
+        assert!(rt;
+            is_done_by(&rt, rt.alloc(), response, at_once) == Some(is_done),
+            "{response}"
+        );
+    }
+}
+
+/// What comes of an errand to a port at which nobody listens, if anything does.
+fn is_done_at_no_port<R>(rt: &R, alloc: Global) -> Option<bool>
+where
+    R: Wait + Clock + Threads + Net<Listener = TcpListener, Stream = TcpStream> + Sync,
+{
+    let (listener, port) = listen(rt).ok()?;
+    drop(listener);
+    let held = errands_at(alloc, (port, 1), (port, 1))?;
+    let count = carry_by_name(rt, alloc, held, 2);
+    if count.done.saturating_add(count.other) == 2 {
+        Some(count.done > 0)
+    } else {
+        None
+    }
+}
+
+#[test]
+fn nobody_listens(rt: HostRuntime) {
+    assert!(rt; is_done_at_no_port(&rt, rt.alloc()) == Some(false));
+}

@@ -1,0 +1,9 @@
+//! Tests of callbacks that are carried many at once.
+#![tactic(auto)]
+
+#[cfg(test)]
+mod callbacks;
+#[cfg(test)]
+mod members;
+#[cfg(test)]
+mod setting;

@@ -1,0 +1,170 @@
+//! What callbacks are carried for and to: a disk, errands, and members at ports of this host.
+
+ghost use Rattle.std.specs.Prelude.{◌≡◌, IfSome, true};
+ghost use Rattle.lra_ids.specs.Addresses.{is_base};
+
+use lra_core::{Coordinator, Errand, Instance, Limits, Refusal};
+use lra_durable::Disk;
+use lra_ids::{Address, address};
+use lra_model::Uris;
+use std::alloc::{AllocError, Global};
+use std::io::{self, Write};
+
+/// A disk that keeps at once what it takes.
+pub struct Ready;
+
+/// What adds nothing to it.
+#[derive(Drop)]
+pub struct NoPen;
+
+impl Write for NoPen {
+    fn write(&mut self, _bytes: &[u8]) -> io::Result<usize> {
+        Ok(0)
+    }
+
+    fn flush(&mut self) -> io::Result<()> {
+        Ok(())
+    }
+}
+
+/// What syncs it.
+#[derive(Drop)]
+pub struct NoSync;
+
+impl Disk for Ready {
+    ghost use Rattle.std.specs.Prelude.{true, false, refl};
+
+    type Pen = NoPen;
+
+    type Syncer = NoSync;
+
+    ghost shows = { false };
+
+    ghost took = { λ _. true };
+
+    ghost keeps = { λ _. true };
+
+    ghost failed = { true };
+
+    fn seal(_pen: &NoPen, _count: u64) {}
+
+    fn cut(_pen: &mut NoPen, _count: u64) -> io::Result<()> {
+        Ok(())
+    }
+
+    fn sync(syncer: NoSync, _taken: u64) -> io::Result<NoSync> {
+        Ok(syncer)
+    }
+
+    ghost known = { λ _. refl };
+}
+
+/// What URIs begin with.
+fn base(alloc: Global) -> Option<Address>
+    ensures { IfSome result (λ base. is_base base ≡ true) }
+{
+    let base = address(alloc, "http://127.0.0.1:8080/").ok()?;
+    if base.is_base() { Some(base) } else { None }
+}
+
+/// A coordinator without clerks.
+fn coordinator(alloc: Global) -> Option<Coordinator> {
+    let instance = Instance::new(7)?;
+    let base = base(alloc)?;
+    Some(Coordinator::new(alloc, instance, base, Limits::usual()))
+}
+
+/// A member at a host and port, apart from others by its number.
+fn fill(alloc: Global, socket: &str, number: u64, uris: &mut Uris) -> Result<(), AllocError> {
+    uris.complete = Some(format!(in alloc; "http://{socket}/c{number}")?);
+    uris.compensate = Some(format!(in alloc; "http://{socket}/u{number}")?);
+    Ok(())
+}
+
+fn member(alloc: Global, socket: &str, number: u64) -> Option<Uris> {
+    let mut uris = Uris {
+        compensate: None,
+        complete: None,
+        status: None,
+        forget: None,
+        after: None,
+    };
+    if fill(alloc, socket, number, &mut uris).is_err() {
+        drop(uris);
+        return None;
+    }
+    Some(uris)
+}
+
+/// Has so many members at a host and port join.
+fn join_all(alloc: Global, coordinator: &mut Coordinator, socket: &str, count: u64) -> Option<()> {
+    for number in 0..count {
+        let member = member(alloc, socket, number)?;
+        let joined = coordinator.join(1, 0, 1, &member);
+        drop(member);
+        joined.ok()?;
+    }
+    Some(())
+}
+
+/// An errand that is held: where it is let go of, it is discarded.
+pub struct Held(Option<Errand>);
+
+impl Drop for Held {
+    fn drop(self) {
+        let Held(errand) = self;
+        if let Some(errand) = errand {
+            errand.discard();
+        }
+    }
+}
+
+impl Held {
+    pub fn take(self) -> Option<Errand> {
+        let Held(errand) = self;
+        errand
+    }
+}
+
+fn begin(coordinator: &mut Coordinator) -> Result<(), Refusal> {
+    coordinator.enrol(0)?;
+    coordinator.start(1, 0, None, 0)?;
+    Ok(())
+}
+
+/// Closes the action, and takes the errands of all that is due then.
+fn ask_all(coordinator: &mut Coordinator, errands: &mut Vec<Held>) -> Option<()> {
+    coordinator.close(1, 0, 1).ok()?;
+    for _ in 0..u64::MAX {
+        match coordinator.next_ask(1, 1_000_000) {
+            Ok(Some(errand)) => errands.push(Held(Some(errand))).ok()?,
+            Ok(None) => return Some(()),
+            Err(_) => return None,
+        }
+    }
+    None
+}
+
+/// The errands of an action of two hosts' members, so many at each.
+fn ask_both(
+    alloc: Global,
+    coordinator: &mut Coordinator,
+    first: (&str, u64),
+    second: (&str, u64),
+    errands: &mut Vec<Held>,
+) -> Option<()> {
+    begin(coordinator).ok()?;
+    join_all(alloc, coordinator, first.0, first.1)?;
+    join_all(alloc, coordinator, second.0, second.1)?;
+    ask_all(coordinator, errands)
+}
+
+/// The same of a coordinator of its own.
+pub fn errands(alloc: Global, first: (&str, u64), second: (&str, u64)) -> Option<Vec<Held>> {
+    let mut coordinator = coordinator(alloc)?;
+    let mut errands = Vec::new(alloc);
+    let asked = ask_both(alloc, &mut coordinator, first, second, &mut errands);
+    drop(coordinator);
+    asked?;
+    Some(errands)
+}
