@@ -7,7 +7,7 @@ import time
 import journal
 from asks import recorded
 from participant import Participant
-from service import HOST, PATIENCE, check, equal, id_of, number_of, received
+from service import HOST, PATIENCE, check, equal, id_of, is_ready, number_of, received
 
 # How many seconds a client has between requests, and for one message; and a member to take a connection, and in all.
 BETWEEN, MESSAGE, CONNECT, WHOLE = 30, 10, 5, 30
@@ -44,7 +44,7 @@ def seconds_until_closed(service, stream, each_second, most):
 
     def ended():
         each_second()
-        ready, _, _ = select.select([stream], [], [], 1)
+        ready = is_ready(stream, 1)
         if ready:
             equal("what comes", next_piece(stream), b"")
         return ready
@@ -228,24 +228,12 @@ def test_a_service_without_files_left_waits_and_goes_on(setting):
         used = service.seconds()
         time.sleep(1)
         check("waiting takes a processor", service.seconds() - used < 0.3)
-        check("replies without files", len(select.select(streams, [], [], 0)[0]) <= 1)
+        check("replies without files", sum(is_ready(stream, 0) for stream in streams) <= 1)
         resource.prlimit(pid, resource.RLIMIT_NOFILE, before)
         for stream in streams:
             check("a reply", next_piece(stream).startswith(b"HTTP/1.1 404 "))
             stream.close()
         serves(service)
-
-
-def test_a_client_waits_while_all_threads_are_taken(setting):
-    with setting.serve(1) as service, service.client() as first:
-        first.start()
-        with service.connect() as second:
-            second.sendall(b"GET /lra HTTP/1.1\r\nHost: h\r\n\r\n")
-            ready, _, _ = select.select([second], [], [], 1)
-            check("a reply without a thread", not ready)
-            first.start()
-            first.connection.close()
-            check("a reply", next_piece(second).startswith(b"HTTP/1.1 404 "))
 
 
 def test_clients_that_break_off_do_no_harm(setting):

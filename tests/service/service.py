@@ -50,6 +50,13 @@ def free_port():
                 return port
 
 
+def is_ready(stream, seconds):
+    """Whether something comes, or the end, within so many seconds. (select takes no file of a number past 1,023.)"""
+    watched = select.poll()
+    watched.register(stream, select.POLLIN)
+    return bool(watched.poll(seconds * 1000))
+
+
 def received(stream):
     """What comes until a connection ends, and whether it ends without being reset."""
     data = b""
@@ -149,8 +156,7 @@ class Service:
         return self
 
     def first_line(self):
-        ready, _, _ = select.select([self.process.stdout], [], [], PATIENCE)
-        return self.process.stdout.readline().decode() if ready else "nothing"
+        return self.process.stdout.readline().decode() if is_ready(self.process.stdout, PATIENCE) else "nothing"
 
     def __exit__(self, *_):
         self.kill()

@@ -8,7 +8,6 @@ mod patient;
 mod pause;
 mod post;
 mod running;
-mod session;
 mod shift;
 
 pub use disk::{FilePen, JournalFile};
@@ -20,4 +19,3 @@ pub use lra_opening::{
 pub use patient::Patient;
 pub use pause::Pause;
 pub use running::{serve, serve_from};
-pub use session::Session;

@@ -13,7 +13,7 @@ ghost use Rattle.lra_service.specs.inner.Opened.{IsOpenAt};
 use crate::base::{base_at, bind};
 use crate::disk::{FilePen, JournalFile};
 use crate::post::hire_all;
-use crate::shift::{Shift, work};
+use crate::shift::{Shift, arrivals, work};
 use lra_clocks::milliseconds;
 use lra_durable::{Keeper, Progress};
 use lra_ids::Address;
@@ -22,6 +22,7 @@ use lra_opening::{
     Found, NamedFile, Place, ServeFault, find_journal, open_office, ready_file, refuse,
 };
 use lra_reports::RunFault;
+use lra_rounds::Arrivals;
 use std::alloc::Global;
 use std::fs::File;
 use std::io::Write;
@@ -43,28 +44,34 @@ struct Service<'a, R, P> {
     workers: u32,
 }
 
-/// A journal's file as a disk, what adds to it, and the moment at which it was ready.
+/// A journal's file as a disk, what adds to it, where connections come in to those who answer, and the moment at which all that was ready.
 #[derive(Drop)]
 struct Stand {
     progress: Progress<JournalFile>,
     pen: FilePen,
+    arrivals: Vec<Arrivals>,
     moment: u64,
 }
 
 /// A journal's file as a disk, all of whose bytes are kept.
-fn stand_on(file: File, moment: u64) -> Result<Stand, ServeFault>
+fn stand_on(file: File, arrivals: Vec<Arrivals>, moment: u64) -> Result<Stand, ServeFault>
     ensures { IfErr result (λ fault. fault ≡ ServeFault.File) }
 {
     let Ok((pen, syncer)) = JournalFile::parts(file) else {
+        drop(arrivals);
         return Err(ServeFault::File);
     };
     match Progress::<JournalFile>::open(&pen, syncer) {
         Ok(progress) => Ok(Stand {
             progress,
             pen,
+            arrivals,
             moment,
         }),
-        Err(_) => Err(ServeFault::File),
+        Err(_) => {
+            drop(arrivals);
+            Err(ServeFault::File)
+        }
     }
 }
 
@@ -171,18 +178,12 @@ impl<
         let Stand {
             progress,
             pen,
+            arrivals,
             moment,
         } = stand;
         let room = pen.room();
         let keeper = Keeper::new(self.rt, &progress, pen, room);
-        let shift = Shift::new(
-            self.rt,
-            self.alloc,
-            &progress,
-            listener,
-            moment,
-            self.workers,
-        );
+        let shift = Shift::new(self.rt, self.alloc, &progress, listener, moment, arrivals);
         let served = self.serve_journal(&shift, base, journal, keeper, writer);
         drop(shift);
         let has_failed = progress.has_failed(self.rt);
@@ -202,7 +203,8 @@ impl<
         let Some(moment) = milliseconds(self.rt) else {
             return Err(ServeFault::Address);
         };
-        stand_on(file, moment)
+        let arrivals = arrivals(self.rt, self.alloc, self.workers)?;
+        stand_on(file, arrivals, moment)
     }
 
     /// A listener at a base's host and port, and the disk of a journal that was found so.

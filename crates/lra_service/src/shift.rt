@@ -1,6 +1,8 @@
 //! The threads of a service.
 
-ghost use Rattle.std.specs.Prelude.{◌≡◌, All};
+ghost use Rattle.std.specs.Prelude.{◌≡◌, All, IfErr};
+ghost use Rattle.lra_ticket.specs.Locks.{lock_id};
+ghost use Rattle.lra_opening.specs.Faults.{IsOfNoScript};
 ghost use Rattle.lra_service.specs.inner.Opened.{IsAt};
 
 use crate::disk::JournalFile;
@@ -11,16 +13,21 @@ use crate::post::Duty;
 use lra_clocks::SystemClock;
 use lra_courier::TcpCourier;
 use lra_durable::Progress;
-use lra_office::{Clerk, OfficeOf, Serving};
-use lra_workers::{run_worker, serve_connections};
+use lra_office::{Clerk, OfficeOf, Serving, WhichLock, Window};
+use lra_opening::ServeFault;
+use lra_rounds::{Arrivals, Rounds};
+use lra_workers::run_worker;
 use std::alloc::{AllocError, Global};
-use std::marker::{Send, Sync};
+use std::marker::{Brand, Send, Sync};
 use std::net::{Net, TcpListener, TcpStream};
 use std::sync::Wait;
 use std::sync::atomic::{AtomicBool, AtomicU64, Ordering};
 use std::thread;
 use std::thread::{Threads, join};
 use std::time::Clock;
+
+/// How many connections a service has at most, shared by those who answer.
+const MOST: usize = 10_000;
 
 /// What the threads of a service share.
 #[derive(Drop)]
@@ -31,6 +38,10 @@ pub(crate) struct Shift<'a, R> {
     progress: &'a Progress<JournalFile>,
     /// The moment at which it began, in milliseconds.
     pub(crate) moment: u64,
+    /// How many connections one who answers has at most.
+    most: usize,
+    /// How many have begun to answer connections.
+    begun: AtomicU64,
     /// How many answer connections.
     answering: AtomicU64,
     /// No one answers any more.
@@ -38,60 +49,89 @@ pub(crate) struct Shift<'a, R> {
 }
 
 impl<'a, R: Wait + Clock> Shift<'a, R> {
-    /// One that begins, with so many who answer connections.
+    /// One that begins, with those who answer the connections that come in there.
     pub(crate) fn new(
         rt: &'a R,
         alloc: Global,
         progress: &'a Progress<JournalFile>,
         listener: TcpListener,
         moment: u64,
-        workers: u32,
+        arrivals: Vec<Arrivals>,
     ) -> Shift<'a, R>
         ensures { result.moment ≡ moment }
     {
+        let workers = arrivals.len();
         Shift {
             rt,
             alloc,
-            door: Entrance::new(rt, progress, listener),
+            door: Entrance::new(rt, progress, listener, arrivals),
             progress,
             moment,
-            answering: AtomicU64::new(u64::from(workers)),
+            most: MOST.div_ceil(workers.max(1)),
+            begun: AtomicU64::new(0),
+            answering: AtomicU64::new(workers as u64),
             has_ended: AtomicBool::new(false),
         }
     }
 }
 
+/// Where connections come in to so many who answer them.
+pub(crate) fn arrivals<R: Net>(
+    rt: &R,
+    alloc: Global,
+    workers: u32,
+) -> Result<Vec<Arrivals>, ServeFault>
+    ensures { IfErr result IsOfNoScript }
+{
+    let mut all = Vec::new(alloc);
+    for _worker in 0..workers {
+        let Ok(arrivals) = Arrivals::new(rt, alloc) else {
+            drop(all);
+            return Err(ServeFault::Address);
+        };
+        all.push(arrivals)?;
+    }
+    Ok(all)
+}
+
 impl<R: Wait + Clock + Net<Stream = TcpStream, Listener = TcpListener>> Shift<'_, R> {
-    /// Syncs for all that wait for the disk. Once it has failed all end.
-    fn sync(&self) {
-        if self.progress.run_syncer(self.rt).is_err() {
+    /// Takes down that one who answered connections has ended: with the last one all end.
+    fn leave(&self) {
+        if self.answering.fetch_sub(1, Ordering::SeqCst) <= 1 {
             self.has_ended.store(true, Ordering::SeqCst);
             self.door.wake();
         }
     }
 
-    /// Takes down that one who answered connections has ended: with the last one all end.
-    fn leave(&self) {
-        if self.answering.fetch_sub(1, Ordering::SeqCst) <= 1 {
-            self.has_ended.store(true, Ordering::SeqCst);
-            self.progress.close(self.rt);
-        }
+    /// Answers the connections that come in, at an office with a lock that the type says.
+    fn answer_at<V: Serving, Q: WhichLock>(
+        &self,
+        arrivals: &Arrivals,
+        office: &OfficeOf<V>,
+        clerk: Clerk<V>,
+    )
+        requires clerk { IsAt V.setting office.now clerk }
+        requires here { lock_id office.now.lock ≡ Q.lock }
+    {
+        let mut clock = SystemClock::new(self.rt, self.moment);
+        let mut window: Window<'_, V, R, Q> = Window::new(self.rt, office, clerk);
+        let rounds = Rounds::new(self.rt, self.alloc, self.progress, arrivals, &[], self.most);
+        rounds.run(&mut window, &mut clock);
+        drop(window.into_clerk());
     }
 
     /// Answers connections.
     fn answer<V: Serving>(&self, office: &OfficeOf<V>, clerk: Clerk<V>)
         requires { IsAt V.setting office.now clerk }
     {
-        let mut clock = SystemClock::new(self.rt, self.moment);
-        serve_connections(
-            self.rt,
-            self.alloc,
-            &self.door,
-            office,
-            clerk,
-            &mut clock,
-            u64::MAX,
-        );
+        let place = self.begun.fetch_add(1, Ordering::SeqCst);
+        match self.door.arrivals(place) {
+            Some(arrivals) => {
+                self.answer_at::<V, Brand>(arrivals, office, clerk);
+                arrivals.close(self.rt);
+            }
+            None => drop(clerk),
+        }
         self.leave();
     }
 
@@ -137,7 +177,7 @@ fn work_all<
     Ok(())
 }
 
-/// The same, while one more thread syncs for all that wait for the disk.
+/// The same, while one more thread waits for connections.
 pub(crate) fn work<
     V: Serving + Send,
     R: Threads + Wait + Clock + Net<Stream = TcpStream, Listener = TcpListener> + Sync,
@@ -146,7 +186,7 @@ pub(crate) fn work<
 {
     let (_, worked) = join(
         shift.rt,
-        move || shift.sync(),
+        move || shift.door.open(),
         move || -> Result<(), AllocError>
             requires { All (λ job. IsAt V.setting office.now job.1) jobs.items }
         { work_all(shift, office, jobs) },

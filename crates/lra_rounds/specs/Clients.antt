@@ -1,0 +1,35 @@
+-- What a client's stream gives and takes.
+use Rattle.std.specs.Prelude.{◌≡◌, ℕ, ◌≤◌, Bool, List, [], length, take, Option, Some, IsTrue}
+use Rattle.std.specs.Io.KnownBytes.{Appends, Consumes, IsAtEnd, Keeps}
+use Rattle.lra_durable.specs.Leaves.{MayLeave}
+use Rattle.lra_steps.specs.History.{History, took, finished, went}
+use Rattle.lra_rounds.specs.declared.client.Reading.{Reading}
+use Rattle.lra_rounds.specs.declared.client.Reading.TheVariants.{Came, Waits as WaitsForBytes, Ended, Full}
+use Rattle.lra_rounds.specs.declared.client.Handing.{Handing}
+use Rattle.lra_rounds.specs.declared.client.Handing.TheVariants.{Went, Waits, Unkept, Done}
+
+-- The bytes that came were taken, all and in order; or none came yet; or the stream has ended, and no more will come.
+abbrev pub Reads : Option (List ℕ) → Option (List ℕ) → History → History → Reading → Type 0
+Reads before after old new Came = (bytes : List ℕ) × Consumes before after bytes × (new ≡ took old bytes)
+Reads before after old new WaitsForBytes = Keeps before after × (new ≡ old)
+Reads before after old new Ended = IsAtEnd after × (new ≡ finished old)
+Reads before after old new Full = new ≡ old
+
+-- a front of the bytes that may be handed out left, while the disk kept what was due
+pub record Leaves (took keeps : ℕ → Bool) (due : Option ℕ) (before after : Option (List ℕ)) (old new : History) : Type 0 where
+  pub least : ℕ
+  pub noted : due ≡ Some least
+  pub taken : IsTrue (took least)
+  pub kept : ℕ
+  pub leave : MayLeave keeps least kept
+  pub count : ℕ
+  pub fits : count ≤ length old.out
+  pub wrote : Appends before after (take count old.out)
+  pub gone : new ≡ went old count
+
+-- some bytes left so; or none, and the connection is as it was
+abbrev pub HandsOut : (ℕ → Bool) → (ℕ → Bool) → Option ℕ → Option (List ℕ) → Option (List ℕ) → History → History → Handing → Type 0
+HandsOut took keeps due before after old new Went = Leaves took keeps due before after old new
+HandsOut took keeps due before after old new Waits = new ≡ old
+HandsOut took keeps due before after old new Unkept = new ≡ old
+HandsOut took keeps due before after old new Done = (old.out ≡ []) × (new ≡ old)

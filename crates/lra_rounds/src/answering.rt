@@ -1,0 +1,91 @@
+//! The requests of one connection that are whole, answered one after another.
+
+ghost use Rattle.std.specs.Prelude.{◌≡◌, IsSome};
+ghost use Rattle.lra_rounds.specs.Answered.{AnswersOf};
+
+use lra_commands::Counter;
+use lra_front::{Clock, Routes};
+use lra_model::Memory;
+use lra_steps::{Connection, Step, answer_request};
+use std::alloc::Global;
+
+/// How many requests of one connection are answered in a round.
+const MOST_REQUESTS: u64 = 16;
+
+/// How many bytes of replies may wait before no further request is answered.
+const MOST_WAITING: usize = 65_536;
+
+/// Where a connection stands once its requests have been answered.
+#[derive(Clone, Copy, Debug, PartialEq, Eq)]
+pub enum Stage {
+    /// More bytes are wanted.
+    Wants,
+    /// A further request may be whole.
+    Goes,
+    /// No request comes any more.
+    Ended,
+}
+
+/// Has the request answered that stands.
+fn answer_standing<C: Counter, K: Clock>(
+    alloc: Global,
+    routes: &Routes,
+    connection: &mut Connection,
+    counter: &mut C,
+    clock: &mut K,
+)
+    requires stands { IsSome connection.old.stands }
+    requires base { connection.old.base ≡ (C.sight counter.old).setting.base }
+    ensures { AnswersOf C.gives K.tells connection.old connection.new (C.sight counter.old) clock.old (C.sight counter.new) clock.new }
+{
+    // Where its reply is lost, the connection's next step says so.
+    drop(answer_request(alloc, routes, connection, counter, clock));
+}
+
+/// Has the next request answered, where it is whole and few replies wait. Tells otherwise where the connection stands.
+fn answer_next<C: Counter, K: Clock>(
+    alloc: Global,
+    routes: &Routes,
+    connection: &mut Connection,
+    counter: &mut C,
+    clock: &mut K,
+) -> Result<Option<Stage>, Memory>
+    requires { connection.old.base ≡ (C.sight counter.old).setting.base }
+    ensures { AnswersOf C.gives K.tells connection.old connection.new (C.sight counter.old) clock.old (C.sight counter.new) clock.new }
+{
+    if connection.out().len() > MOST_WAITING {
+        return Ok(Some(Stage::Goes));
+    }
+    match connection.next(counter.base())? {
+        Step::Wants => Ok(Some(Stage::Wants)),
+        Step::Ended(_) => Ok(Some(Stage::Ended)),
+        Step::Stands => {
+            answer_standing(alloc, routes, connection, counter, clock);
+            Ok(None)
+        }
+        Step::Waits => {
+            answer_standing(alloc, routes, connection, counter, clock);
+            Ok(None)
+        }
+    }
+}
+
+/// Has the requests answered that are whole, a few at most, and tells where the connection stands then. Where memory is refused, those stand answered
+/// that were.
+pub(crate) fn answer_some<C: Counter, K: Clock>(
+    alloc: Global,
+    routes: &Routes,
+    connection: &mut Connection,
+    counter: &mut C,
+    clock: &mut K,
+) -> Result<Stage, Memory>
+    requires { connection.old.base ≡ (C.sight counter.old).setting.base }
+    ensures { AnswersOf C.gives K.tells connection.old connection.new (C.sight counter.old) clock.old (C.sight counter.new) clock.new }
+{
+    for _turn in 0..MOST_REQUESTS {
+        if let Some(stage) = answer_next(alloc, routes, connection, counter, clock)? {
+            return Ok(stage);
+        }
+    }
+    Ok(Stage::Goes)
+}

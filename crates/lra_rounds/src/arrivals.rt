@@ -1,0 +1,100 @@
+//! Where connections come in to a thread that answers them.
+
+use lra_model::Memory;
+use mio::{Poll, Token, Waker};
+use std::alloc::{AllocError, Global};
+use std::io;
+use std::net::{Net, TcpStream};
+use std::sync::atomic::{AtomicU64, Ordering};
+use std::sync::{Mutex, Wait};
+
+/// What the events of newcomers are known by. No client has that key.
+pub(crate) const BELL: Token = Token(usize::MAX);
+
+/// What stands under the lock.
+#[derive(Drop)]
+struct Inner {
+    /// Those that have come, and that the thread hasn't taken yet.
+    streams: Vec<TcpStream>,
+    /// What the thread waits for streams with, until it takes that.
+    poll: Option<Poll>,
+    is_closed: bool,
+}
+
+/// Where connections come in to a thread that answers them. They wait here until the thread takes them.
+#[derive(Drop)]
+pub struct Arrivals {
+    inner: Mutex<Inner>,
+    /// What wakes the thread.
+    bell: Waker,
+    /// How many the thread has.
+    clients: AtomicU64,
+}
+
+impl Arrivals {
+    /// Where none has come yet, with what its thread will wait with.
+    pub fn new<R: Net>(rt: &R, alloc: Global) -> io::Result<Arrivals> {
+        let poll = Poll::new(rt)?;
+        let bell = Waker::new(poll.registry(), BELL)?;
+        Ok(Arrivals {
+            inner: Mutex::new(Inner {
+                streams: Vec::new(alloc),
+                poll: Some(poll),
+                is_closed: false,
+            }),
+            bell,
+            clients: AtomicU64::new(0),
+        })
+    }
+
+    /// How many connections the thread has, or will take; the most where it takes none any more.
+    pub fn load<R: Wait>(&self, rt: &R) -> u64 {
+        let inner = self.inner.lock(rt);
+        if inner.is_closed {
+            return u64::MAX;
+        }
+        let clients = self.clients.load(Ordering::SeqCst);
+        clients.saturating_add(inner.streams.len() as u64)
+    }
+
+    /// A connection has come, whose reads and writes don't wait. Where memory is refused, or no more are taken, it is closed.
+    pub fn push<R: Wait>(&self, rt: &R, stream: TcpStream) -> Result<(), Memory> {
+        let mut inner = self.inner.lock(rt);
+        if inner.is_closed {
+            drop(stream);
+            return Ok(());
+        }
+        if inner.streams.push(stream).is_err() {
+            return Err(AllocError);
+        }
+        drop(inner);
+        // Where it can't be woken, it looks by itself soon.
+        let _ = self.bell.wake();
+        Ok(())
+    }
+
+    /// No more come, and the thread ends.
+    pub fn close<R: Wait>(&self, rt: &R) {
+        self.inner.lock(rt).is_closed = true;
+        let _ = self.bell.wake();
+    }
+
+    /// What the thread waits with, for the one that asks first.
+    pub(crate) fn take_poll<R: Wait>(&self, rt: &R) -> Option<Poll> {
+        self.inner.lock(rt).poll.take()
+    }
+
+    pub(crate) fn is_closed<R: Wait>(&self, rt: &R) -> bool {
+        self.inner.lock(rt).is_closed
+    }
+
+    /// One of those that have come.
+    pub(crate) fn next<R: Wait>(&self, rt: &R) -> Option<TcpStream> {
+        self.inner.lock(rt).streams.pop()
+    }
+
+    /// The thread has so many.
+    pub(crate) fn tell(&self, clients: usize) {
+        self.clients.store(clients as u64, Ordering::SeqCst);
+    }
+}

@@ -1,0 +1,193 @@
+//! A client: its stream, its connection, and what has to be kept before a reply leaves.
+
+ghost use Rattle.std.specs.Prelude.{◌≡◌, ◌⊎◌, ◌↔◌, ◌≤◌, [], length, None, IfOk, IsSomeAnd, IsTrue};
+ghost use Rattle.lra_steps.specs.History.{begun, room_of, took};
+ghost use Rattle.lra_rounds.specs.Answered.{AnswersOf, Asks};
+ghost use Rattle.lra_rounds.specs.Clients.{Reads, HandsOut};
+
+use crate::answering::{Stage, answer_some};
+use crate::coordinator::WhichCoordinator;
+use lra_commands::Counter;
+use lra_durable::{Disk, Due, Progress, release};
+use lra_front::{Clock, Routes};
+use lra_ids::{Address, Instance};
+use lra_model::Memory;
+use lra_steps::Connection;
+use std::alloc::{AllocError, Global};
+use std::io::{ErrorKind, Read, Write};
+use std::marker::PhantomData;
+use std::sync::Wait;
+
+/// Why a client can't be served any more.
+#[derive(Clone, Copy, Debug, PartialEq, Eq)]
+pub enum ClientFault {
+    /// Memory was refused.
+    Memory,
+    /// Its stream has failed, or the disk has.
+    Io,
+}
+
+impl From<AllocError> for ClientFault {
+    ghost use Rattle.std.specs.Prelude.{◌≡◌};
+    ghost use Rattle.lra_rounds.specs.declared.client.ClientFault.TheVariants.{Memory};
+
+    ghost from_gives = { λ _ fault. fault ≡ Memory };
+
+    fn from(_: AllocError) -> ClientFault {
+        ClientFault::Memory
+    }
+}
+
+/// What a client's stream gave.
+#[derive(Clone, Copy, Debug, PartialEq, Eq)]
+pub enum Reading {
+    /// Some bytes.
+    Came,
+    /// None yet.
+    Waits,
+    /// Its end.
+    Ended,
+    /// It wasn't asked: there is no room for more.
+    Full,
+}
+
+/// What a client's stream took.
+#[derive(Clone, Copy, Debug, PartialEq, Eq)]
+pub enum Handing {
+    /// Some bytes.
+    Went,
+    /// None yet.
+    Waits,
+    /// It wasn't asked: the disk doesn't keep yet what they tell of.
+    Unkept,
+    /// It wasn't asked: there are none.
+    Done,
+}
+
+/// A client of a coordinator.
+#[derive(Drop)]
+pub struct Client<S, D: Disk, P: WhichCoordinator> {
+    stream: S,
+    connection: Connection,
+    /// What has to be kept before what may be handed out leaves.
+    due: Option<Due<D>>,
+    of: PhantomData<P>,
+    ghost here: { (connection.instance ≡ P.instance) × (connection.base ≡ P.base) },
+}
+
+impl<S, D: Disk, P: WhichCoordinator> Client<S, D, P> {
+    /// One that has just come in.
+    pub fn new(alloc: Global, stream: S, instance: Instance, base: &Address) -> Client<S, D, P>
+        requires { (instance ≡ P.instance) × (base.now ≡ P.base) }
+        ensures stream { result.stream ≡ stream }
+        ensures connection { result.connection ≡ begun instance base.now }
+        ensures due { result.due ≡ None }
+    {
+        Client {
+            stream,
+            connection: Connection::new(alloc, instance, base),
+            due: None,
+            of: PhantomData,
+        }
+    }
+
+    /// How many bytes may come, of requests that aren't answered yet.
+    pub fn room(&self) -> usize
+        ensures { result ≡ room_of self.now.connection }
+    {
+        self.connection.room()
+    }
+
+    /// Has the requests answered that are whole, a few at most and none while many replies wait, and notes that the replies wait for what the disk
+    /// has taken by then. Where memory is refused, those stand answered that were.
+    pub fn answer<R: Wait, C: Counter, K: Clock>(
+        &mut self,
+        rt: &R,
+        alloc: Global,
+        routes: &Routes,
+        progress: &Progress<D>,
+        counter: &mut C,
+        clock: &mut K,
+    ) -> Result<Stage, Memory>
+        requires { Asks P.instance P.base (C.sight counter.old) }
+        ensures answered { AnswersOf C.gives K.tells self.old.connection self.new.connection (C.sight counter.old) clock.old (C.sight counter.new) clock.new }
+        ensures due { (self.new.connection.out ≡ []) ⊎ IsSomeAnd self.new.due (λ n. IsTrue (D.took n)) }
+        ensures stream { self.new.stream ≡ self.old.stream }
+    {
+        let stage = answer_some(alloc, routes, &mut self.connection, counter, clock);
+        if !self.connection.out().is_empty() {
+            self.due = Some(progress.due(rt));
+        }
+        stage
+    }
+
+    /// Whether all that may be handed out has been.
+    pub fn is_done(&self) -> bool
+        ensures { IsTrue result ↔ (self.now.connection.out ≡ []) }
+    {
+        self.connection.out().is_empty()
+    }
+}
+
+/// These bytes came, for which there is room.
+fn take_in(connection: &mut Connection, bytes: &[u8]) -> Result<Reading, ClientFault>
+    requires { length bytes.now ≤ room_of connection.old }
+    ensures taken { IfOk result (λ reading. (reading ≡ Reading.Came) × (connection.new ≡ took connection.old bytes.now)) }
+    ensures here { (connection.new.instance ≡ connection.old.instance) × (connection.new.base ≡ connection.old.base) }
+{
+    if !connection.take(bytes)? {
+        unreachable!();
+    }
+    Ok(Reading::Came)
+}
+
+impl<S: Read, D: Disk, P: WhichCoordinator> Client<S, D, P> {
+    /// Reads once, what came and there is room for.
+    pub fn read(&mut self, buffer: &mut [u8]) -> Result<Reading, ClientFault>
+        ensures read { IfOk result (Reads (S.remaining self.old.stream) (S.remaining self.new.stream) self.old.connection self.new.connection) }
+        ensures due { self.new.due ≡ self.old.due }
+    {
+        let room = self.connection.room().min(buffer.len());
+        if room == 0 {
+            return Ok(Reading::Full);
+        }
+        match self.stream.read(&mut buffer[..room]) {
+            Ok(0) => {
+                self.connection.finish();
+                Ok(Reading::Ended)
+            }
+            Ok(count) => take_in(&mut self.connection, &buffer[..count]),
+            Err(error) if error.kind() == ErrorKind::WouldBlock => Ok(Reading::Waits),
+            Err(_) => Err(ClientFault::Io),
+        }
+    }
+}
+
+impl<S: Write, D: Disk, P: WhichCoordinator> Client<S, D, P> {
+    /// Hands out once what may be, where all that is due is kept.
+    pub fn hand_out<R: Wait>(
+        &mut self,
+        rt: &R,
+        progress: &Progress<D>,
+    ) -> Result<Handing, ClientFault>
+        ensures handed { IfOk result (HandsOut D.took D.keeps self.old.due (S.contents self.old.stream) (S.contents self.new.stream) self.old.connection self.new.connection) }
+        ensures due { self.new.due ≡ self.old.due }
+    {
+        if self.connection.out().is_empty() {
+            return Ok(Handing::Done);
+        }
+        let Some(due) = &self.due else {
+            return Ok(Handing::Unkept);
+        };
+        match release(rt, progress, due, &mut self.stream, self.connection.out()) {
+            Ok(None) => Ok(Handing::Unkept),
+            Ok(Some((0, _))) => Err(ClientFault::Io),
+            Ok(Some((count, _))) => {
+                self.connection.gone(count);
+                Ok(Handing::Went)
+            }
+            Err(error) if error.kind() == ErrorKind::WouldBlock => Ok(Handing::Waits),
+            Err(_) => Err(ClientFault::Io),
+        }
+    }
+}

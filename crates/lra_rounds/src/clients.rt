@@ -1,0 +1,262 @@
+//! The clients of a thread.
+
+ghost use Rattle.std.specs.Prelude.{◌≡◌};
+ghost use Rattle.lra_rounds.specs.Answered.{AnsweredSome, Asks};
+
+use crate::client::Client;
+use crate::coordinator::WhichCoordinator;
+use crate::means::Means;
+use crate::seat::{Need, Seat, Turn};
+use lra_commands::Counter;
+use lra_durable::{Disk, Progress};
+use lra_front::Clock;
+use lra_ids::{Address, Instance};
+use lra_timers::Agenda;
+use mio::net::TcpStream;
+use mio::{Interest, Registry, Token};
+use slab::Slab;
+use std::alloc::Global;
+use std::collections::VecDeque;
+use std::mem;
+use std::sync::Wait;
+
+/// How many are visited again in a round.
+const MOST_AGAIN: u64 = 16;
+
+/// The clients of a thread, each under a key, and what is to be done for whom.
+#[derive(Drop)]
+pub(crate) struct Clients<D: Disk, P: WhichCoordinator> {
+    alloc: Global,
+    seats: Slab<Seat<D, P>>,
+    /// Until when those that are idle have to begin a request, as limits; and the others to go on with theirs, or with a reply, as retries.
+    agenda: Agenda,
+    /// The keys of those whose streams may be ready.
+    ready: Vec<usize>,
+    /// The keys of those to visit again, who have been longest without a visit first.
+    again: VecDeque<usize>,
+    /// The keys of those whose replies wait to leave. A key that names nobody any more is passed over.
+    waiting: Vec<usize>,
+}
+
+impl<D: Disk, P: WhichCoordinator> Clients<D, P> {
+    pub(crate) fn new(alloc: Global) -> Clients<D, P> {
+        Clients {
+            alloc,
+            seats: Slab::new(alloc),
+            agenda: Agenda::new(alloc),
+            ready: Vec::new(alloc),
+            again: VecDeque::new(alloc),
+            waiting: Vec::new(alloc),
+        }
+    }
+
+    pub(crate) fn len(&self) -> usize {
+        self.seats.len()
+    }
+
+    /// Whether someone is to be visited.
+    pub(crate) fn has_ready(&self) -> bool {
+        !self.ready.is_empty() || !self.again.is_empty()
+    }
+
+    /// Whether someone's replies wait to leave.
+    pub(crate) fn has_waiting(&self) -> bool {
+        !self.waiting.is_empty()
+    }
+
+    /// Whether the replies of all of them wait to leave, so that nobody else can ask for anything.
+    pub(crate) fn all_wait(&self) -> bool {
+        self.waiting.len() >= self.seats.len()
+    }
+
+    /// The stream of a key may be ready, and may have come to its end.
+    pub(crate) fn call(&mut self, key: usize, is_closing: bool) {
+        let Some(seat) = self.seats.get_mut(key) else {
+            return;
+        };
+        seat.call(is_closing);
+        if seat.list() && self.ready.push(key).is_err() {
+            self.end(key);
+        }
+    }
+
+    /// Ends a client.
+    fn end(&mut self, key: usize) {
+        drop(self.seats.try_remove(key));
+        self.agenda.drop_limit(key as u64);
+        self.agenda.drop_retry(key as u64);
+    }
+
+    /// Makes room for a client under so many: where there are as many, the one that has been idle for longest is ended. Tells whether there is room.
+    fn make_room(&mut self, most: usize) -> bool {
+        if self.seats.len() < most {
+            return true;
+        }
+        match self.agenda.first_due(u64::MAX) {
+            Some(key) => {
+                self.end(key as usize);
+                true
+            }
+            None => false,
+        }
+    }
+
+    /// Takes a newcomer in, where there is room for one and memory.
+    pub(crate) fn admit(
+        &mut self,
+        registry: &Registry,
+        stream: TcpStream,
+        instance: Instance,
+        base: &Address,
+        most: usize,
+        now: u64,
+    )
+        requires { (instance ≡ P.instance) × (base.now ≡ P.base) }
+    {
+        let mut stream = stream;
+        if !self.make_room(most) || self.seats.reserve(1).is_err() {
+            drop(stream);
+            return;
+        }
+        let key = self.seats.vacant_key();
+        let both = Interest::READABLE | Interest::WRITABLE;
+        if registry.register(&mut stream, Token(key), both).is_err() {
+            drop(stream);
+            return;
+        }
+        let seat = Seat::new(Client::new(self.alloc, stream, instance, base));
+        self.seats.insert_reserved(seat);
+        self.place(key, now);
+    }
+
+    /// Puts a client where its need is seen to, or ends it.
+    fn place(&mut self, key: usize, now: u64) {
+        let Some(seat) = self.seats.get_mut(key) else {
+            return;
+        };
+        let before = seat.turn();
+        let need = seat.next(now);
+        let after = seat.turn();
+        let is_placed = match need {
+            Need::End => false,
+            Need::Rest => true,
+            Need::Visit => !seat.list() || self.again.push_back(key).is_ok(),
+            Need::Leave => !seat.wait() || self.waiting.push(key).is_ok(),
+        };
+        if !is_placed || before != after && !self.set_time(key, after) {
+            self.end(key);
+        }
+    }
+
+    /// Notes until when a client's turn lasts. Tells whether there was memory for it.
+    fn set_time(&mut self, key: usize, turn: Turn) -> bool {
+        let key = key as u64;
+        match turn {
+            Turn::Begins(until) => {
+                self.agenda.drop_retry(key);
+                self.agenda.set_limit(key, until).is_ok()
+            }
+            Turn::Asks(until) | Turn::Takes(until) => {
+                self.agenda.drop_limit(key);
+                self.agenda.set_retry(key, until).is_ok()
+            }
+            Turn::Waits => {
+                self.agenda.drop_limit(key);
+                self.agenda.drop_retry(key);
+                true
+            }
+        }
+    }
+
+    /// Reads what came of one client, and has its requests answered that are whole.
+    fn serve_one<R: Wait, C: Counter, K: Clock>(
+        &mut self,
+        means: &Means<'_, R, D>,
+        buffer: &mut [u8],
+        key: usize,
+        counter: &mut C,
+        clock: &mut K,
+        now: u64,
+    )
+        requires { Asks P.instance P.base (C.sight counter.old) }
+        ensures { AnsweredSome C.gives K.tells (C.sight counter.old) clock.old (C.sight counter.new) clock.new }
+    {
+        let Some(seat) = self.seats.get_mut(key) else {
+            return;
+        };
+        match seat.serve(means, buffer, counter, clock) {
+            Ok(()) => self.place(key, now),
+            Err(_) => self.end(key),
+        }
+    }
+
+    /// Reads what came of those whose streams may be ready, and of some of those to visit again, and has their requests answered that are whole, a few of each.
+    /// So one whose request has just come waits for few of those that have more to do.
+    pub(crate) fn serve<R: Wait, C: Counter, K: Clock>(
+        &mut self,
+        means: &Means<'_, R, D>,
+        buffer: &mut [u8],
+        counter: &mut C,
+        clock: &mut K,
+        now: u64,
+    )
+        requires { Asks P.instance P.base (C.sight counter.old) }
+        ensures { AnsweredSome C.gives K.tells (C.sight counter.old) clock.old (C.sight counter.new) clock.new }
+    {
+        let keys = mem::replace(&mut self.ready, Vec::new(self.alloc));
+        for key in keys {
+            self.serve_one(means, buffer, key, counter, clock, now);
+        }
+        for _visit in 0..MOST_AGAIN {
+            let Some(key) = self.again.pop_front() else {
+                return;
+            };
+            self.serve_one(means, buffer, key, counter, clock, now);
+        }
+    }
+
+    /// Hands out what may leave, to those whose replies wait.
+    pub(crate) fn hand_out<R: Wait>(&mut self, rt: &R, progress: &Progress<D>, now: u64) {
+        let keys = mem::replace(&mut self.waiting, Vec::new(self.alloc));
+        for key in keys {
+            let Some(seat) = self.seats.get_mut(key) else {
+                continue;
+            };
+            match seat.hand_out(rt, progress) {
+                Ok(()) => self.place(key, now),
+                Err(_) => self.end(key),
+            }
+        }
+    }
+
+    /// Ends those whose turn has lasted too long.
+    pub(crate) fn end_late(&mut self, now: u64) {
+        for _late in 0..self.seats.len() {
+            let late = self.agenda.first_due(now);
+            match late.or(self.agenda.next_retry(now)) {
+                Some(key) => self.end(key as usize),
+                None => return,
+            }
+        }
+    }
+
+    /// The moment at which the first turn has lasted too long, if someone has a turn.
+    pub(crate) fn first_end(&self) -> Option<u64> {
+        let idle = self.end_of(self.agenda.first_due(u64::MAX));
+        let busy = self.end_of(self.agenda.next_retry(u64::MAX));
+        match (idle, busy) {
+            (Some(one), Some(other)) => Some(one.min(other)),
+            (one, None) => one,
+            (None, other) => other,
+        }
+    }
+
+    /// Until when the turn of one who may be there lasts.
+    fn end_of(&self, key: Option<u64>) -> Option<u64> {
+        let seat = self.seats.get(key? as usize)?;
+        match seat.turn() {
+            Turn::Begins(until) | Turn::Asks(until) | Turn::Takes(until) => Some(until),
+            Turn::Waits => None,
+        }
+    }
+}

@@ -1,0 +1,19 @@
+//! A thread that answers any number of connections, by readiness: what came is read, the requests that are whole are answered, and the replies leave
+//! once the disk keeps what they tell of.
+#![tactic(auto)]
+
+mod answering;
+mod arrivals;
+mod client;
+mod clients;
+mod coordinator;
+mod means;
+mod moments;
+mod rounds;
+mod seat;
+
+pub use answering::Stage;
+pub use arrivals::Arrivals;
+pub use client::{Client, ClientFault, Handing, Reading};
+pub use coordinator::WhichCoordinator;
+pub use rounds::{Rounds, RoundsEnd};

@@ -1,0 +1,280 @@
+//! The rounds of a thread.
+
+ghost use Rattle.std.specs.Prelude.{◌≡◌, Some, IsTrue};
+ghost use Rattle.lra_rounds.specs.Answered.{AnsweredSome, Asks};
+
+use crate::arrivals::Arrivals;
+use crate::clients::Clients;
+use crate::coordinator::WhichCoordinator;
+use crate::means::Means;
+use crate::moments::Moments;
+use lra_commands::Counter;
+use lra_durable::{Disk, Due, Progress};
+use lra_front::{Clock, Routes};
+use lra_ids::{Address, Instance};
+use lra_model::Memory;
+use mio::net::TcpStream;
+use mio::{Events, Poll, Waker};
+use std::alloc::Global;
+use std::marker::Brand;
+use std::sync::Wait;
+use std::time::Duration;
+use std::{io, time};
+
+/// How many events a thread is told of at once.
+const MOST_EVENTS: usize = 1_024;
+
+/// How many bytes are read of a client at once.
+const PIECE: usize = 16_384;
+
+/// How many milliseconds a thread that has nothing to do waits before it looks whether the disk has failed.
+const LOOK: u64 = 250;
+
+/// How many rounds replies wait for others to share their sync.
+const MOST_ROUNDS: u32 = 4;
+
+/// Why a thread has ended.
+#[derive(Clone, Copy, Debug, PartialEq, Eq)]
+pub enum RoundsEnd {
+    /// The disk has failed.
+    Unkept,
+    /// No more connections come.
+    Closed,
+    /// There is no memory for what a thread begins with, or another thread takes what comes in there.
+    Refused,
+    /// The system told no more of its streams.
+    Io,
+}
+
+/// What a thread works with.
+#[derive(Drop)]
+pub struct Rounds<'a, R, D: Disk> {
+    rt: &'a R,
+    alloc: Global,
+    progress: &'a Progress<D>,
+    arrivals: &'a Arrivals,
+    /// Those who are woken once the disk has taken something.
+    bells: &'a [Waker],
+    /// How many clients there are at most.
+    most: usize,
+}
+
+/// What a thread waits with, and what it has come to know.
+#[derive(Drop)]
+struct Watch<'a, R, D: Disk> {
+    poll: Poll,
+    events: Events,
+    buffer: Vec<u8>,
+    moments: Moments<'a, R>,
+    /// How many rounds replies have waited.
+    rounds: u32,
+    /// What the disk had taken when others were woken last.
+    told: Due<D>,
+}
+
+impl<'a, R: Wait + time::Clock, D: Disk> Rounds<'a, R, D> {
+    pub fn new(
+        rt: &'a R,
+        alloc: Global,
+        progress: &'a Progress<D>,
+        arrivals: &'a Arrivals,
+        bells: &'a [Waker],
+        most: usize,
+    ) -> Rounds<'a, R, D>
+        ensures { (result.progress ≡ progress.entry) × (result.arrivals ≡ arrivals.entry) × (result.most ≡ most) }
+    {
+        Rounds {
+            rt,
+            alloc,
+            progress,
+            arrivals,
+            bells,
+            most,
+        }
+    }
+
+    /// What a thread works with beside its clients.
+    fn watch(&self, poll: Poll) -> Result<Watch<'a, R, D>, Memory> {
+        let events = Events::with_capacity(self.alloc, MOST_EVENTS)?;
+        let buffer = vec![in self.alloc; 0u8; PIECE]?;
+        Ok(Watch {
+            poll,
+            events,
+            buffer,
+            moments: Moments::new(self.rt),
+            rounds: 0,
+            told: self.progress.due(self.rt),
+        })
+    }
+
+    /// Wakes the others, where the disk has taken something since they were.
+    fn ring(&self, told: &mut Due<D>) {
+        if self.bells.is_empty() {
+            return;
+        }
+        let due = self.progress.due(self.rt);
+        if due.is_past(told) {
+            for bell in self.bells {
+                // Where one can't be woken, it looks by itself.
+                let _ = bell.wake();
+            }
+        }
+        *told = due;
+    }
+
+    /// How long the next wait for streams may last.
+    fn wait<P: WhichCoordinator>(&self, clients: &Clients<D, P>, now: u64) -> Duration {
+        if clients.has_ready() || clients.has_waiting() {
+            return Duration::ZERO;
+        }
+        let left = match clients.first_end() {
+            Some(end) => end.saturating_sub(now).min(LOOK),
+            None => LOOK,
+        };
+        Duration::from_millis(left)
+    }
+
+    /// Notes whose streams may be ready, and takes in those who have come.
+    fn take_in<P: WhichCoordinator>(
+        &self,
+        watch: &Watch<'a, R, D>,
+        clients: &mut Clients<D, P>,
+        instance: Instance,
+        base: &Address,
+        now: u64,
+    )
+        requires { (instance ≡ P.instance) × (base.now ≡ P.base) }
+    {
+        for event in watch.events.iter() {
+            clients.call(usize::from(event.token()), event.is_read_closed());
+        }
+        let registry = watch.poll.registry();
+        for _newcomer in 0..self.most {
+            let Some(stream) = self.arrivals.next(self.rt) else {
+                break;
+            };
+            let stream = TcpStream::from_std(stream);
+            clients.admit(registry, stream, instance, base, self.most, now);
+        }
+        self.arrivals.tell(clients.len());
+    }
+
+    /// Hands out what may leave. Once nothing else is to be done, or replies have waited for some rounds, the disk keeps first what it took.
+    fn hand_out<P: WhichCoordinator>(
+        &self,
+        rounds: &mut u32,
+        clients: &mut Clients<D, P>,
+        is_quiet: bool,
+        now: u64,
+    ) {
+        clients.hand_out(self.rt, self.progress, now);
+        if !clients.has_waiting() {
+            *rounds = 0;
+            return;
+        }
+        *rounds = rounds.saturating_add(1);
+        if is_quiet || clients.all_wait() || *rounds >= MOST_ROUNDS {
+            *rounds = 0;
+            // Where it fails, the next round ends.
+            let _ = self.progress.keep(self.rt, &self.progress.due(self.rt));
+            clients.hand_out(self.rt, self.progress, now);
+        }
+    }
+
+    /// One round. Tells why there is no other, if there is none.
+    fn go_round<C: Counter, K: Clock, P: WhichCoordinator>(
+        &self,
+        means: &Means<'_, R, D>,
+        watch: &mut Watch<'a, R, D>,
+        clients: &mut Clients<D, P>,
+        counter: &mut C,
+        clock: &mut K,
+    ) -> Option<RoundsEnd>
+        requires { Asks P.instance P.base (C.sight counter.old) }
+        ensures answered { AnsweredSome C.gives K.tells (C.sight counter.old) clock.old (C.sight counter.new) clock.new }
+        ensures failed { result ≡ Some RoundsEnd.Unkept → IsTrue D.failed }
+    {
+        let wait = self.wait(clients, watch.moments.now());
+        if watch.poll.poll(&mut watch.events, Some(wait)).is_err() {
+            return Some(RoundsEnd::Io);
+        }
+        if self.progress.has_failed(self.rt) {
+            return Some(RoundsEnd::Unkept);
+        }
+        if self.arrivals.is_closed(self.rt) {
+            return Some(RoundsEnd::Closed);
+        }
+        let now = watch.moments.now();
+        self.take_in(watch, clients, counter.instance(), counter.base(), now);
+        let is_quiet = watch.events.is_empty() && !clients.has_ready();
+        clients.serve(means, watch.buffer.as_mut_slice(), counter, clock, now);
+        self.ring(&mut watch.told);
+        self.hand_out(&mut watch.rounds, clients, is_quiet, now);
+        clients.end_late(now);
+        None
+    }
+
+    /// One round after another.
+    fn go_on<C: Counter, K: Clock, P: WhichCoordinator>(
+        &self,
+        means: &Means<'_, R, D>,
+        watch: &mut Watch<'a, R, D>,
+        clients: &mut Clients<D, P>,
+        counter: &mut C,
+        clock: &mut K,
+    ) -> RoundsEnd
+        requires { Asks P.instance P.base (C.sight counter.old) }
+        ensures answered { AnsweredSome C.gives K.tells (C.sight counter.old) clock.old (C.sight counter.new) clock.new }
+        ensures failed { result ≡ RoundsEnd.Unkept → IsTrue D.failed }
+    {
+        for _round in self.rt.forever() {
+            if let Some(end) = self.go_round(means, watch, clients, counter, clock) {
+                return end;
+            }
+        }
+        unreachable!()
+    }
+
+    /// The same, at the coordinator of that type.
+    fn run_at<C: Counter, K: Clock, P: WhichCoordinator>(
+        &self,
+        counter: &mut C,
+        clock: &mut K,
+    ) -> RoundsEnd
+        requires { Asks P.instance P.base (C.sight counter.old) }
+        ensures answered { AnsweredSome C.gives K.tells (C.sight counter.old) clock.old (C.sight counter.new) clock.new }
+        ensures failed { result ≡ RoundsEnd.Unkept → IsTrue D.failed }
+    {
+        let Some(poll) = self.arrivals.take_poll(self.rt) else {
+            return RoundsEnd::Refused;
+        };
+        let Ok(mut watch) = self.watch(poll) else {
+            return RoundsEnd::Refused;
+        };
+        let Ok(routes) = Routes::new(self.alloc) else {
+            drop(watch);
+            return RoundsEnd::Refused;
+        };
+        let means = Means {
+            rt: self.rt,
+            alloc: self.alloc,
+            routes,
+            progress: self.progress,
+        };
+        let mut clients: Clients<D, P> = Clients::new(self.alloc);
+        let end = self.go_on(&means, &mut watch, &mut clients, counter, clock);
+        drop(clients);
+        drop(watch);
+        drop(means);
+        end
+    }
+
+    /// Answers the connections that come in, by one counter and one clock, until the disk has failed or no more connections come. Whatever
+    /// happens to one connection, the others are answered.
+    pub fn run<C: Counter, K: Clock>(&self, counter: &mut C, clock: &mut K) -> RoundsEnd
+        ensures answered { AnsweredSome C.gives K.tells (C.sight counter.old) clock.old (C.sight counter.new) clock.new }
+        ensures failed { result ≡ RoundsEnd.Unkept → IsTrue D.failed }
+    {
+        self.run_at::<C, K, Brand>(counter, clock)
+    }
+}

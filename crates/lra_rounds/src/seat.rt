@@ -1,0 +1,219 @@
+//! A client among those of a thread.
+
+ghost use Rattle.lra_rounds.specs.Answered.{AnsweredSome, Asks};
+
+use crate::answering::Stage;
+use crate::client::{Client, ClientFault, Handing, Reading};
+use crate::coordinator::WhichCoordinator;
+use crate::means::Means;
+use lra_commands::Counter;
+use lra_durable::{Disk, Progress};
+use lra_front::Clock;
+use mio::net::TcpStream;
+use std::mem;
+use std::sync::Wait;
+
+/// How many milliseconds a client has between requests, until the first byte of the next.
+const IDLE: u64 = 30_000;
+
+/// How many there are in all, from its first byte, until a whole request has come.
+const REQUEST: u64 = 10_000;
+
+/// How many a client has in all to take its replies.
+const REPLY: u64 = 10_000;
+
+/// How often a client's stream is written to in a round.
+const MOST_CALLS: u64 = 4;
+
+/// Whose turn it is with a client, and until when.
+#[derive(Clone, Copy, Debug, PartialEq, Eq)]
+pub(crate) enum Turn {
+    /// The client's, to begin a request.
+    Begins(u64),
+    /// The client's, to end it.
+    Asks(u64),
+    /// The client's, to take replies.
+    Takes(u64),
+    /// The disk's, to keep what replies tell of.
+    Waits,
+}
+
+/// What a client needs next.
+#[derive(Clone, Copy, Debug, PartialEq, Eq)]
+pub(crate) enum Need {
+    /// That its stream is ready.
+    Rest,
+    /// Another visit.
+    Visit,
+    /// That its replies are handed out.
+    Leave,
+    /// Nothing: it has ended.
+    End,
+}
+
+/// A client, and what is known of its stream and of its time.
+#[derive(Drop)]
+pub(crate) struct Seat<D: Disk, P: WhichCoordinator> {
+    client: Client<TcpStream, D, P>,
+    turn: Turn,
+    /// How much room it has while nothing of a request has come.
+    whole: usize,
+    /// Its stream may have bytes that weren't read.
+    may_read: bool,
+    /// Its stream comes to its end.
+    is_closing: bool,
+    /// A further request may be whole.
+    goes: bool,
+    /// No further request comes.
+    has_ended: bool,
+    /// Its stream takes nothing for now.
+    is_blocked: bool,
+    /// It is among those to visit.
+    is_listed: bool,
+    /// It is among those whose replies wait to leave.
+    is_waiting: bool,
+}
+
+impl<D: Disk, P: WhichCoordinator> Seat<D, P> {
+    /// One that has just come in.
+    pub(crate) fn new(client: Client<TcpStream, D, P>) -> Seat<D, P> {
+        let whole = client.room();
+        Seat {
+            client,
+            turn: Turn::Waits,
+            whole,
+            may_read: false,
+            is_closing: false,
+            goes: false,
+            has_ended: false,
+            is_blocked: false,
+            is_listed: false,
+            is_waiting: false,
+        }
+    }
+
+    pub(crate) fn turn(&self) -> Turn {
+        self.turn
+    }
+
+    /// Its stream may be ready, to be read and to be written, and may have come to its end.
+    pub(crate) fn call(&mut self, is_closing: bool) {
+        self.may_read = true;
+        self.is_closing |= is_closing;
+        self.is_blocked = false;
+    }
+
+    /// It is among those to visit. Tells whether it wasn't yet.
+    pub(crate) fn list(&mut self) -> bool {
+        !mem::replace(&mut self.is_listed, true)
+    }
+
+    /// It is among those whose replies wait to leave. Tells whether it wasn't yet.
+    pub(crate) fn wait(&mut self) -> bool {
+        !mem::replace(&mut self.is_waiting, true)
+    }
+
+    /// Reads what came, a piece of it at most.
+    fn read(&mut self, buffer: &mut [u8]) -> Result<(), ClientFault> {
+        let before = self.client.room();
+        self.may_read = match self.client.read(buffer)? {
+            // Where fewer bytes came than there was room for, there are no others for now.
+            Reading::Came => self.is_closing
+                || before.saturating_sub(self.client.room()) >= before.min(buffer.len()),
+            Reading::Full => true,
+            Reading::Waits | Reading::Ended => false,
+        };
+        Ok(())
+    }
+
+    /// Reads what came, once all requests before are answered, and has those answered that are whole; but not while replies wait to leave.
+    pub(crate) fn serve<R: Wait, C: Counter, K: Clock>(
+        &mut self,
+        means: &Means<'_, R, D>,
+        buffer: &mut [u8],
+        counter: &mut C,
+        clock: &mut K,
+    ) -> Result<(), ClientFault>
+        requires { Asks P.instance P.base (C.sight counter.old) }
+        ensures { AnsweredSome C.gives K.tells (C.sight counter.old) clock.old (C.sight counter.new) clock.new }
+    {
+        self.is_listed = false;
+        if !self.client.is_done() {
+            return Ok(());
+        }
+        if self.may_read && !self.goes {
+            self.read(buffer)?;
+        }
+        let stage = self.client.answer(
+            means.rt,
+            means.alloc,
+            &means.routes,
+            means.progress,
+            counter,
+            clock,
+        )?;
+        self.goes = stage == Stage::Goes;
+        self.has_ended = stage == Stage::Ended;
+        Ok(())
+    }
+
+    /// Hands out what may leave, as often as it may in a round.
+    pub(crate) fn hand_out<R: Wait>(
+        &mut self,
+        rt: &R,
+        progress: &Progress<D>,
+    ) -> Result<(), ClientFault> {
+        self.is_waiting = false;
+        for _call in 0..MOST_CALLS {
+            match self.client.hand_out(rt, progress)? {
+                Handing::Went => {}
+                Handing::Unkept | Handing::Done => return Ok(()),
+                Handing::Waits => {
+                    self.is_blocked = true;
+                    return Ok(());
+                }
+            }
+        }
+        Ok(())
+    }
+
+    /// What it needs next. Where its turn has come to an end the next one begins.
+    pub(crate) fn next(&mut self, now: u64) -> Need {
+        if !self.client.is_done() {
+            self.turn = reply_turn(self.turn, self.is_blocked, now);
+            return if self.is_blocked {
+                Need::Rest
+            } else {
+                Need::Leave
+            };
+        }
+        if self.has_ended {
+            return Need::End;
+        }
+        self.turn = request_turn(self.turn, self.client.room() < self.whole, now);
+        if self.goes || self.may_read {
+            Need::Visit
+        } else {
+            Need::Rest
+        }
+    }
+}
+
+/// The turn of a client whose replies wait to leave, where its stream takes nothing, or the disk doesn't keep yet what they tell of.
+fn reply_turn(turn: Turn, is_blocked: bool, now: u64) -> Turn {
+    match turn {
+        Turn::Takes(until) => Turn::Takes(until),
+        _ if is_blocked => Turn::Takes(now.saturating_add(REPLY)),
+        _ => Turn::Waits,
+    }
+}
+
+/// The turn of a client that has taken all its replies, and of whose next request some bytes have come or none.
+fn request_turn(turn: Turn, has_begun: bool, now: u64) -> Turn {
+    match turn {
+        Turn::Asks(until) if has_begun => Turn::Asks(until),
+        _ if has_begun => Turn::Asks(now.saturating_add(REQUEST)),
+        Turn::Begins(until) => Turn::Begins(until),
+        _ => Turn::Begins(now.saturating_add(IDLE)),
+    }
+}

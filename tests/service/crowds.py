@@ -1,0 +1,130 @@
+"""Many clients at once: those that keep their connections, that send slowly, that take nothing and that break off; others are answered beside them."""
+import resource
+import socket
+import struct
+import threading
+import time
+
+from patience import narrow, serves
+from service import LeftOut, check, equal, id_of
+
+# How many connections are kept at once, and how many clients are slow in each way.
+KEPT, SLOW = 2000, 500
+# How many requests a client sends ahead that takes no reply: more than the system keeps the replies of.
+AHEAD = 800
+# How many files a test may want beside its connections.
+OTHERS = 500
+UNKNOWN = b"GET /lra HTTP/1.1\r\nHost: h\r\n\r\n"
+
+
+def room_for(service, connections):
+    """Lets the tests and the service have so many connections more, where the system lets them."""
+    most = connections + OTHERS
+    soft, hard = resource.getrlimit(resource.RLIMIT_NOFILE)
+    if hard != resource.RLIM_INFINITY and hard < most:
+        raise LeftOut(f"at most {hard} files may be open")
+    if soft != resource.RLIM_INFINITY and soft < 2 * most:
+        resource.setrlimit(resource.RLIMIT_NOFILE, (2 * most if hard == resource.RLIM_INFINITY else min(2 * most, hard), hard))
+    resource.prlimit(service.process.pid, resource.RLIMIT_NOFILE, (most, hard))
+
+
+def one_reply(stream):
+    """One reply without a body, or with one of known length."""
+    data = b""
+    while b"\r\n\r\n" not in data:
+        piece = stream.recv(65536)
+        check(f"the connection ended after {data!r}", piece)
+        data += piece
+    head, _, body = data.partition(b"\r\n\r\n")
+    for line in head.split(b"\r\n"):
+        name, _, value = line.partition(b":")
+        if name.lower() == b"content-length":
+            while len(body) < int(value):
+                body += stream.recv(65536)
+    return head, body
+
+
+def crowd(service, count):
+    return [service.connect() for _ in range(count)]
+
+
+def close_all(streams):
+    for stream in streams:
+        stream.close()
+
+
+def test_two_thousand_kept_connections_are_each_answered(setting):
+    with setting.serve(2) as service:
+        room_for(service, KEPT)
+        streams = crowd(service, KEPT)
+        begun = time.monotonic()
+        for _ in range(2):
+            for stream in streams:
+                stream.sendall(b"POST /lra-coordinator HTTP/1.1\r\nHost: h\r\n\r\n")
+            for stream in streams:
+                check("a start", one_reply(stream)[0].startswith(b"HTTP/1.1 201 "))
+        seconds = time.monotonic() - begun
+        begun = time.monotonic()
+        with service.client() as newcomer:
+            newcomer.start()
+        check("a newcomer waits", time.monotonic() - begun < 1)
+        close_all(streams)
+        return f"{2 * KEPT} starts in {seconds:.1f} s"
+
+
+def test_slow_clients_keep_nobody_waiting(setting):
+    with setting.serve(2) as service:
+        room_for(service, 2 * SLOW)
+        senders, takers = crowd(service, SLOW), [narrow(service) for _ in range(SLOW)]
+        for stream in takers:
+            stream.sendall(UNKNOWN * AHEAD)
+        begun = time.monotonic()
+        sent = 0
+        while time.monotonic() - begun < 5:
+            for stream in senders:
+                stream.sendall(UNKNOWN[sent : sent + 1])
+            sent += 1
+            before = time.monotonic()
+            with service.client() as client:
+                equal("a status", client.status(client.start()), "Active")
+            check("another client waits", time.monotonic() - before < 1)
+            time.sleep(max(0, begun + sent - time.monotonic()))
+        close_all(senders + takers)
+
+
+def test_a_client_is_answered_while_others_keep_all_threads(setting):
+    with setting.serve(1) as service, service.client() as first:
+        first.start()
+        with service.connect() as second:
+            second.sendall(UNKNOWN)
+            check("a reply", one_reply(second)[0].startswith(b"HTTP/1.1 404 "))
+            first.start()
+
+
+def test_requests_sent_ahead_are_answered_in_order(setting):
+    with setting.serve(2) as service, service.client() as client, service.connect() as stream:
+        actions = [client.start() for _ in range(3)]
+        requests = b"".join(f"GET /lra-coordinator/{id_of(action)} HTTP/1.1\r\nHost: h\r\n\r\n".encode() for action in actions * 100)
+        writer = threading.Thread(target=stream.sendall, args=(requests,))
+        writer.start()
+        data = b""
+        while data.count(b'"status":"Active"}') < 300:
+            piece = stream.recv(65536)
+            check("the connection ended", piece)
+            data += piece
+        writer.join()
+        told = [part.split(b'"')[0] for part in data.split(b'"lra":"')[1:]]
+        equal("the replies", told, [action.encode() for action in actions * 100])
+
+
+def test_a_reset_in_the_middle_of_a_request_or_a_reply_does_no_harm(setting):
+    with setting.serve(2) as service:
+        for requests in (UNKNOWN[:20], b"POST /lra-coordinator HTTP/1.1\r\nHost: h\r\nContent-Length: 10\r\n\r\n{", UNKNOWN * 500):
+            streams = [narrow(service) for _ in range(20)]
+            for stream in streams:
+                stream.sendall(requests)
+            time.sleep(0.2)
+            for stream in streams:
+                stream.setsockopt(socket.SOL_SOCKET, socket.SO_LINGER, struct.pack("ii", 1, 0))
+            close_all(streams)
+            serves(service)
