@@ -87,6 +87,11 @@ impl<'a, R: Wait + Clock, D: Disk> Entrance<'a, R, D> {
                 Err(_) => break,
             }
         }
+        self.close();
+    }
+
+    /// No thread answers any more.
+    pub(crate) fn close(&self) {
         for arrivals in self.arrivals.as_slice() {
             arrivals.close(self.rt);
         }

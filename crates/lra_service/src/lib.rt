@@ -4,8 +4,7 @@
 mod base;
 mod disk;
 mod entrance;
-mod patient;
-mod pause;
+mod polls;
 mod post;
 mod running;
 mod shift;
@@ -16,6 +15,4 @@ pub use lra_clocks::SystemClock;
 pub use lra_opening::{
     Found, Place, ServeFault, fault_line, find_journal, open_office, ready_file,
 };
-pub use patient::Patient;
-pub use pause::Pause;
 pub use running::{serve, serve_from};

@@ -12,17 +12,18 @@ ghost use Rattle.lra_service.specs.inner.Opened.{IsOpenAt};
 
 use crate::base::{base_at, bind};
 use crate::disk::{FilePen, JournalFile};
+use crate::polls::{Polls, polls_of};
 use crate::post::hire_all;
-use crate::shift::{Shift, arrivals, work};
+use crate::shift::{Shift, work};
 use lra_clocks::milliseconds;
 use lra_durable::{Keeper, Progress};
 use lra_ids::Address;
 use lra_office::{Clerk, Desk, Office};
 use lra_opening::{
-    Found, NamedFile, Place, ServeFault, find_journal, open_office, ready_file, refuse,
+    Found, NamedFile, Place, ServeFault, find_journal, latest_moment, open_office, ready_file,
+    refuse,
 };
 use lra_reports::RunFault;
-use lra_rounds::Arrivals;
 use std::alloc::Global;
 use std::fs::File;
 use std::io::Write;
@@ -44,32 +45,32 @@ struct Service<'a, R, P> {
     workers: u32,
 }
 
-/// A journal's file as a disk, what adds to it, where connections come in to those who answer, and the moment at which all that was ready.
+/// A journal's file as a disk, what adds to it, what the threads wait with, and the moment from which their clocks go on.
 #[derive(Drop)]
 struct Stand {
     progress: Progress<JournalFile>,
     pen: FilePen,
-    arrivals: Vec<Arrivals>,
+    polls: Polls,
     moment: u64,
 }
 
 /// A journal's file as a disk, all of whose bytes are kept.
-fn stand_on(file: File, arrivals: Vec<Arrivals>, moment: u64) -> Result<Stand, ServeFault>
+fn stand_on(file: File, polls: Polls, moment: u64) -> Result<Stand, ServeFault>
     ensures { IfErr result (λ fault. fault ≡ ServeFault.File) }
 {
     let Ok((pen, syncer)) = JournalFile::parts(file) else {
-        drop(arrivals);
+        drop(polls);
         return Err(ServeFault::File);
     };
     match Progress::<JournalFile>::open(&pen, syncer) {
         Ok(progress) => Ok(Stand {
             progress,
             pen,
-            arrivals,
+            polls,
             moment,
         }),
         Err(_) => {
-            drop(arrivals);
+            drop(polls);
             Err(ServeFault::File)
         }
     }
@@ -178,12 +179,12 @@ impl<
         let Stand {
             progress,
             pen,
-            arrivals,
+            polls,
             moment,
         } = stand;
         let room = pen.room();
         let keeper = Keeper::new(self.rt, &progress, pen, room);
-        let shift = Shift::new(self.rt, self.alloc, &progress, listener, moment, arrivals);
+        let shift = Shift::new(self.rt, self.alloc, &progress, listener, moment, polls);
         let served = self.serve_journal(&shift, base, journal, keeper, writer);
         drop(shift);
         let has_failed = progress.has_failed(self.rt);
@@ -196,15 +197,17 @@ impl<
     }
 
     /// The disk of a file that has just its journal's whole lines.
-    fn stand(&self, file: File) -> Result<Stand, ServeFault>
+    fn stand(&self, file: File, journal: &[u8]) -> Result<Stand, ServeFault>
         requires { P.contents file ≡ option_map whole_lines (P.had self.now.place.now) }
         ensures { IfErr result IsOfNoScript }
     {
-        let Some(moment) = milliseconds(self.rt) else {
+        let Some(now) = milliseconds(self.rt) else {
             return Err(ServeFault::Address);
         };
-        let arrivals = arrivals(self.rt, self.alloc, self.workers)?;
-        stand_on(file, arrivals, moment)
+        let polls = polls_of(self.rt, self.alloc, self.workers)?;
+        // A journal that was written to later, as by a clock that was wrong, is gone on from that moment.
+        let latest = latest_moment(journal).unwrap_or(0);
+        stand_on(file, polls, now.max(latest))
     }
 
     /// A listener at a base's host and port, and the disk of a journal that was found so.
@@ -220,7 +223,7 @@ impl<
     {
         let listener = bind(self.alloc, self.rt, base)?;
         let file = ready_file(self.place, found, journal)?;
-        Ok((listener, self.stand(file)?))
+        Ok((listener, self.stand(file, journal)?))
     }
 
     /// Serves a sound journal that was found so. That has ended by a fault.

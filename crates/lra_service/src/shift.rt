@@ -1,27 +1,25 @@
 //! The threads of a service.
 
-ghost use Rattle.std.specs.Prelude.{◌≡◌, All, IfErr};
+ghost use Rattle.std.specs.Prelude.{◌≡◌, [], All, IfSome};
 ghost use Rattle.lra_ticket.specs.Locks.{lock_id};
-ghost use Rattle.lra_opening.specs.Faults.{IsOfNoScript};
 ghost use Rattle.lra_service.specs.inner.Opened.{IsAt};
 
 use crate::disk::JournalFile;
 use crate::entrance::Entrance;
-use crate::patient::Patient;
-use crate::pause::Pause;
+use crate::polls::Polls;
 use crate::post::Duty;
+use lra_callbacks::{Callbacks, Names, Share};
 use lra_clocks::SystemClock;
-use lra_courier::TcpCourier;
 use lra_durable::Progress;
 use lra_office::{Clerk, OfficeOf, Serving, WhichLock, Window};
-use lra_opening::ServeFault;
 use lra_rounds::{Arrivals, Rounds};
-use lra_workers::run_worker;
+use lra_workers::{OpenUntil, run_carrier};
+use mio::{Poll, Waker};
 use std::alloc::{AllocError, Global};
 use std::marker::{Brand, Send, Sync};
 use std::net::{Net, TcpListener, TcpStream};
-use std::sync::Wait;
 use std::sync::atomic::{AtomicBool, AtomicU64, Ordering};
+use std::sync::{Mutex, Wait};
 use std::thread;
 use std::thread::{Threads, join};
 use std::time::Clock;
@@ -44,22 +42,35 @@ pub(crate) struct Shift<'a, R> {
     begun: AtomicU64,
     /// How many answer connections.
     answering: AtomicU64,
+    /// What those who carry wait with, until each takes one.
+    polls: Mutex<Vec<Poll>>,
+    /// What wakes them, once something may be due.
+    bells: Vec<Waker>,
+    /// The addresses of members' hosts.
+    names: Names,
+    /// What each who carries has under way at most.
+    share: Share,
     /// No one answers any more.
     has_ended: AtomicBool,
 }
 
 impl<'a, R: Wait + Clock> Shift<'a, R> {
-    /// One that begins, with those who answer the connections that come in there.
+    /// One that begins, with those who answer and those who carry that wait with these.
     pub(crate) fn new(
         rt: &'a R,
         alloc: Global,
         progress: &'a Progress<JournalFile>,
         listener: TcpListener,
         moment: u64,
-        arrivals: Vec<Arrivals>,
+        polls: Polls,
     ) -> Shift<'a, R>
         ensures { result.moment ≡ moment }
     {
+        let Polls {
+            arrivals,
+            polls,
+            bells,
+        } = polls;
         let workers = arrivals.len();
         Shift {
             rt,
@@ -70,28 +81,13 @@ impl<'a, R: Wait + Clock> Shift<'a, R> {
             most: MOST.div_ceil(workers.max(1)),
             begun: AtomicU64::new(0),
             answering: AtomicU64::new(workers as u64),
+            share: Share::of(u32::try_from(workers).unwrap_or(u32::MAX)),
+            polls: Mutex::new(polls),
+            bells,
+            names: Names::new(alloc),
             has_ended: AtomicBool::new(false),
         }
     }
-}
-
-/// Where connections come in to so many who answer them.
-pub(crate) fn arrivals<R: Net>(
-    rt: &R,
-    alloc: Global,
-    workers: u32,
-) -> Result<Vec<Arrivals>, ServeFault>
-    ensures { IfErr result IsOfNoScript }
-{
-    let mut all = Vec::new(alloc);
-    for _worker in 0..workers {
-        let Ok(arrivals) = Arrivals::new(rt, alloc) else {
-            drop(all);
-            return Err(ServeFault::Address);
-        };
-        all.push(arrivals)?;
-    }
-    Ok(all)
 }
 
 impl<R: Wait + Clock + Net<Stream = TcpStream, Listener = TcpListener>> Shift<'_, R> {
@@ -99,6 +95,7 @@ impl<R: Wait + Clock + Net<Stream = TcpStream, Listener = TcpListener>> Shift<'_
     fn leave(&self) {
         if self.answering.fetch_sub(1, Ordering::SeqCst) <= 1 {
             self.has_ended.store(true, Ordering::SeqCst);
+            self.names.close(self.rt);
             self.door.wake();
         }
     }
@@ -115,7 +112,14 @@ impl<R: Wait + Clock + Net<Stream = TcpStream, Listener = TcpListener>> Shift<'_
     {
         let mut clock = SystemClock::new(self.rt, self.moment);
         let mut window: Window<'_, V, R, Q> = Window::new(self.rt, office, clerk);
-        let rounds = Rounds::new(self.rt, self.alloc, self.progress, arrivals, &[], self.most);
+        let rounds = Rounds::new(
+            self.rt,
+            self.alloc,
+            self.progress,
+            arrivals,
+            &self.bells,
+            self.most,
+        );
         rounds.run(&mut window, &mut clock);
         drop(window.into_clerk());
     }
@@ -135,19 +139,48 @@ impl<R: Wait + Clock + Net<Stream = TcpStream, Listener = TcpListener>> Shift<'_
         self.leave();
     }
 
-    /// Lets limits fire and carries errands.
+    /// The callbacks of one who carries: none are under way.
+    fn callbacks(&self) -> Option<Callbacks<'_, R, JournalFile>>
+        ensures { IfSome result (λ made. made ≡ []) }
+    {
+        let poll = self.polls.lock(self.rt).pop()?;
+        Callbacks::new(
+            self.rt,
+            self.alloc,
+            self.progress,
+            &self.names,
+            poll,
+            self.share,
+        )
+        .ok()
+    }
+
+    /// Lets limits fire and carries errands, many at once. Where that can't be begun no one answers any more.
     fn carry<V: Serving>(&self, office: &OfficeOf<V>, clerk: Clerk<V>)
         requires { IsAt V.setting office.now clerk }
     {
-        let courier = TcpCourier::new(self.rt, self.alloc);
-        run_worker(
-            self.rt,
-            office,
-            clerk,
-            &mut Patient::new(self.rt, self.progress, courier),
-            &mut Pause::new(self.rt, &self.has_ended),
-            &mut SystemClock::new(self.rt, self.moment),
-        );
+        match self.callbacks() {
+            Some(mut callbacks) => {
+                run_carrier(
+                    self.rt,
+                    office,
+                    clerk,
+                    &mut callbacks,
+                    &mut OpenUntil::new(&self.has_ended),
+                    &mut SystemClock::new(self.rt, self.moment),
+                );
+                drop(callbacks);
+            }
+            None => {
+                drop(clerk);
+                self.door.close();
+            }
+        }
+    }
+
+    /// Looks up the names of members' hosts.
+    fn look_up(&self) {
+        self.names.run(self.rt, &self.bells);
     }
 
     fn work<V: Serving>(&self, office: &OfficeOf<V>, duty: Duty, clerk: Clerk<V>)
@@ -177,6 +210,25 @@ fn work_all<
     Ok(())
 }
 
+/// The same, while two more threads look up names.
+fn work_by_name<
+    V: Serving + Send,
+    R: Threads + Wait + Clock + Net<Stream = TcpStream, Listener = TcpListener> + Sync,
+>(shift: &Shift<'_, R>, office: &OfficeOf<V>, jobs: Vec<(Duty, Clerk<V>)>) -> Result<(), AllocError>
+    requires { All (λ job. IsAt V.setting office.now job.1) jobs.items }
+{
+    let (_, worked) = join(
+        shift.rt,
+        move || {
+            join(shift.rt, || shift.look_up(), || shift.look_up());
+        },
+        move || -> Result<(), AllocError>
+            requires { All (λ job. IsAt V.setting office.now job.1) jobs.items }
+        { work_all(shift, office, jobs) },
+    );
+    worked
+}
+
 /// The same, while one more thread waits for connections.
 pub(crate) fn work<
     V: Serving + Send,
@@ -189,7 +241,7 @@ pub(crate) fn work<
         move || shift.door.open(),
         move || -> Result<(), AllocError>
             requires { All (λ job. IsAt V.setting office.now job.1) jobs.items }
-        { work_all(shift, office, jobs) },
+        { work_by_name(shift, office, jobs) },
     );
     worked
 }
