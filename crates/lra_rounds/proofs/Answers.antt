@@ -11,10 +11,10 @@ use Rattle.lra_front.specs.Transcripts.{Turn, Chain}
 use Rattle.lra_front.proofs.Transcribed.{same_setting}
 use Rattle.lra_steps.specs.declared.connection.Step.{Step}
 use Rattle.lra_steps.specs.declared.connection.Step.TheVariants.{Wants, Stands, Waits, Ended}
-use Rattle.lra_steps.specs.History.{History, ordered, answered, lost, ended_by}
-use Rattle.lra_steps.specs.Steps.{StepsTo, Steps, Tells}
+use Rattle.lra_steps.specs.History.{History}
+use Rattle.lra_steps.specs.Steps.{StepsTo, Tells}
 use Rattle.lra_steps.specs.Pieces.{Answers}
-use Rattle.lra_rounds.specs.Answered.{Asks, AnsweredIn, AnsweredSome, AnswersOf}
+use Rattle.lra_rounds.specs.Answered.{Asks, AnsweredSome, AnswersOf}
 
 -- what a step, or an answer without its turn, leaves as it was
 record Stays (old new : History) : Type 0 where
