@@ -76,6 +76,15 @@ def look(thread, enters, leaves):
         leaves(thread, info.words[0])
 
 
+def given(thread):
+    """The bytes that the call is given with which a thread begins, a write or a send."""
+    info = Info()
+    libc.ptrace(GET_SYSCALL_INFO, thread, ctypes.sizeof(info), ctypes.addressof(info))
+    with open(f"/proc/{thread}/mem", "rb", buffering=0) as it:
+        it.seek(info.words[2])
+        return it.read(info.words[3])
+
+
 def shorten(thread, length):
     """Has the call with which a thread begins, a read or a write, move so many bytes."""
     libc.ptrace(POKE_USER, thread, THIRD, length)
