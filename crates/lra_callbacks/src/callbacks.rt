@@ -192,10 +192,13 @@ impl<'a, R: Wait + Net + Clock, D: Disk> Callbacks<'a, R, D> {
         }
     }
 
-    /// Looks at one whose socket was reported.
+    /// Looks at one whose socket was reported. Once the disk has failed nothing goes to any member, also of what had leave before.
     fn advance(&mut self, key: usize)
         ensures { self.new ≡ self.old }
     {
+        if self.progress.has_failed(self.rt) {
+            return;
+        }
         let Some(call) = self.calls.get_mut(key) else {
             return;
         };
