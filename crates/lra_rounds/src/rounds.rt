@@ -53,7 +53,7 @@ pub struct Rounds<'a, R, D: Disk> {
     alloc: Global,
     progress: &'a Progress<D>,
     arrivals: &'a Arrivals,
-    /// Those who are woken once the disk has taken something.
+    /// Those of whom one is woken once the disk has taken something.
     bells: &'a [Waker],
     /// How many clients there are at most.
     most: usize,
@@ -61,15 +61,21 @@ pub struct Rounds<'a, R, D: Disk> {
 
 /// What a thread waits with, and what it has come to know.
 #[derive(Drop)]
-struct Watch<'a, R, D: Disk> {
+struct Watch<'a, R> {
     poll: Poll,
     events: Events,
     buffer: Vec<u8>,
     moments: Moments<'a, R>,
     /// How many rounds replies have waited.
     rounds: u32,
-    /// What the disk had taken when others were woken last.
-    told: Due<D>,
+    /// Whose turn it is to be woken.
+    turn: usize,
+}
+
+/// Whose turn follows, of so many.
+fn next_turn(turn: usize, count: usize) -> usize {
+    let next = turn.saturating_add(1);
+    if next < count { next } else { 0 }
 }
 
 impl<'a, R: Wait + time::Clock, D: Disk> Rounds<'a, R, D> {
@@ -94,7 +100,7 @@ impl<'a, R: Wait + time::Clock, D: Disk> Rounds<'a, R, D> {
     }
 
     /// What a thread works with beside its clients.
-    fn watch(&self, poll: Poll) -> Result<Watch<'a, R, D>, Memory> {
+    fn watch(&self, poll: Poll) -> Result<Watch<'a, R>, Memory> {
         let events = Events::with_capacity(self.alloc, MOST_EVENTS)?;
         let buffer = vec![in self.alloc; 0u8; PIECE]?;
         Ok(Watch {
@@ -103,23 +109,20 @@ impl<'a, R: Wait + time::Clock, D: Disk> Rounds<'a, R, D> {
             buffer,
             moments: Moments::new(self.rt),
             rounds: 0,
-            told: self.progress.due(self.rt),
+            turn: 0,
         })
     }
 
-    /// Wakes the others, where the disk has taken something since they were.
-    fn ring(&self, told: &mut Due<D>) {
-        if self.bells.is_empty() {
+    /// Wakes one of the others, each in its turn, where the disk has taken something since then.
+    fn ring(&self, before: &Due<D>, turn: &mut usize) {
+        let Some(bell) = self.bells.get(*turn) else {
             return;
+        };
+        if self.progress.due(self.rt).is_past(before) {
+            // Where it can't be woken, it looks by itself.
+            let _ = bell.wake();
+            *turn = next_turn(*turn, self.bells.len());
         }
-        let due = self.progress.due(self.rt);
-        if due.is_past(told) {
-            for bell in self.bells {
-                // Where one can't be woken, it looks by itself.
-                let _ = bell.wake();
-            }
-        }
-        *told = due;
     }
 
     /// How long the next wait for streams may last.
@@ -137,7 +140,7 @@ impl<'a, R: Wait + time::Clock, D: Disk> Rounds<'a, R, D> {
     /// Notes whose streams may be ready, and takes in those who have come.
     fn take_in<P: WhichCoordinator>(
         &self,
-        watch: &Watch<'a, R, D>,
+        watch: &Watch<'a, R>,
         clients: &mut Clients<D, P>,
         instance: Instance,
         base: &Address,
@@ -185,7 +188,7 @@ impl<'a, R: Wait + time::Clock, D: Disk> Rounds<'a, R, D> {
     fn go_round<C: Counter, K: Clock, P: WhichCoordinator>(
         &self,
         means: &Means<'_, R, D>,
-        watch: &mut Watch<'a, R, D>,
+        watch: &mut Watch<'a, R>,
         clients: &mut Clients<D, P>,
         counter: &mut C,
         clock: &mut K,
@@ -207,8 +210,9 @@ impl<'a, R: Wait + time::Clock, D: Disk> Rounds<'a, R, D> {
         let now = watch.moments.now();
         self.take_in(watch, clients, counter.instance(), counter.base(), now);
         let is_quiet = watch.events.is_empty() && !clients.has_ready();
+        let before = self.progress.due(self.rt);
         clients.serve(means, watch.buffer.as_mut_slice(), counter, clock, now);
-        self.ring(&mut watch.told);
+        self.ring(&before, &mut watch.turn);
         self.hand_out(&mut watch.rounds, clients, is_quiet, now);
         clients.end_late(now);
         None
@@ -218,7 +222,7 @@ impl<'a, R: Wait + time::Clock, D: Disk> Rounds<'a, R, D> {
     fn go_on<C: Counter, K: Clock, P: WhichCoordinator>(
         &self,
         means: &Means<'_, R, D>,
-        watch: &mut Watch<'a, R, D>,
+        watch: &mut Watch<'a, R>,
         clients: &mut Clients<D, P>,
         counter: &mut C,
         clock: &mut K,
