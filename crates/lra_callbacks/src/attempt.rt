@@ -9,7 +9,7 @@ use crate::pumping::{Moved, pump};
 use lra_carrying::Carrying;
 use lra_core::Errand;
 use lra_courier::{Callback, socket_text};
-use lra_durable::{Disk, Due, Progress};
+use lra_durable::{Disk, Due, Noted, Progress};
 use lra_ids::address;
 use lra_model::Outcome;
 use std::alloc::Global;
@@ -80,31 +80,33 @@ pub(crate) struct Flight {
     kept: u64,
 }
 
-/// An errand that was taken. Its request is made once the disk keeps all that it had taken by then.
+/// An errand that was taken. Its request is made once the disk keeps all that it had taken by then: what that is was noted with the errand at hand.
 #[derive(Drop)]
 pub(crate) struct Attempt<D: Disk> {
     errand: Held,
-    due: Due<D>,
+    noted: Noted<D, Errand>,
     flight: Option<Flight>,
-    ghost leave: { ForSome flight (λ f. IsTrue (D.took due) × MayLeave D.keeps due f.kept) },
+    ghost of: { ForSome errand (λ e. noted.of.value ≡ e) },
+    ghost leave: { ForSome flight (λ f. IsTrue (D.took noted.due) × MayLeave D.keeps noted.due f.kept) },
     ghost own: { ForSome flight (λ f. ForSome errand (IsFor f.carrying)) },
 }
 
 impl<D: Disk> Attempt<D> {
     /// An errand that is taken now.
-    pub(crate) fn new(errand: Errand, due: Due<D>) -> Attempt<D>
+    pub(crate) fn new(errand: Errand, noted: Noted<D, Errand>) -> Attempt<D>
+        requires { noted.of.value ≡ errand }
         ensures { result.errand ≡ Some errand }
     {
         Attempt {
             errand: Held::new(errand),
-            due,
+            noted,
             flight: None,
         }
     }
 
     /// What the disk has to keep before it leaves.
     pub(crate) fn due(&self) -> &Due<D> {
-        &self.due
+        self.noted.due()
     }
 
     /// The callback of the errand. Nothing, where it has no address or memory is refused.
@@ -121,7 +123,7 @@ impl<D: Disk> Attempt<D> {
     pub(crate) fn begin<R: Wait>(&mut self, rt: &R, alloc: Global, progress: &Progress<D>) -> Leave
         ensures { self.new.errand ≡ self.old.errand }
     {
-        let Ok(kept) = progress.kept(rt, &self.due) else {
+        let Ok(kept) = progress.kept(rt, self.noted.due()) else {
             return Leave::Never;
         };
         let Some(kept) = kept else {

@@ -6,7 +6,7 @@ ghost use Rattle.lra_callbacks.specs.Outcomes.{MayCome};
 use crate::attempt::{Attempt, Leave};
 use crate::pumping::Moved;
 use lra_core::Errand;
-use lra_durable::{Disk, Due, Progress};
+use lra_durable::{Disk, Due, Noted, Progress};
 use lra_model::Outcome;
 use mio::net::TcpStream;
 use mio::{Interest, Registry, Token};
@@ -45,11 +45,12 @@ pub(crate) struct Call<D: Disk> {
 }
 
 impl<D: Disk> Call<D> {
-    pub(crate) fn new(errand: Errand, due: Due<D>) -> Call<D>
+    pub(crate) fn new(errand: Errand, noted: Noted<D, Errand>) -> Call<D>
+        requires { noted.of.value ≡ errand }
         ensures { result.attempt.errand ≡ Some errand }
     {
         Call {
-            attempt: Attempt::new(errand, due),
+            attempt: Attempt::new(errand, noted),
             stream: None,
             is_connected: false,
             host: 0,

@@ -319,8 +319,8 @@ impl<R: Wait + Net + Clock, D: Disk> Carriage for Callbacks<'_, R, D> {
         if self.calls.reserve(1).is_err() {
             return Err(errand);
         }
-        let due = self.progress.due(self.rt);
-        let key = self.calls.insert_reserved(Call::new(errand, due));
+        let noted = self.progress.note(self.rt, &errand);
+        let key = self.calls.insert_reserved(Call::new(errand, noted));
         let _ = self.traffic.unkept.push_back(key);
         Ok(())
     }

@@ -9,8 +9,11 @@ use Rattle.lra_callbacks.proofs.attempt.Attempt.begin.Goals as goal
 
 pub invariant_of-self : goal.invariant_of-self
 invariant_of-self g c =
-    let kept = subst (λ (o : Option ℕ). IfSome o (λ n. IsTrue (g.D.Disk.took c.args.self.now.due) × MayLeave g.D.Disk.keeps c.args.self.now.due n)) c.in-Some.is c.in-Ok.ensures.kept in
+    let due = c.args.self.now.noted.due in
+    let told = subst (λ (least : ℕ). IfSome c.in-Ok.kept (λ n. IsTrue (g.D.Disk.took least) × MayLeave g.D.Disk.keeps least n)) c.due.ensures c.in-Ok.ensures.kept in
+    let kept = subst (λ (o : Option ℕ). IfSome o (λ n. IsTrue (g.D.Disk.took due) × MayLeave g.D.Disk.keeps due n)) c.in-Some.is told in
     record {
-      leave = λ x e. subst (λ (f : Flight). IsTrue (g.D.Disk.took c.args.self.now.due) × MayLeave g.D.Disk.keeps c.args.self.now.due f.kept) (same_Some _ x e) kept;
+      of = c.args.self.now.of;
+      leave = λ x e. subst (λ (f : Flight). IsTrue (g.D.Disk.took due) × MayLeave g.D.Disk.keeps due f.kept) (same_Some _ x e) kept;
       own = λ x e. subst (λ (f : Flight). ForSome c.args.self.now.errand (IsFor f.carrying)) (same_Some _ x e) c.in-Some-callback.ensures;
     }

@@ -9,5 +9,5 @@ pub returns : goal.returns
 returns g c =
     let leave = c.args.self.now.leave c.in-Some.flight c.in-Some.is in
     subst (λ (o : Outcome). IfSome c.args.self.now.errand (λ e. MayCome g.D.Disk.took g.D.Disk.keeps e.ask e.kind o)) (sym c.unwrap_or.ensures)
-    (outcome_comes g.D.Disk.took g.D.Disk.keeps c.args.self.now.due c.in-Some.flight.kept c.in-Some.flight.carrying c.args.self.now.errand c.outcome.result leave.0 leave.1
+    (outcome_comes g.D.Disk.took g.D.Disk.keeps c.args.self.now.noted.due c.in-Some.flight.kept c.in-Some.flight.carrying c.args.self.now.errand c.outcome.result leave.0 leave.1
     (c.args.self.now.own c.in-Some.flight c.in-Some.is) c.carried.ensures c.outcome.ensures.comes c.outcome.ensures.suits)
