@@ -1,0 +1,58 @@
+-- All settings of a service.
+use Rattle.std.specs.Prelude.{ℕ, Bool, false, ◌&&◌, nat_le}
+use Rattle.lra_settings.specs.declared.parameter.Parameter.{Parameter}
+use Rattle.lra_settings.specs.declared.parameter.Parameter.TheVariants.{Connections, Callbacks, HostShare, IdleTimeout, RequestTimeout, ReplyTimeout, ConnectTimeout, CallbackTimeout, RetryFirst, RetryLast}
+use Rattle.lra_settings.specs.declared.settings.Settings.{Settings}
+use Rattle.lra_settings.specs.Parameters.{fits}
+
+-- the settings where nothing is said (this project's choice)
+abbrev pub usual : Settings
+usual = record {
+  connections = 10000;
+  callbacks = 1024;
+  host_share = 64;
+  idle_seconds = 30;
+  request_seconds = 10;
+  reply_seconds = 10;
+  connect_seconds = 5;
+  callback_seconds = 30;
+  retry_first_ms = 100;
+  retry_last_ms = 60000;
+  stop_at_eof = false;
+}
+
+-- what a parameter is
+abbrev pub value_of : Settings → Parameter → ℕ
+value_of s Connections = s.connections
+value_of s Callbacks = s.callbacks
+value_of s HostShare = s.host_share
+value_of s IdleTimeout = s.idle_seconds
+value_of s RequestTimeout = s.request_seconds
+value_of s ReplyTimeout = s.reply_seconds
+value_of s ConnectTimeout = s.connect_seconds
+value_of s CallbackTimeout = s.callback_seconds
+value_of s RetryFirst = s.retry_first_ms
+value_of s RetryLast = s.retry_last_ms
+
+-- the settings, but for one parameter, which is so much
+abbrev pub changed : Settings → Parameter → ℕ → Settings
+changed s Connections n = record s { connections = n }
+changed s Callbacks n = record s { callbacks = n }
+changed s HostShare n = record s { host_share = n }
+changed s IdleTimeout n = record s { idle_seconds = n }
+changed s RequestTimeout n = record s { request_seconds = n }
+changed s ReplyTimeout n = record s { reply_seconds = n }
+changed s ConnectTimeout n = record s { connect_seconds = n }
+changed s CallbackTimeout n = record s { callback_seconds = n }
+changed s RetryFirst n = record s { retry_first_ms = n }
+changed s RetryLast n = record s { retry_last_ms = n }
+
+-- each parameter may be what it is
+abbrev pub are_in_range : Settings → Bool
+are_in_range s =
+    ((((((((fits Connections s.connections && fits Callbacks s.callbacks) && fits HostShare s.host_share) && fits IdleTimeout s.idle_seconds) && fits RequestTimeout s.request_seconds)
+    && fits ReplyTimeout s.reply_seconds) && fits ConnectTimeout s.connect_seconds) && fits CallbackTimeout s.callback_seconds) && fits RetryFirst s.retry_first_ms) && fits RetryLast s.retry_last_ms
+
+-- a service may be run by them: each parameter may be what it is, and the first pause is no longer than the last
+abbrev pub are_fit : Settings → Bool
+are_fit s = are_in_range s && nat_le s.retry_first_ms s.retry_last_ms

@@ -1,0 +1,93 @@
+//! The numbers among the settings.
+
+ghost use Rattle.std.specs.Prelude.{◌≡◌, ◌&&◌, IfSome, nat_le};
+ghost use Rattle.lra_settings.specs.Parameters.{name_of, most_of, fits};
+
+/// The least that each number may be.
+pub const LEAST: u64 = 1;
+
+/// A number among the settings.
+#[derive(Clone, Copy, Debug, PartialEq, Eq)]
+pub enum Parameter {
+    Connections,
+    Callbacks,
+    HostShare,
+    IdleTimeout,
+    RequestTimeout,
+    ReplyTimeout,
+    ConnectTimeout,
+    CallbackTimeout,
+    RetryFirst,
+    RetryLast,
+}
+
+impl Parameter {
+    /// All of them.
+    pub const ALL: [Parameter; 10] = [
+        Parameter::Connections,
+        Parameter::Callbacks,
+        Parameter::HostShare,
+        Parameter::IdleTimeout,
+        Parameter::RequestTimeout,
+        Parameter::ReplyTimeout,
+        Parameter::ConnectTimeout,
+        Parameter::CallbackTimeout,
+        Parameter::RetryFirst,
+        Parameter::RetryLast,
+    ];
+
+    /// Its word, on a command line and in a file.
+    pub const fn name(self) -> &'static str
+        ensures { result.now ≡ name_of self }
+    {
+        match self {
+            Parameter::Connections => "connections",
+            Parameter::Callbacks => "callbacks",
+            Parameter::HostShare => "host-share",
+            Parameter::IdleTimeout => "idle-timeout",
+            Parameter::RequestTimeout => "request-timeout",
+            Parameter::ReplyTimeout => "reply-timeout",
+            Parameter::ConnectTimeout => "connect-timeout",
+            Parameter::CallbackTimeout => "callback-timeout",
+            Parameter::RetryFirst => "retry-first",
+            Parameter::RetryLast => "retry-last",
+        }
+    }
+
+    /// The parameter of a word, if there is one.
+    pub fn from_name(text: &str) -> Option<Parameter>
+        ensures { IfSome result (λ parameter. text.now ≡ name_of parameter) }
+    {
+        for parameter in &Parameter::ALL {
+            if text == parameter.name() {
+                return Some(*parameter);
+            }
+        }
+        None
+    }
+
+    /// The most that it may be.
+    pub const fn most(self) -> u64
+        ensures { result ≡ most_of self }
+    {
+        match self {
+            Parameter::Connections => 1_000_000,
+            Parameter::Callbacks => 65_536,
+            Parameter::HostShare => 65_536,
+            Parameter::IdleTimeout => 86_400,
+            Parameter::RequestTimeout => 86_400,
+            Parameter::ReplyTimeout => 86_400,
+            Parameter::ConnectTimeout => 86_400,
+            Parameter::CallbackTimeout => 86_400,
+            Parameter::RetryFirst => 86_400_000,
+            Parameter::RetryLast => 86_400_000,
+        }
+    }
+
+    /// Whether it may be so much.
+    pub fn fits(self, value: u64) -> bool
+        ensures { result ≡ fits self value }
+    {
+        LEAST <= value && value <= self.most()
+    }
+}

@@ -1,0 +1,115 @@
+//! All settings.
+
+ghost use Rattle.std.specs.Prelude.{◌≡◌};
+ghost use Rattle.lra_settings.specs.Settings.{usual, value_of, changed, are_in_range, are_fit};
+
+use crate::parameter::Parameter;
+
+/// How much a service has at once, and how long each waits for another.
+#[derive(Clone, Copy, Debug, PartialEq, Eq)]
+pub struct Settings {
+    /// How many connections there are at once.
+    pub connections: u64,
+    /// How many callbacks go out at once.
+    pub callbacks: u64,
+    /// How many of them go to one host and port.
+    pub host_share: u64,
+    /// How many seconds a client has until its next request begins.
+    pub idle_seconds: u64,
+    /// How many it has for a whole request, from the first byte on.
+    pub request_seconds: u64,
+    /// How many it has to take the replies that wait.
+    pub reply_seconds: u64,
+    /// How many seconds a member has to take a connection.
+    pub connect_seconds: u64,
+    /// How many it has for a whole callback, the connection included.
+    pub callback_seconds: u64,
+    /// How many milliseconds pass before a member is asked again for the first time.
+    pub retry_first_ms: u64,
+    /// How many pass at most before it is asked again.
+    pub retry_last_ms: u64,
+    /// The service ends gently once standard input has ended.
+    pub stop_at_eof: bool,
+}
+
+impl Settings {
+    /// Those where nothing is said.
+    pub const fn usual() -> Settings
+        ensures { result ≡ usual }
+    {
+        Settings {
+            connections: 10_000,
+            callbacks: 1_024,
+            host_share: 64,
+            idle_seconds: 30,
+            request_seconds: 10,
+            reply_seconds: 10,
+            connect_seconds: 5,
+            callback_seconds: 30,
+            retry_first_ms: 100,
+            retry_last_ms: 60_000,
+            stop_at_eof: false,
+        }
+    }
+
+    /// What a parameter is.
+    pub fn get(&self, parameter: Parameter) -> u64
+        ensures { result ≡ value_of self.now parameter }
+    {
+        match parameter {
+            Parameter::Connections => self.connections,
+            Parameter::Callbacks => self.callbacks,
+            Parameter::HostShare => self.host_share,
+            Parameter::IdleTimeout => self.idle_seconds,
+            Parameter::RequestTimeout => self.request_seconds,
+            Parameter::ReplyTimeout => self.reply_seconds,
+            Parameter::ConnectTimeout => self.connect_seconds,
+            Parameter::CallbackTimeout => self.callback_seconds,
+            Parameter::RetryFirst => self.retry_first_ms,
+            Parameter::RetryLast => self.retry_last_ms,
+        }
+    }
+
+    /// These, but for one parameter, which is so much.
+    pub fn with(self, parameter: Parameter, value: u64) -> Settings
+        ensures { result ≡ changed self parameter value }
+    {
+        let mut settings = self;
+        match parameter {
+            Parameter::Connections => settings.connections = value,
+            Parameter::Callbacks => settings.callbacks = value,
+            Parameter::HostShare => settings.host_share = value,
+            Parameter::IdleTimeout => settings.idle_seconds = value,
+            Parameter::RequestTimeout => settings.request_seconds = value,
+            Parameter::ReplyTimeout => settings.reply_seconds = value,
+            Parameter::ConnectTimeout => settings.connect_seconds = value,
+            Parameter::CallbackTimeout => settings.callback_seconds = value,
+            Parameter::RetryFirst => settings.retry_first_ms = value,
+            Parameter::RetryLast => settings.retry_last_ms = value,
+        }
+        settings
+    }
+
+    /// Whether each parameter may be what it is.
+    fn are_in_range(&self) -> bool
+        ensures { result ≡ are_in_range self.now }
+    {
+        Parameter::Connections.fits(self.connections)
+            && Parameter::Callbacks.fits(self.callbacks)
+            && Parameter::HostShare.fits(self.host_share)
+            && Parameter::IdleTimeout.fits(self.idle_seconds)
+            && Parameter::RequestTimeout.fits(self.request_seconds)
+            && Parameter::ReplyTimeout.fits(self.reply_seconds)
+            && Parameter::ConnectTimeout.fits(self.connect_seconds)
+            && Parameter::CallbackTimeout.fits(self.callback_seconds)
+            && Parameter::RetryFirst.fits(self.retry_first_ms)
+            && Parameter::RetryLast.fits(self.retry_last_ms)
+    }
+
+    /// Whether a service may be run by them: each parameter may be what it is, and the first pause is no longer than the last.
+    pub fn are_fit(&self) -> bool
+        ensures { result ≡ are_fit self.now }
+    {
+        self.are_in_range() && self.retry_first_ms <= self.retry_last_ms
+    }
+}
