@@ -1,15 +1,26 @@
 //! Where connections come in to a thread that answers them.
 
 use lra_model::Memory;
+use mio::net::TcpStream;
 use mio::{Poll, Token, Waker};
 use std::alloc::{AllocError, Global};
 use std::io;
-use std::net::{Net, TcpStream};
+use std::net::Net;
 use std::sync::atomic::{AtomicU64, Ordering};
 use std::sync::{Mutex, Wait};
 
 /// What the events of newcomers are known by. No client has that key.
 pub(crate) const BELL: Token = Token(usize::MAX);
+
+/// Whether connections come in to a thread.
+#[derive(Clone, Copy, Debug, PartialEq, Eq)]
+pub(crate) enum Door {
+    Open,
+    /// None come, and the thread ends once no replies wait.
+    Closing,
+    /// None come, and the thread ends.
+    Closed,
+}
 
 /// What stands under the lock.
 #[derive(Drop)]
@@ -18,7 +29,7 @@ struct Inner {
     streams: Vec<TcpStream>,
     /// What the thread waits for streams with, until it takes that.
     poll: Option<Poll>,
-    is_closed: bool,
+    door: Door,
 }
 
 /// Where connections come in to a thread that answers them. They wait here until the thread takes them.
@@ -40,7 +51,7 @@ impl Arrivals {
             inner: Mutex::new(Inner {
                 streams: Vec::new(alloc),
                 poll: Some(poll),
-                is_closed: false,
+                door: Door::Open,
             }),
             bell,
             clients: AtomicU64::new(0),
@@ -50,17 +61,17 @@ impl Arrivals {
     /// How many connections the thread has, or will take; the most where it takes none any more.
     pub fn load<R: Wait>(&self, rt: &R) -> u64 {
         let inner = self.inner.lock(rt);
-        if inner.is_closed {
+        if inner.door != Door::Open {
             return u64::MAX;
         }
         let clients = self.clients.load(Ordering::SeqCst);
         clients.saturating_add(inner.streams.len() as u64)
     }
 
-    /// A connection has come, whose reads and writes don't wait. Where memory is refused, or no more are taken, it is closed.
+    /// A connection has come. Where memory is refused, or no more are taken, it is closed.
     pub fn push<R: Wait>(&self, rt: &R, stream: TcpStream) -> Result<(), Memory> {
         let mut inner = self.inner.lock(rt);
-        if inner.is_closed {
+        if inner.door != Door::Open {
             drop(stream);
             return Ok(());
         }
@@ -73,9 +84,19 @@ impl Arrivals {
         Ok(())
     }
 
+    /// No more come, and the thread reads no more requests: it ends once the replies that wait have left, or 10 s after.
+    pub fn finish<R: Wait>(&self, rt: &R) {
+        let mut inner = self.inner.lock(rt);
+        if inner.door == Door::Open {
+            inner.door = Door::Closing;
+        }
+        drop(inner);
+        let _ = self.bell.wake();
+    }
+
     /// No more come, and the thread ends.
     pub fn close<R: Wait>(&self, rt: &R) {
-        self.inner.lock(rt).is_closed = true;
+        self.inner.lock(rt).door = Door::Closed;
         let _ = self.bell.wake();
     }
 
@@ -84,8 +105,8 @@ impl Arrivals {
         self.inner.lock(rt).poll.take()
     }
 
-    pub(crate) fn is_closed<R: Wait>(&self, rt: &R) -> bool {
-        self.inner.lock(rt).is_closed
+    pub(crate) fn door<R: Wait>(&self, rt: &R) -> Door {
+        self.inner.lock(rt).door
     }
 
     /// One of those that have come.

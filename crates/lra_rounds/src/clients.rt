@@ -7,6 +7,7 @@ use crate::client::Client;
 use crate::coordinator::WhichCoordinator;
 use crate::means::Means;
 use crate::seat::{Need, Seat, Turn};
+use crate::times::Times;
 use lra_commands::Counter;
 use lra_durable::{Disk, Progress};
 use lra_front::Clock;
@@ -27,6 +28,7 @@ const MOST_AGAIN: u64 = 16;
 #[derive(Drop)]
 pub(crate) struct Clients<D: Disk, P: WhichCoordinator> {
     alloc: Global,
+    times: Times,
     seats: Slab<Seat<D, P>>,
     /// Until when those that are idle have to begin a request, as limits; and the others to go on with theirs, or with a reply, as retries.
     agenda: Agenda,
@@ -39,9 +41,11 @@ pub(crate) struct Clients<D: Disk, P: WhichCoordinator> {
 }
 
 impl<D: Disk, P: WhichCoordinator> Clients<D, P> {
-    pub(crate) fn new(alloc: Global) -> Clients<D, P> {
+    /// None yet, each of whom will have these times.
+    pub(crate) fn new(alloc: Global, times: Times) -> Clients<D, P> {
         Clients {
             alloc,
+            times,
             seats: Slab::new(alloc),
             agenda: Agenda::new(alloc),
             ready: Vec::new(alloc),
@@ -131,11 +135,12 @@ impl<D: Disk, P: WhichCoordinator> Clients<D, P> {
 
     /// Puts a client where its need is seen to, or ends it.
     fn place(&mut self, key: usize, now: u64) {
+        let times = self.times;
         let Some(seat) = self.seats.get_mut(key) else {
             return;
         };
         let before = seat.turn();
-        let need = seat.next(now);
+        let need = seat.next(times, now);
         let after = seat.turn();
         let is_placed = match need {
             Need::End => false,
@@ -212,6 +217,26 @@ impl<D: Disk, P: WhichCoordinator> Clients<D, P> {
                 return;
             };
             self.serve_one(means, buffer, key, counter, clock, now);
+        }
+    }
+
+    /// Whether the replies of someone wait to leave, also where its stream takes nothing.
+    pub(crate) fn are_owed(&self) -> bool {
+        self.seats.iter().any(|(_, seat)| seat.is_owed())
+    }
+
+    /// Visits nobody any more: of those whose streams may be ready, those whose replies wait to leave are seen to.
+    pub(crate) fn rest(&mut self, now: u64) {
+        let keys = mem::replace(&mut self.ready, Vec::new(self.alloc));
+        self.again.clear();
+        for key in keys {
+            let Some(seat) = self.seats.get_mut(key) else {
+                continue;
+            };
+            seat.unlist();
+            if seat.is_owed() {
+                self.place(key, now);
+            }
         }
     }
 

@@ -11,9 +11,11 @@ mod means;
 mod moments;
 mod rounds;
 mod seat;
+mod times;
 
 pub use answering::Stage;
 pub use arrivals::Arrivals;
 pub use client::{Client, ClientFault, Handing, Reading};
 pub use coordinator::WhichCoordinator;
 pub use rounds::{Rounds, RoundsEnd};
+pub use times::Times;

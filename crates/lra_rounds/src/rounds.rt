@@ -3,17 +3,17 @@
 ghost use Rattle.std.specs.Prelude.{◌≡◌, Some, IsTrue};
 ghost use Rattle.lra_rounds.specs.Answered.{AnsweredSome, Asks};
 
-use crate::arrivals::Arrivals;
+use crate::arrivals::{Arrivals, Door};
 use crate::clients::Clients;
 use crate::coordinator::WhichCoordinator;
 use crate::means::Means;
 use crate::moments::Moments;
+use crate::times::Times;
 use lra_commands::Counter;
 use lra_durable::{Disk, Due, Progress};
 use lra_front::{Clock, Routes};
 use lra_ids::{Address, Instance};
 use lra_model::Memory;
-use mio::net::TcpStream;
 use mio::{Events, Poll, Waker};
 use std::alloc::Global;
 use std::marker::Brand;
@@ -33,12 +33,15 @@ const LOOK: u64 = 250;
 /// How many rounds replies wait for others to share their sync.
 const MOST_ROUNDS: u32 = 4;
 
+/// How many milliseconds replies wait to leave at most, once the thread is to end.
+const PARTING: u64 = 10_000;
+
 /// Why a thread has ended.
 #[derive(Clone, Copy, Debug, PartialEq, Eq)]
 pub enum RoundsEnd {
     /// The disk has failed.
     Unkept,
-    /// No more connections come.
+    /// No more connections come, and no replies wait that could still leave.
     Closed,
     /// There is no memory for what a thread begins with, or another thread takes what comes in there.
     Refused,
@@ -57,6 +60,7 @@ pub struct Rounds<'a, R, D: Disk> {
     bells: &'a [Waker],
     /// How many clients there are at most.
     most: usize,
+    times: Times,
 }
 
 /// What a thread waits with, and what it has come to know.
@@ -70,6 +74,8 @@ struct Watch<'a, R> {
     rounds: u32,
     /// Whose turn it is to be woken.
     turn: usize,
+    /// Until when replies wait to leave, once the thread is to end.
+    until: Option<u64>,
 }
 
 /// Whose turn follows, of so many.
@@ -86,8 +92,9 @@ impl<'a, R: Wait + time::Clock, D: Disk> Rounds<'a, R, D> {
         arrivals: &'a Arrivals,
         bells: &'a [Waker],
         most: usize,
+        times: Times,
     ) -> Rounds<'a, R, D>
-        ensures { (result.progress ≡ progress.entry) × (result.arrivals ≡ arrivals.entry) × (result.most ≡ most) }
+        ensures { (result.progress ≡ progress.entry) × (result.arrivals ≡ arrivals.entry) × (result.most ≡ most) × (result.times ≡ times) }
     {
         Rounds {
             rt,
@@ -96,6 +103,7 @@ impl<'a, R: Wait + time::Clock, D: Disk> Rounds<'a, R, D> {
             arrivals,
             bells,
             most,
+            times,
         }
     }
 
@@ -110,6 +118,7 @@ impl<'a, R: Wait + time::Clock, D: Disk> Rounds<'a, R, D> {
             moments: Moments::new(self.rt),
             rounds: 0,
             turn: 0,
+            until: None,
         })
     }
 
@@ -156,7 +165,6 @@ impl<'a, R: Wait + time::Clock, D: Disk> Rounds<'a, R, D> {
             let Some(stream) = self.arrivals.next(self.rt) else {
                 break;
             };
-            let stream = TcpStream::from_std(stream);
             clients.admit(registry, stream, instance, base, self.most, now);
         }
         self.arrivals.tell(clients.len());
@@ -184,6 +192,46 @@ impl<'a, R: Wait + time::Clock, D: Disk> Rounds<'a, R, D> {
         }
     }
 
+    /// A round in which nothing is read any more: replies that wait leave. Tells whether there need be no other.
+    fn part<P: WhichCoordinator>(
+        &self,
+        watch: &mut Watch<'a, R>,
+        clients: &mut Clients<D, P>,
+        now: u64,
+    ) -> bool {
+        for event in watch.events.iter() {
+            clients.call(usize::from(event.token()), event.is_read_closed());
+        }
+        clients.rest(now);
+        self.hand_out(&mut watch.rounds, clients, true, now);
+        clients.end_late(now);
+        let until = watch.until.unwrap_or(now.saturating_add(PARTING));
+        watch.until = Some(until);
+        now >= until || !clients.are_owed()
+    }
+
+    /// Reads what came, has the requests answered that are whole, and hands out what may leave.
+    fn serve<C: Counter, K: Clock, P: WhichCoordinator>(
+        &self,
+        means: &Means<'_, R, D>,
+        watch: &mut Watch<'a, R>,
+        clients: &mut Clients<D, P>,
+        counter: &mut C,
+        clock: &mut K,
+        now: u64,
+    )
+        requires { Asks P.instance P.base (C.sight counter.old) }
+        ensures { AnsweredSome C.gives K.tells (C.sight counter.old) clock.old (C.sight counter.new) clock.new }
+    {
+        self.take_in(watch, clients, counter.instance(), counter.base(), now);
+        let is_quiet = watch.events.is_empty() && !clients.has_ready();
+        let before = self.progress.due(self.rt);
+        clients.serve(means, watch.buffer.as_mut_slice(), counter, clock, now);
+        self.ring(&before, &mut watch.turn);
+        self.hand_out(&mut watch.rounds, clients, is_quiet, now);
+        clients.end_late(now);
+    }
+
     /// One round. Tells why there is no other, if there is none.
     fn go_round<C: Counter, K: Clock, P: WhichCoordinator>(
         &self,
@@ -204,18 +252,15 @@ impl<'a, R: Wait + time::Clock, D: Disk> Rounds<'a, R, D> {
         if self.progress.has_failed(self.rt) {
             return Some(RoundsEnd::Unkept);
         }
-        if self.arrivals.is_closed(self.rt) {
-            return Some(RoundsEnd::Closed);
-        }
         let now = watch.moments.now();
-        self.take_in(watch, clients, counter.instance(), counter.base(), now);
-        let is_quiet = watch.events.is_empty() && !clients.has_ready();
-        let before = self.progress.due(self.rt);
-        clients.serve(means, watch.buffer.as_mut_slice(), counter, clock, now);
-        self.ring(&before, &mut watch.turn);
-        self.hand_out(&mut watch.rounds, clients, is_quiet, now);
-        clients.end_late(now);
-        None
+        match self.arrivals.door(self.rt) {
+            Door::Closed => Some(RoundsEnd::Closed),
+            Door::Closing => self.part(watch, clients, now).then_some(RoundsEnd::Closed),
+            Door::Open => {
+                self.serve(means, watch, clients, counter, clock, now);
+                None
+            }
+        }
     }
 
     /// One round after another.
@@ -265,7 +310,7 @@ impl<'a, R: Wait + time::Clock, D: Disk> Rounds<'a, R, D> {
             routes,
             progress: self.progress,
         };
-        let mut clients: Clients<D, P> = Clients::new(self.alloc);
+        let mut clients: Clients<D, P> = Clients::new(self.alloc, self.times);
         let end = self.go_on(&means, &mut watch, &mut clients, counter, clock);
         drop(clients);
         drop(watch);

@@ -6,21 +6,13 @@ use crate::answering::Stage;
 use crate::client::{Client, ClientFault, Handing, Reading};
 use crate::coordinator::WhichCoordinator;
 use crate::means::Means;
+use crate::times::Times;
 use lra_commands::Counter;
 use lra_durable::{Disk, Progress};
 use lra_front::Clock;
 use mio::net::TcpStream;
 use std::mem;
 use std::sync::Wait;
-
-/// How many milliseconds a client has between requests, until the first byte of the next.
-const IDLE: u64 = 30_000;
-
-/// How many there are in all, from its first byte, until a whole request has come.
-const REQUEST: u64 = 10_000;
-
-/// How many a client has in all to take its replies.
-const REPLY: u64 = 10_000;
 
 /// How often a client's stream is written to in a round.
 const MOST_CALLS: u64 = 4;
@@ -177,10 +169,20 @@ impl<D: Disk, P: WhichCoordinator> Seat<D, P> {
         Ok(())
     }
 
+    /// Whether replies of it wait to leave.
+    pub(crate) fn is_owed(&self) -> bool {
+        !self.client.is_done()
+    }
+
+    /// It isn't among those to visit any more.
+    pub(crate) fn unlist(&mut self) {
+        self.is_listed = false;
+    }
+
     /// What it needs next. Where its turn has come to an end the next one begins.
-    pub(crate) fn next(&mut self, now: u64) -> Need {
+    pub(crate) fn next(&mut self, times: Times, now: u64) -> Need {
         if !self.client.is_done() {
-            self.turn = reply_turn(self.turn, self.is_blocked, now);
+            self.turn = reply_turn(self.turn, self.is_blocked, now.saturating_add(times.reply));
             return if self.is_blocked {
                 Need::Rest
             } else {
@@ -190,7 +192,7 @@ impl<D: Disk, P: WhichCoordinator> Seat<D, P> {
         if self.has_ended {
             return Need::End;
         }
-        self.turn = request_turn(self.turn, self.client.room() < self.whole, now);
+        self.turn = request_turn(self.turn, self.client.room() < self.whole, times, now);
         if self.goes || self.may_read {
             Need::Visit
         } else {
@@ -200,20 +202,20 @@ impl<D: Disk, P: WhichCoordinator> Seat<D, P> {
 }
 
 /// The turn of a client whose replies wait to leave, where its stream takes nothing, or the disk doesn't keep yet what they tell of.
-fn reply_turn(turn: Turn, is_blocked: bool, now: u64) -> Turn {
+fn reply_turn(turn: Turn, is_blocked: bool, end: u64) -> Turn {
     match turn {
         Turn::Takes(until) => Turn::Takes(until),
-        _ if is_blocked => Turn::Takes(now.saturating_add(REPLY)),
+        _ if is_blocked => Turn::Takes(end),
         _ => Turn::Waits,
     }
 }
 
 /// The turn of a client that has taken all its replies, and of whose next request some bytes have come or none.
-fn request_turn(turn: Turn, has_begun: bool, now: u64) -> Turn {
+fn request_turn(turn: Turn, has_begun: bool, times: Times, now: u64) -> Turn {
     match turn {
         Turn::Asks(until) if has_begun => Turn::Asks(until),
-        _ if has_begun => Turn::Asks(now.saturating_add(REQUEST)),
+        _ if has_begun => Turn::Asks(now.saturating_add(times.request)),
         Turn::Begins(until) => Turn::Begins(until),
-        _ => Turn::Begins(now.saturating_add(IDLE)),
+        _ => Turn::Begins(now.saturating_add(times.idle)),
     }
 }
