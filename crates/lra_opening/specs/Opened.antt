@@ -4,7 +4,7 @@ use Rattle.lra_model.specs.History.{History}
 use Rattle.lra_ticket.specs.declared.kept.Kept.{Ghosts}
 use Rattle.lra_ticket.specs.Views.{first_view}
 use Rattle.lra_commands.specs.Counters.{Setting}
-use Rattle.lra_commands.specs.Terms.{usual}
+use Rattle.lra_commands.specs.declared.limits.Limits.{Limits}
 use Rattle.lra_office.specs.declared.clerk.Clerk.{Clerk}
 use Rattle.lra_office.specs.declared.office.OfficeOf.{OfficeOf}
 use Rattle.lra_office.specs.Clerks.{clerk_view, IsClerkOf}
@@ -21,10 +21,10 @@ pub record IsBegun {X : Type 0} {g : Ghosts X Origin} (o : Origin) (moment : ℕ
   pub copies : IsOfficeOf o.setting office
   pub enrolled : IsEnrolled o.setting (first_view 0 o []) moment clerk.number (clerk_view clerk)
 
--- the office of a journal's bytes, at a base and with the usual limits, and its first clerk, where the writer had taken this before: it goes on
+-- the office of a journal's bytes, at a base and with these limits, and its first clerk, where the writer had taken this before: it goes on
 -- from just their whole lines; or, of no bytes, it is new, and its instance is the moment (this project's choice)
-abbrev pub GoesOn : {X : Type 0} {g : Ghosts X Origin} → List ℕ → List ℕ → ℕ → Option (List ℕ) → OfficeOf X Origin → Clerk X Origin g → Type 0
-GoesOn base [] moment had office clerk = IsBegun (new_origin moment base usual had) moment office clerk
-GoesOn base (b ∷ bs) moment had office clerk =
-    (g : Setting) × (J : History) × IsFrontOf base usual (whole_lines (b ∷ bs)) g J
+abbrev pub GoesOn : {X : Type 0} {g : Ghosts X Origin} → List ℕ → Limits → List ℕ → ℕ → Option (List ℕ) → OfficeOf X Origin → Clerk X Origin g → Type 0
+GoesOn base limits [] moment had office clerk = IsBegun (new_origin moment base limits had) moment office clerk
+GoesOn base limits (b ∷ bs) moment had office clerk =
+    (g : Setting) × (J : History) × IsFrontOf base limits (whole_lines (b ∷ bs)) g J
     × IsReopened (record { setting = g; front = whole_lines (b ∷ bs); had = had }) J moment office clerk

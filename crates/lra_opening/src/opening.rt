@@ -1,7 +1,7 @@
 //! The office of a service, and its first clerk.
 
 ghost use Rattle.std.specs.Prelude.{◌≡◌, true, IfOk, IfErr};
-ghost use Rattle.lra_commands.specs.Terms.{usual};
+ghost use Rattle.lra_commands.specs.Terms.{AreKeepable};
 ghost use Rattle.lra_ids.specs.Addresses.{is_base};
 ghost use Rattle.lra_office.specs.Made.{new_origin};
 ghost use Rattle.lra_opening.specs.Faults.{IsOfNoScript};
@@ -53,15 +53,17 @@ fn begin<W: Write + Drop, R: Wait>(
     rt: &R,
     alloc: Global,
     base: Address,
+    limits: Limits,
     writer: W,
     moment: u64,
 ) -> Result<(Office<W>, Clerk<Desk<W>>), ServeFault>
-    requires { is_base base ≡ true }
-    ensures opened { IfOk result (λ opened. IsBegun (new_origin moment base usual (W.contents writer)) moment opened.0 opened.1) }
+    requires base { is_base base ≡ true }
+    requires limits { AreKeepable limits }
+    ensures opened { IfOk result (λ opened. IsBegun (new_origin moment base limits (W.contents writer)) moment opened.0 opened.1) }
     ensures fault { IfErr result IsOfNoScript }
 {
     let instance = instance_at(moment)?;
-    match Office::create(alloc, instance, base, Limits::usual(), writer) {
+    match Office::create(alloc, instance, base, limits, writer) {
         Ok((office, pass)) => match office.clerk(rt, pass, moment) {
             Ok(clerk) => Ok((office, clerk)),
             Err((pass, refusal)) => {
@@ -82,18 +84,20 @@ pub fn open_office<W: Write + Drop, R: Wait>(
     rt: &R,
     alloc: Global,
     base: Address,
+    limits: Limits,
     journal: Vec<u8>,
     writer: W,
     moment: u64,
 ) -> Result<(Office<W>, Clerk<Desk<W>>), ServeFault>
-    requires { is_base base ≡ true }
-    ensures opened { IfOk result (λ opened. GoesOn base journal.items moment (W.contents writer) opened.0 opened.1) }
+    requires base { is_base base ≡ true }
+    requires limits { AreKeepable limits }
+    ensures opened { IfOk result (λ opened. GoesOn base limits journal.items moment (W.contents writer) opened.0 opened.1) }
     ensures fault { IfErr result IsOfNoScript }
 {
     if journal.is_empty() {
-        return begin(rt, alloc, base, writer, moment);
+        return begin(rt, alloc, base, limits, writer, moment);
     }
-    match Office::reopen(alloc, journal, base, Limits::usual(), writer, moment) {
+    match Office::reopen(alloc, journal, base, limits, writer, moment) {
         Ok(opened) => Ok(opened),
         Err((fault, _)) => Err(reopen_fault(fault)),
     }
