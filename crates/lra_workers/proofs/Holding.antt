@@ -1,5 +1,5 @@
 -- What stays true of the errands that are under way.
-use Rattle.std.proofs.Common.{◌≡◌, ◌≢◌, ℕ, zero, suc, Bool, true, false, List, [], ◌∷◌, ◌++◌, Option, Some, None, inl, inr, refl, sym, ap, ◌∙◌, subst, append_assoc, append-nil}
+use Rattle.std.proofs.Common.{◌≡◌, ℕ, zero, suc, Bool, true, false, [], ◌∷◌, ◌++◌, Option, Some, None, inl, inr, refl, sym, ap, ◌∙◌, subst, append_assoc, append-nil}
 use Rattle.std.specs.Prelude.{◌==◌, Result, Ok, Err, OnOk, MatchResult}
 use Rattle.std.specs.Option.{option_map_or, option_or}
 use Rattle.std.proofs.lemmas.Bool.{eqb-true, eqb-false}
@@ -23,7 +23,7 @@ use Rattle.lra_commands.specs.declared.refusal.Refusal.TheVariants.{NotAsked}
 use Rattle.lra_courier.specs.Carriages.{Places, AreSame, AreFree, Gains}
 use Rattle.lra_office.specs.declared.fault.OfficeRefusal.TheVariants as office
 use Rattle.lra_office.specs.Orders.{IsNotGiven}
-use Rattle.lra_workers.specs.Work.{Post, post, Does, Fails, WorksIn, Works}
+use Rattle.lra_workers.specs.Work.{Post, Does, WorksIn, Works}
 use Rattle.lra_workers.specs.inner.Held.{AreOfAsks}
 use Rattle.lra_workers.proofs.Working.{works_none}
 

@@ -182,8 +182,8 @@ fn record_done<V: Serving, R: Wait, C: Carriage, G: Gate, K: Clock>(
     unreachable!()
 }
 
-/// Lets limits fire and takes what is due, has all that is under way carried, and records what came of it.
-fn take_turn<V: Serving, R: Wait, C: Carriage, G: Gate, K: Clock>(
+/// Lets limits fire, and takes what is due.
+fn begin<V: Serving, R: Wait, C: Carriage, G: Gate, K: Clock>(
     rt: &R,
     office: &OfficeOf<V>,
     clerk: &mut Clerk<V>,
@@ -203,11 +203,56 @@ fn take_turn<V: Serving, R: Wait, C: Carriage, G: Gate, K: Clock>(
     if let Err(refusal) = fire::<V, R, Unheard<C>, K>(rt, office, clerk, clock) {
         return Err(WorkerEnd::Refused(refusal));
     }
-    if let Err(end) = take_due(rt, office, clerk, carriage, gate, clock) {
-        return Err(end);
-    }
+    take_due(rt, office, clerk, carriage, gate, clock)
+}
+
+/// Has all that is under way carried, and records what came of it.
+fn carry_on<V: Serving, R: Wait, C: Carriage, G: Gate, K: Clock>(
+    rt: &R,
+    office: &OfficeOf<V>,
+    clerk: &mut Clerk<V>,
+    carriage: &mut C,
+    gate: &mut G,
+    clock: &mut K,
+) -> Result<(), WorkerEnd>
+    requires clerk { IsClerkOf office.now.lock clerk.old }
+    requires held { AreOfAsks (clerk_view clerk.old).seen (C.held carriage.old) }
+    ensures clerk { IsClerkOf office.now.lock clerk.new }
+    ensures number { clerk.new.number ≡ clerk.old.number }
+    ensures held { OnOk result (AreOfAsks (clerk_view clerk.new).seen (C.held carriage.new)) }
+    ensures work { (s : Post V.Origin K) → Works V.setting C.gives K.tells s (post (clerk_view clerk.old) clock.old)
+        → MatchResult result (λ _. Works V.setting C.gives K.tells s (post (clerk_view clerk.new) clock.new)) (λ end. EndsWork V.setting C.gives K.tells s end (post (clerk_view clerk.new) clock.new)) }
+    ensures why { IfErr result (TellsWhy (G.is_shut gate.new) (G.holds gate.new) (HasStopped V.origin V.history V.lawful V.has_stopped (clerk_view clerk.new)) (clerk_view clerk.new).seen) }
+{
     carriage.carry();
     record_done(rt, office, clerk, carriage, gate, clock)
+}
+
+/// Begins what new work there is, where the gate lets it, has all that is under way carried, and records what came of it.
+fn take_turn<V: Serving, R: Wait, C: Carriage, G: Gate, K: Clock>(
+    rt: &R,
+    office: &OfficeOf<V>,
+    clerk: &mut Clerk<V>,
+    carriage: &mut C,
+    gate: &mut G,
+    clock: &mut K,
+) -> Result<(), WorkerEnd>
+    requires clerk { IsClerkOf office.now.lock clerk.old }
+    requires held { AreOfAsks (clerk_view clerk.old).seen (C.held carriage.old) }
+    ensures clerk { IsClerkOf office.now.lock clerk.new }
+    ensures number { clerk.new.number ≡ clerk.old.number }
+    ensures held { OnOk result (AreOfAsks (clerk_view clerk.new).seen (C.held carriage.new)) }
+    ensures work { (s : Post V.Origin K) → Works V.setting C.gives K.tells s (post (clerk_view clerk.old) clock.old)
+        → MatchResult result (λ _. Works V.setting C.gives K.tells s (post (clerk_view clerk.new) clock.new)) (λ end. EndsWork V.setting C.gives K.tells s end (post (clerk_view clerk.new) clock.new)) }
+    ensures why { IfErr result (TellsWhy (G.is_shut gate.new) (G.holds gate.new) (HasStopped V.origin V.history V.lawful V.has_stopped (clerk_view clerk.new)) (clerk_view clerk.new).seen) }
+{
+    if !gate.begins() {
+        return carry_on(rt, office, clerk, carriage, gate, clock);
+    }
+    if let Err(end) = begin(rt, office, clerk, carriage, gate, clock) {
+        return Err(end);
+    }
+    carry_on(rt, office, clerk, carriage, gate, clock)
 }
 
 /// Works as a clerk of an office, with many errands under way: lets limits fire, takes the errands of what is due in the order in which it is, and

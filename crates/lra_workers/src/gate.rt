@@ -26,6 +26,11 @@ pub trait Gate {
     fn more(&mut self) -> bool
         ensures { result ≡ false → is_shut self.new };
 
+    /// Whether new work is begun in a turn: limits fire, and errands are taken. Else it is only recorded what comes of those under way.
+    fn begins(&self) -> bool {
+        true
+    }
+
     /// Whether the errand of an ask is carried now.
     fn hold(&mut self, ask: u64) -> Go
         ensures { result ≡ NotYet → holds self.new ask };

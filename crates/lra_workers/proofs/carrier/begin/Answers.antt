@@ -1,0 +1,12 @@
+use Rattle.lra_office.specs.Clerks.{clerk_view}
+use Rattle.lra_workers.specs.Work.{post}
+use Rattle.lra_workers.proofs.Holding.{asks_stay, worked}
+use Rattle.lra_workers.proofs.carrier.begin.Goals as goal
+
+pub take_due-requires-clause-held : goal.take_due-requires-clause-held
+take_due-requires-clause-held g c =
+    asks_stay _ _ (g.C.Carriage.held c.args.carriage.now)
+    (worked g.V.Serving.setting g.C.Carriage.gives g.K.Clock.tells (post (clerk_view c.args.clerk.now) c.args.clock.now) (post (clerk_view c.fire.new.clerk) c.fire.new.clock) c.in_default.ensures.work) c.requires.held
+
+pub returns-clause-work : goal.returns-clause-work
+returns-clause-work g c = λ s before. c.take_due.ensures.work s (c.in_default.ensures.work s before)
