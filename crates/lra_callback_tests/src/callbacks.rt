@@ -2,7 +2,7 @@
 
 use crate::members::{listen, serve, serve_all, socket_at};
 use crate::setting::{Held, NoPen, NoSync, Ready, errands};
-use lra_callbacks::{Callbacks, Names, Share, bell};
+use lra_callbacks::{Callbacks, Names, Patience, Share, bell};
 use lra_courier::Carriage;
 use lra_durable::Progress;
 use lra_model::Outcome;
@@ -10,9 +10,16 @@ use mio::Waker;
 use std::alloc::Global;
 use std::net::{Net, TcpListener, TcpStream};
 use std::sync::Wait;
+use std::sync::atomic::AtomicU64;
 use std::test::Fail;
 use std::thread::{Threads, join};
 use std::time::{Clock, Duration, Instant};
+
+/// How long a callback may take.
+const PATIENCE: Patience = Patience {
+    connect: 5_000,
+    reply: 30_000,
+};
 
 /// How many errands were done, and how many came to something else.
 #[derive(Clone, Copy)]
@@ -79,7 +86,10 @@ fn carry<R: Wait + Net + Clock>(
     let Ok(progress) = Progress::<Ready>::open(&NoPen, NoSync) else {
         return count;
     };
-    if let Ok(mut callbacks) = Callbacks::new(rt, alloc, &progress, names, poll, Share::of(1)) {
+    let under_way = AtomicU64::new(0);
+    let share = Share::of(1, 1_024, 64, PATIENCE);
+    let made = Callbacks::new(rt, alloc, &progress, names, poll, share, &under_way);
+    if let Ok(mut callbacks) = made {
         take_all(&mut callbacks, held);
         count = carry_until(rt, &mut callbacks, wanted);
         drop(callbacks);

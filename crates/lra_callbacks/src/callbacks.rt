@@ -21,13 +21,8 @@ use std::alloc::{AllocError, Global};
 use std::marker::Model;
 use std::net::Net;
 use std::sync::Wait;
+use std::sync::atomic::{AtomicU64, Ordering};
 use std::time::Clock;
-
-/// How many milliseconds a member has to take the connection.
-const CONNECT_MS: u64 = 5_000;
-
-/// How many there are in all, until the whole reply has come.
-const REPLY_MS: u64 = 30_000;
 
 /// How long a carrier waits for its sockets before it looks at its office again.
 const REST_MS: u64 = 50;
@@ -44,6 +39,8 @@ pub struct Callbacks<'a, R, D: Disk> {
     progress: &'a Progress<D>,
     names: &'a Names,
     share: Share,
+    /// How many are under way, for others to see.
+    under_way: &'a AtomicU64,
     calls: Slab<Call<D>>,
     traffic: Traffic,
     /// When it looked at its office last.
@@ -61,7 +58,7 @@ impl<'a, R, D: Disk> Model for Callbacks<'a, R, D> {
 }
 
 impl<'a, R: Wait + Net + Clock, D: Disk> Callbacks<'a, R, D> {
-    /// None is under way. The poll is one that [`bell`](crate::bell) gave.
+    /// None is under way. The poll is one that [`bell`](crate::bell) gave. How many are is told there whenever one is taken or done.
     pub fn new(
         rt: &'a R,
         alloc: Global,
@@ -69,6 +66,7 @@ impl<'a, R: Wait + Net + Clock, D: Disk> Callbacks<'a, R, D> {
         names: &'a Names,
         poll: Poll,
         share: Share,
+        under_way: &'a AtomicU64,
     ) -> Result<Callbacks<'a, R, D>, Memory>
         ensures { IfOk result (λ made. made ≡ []) }
     {
@@ -81,6 +79,7 @@ impl<'a, R: Wait + Net + Clock, D: Disk> Callbacks<'a, R, D> {
             progress,
             names,
             share,
+            under_way,
             calls: Slab::new(alloc),
             traffic,
             looked: 0,
@@ -155,7 +154,10 @@ impl<'a, R: Wait + Net + Clock, D: Disk> Callbacks<'a, R, D> {
             return;
         };
         call.set_out(host, now);
-        if !self.traffic.allow(key, now.saturating_add(CONNECT_MS)) {
+        if !self
+            .traffic
+            .allow(key, now.saturating_add(self.share.patience.connect))
+        {
             self.traffic.close(key, host);
             self.traffic.end(key);
             return;
@@ -205,7 +207,7 @@ impl<'a, R: Wait + Net + Clock, D: Disk> Callbacks<'a, R, D> {
         match call.advance(self.traffic.buffer.as_mut_slice()) {
             Seen::Waits | Seen::Idle => {}
             Seen::Connected => {
-                let until = call.began().saturating_add(REPLY_MS);
+                let until = call.began().saturating_add(self.share.patience.reply);
                 self.traffic.allow(key, until);
             }
             Seen::Refused => self.connect(key),
@@ -234,6 +236,7 @@ impl<'a, R: Wait + Net + Clock, D: Disk> Callbacks<'a, R, D> {
         let Some(call) = self.calls.try_remove(key) else {
             return None;
         };
+        self.tell();
         call.finish()
     }
 
@@ -258,6 +261,12 @@ impl<'a, R: Wait + Net + Clock, D: Disk> Callbacks<'a, R, D> {
             };
             self.finish(key);
         }
+    }
+
+    /// Tells how many are under way.
+    fn tell(&self) {
+        let count = self.calls.len() as u64;
+        self.under_way.store(count, Ordering::SeqCst);
     }
 
     /// Waits so long at most for sockets, and moves what can be moved.
@@ -322,6 +331,7 @@ impl<R: Wait + Net + Clock, D: Disk> Carriage for Callbacks<'_, R, D> {
         let noted = self.progress.note(self.rt, &errand);
         let key = self.calls.insert_reserved(Call::new(errand, noted));
         let _ = self.traffic.unkept.push_back(key);
+        self.tell();
         Ok(())
     }
 

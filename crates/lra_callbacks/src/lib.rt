@@ -14,5 +14,5 @@ mod traffic;
 
 pub use callbacks::Callbacks;
 pub use names::Names;
-pub use share::Share;
+pub use share::{Patience, Share};
 pub use traffic::bell;

@@ -2,19 +2,19 @@
 
 ghost use Rattle.std.specs.Prelude.{◌≡◌, ◌/◌, max};
 
-/// How many sockets all carriers have open at most.
-const MOST: u32 = 1_024;
-
-/// How many of them are to one host and port.
-const MOST_EACH: u32 = 64;
-
 /// How many errands all carriers hold, those that wait among them.
 const MOST_HELD: u32 = 16_384;
 
-/// How many sockets to one host and port each carrier may have in any case.
-const LEAST_EACH: u32 = 4;
+/// How long a callback may take, in milliseconds.
+#[derive(Clone, Copy, Debug, PartialEq, Eq)]
+pub struct Patience {
+    /// How long a member has to take the connection.
+    pub connect: u64,
+    /// How long it has in all, until the whole reply has come.
+    pub reply: u64,
+}
 
-/// What one of several carriers has under way at most.
+/// What one of several carriers has under way at most, and for how long.
 #[derive(Clone, Copy, Debug, PartialEq, Eq)]
 pub struct Share {
     /// How many sockets it has open.
@@ -23,20 +23,24 @@ pub struct Share {
     pub each: u32,
     /// How many errands it holds, those that wait among them.
     pub held: u32,
+    pub patience: Patience,
 }
 
 impl Share {
-    /// The share of each of so many carriers.
-    pub fn of(carriers: u32) -> Share
-        ensures sockets { result.sockets ≡ max (1_024 / max carriers 1) 4 }
-        ensures each { result.each ≡ max (64 / max carriers 1) 4 }
-        ensures held { result.held ≡ max (16_384 / max carriers 1) 4 }
+    /// The share of each of so many carriers, which have so many sockets open in all, and so many to one host and port; but each may have one.
+    pub fn of(carriers: u32, sockets: u32, each: u32, patience: Patience) -> Share
+        ensures sockets { result.sockets ≡ max (sockets / max carriers 1) 1 }
+        ensures each { result.each ≡ max (each / max carriers 1) 1 }
+        ensures held { result.held ≡ max (16_384 / max carriers 1) (max (sockets / max carriers 1) 1) }
+        ensures patience { result.patience ≡ patience }
     {
         let carriers = carriers.max(1);
+        let sockets = (sockets / carriers).max(1);
         Share {
-            sockets: (MOST / carriers).max(LEAST_EACH),
-            each: (MOST_EACH / carriers).max(LEAST_EACH),
-            held: (MOST_HELD / carriers).max(LEAST_EACH),
+            sockets,
+            each: (each / carriers).max(1),
+            held: (MOST_HELD / carriers).max(sockets),
+            patience,
         }
     }
 }
