@@ -1,8 +1,8 @@
 //! The address that is served, as a base of identifiers and as a socket's.
 
-ghost use Rattle.std.specs.Prelude.{◌≡◌, true, IfOk, IfErr};
+ghost use Rattle.std.specs.Prelude.{◌≡◌, true, false, Err, IfOk, IfErr};
 ghost use Rattle.lra_ids.specs.Addresses.{is_base};
-ghost use Rattle.lra_ids.specs.Bases.{base_text};
+ghost use Rattle.lra_ids.specs.Bases.{base_text, is_own_base};
 ghost use Rattle.lra_opening.specs.Ends.{IsOfAddress};
 
 use lra_courier::socket_text;
@@ -17,6 +17,7 @@ pub(crate) fn base_at(alloc: Global, to: &str) -> Result<Address, ServeFault>
     ensures text { IfOk result (λ base. base ≡ base_text to.now) }
     ensures base { IfOk result (λ base. is_base base ≡ true) }
     ensures fault { IfErr result IsOfAddress }
+    ensures address { result ≡ Err ServeFault.Address → is_own_base (base_text to.now) ≡ false }
 {
     match base_of(alloc, to) {
         Ok(Some(base)) => Ok(base),

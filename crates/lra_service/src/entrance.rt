@@ -2,70 +2,110 @@
 
 ghost use Rattle.std.specs.Prelude.{◌≡◌};
 
-use lra_durable::{Disk, Progress};
+use crate::ending::Ending;
 use lra_rounds::Arrivals;
-use std::io::{self, Error, ErrorKind};
-use std::net::{Net, SocketAddr, TcpListener, TcpStream};
-use std::sync::Wait;
-use std::thread::sleep;
-use std::time::{Clock, Duration};
+use mio::net::{TcpListener, TcpStream};
+use mio::{Events, Interest, Poll, Token, Waker};
+use std::alloc::Global;
+use std::io::ErrorKind;
+use std::net::Net;
+use std::sync::{Arc, Mutex, Wait};
+use std::time::Duration;
+use std::{io, net};
 
 /// How many milliseconds pass before a connection is awaited again, once one couldn't be accepted.
 const PAUSE: u64 = 100;
 
-/// A listener, and the threads to which its connections are handed, until the disk has failed.
+/// How many connections are accepted before it is looked whether the service is to end.
+const MOST_AT_ONCE: u64 = 1_024;
+
+/// How many events are reported at once.
+const MOST_EVENTS: usize = 8;
+
+/// What the listener's events are known by.
+const LISTENER: Token = Token(0);
+
+/// What the events of who wakes are known by.
+const BELL: Token = Token(1);
+
+/// A listener, and what is waited with for its connections.
 #[derive(Drop)]
-pub struct Entrance<'a, R, D: Disk> {
-    rt: &'a R,
-    progress: &'a Progress<D>,
+pub(crate) struct Line {
     listener: TcpListener,
-    /// Where it listens, if the system told.
-    at: Option<SocketAddr>,
+    poll: Poll,
+    events: Events,
+}
+
+impl Line {
+    /// A listener's, and what ends a wait there.
+    pub(crate) fn new<R: Net>(
+        rt: &R,
+        alloc: Global,
+        listener: net::TcpListener,
+    ) -> io::Result<(Line, Waker)> {
+        listener.set_nonblocking(true)?;
+        let mut listener = TcpListener::from_std(listener);
+        let poll = Poll::new(rt)?;
+        let registry = poll.registry();
+        registry.register(&mut listener, LISTENER, Interest::READABLE)?;
+        let bell = Waker::new(registry, BELL)?;
+        let events = Events::with_capacity(alloc, MOST_EVENTS)?;
+        let line = Line {
+            listener,
+            poll,
+            events,
+        };
+        Ok((line, bell))
+    }
+}
+
+/// What comes of an attempt to accept a connection.
+#[derive(Drop)]
+enum Came {
+    Connection(TcpStream),
+    /// None waits.
+    Nothing,
+    /// None could be accepted, as where too many files are open.
+    Refused,
+    /// The listener is gone.
+    Gone,
+}
+
+/// A listener, and the threads to which its connections are handed.
+#[derive(Drop)]
+pub(crate) struct Entrance<'a, R> {
+    rt: &'a R,
+    /// Until who waits there takes it.
+    line: Mutex<Option<Line>>,
+    ending: &'a Arc<Ending>,
     arrivals: Vec<Arrivals>,
 }
 
-impl<'a, R: Wait + Clock, D: Disk> Entrance<'a, R, D> {
-    pub fn new(
+impl<'a, R: Wait> Entrance<'a, R> {
+    pub(crate) fn new(
         rt: &'a R,
-        progress: &'a Progress<D>,
-        listener: TcpListener,
+        line: Line,
+        ending: &'a Arc<Ending>,
         arrivals: Vec<Arrivals>,
-    ) -> Entrance<'a, R, D>
-        ensures { (result.rt ≡ rt.entry) × (result.progress ≡ progress.entry) × (result.arrivals ≡ arrivals) }
+    ) -> Entrance<'a, R>
+        ensures { (result.rt ≡ rt.entry) × (result.arrivals ≡ arrivals) }
     {
-        let at = listener.local_addr().ok();
         Entrance {
             rt,
-            progress,
-            listener,
-            at,
+            line: Mutex::new(Some(line)),
+            ending,
             arrivals,
         }
     }
 
     /// Where connections come in to one of the threads.
-    pub(crate) fn arrivals(&self, place: u64) -> Option<&Arrivals> {
-        self.arrivals.get(usize::try_from(place).ok()?)
-    }
-
-    /// The next connection, unless none can be accepted: then none is there where the listener is gone, or the disk has failed.
-    fn accept(&self) -> io::Result<Option<TcpStream>> {
-        let came = self.listener.accept();
-        if self.progress.has_failed(self.rt) {
-            return Err(Error::from(ErrorKind::Other));
-        }
-        match came {
-            Ok((stream, _)) => Ok(Some(stream)),
-            Err(_) => {
-                self.listener.local_addr()?;
-                Ok(None)
-            }
-        }
+    pub(crate) fn arrivals(&self, place: u32) -> Option<&Arrivals> {
+        self.arrivals.get(place as usize)
     }
 
     /// Hands a connection to the thread that has the fewest. One whose socket can't be set up is closed, and so is one for which there is no memory.
     fn hand_on(&self, stream: TcpStream) {
-        if stream.set_nodelay(true).is_err() || stream.set_nonblocking(true).is_err() {
+        if stream.set_nodelay(true).is_err() {
             return;
         }
         let least = self
@@ -77,17 +117,56 @@ impl<'a, R: Wait + Clock, D: Disk> Entrance<'a, R, D> {
         }
     }
 
-    /// Hands on the connections that come, until the disk has failed or the listener is gone. Then no thread answers any more. A connection that
-    /// can't be accepted, as where too many files are open, is waited out.
-    pub(crate) fn open(&self) {
-        for _connection in 0..u64::MAX {
-            match self.accept() {
-                Ok(Some(stream)) => self.hand_on(stream),
-                Ok(None) => sleep(self.rt, Duration::from_millis(PAUSE)),
-                Err(_) => break,
+    /// Hands on the connections that wait. Tells how many milliseconds may pass before others are looked for, if no event has to be waited for; or nothing,
+    /// where the listener is gone.
+    fn take_all(&self, line: &Line) -> Option<Option<u64>> {
+        for _connection in 0..MOST_AT_ONCE {
+            match accept(&line.listener) {
+                Came::Connection(stream) => self.hand_on(stream),
+                Came::Nothing => return Some(None),
+                Came::Refused => return Some(Some(PAUSE)),
+                Came::Gone => return None,
             }
         }
-        self.close();
+        Some(Some(0))
+    }
+
+    /// Hands on the connections that come, until the service is to end, or no one answers any more, or the listener is gone.
+    fn wait_at(&self, line: &mut Line) {
+        let mut pause = Some(0);
+        for _round in 0..u64::MAX {
+            let timeout = pause.map(Duration::from_millis);
+            let waited = line.poll.poll(&mut line.events, timeout);
+            if waited.is_err() || self.ending.is_asked() || self.ending.is_over() {
+                return;
+            }
+            match self.take_all(line) {
+                Some(next) => pause = next,
+                None => return,
+            }
+        }
+    }
+
+    /// Hands on the connections that come, until there are to be no others. Then those who answer end: at once, or once the replies that wait have left,
+    /// where the service is to end gently. A connection that can't be accepted, as where too many files are open, is waited out.
+    pub(crate) fn open(&self) {
+        let line = self.line.lock(self.rt).take();
+        if let Some(mut line) = line {
+            self.wait_at(&mut line);
+            drop(line);
+        }
+        if self.ending.is_asked() {
+            self.finish();
+        } else {
+            self.close();
+        }
+    }
+
+    /// No thread reads requests any more.
+    fn finish(&self) {
+        for arrivals in self.arrivals.as_slice() {
+            arrivals.finish(self.rt);
+        }
     }
 
     /// No thread answers any more.
@@ -96,14 +175,19 @@ impl<'a, R: Wait + Clock, D: Disk> Entrance<'a, R, D> {
             arrivals.close(self.rt);
         }
     }
+}
 
-    /// Ends the wait for a connection, by one that nobody uses.
-    pub(crate) fn wake(&self)
-    where
-        R: Net,
-    {
-        if let Some(at) = self.at {
-            let _ = TcpStream::connect_timeout(self.rt, &at, Duration::from_millis(PAUSE));
+/// Accepts a connection.
+fn accept(listener: &TcpListener) -> Came {
+    match listener.accept() {
+        Ok((stream, _)) => Came::Connection(stream),
+        Err(error) if error.kind() == ErrorKind::WouldBlock => Came::Nothing,
+        Err(_) => {
+            if listener.local_addr().is_ok() {
+                Came::Refused
+            } else {
+                Came::Gone
+            }
         }
     }
 }

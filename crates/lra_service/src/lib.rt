@@ -2,17 +2,22 @@
 #![tactic(auto)]
 
 mod base;
+mod checking;
 mod disk;
+mod ending;
 mod entrance;
+mod gate;
+mod herald;
 mod polls;
 mod post;
 mod running;
 mod shift;
 
+pub use checking::check_place;
 pub use disk::{FilePen, JournalFile};
-pub use entrance::Entrance;
+pub use herald::{Aloud, Herald, Silence};
 pub use lra_clocks::SystemClock;
 pub use lra_opening::{
     Found, Place, ServeFault, fault_line, find_journal, open_office, ready_file,
 };
-pub use running::{serve, serve_from};
+pub use running::{Served, serve, serve_from, serve_with};

@@ -9,14 +9,25 @@ use lra_rounds::Arrivals;
 use mio::{Poll, Waker};
 use std::alloc::Global;
 use std::net::Net;
+use std::sync::Mutex;
+use std::sync::atomic::AtomicU64;
 
-/// What the threads of a service wait with: those who answer for connections, and those who carry for what falls due.
+/// The place of one who carries.
+#[derive(Drop)]
+pub(crate) struct Stall {
+    /// What it waits with, until it takes that.
+    pub(crate) poll: Mutex<Option<Poll>>,
+    /// How many errands it has under way.
+    pub(crate) under_way: AtomicU64,
+}
+
+/// What the threads of a service wait with, by their places: those who answer for connections, and those who carry for what falls due.
 #[derive(Drop)]
 pub(crate) struct Polls {
     /// Where connections come in to those who answer.
     pub(crate) arrivals: Vec<Arrivals>,
-    /// What those who carry wait with.
-    pub(crate) polls: Vec<Poll>,
+    /// The places of those who carry.
+    pub(crate) stalls: Vec<Stall>,
     /// What wakes them.
     pub(crate) bells: Vec<Waker>,
 }
@@ -26,7 +37,7 @@ impl Polls {
     fn new(alloc: Global) -> Polls {
         Polls {
             arrivals: Vec::new(alloc),
-            polls: Vec::new(alloc),
+            stalls: Vec::new(alloc),
             bells: Vec::new(alloc),
         }
     }
@@ -35,7 +46,11 @@ impl Polls {
     fn add<R: Net>(&mut self, rt: &R, alloc: Global) -> Option<()> {
         self.arrivals.push(Arrivals::new(rt, alloc).ok()?).ok()?;
         let (poll, bell) = bell(rt).ok()?;
-        self.polls.push(poll).ok()?;
+        let stall = Stall {
+            poll: Mutex::new(Some(poll)),
+            under_way: AtomicU64::new(0),
+        };
+        self.stalls.push(stall).ok()?;
         self.bells.push(bell).ok()
     }
 }

@@ -12,10 +12,10 @@ use std::sync::Wait;
 /// What a clerk of a service does.
 #[derive(Clone, Copy, Debug, PartialEq, Eq)]
 pub(crate) enum Duty {
-    /// To answer connections.
-    Answer,
-    /// To let limits fire and carry errands.
-    Carry,
+    /// To answer connections, at that place.
+    Answer(u32),
+    /// To let limits fire and carry errands, at that place.
+    Carry(u32),
 }
 
 /// Gives a clerk its duty, and enrols another beside it.
@@ -59,12 +59,12 @@ fn add_all<V: Serving, R: Wait>(
     ensures fault { IfErr result IsOfNoScript }
 {
     let mut next = first;
-    for _ in 1..workers {
-        let other = engage(rt, office, next, Duty::Carry, moment, jobs)?;
-        next = engage(rt, office, other, Duty::Answer, moment, jobs)?;
+    for place in 1..workers {
+        let other = engage(rt, office, next, Duty::Carry(place), moment, jobs)?;
+        next = engage(rt, office, other, Duty::Answer(place), moment, jobs)?;
     }
-    let last = engage(rt, office, next, Duty::Carry, moment, jobs)?;
-    jobs.push((Duty::Answer, last))?;
+    let last = engage(rt, office, next, Duty::Carry(0), moment, jobs)?;
+    jobs.push((Duty::Answer(0), last))?;
     Ok(())
 }
 

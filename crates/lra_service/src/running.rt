@@ -1,6 +1,7 @@
 //! The run of a service.
 
-ghost use Rattle.std.specs.Prelude.{◌≡◌, ℕ, List, true, None, option_map, IsFalse, IfSome, IfOk, IfErr, OnOk, IsErrAnd};
+ghost use Rattle.std.specs.Prelude.{◌≡◌, ℕ, List, true, None, option_map, ◌⊎◌, IsFalse, IfSome, IfOk, IfErr, OnOk, IsErrAnd};
+ghost use Rattle.lra_commands.specs.Terms.{AreKeepable};
 ghost use Rattle.std.specs.Io.KnownBytes.{Appends};
 ghost use Rattle.lra_ids.specs.Addresses.{is_base};
 ghost use Rattle.lra_ids.specs.Bases.{base_text};
@@ -8,14 +9,19 @@ ghost use Rattle.lra_office.specs.Wholes.{whole_lines};
 ghost use Rattle.lra_opening.specs.Ends.{serving_line, IsSaid, IsRefused, IsOfAddress};
 ghost use Rattle.lra_opening.specs.Faults.{IsOfNoScript};
 ghost use Rattle.lra_opening.specs.Places.{IsFound};
-ghost use Rattle.lra_service.specs.inner.Opened.{IsOpenAt};
+ghost use Rattle.lra_service.specs.Outcomes.{HasSaid};
+ghost use Rattle.lra_service.specs.inner.Opened.{limits_of, IsOpenAt};
 
 use crate::base::{base_at, bind};
 use crate::disk::{FilePen, JournalFile};
+use crate::ending::{Ending, watch};
+use crate::entrance::Line;
+use crate::herald::{Herald, Silence};
 use crate::polls::{Polls, polls_of};
 use crate::post::hire_all;
 use crate::shift::{Shift, work};
 use lra_clocks::milliseconds;
+use lra_commands::Limits;
 use lra_durable::{Keeper, Progress};
 use lra_ids::Address;
 use lra_office::{Clerk, Desk, Office};
@@ -24,25 +30,71 @@ use lra_opening::{
     refuse,
 };
 use lra_reports::RunFault;
+use lra_settings::Settings;
 use std::alloc::Global;
 use std::fs::File;
-use std::io::Write;
+use std::io::{Read, Write};
 use std::marker::{Send, Sync};
 use std::net::{Net, TcpListener, TcpStream};
 use std::rt::Files;
-use std::sync::Wait;
+use std::sync::{Arc, Wait};
 use std::thread::Threads;
 use std::time::Clock;
 
+/// How a service came to an end without a fault.
+#[derive(Clone, Copy, Debug, PartialEq, Eq)]
+pub enum Served {
+    /// The journal isn't sound: that is written, and this is the program's status.
+    Unsound(u8),
+    /// Gently: what was in flight is recorded or given up, and all is synced.
+    Ended,
+}
+
 /// What serves, and the words that say what.
 #[derive(Drop)]
-struct Service<'a, R, P> {
+struct Service<'a, R, P, H> {
     rt: &'a R,
     alloc: Global,
+    herald: &'a H,
     address: &'a str,
     /// Where the journal is kept.
     place: &'a P,
     workers: u32,
+    settings: Settings,
+}
+
+/// Where connections come in, and how the service comes to its end.
+#[derive(Drop)]
+struct Doorway {
+    line: Line,
+    ending: Arc<Ending>,
+}
+
+/// Where connections come in to a listener.
+fn doorway_at<R: Net>(rt: &R, alloc: Global, listener: TcpListener) -> Result<Doorway, ServeFault>
+    ensures { IfErr result IsOfNoScript }
+{
+    let Ok((line, bell)) = Line::new(rt, alloc, listener) else {
+        return Err(ServeFault::Address);
+    };
+    match Arc::new(alloc, Ending::new(bell)) {
+        Ok(ending) => Ok(Doorway { line, ending }),
+        Err(_) => {
+            drop(line);
+            Err(ServeFault::Run(RunFault::Memory))
+        }
+    }
+}
+
+/// What a coordinator takes, and how it repeats its asks, by some settings.
+fn limits_of(settings: &Settings) -> Limits
+    ensures limits { result ≡ limits_of settings.now }
+    ensures keepable { AreKeepable result }
+{
+    let mut limits = Limits::usual();
+    limits.retry_base = settings.retry_first_ms;
+    limits.retry_cap = settings.retry_last_ms;
+    limits
 }
 
 /// A journal's file as a disk, what adds to it, what the threads wait with, and the moment from which their clocks go on.
@@ -50,15 +102,17 @@ struct Service<'a, R, P> {
 struct Stand {
     progress: Progress<JournalFile>,
     pen: FilePen,
+    door: Doorway,
     polls: Polls,
     moment: u64,
 }
 
 /// A journal's file as a disk, all of whose bytes are kept.
-fn stand_on(file: File, polls: Polls, moment: u64) -> Result<Stand, ServeFault>
+fn stand_on(file: File, door: Doorway, polls: Polls, moment: u64) -> Result<Stand, ServeFault>
     ensures { IfErr result (λ fault. fault ≡ ServeFault.File) }
 {
     let Ok((pen, syncer)) = JournalFile::parts(file) else {
+        drop(door);
         drop(polls);
         return Err(ServeFault::File);
     };
@@ -66,29 +120,53 @@ fn stand_on(file: File, polls: Polls, moment: u64) -> Result<Stand, ServeFault>
         Ok(progress) => Ok(Stand {
             progress,
             pen,
+            door,
             polls,
             moment,
         }),
         Err(_) => {
+            drop(door);
             drop(polls);
             Err(ServeFault::File)
         }
     }
 }
 
+/// How a service has ended that began: gently, where it was asked to, all that was written is synced, and the disk hasn't failed.
+fn end_of<R: Wait>(
+    rt: &R,
+    progress: &Progress<JournalFile>,
+    ending: &Arc<Ending>,
+) -> Result<Served, ServeFault>
+    ensures ended { IfOk result (λ served. served ≡ Served.Ended) }
+    ensures fault { IfErr result (λ fault. (fault ≡ ServeFault.File) ⊎ (fault ≡ ServeFault.Address)) }
+{
+    if progress.has_failed(rt) {
+        return Err(ServeFault::File);
+    }
+    if !ending.is_asked() {
+        return Err(ServeFault::Address);
+    }
+    match progress.keep(rt, &progress.due(rt)) {
+        Ok(_) => Ok(Served::Ended),
+        Err(_) => Err(ServeFault::File),
+    }
+}
+
 impl<
     R: Threads + Wait + Clock + Net<Stream = TcpStream, Listener = TcpListener> + Sync,
     P: Place<File = File>,
-> Service<'_, R, P> {
+    H: Herald + Sync,
+> Service<'_, R, P, H> {
     /// Says that it serves, and serves connections until none can come any more.
     fn serve_office<K: Write + Drop + Send, W: Write>(
         &self,
-        shift: &Shift<'_, R>,
+        shift: &Shift<'_, R, H>,
         office: &Office<K>,
         clerk: Clerk<Desk<K>>,
         writer: &mut W,
     ) -> Result<(), ServeFault>
-        requires { IsOpenAt (P.had self.now.place.now) (base_text self.now.address.now) shift.now.moment office.now clerk }
+        requires { IsOpenAt (P.had self.now.place.now) (base_text self.now.address.now) (limits_of self.now.settings) shift.now.moment office.now clerk }
         ensures said { OnOk result (Appends (W.contents writer.old) (W.contents writer.new) (serving_line self.now.address.now)) }
         ensures fault { IfErr result (IsSaid self.now.address.now (W.contents writer.old) (W.contents writer.new)) }
     {
@@ -135,16 +213,17 @@ impl<
         requires base { is_base base ≡ true }
         requires text { base ≡ base_text self.now.address.now }
         requires journal { IfSome (P.had self.now.place.now) (λ had. journal.items ≡ had) }
-        ensures opened { IfOk result (λ opened. IsOpenAt (P.had self.now.place.now) (base_text self.now.address.now) moment opened.0 opened.1) }
+        ensures opened { IfOk result (λ opened. IsOpenAt (P.had self.now.place.now) (base_text self.now.address.now) (limits_of self.now.settings) moment opened.0 opened.1) }
         ensures fault { IfErr result IsOfNoScript }
     {
-        open_office(self.rt, self.alloc, base, journal, keeper, moment)
+        let limits = limits_of(&self.settings);
+        open_office(self.rt, self.alloc, base, limits, journal, keeper, moment)
     }
 
     /// Opens the office of a journal, and serves.
     fn serve_journal<K: Write + Drop + Send, W: Write>(
         &self,
-        shift: &Shift<'_, R>,
+        shift: &Shift<'_, R, H>,
         base: Address,
         journal: Vec<u8>,
         keeper: K,
@@ -165,39 +244,51 @@ impl<
     /// The same, on a disk, at a listener.
     fn serve_at<W: Write>(
         &self,
-        listener: TcpListener,
         stand: Stand,
         base: Address,
         journal: Vec<u8>,
         writer: &mut W,
-    ) -> ServeFault
+    ) -> Result<Served, ServeFault>
         requires base { is_base base ≡ true }
         requires text { base ≡ base_text self.now.address.now }
         requires journal { IfSome (P.had self.now.place.now) (λ had. journal.items ≡ had) }
-        ensures { IsSaid self.now.address.now (W.contents writer.old) (W.contents writer.new) result }
+        ensures ended { IfOk result (HasSaid (P.had self.now.place.now) self.now.address.now (W.contents writer.old) (W.contents writer.new)) }
+        ensures fault { IfErr result (IsSaid self.now.address.now (W.contents writer.old) (W.contents writer.new)) }
     {
         let Stand {
             progress,
             pen,
+            door,
             polls,
             moment,
         } = stand;
+        let Doorway { line, ending } = door;
         let room = pen.room();
         let keeper = Keeper::new(self.rt, &progress, pen, room);
-        let shift = Shift::new(self.rt, self.alloc, &progress, listener, moment, polls);
+        let shift = Shift::new(
+            self.rt,
+            self.alloc,
+            self.herald,
+            &self.settings,
+            &progress,
+            &ending,
+            line,
+            polls,
+            moment,
+        );
         let served = self.serve_journal(&shift, base, journal, keeper, writer);
         drop(shift);
-        let has_failed = progress.has_failed(self.rt);
+        let end = end_of(self.rt, &progress, &ending);
         drop(progress);
+        drop(ending);
         match served {
-            Ok(()) if has_failed => ServeFault::File,
-            Ok(()) => ServeFault::Address,
-            Err(fault) => fault,
+            Ok(()) => end,
+            Err(fault) => Err(fault),
         }
     }
 
     /// The disk of a file that has just its journal's whole lines.
-    fn stand(&self, file: File, journal: &[u8]) -> Result<Stand, ServeFault>
+    fn stand(&self, file: File, door: Doorway, journal: &[u8]) -> Result<Stand, ServeFault>
         requires { P.contents file ≡ option_map whole_lines (P.had self.now.place.now) }
         ensures { IfErr result IsOfNoScript }
     {
@@ -207,54 +298,78 @@ impl<
         let polls = polls_of(self.rt, self.alloc, self.workers)?;
         // A journal that was written to later, as by a clock that was wrong, is gone on from that moment.
         let latest = latest_moment(journal).unwrap_or(0);
-        stand_on(file, polls, now.max(latest))
+        stand_on(file, door, polls, now.max(latest))
     }
 
-    /// A listener at a base's host and port, and the disk of a journal that was found so.
-    fn make_ready(
+    /// Where connections come in to a listener, until an input has ended, if there is one.
+    fn doorway<I: Read + Send + Drop + 'static>(
+        &self,
+        listener: TcpListener,
+        input: Option<I>,
+    ) -> Result<Doorway, ServeFault>
+        ensures { IfErr result IsOfNoScript }
+    {
+        let door = doorway_at(self.rt, self.alloc, listener)?;
+        if let Some(input) = input {
+            watch(self.rt, &door.ending, input)?;
+        }
+        Ok(door)
+    }
+
+    /// Where connections come in to a base's host and port, and the disk of a journal that was found so.
+    fn make_ready<I: Read + Send + Drop + 'static>(
         &self,
         base: &Address,
         found: Found<File>,
         journal: &[u8],
-    ) -> Result<(TcpListener, Stand), ServeFault>
+        input: Option<I>,
+    ) -> Result<Stand, ServeFault>
         requires found { IsFound P.contents (P.had self.now.place.now) found }
         requires journal { IfSome (P.had self.now.place.now) (λ had. journal.now ≡ had) }
         ensures { IfErr result IsOfNoScript }
     {
         let listener = bind(self.alloc, self.rt, base)?;
         let file = ready_file(self.place, found, journal)?;
-        Ok((listener, self.stand(file, journal)?))
+        let door = self.doorway(listener, input)?;
+        self.stand(file, door, journal)
     }
 
-    /// Serves a sound journal that was found so. That has ended by a fault.
-    fn serve_found<W: Write>(
+    /// Serves a sound journal that was found so.
+    fn serve_found<I: Read + Send + Drop + 'static, W: Write>(
         &self,
         base: Address,
         found: Found<File>,
         journal: Vec<u8>,
+        input: Option<I>,
         writer: &mut W,
-    ) -> ServeFault
+    ) -> Result<Served, ServeFault>
         requires base { is_base base ≡ true }
         requires text { base ≡ base_text self.now.address.now }
         requires found { IsFound P.contents (P.had self.now.place.now) found }
         requires journal { IfSome (P.had self.now.place.now) (λ had. journal.items ≡ had) }
-        ensures { IsSaid self.now.address.now (W.contents writer.old) (W.contents writer.new) result }
+        ensures ended { IfOk result (HasSaid (P.had self.now.place.now) self.now.address.now (W.contents writer.old) (W.contents writer.new)) }
+        ensures fault { IfErr result (IsSaid self.now.address.now (W.contents writer.old) (W.contents writer.new)) }
     {
-        match self.make_ready(&base, found, &journal) {
-            Ok((listener, stand)) => self.serve_at(listener, stand, base, journal, writer),
+        match self.make_ready(&base, found, &journal, input) {
+            Ok(stand) => self.serve_at(stand, base, journal, writer),
             Err(fault) => {
                 drop(base);
                 drop(journal);
-                fault
+                Err(fault)
             }
         }
     }
 
     /// Serves what the place has, once its lock is taken and its journal is audited.
-    fn serve_place<W: Write>(&self, base: Address, writer: &mut W) -> Result<u8, ServeFault>
+    fn serve_place<I: Read + Send + Drop + 'static, W: Write>(
+        &self,
+        base: Address,
+        input: Option<I>,
+        writer: &mut W,
+    ) -> Result<Served, ServeFault>
         requires base { is_base base ≡ true }
         requires text { base ≡ base_text self.now.address.now }
-        ensures unsound { IfOk result (IsRefused (P.had self.now.place.now) (W.contents writer.old) (W.contents writer.new)) }
+        ensures ended { IfOk result (HasSaid (P.had self.now.place.now) self.now.address.now (W.contents writer.old) (W.contents writer.new)) }
         ensures fault { IfErr result (IsSaid self.now.address.now (W.contents writer.old) (W.contents writer.new)) }
     {
         let (found, journal) = find_journal(self.alloc, self.place)?;
@@ -262,18 +377,64 @@ impl<
             drop(found);
             drop(journal);
             drop(base);
-            return told;
+            drop(input);
+            return match told {
+                Ok(status) => Ok(Served::Unsound(status)),
+                Err(fault) => Err(fault),
+            };
         }
-        Err(self.serve_found(base, found, journal, writer))
+        self.serve_found(base, found, journal, input, writer)
     }
 }
 
 /// Serves the coordinator of a place's journal at an address, by so many threads that answer connections and as many that carry errands,
 /// until the last of the former has ended: then the answer is [`ServeFault::Address`]. Where the journal isn't sound, that is written as
-/// `lra audit` does, and the answer is the program's status.
+/// `lra audit` does, and the answer is the program's status. Once an input has ended, if there is one, the service ends gently: no more connections are
+/// accepted and no more requests read, replies that wait leave, what came of the callbacks under way is recorded, for 10 s at most, and all is synced.
+/// A thread that ends before that is told of at once, with why.
 ///
 /// The file that is written to has just the whole lines of what the place had, and the office that serves goes on from them
 /// ([`ready_file`], [`open_office`]).
+pub fn serve_with<
+    R: Threads
+        + Wait
+        + Clock
+        + Net<Stream = TcpStream, Listener = TcpListener>
+        + AllocGlobal
+        + Sync,
+    P: Place<File = File>,
+    I: Read + Send + Drop + 'static,
+    H: Herald + Sync,
+    W: Write,
+>(
+    rt: &R,
+    address: &str,
+    place: &P,
+    workers: u32,
+    settings: Settings,
+    input: Option<I>,
+    herald: &H,
+    writer: &mut W,
+) -> Result<Served, ServeFault>
+    ensures ended { IfOk result (HasSaid (P.had place.now) address.now (W.contents writer.old) (W.contents writer.new)) }
+    ensures fault { IfErr result (IsSaid address.now (W.contents writer.old) (W.contents writer.new)) }
+    ensures base { IsFalse (is_base (base_text address.now)) → IsErrAnd result IsOfAddress × (W.contents writer.new ≡ W.contents writer.old) }
+{
+    let alloc = rt.alloc();
+    let base = base_at(alloc, address)?;
+    let service = Service {
+        rt,
+        alloc,
+        herald,
+        address,
+        place,
+        workers,
+        settings,
+    };
+    service.serve_place(base, input, writer)
+}
+
+/// The same with the usual settings, and with no end but by a fault.
 pub fn serve_from<
     R: Threads
         + Wait
@@ -288,16 +449,22 @@ pub fn serve_from<
     ensures fault { IfErr result (IsSaid address.now (W.contents writer.old) (W.contents writer.new)) }
     ensures base { IsFalse (is_base (base_text address.now)) → IsErrAnd result IsOfAddress × (W.contents writer.new ≡ W.contents writer.old) }
 {
-    let alloc = rt.alloc();
-    let base = base_at(alloc, address)?;
-    let service = Service {
+    let usual = Settings::usual();
+    match serve_with(
         rt,
-        alloc,
         address,
         place,
         workers,
-    };
-    service.serve_place(base, writer)
+        usual,
+        None::<File>,
+        &Silence,
+        writer,
+    ) {
+        Ok(Served::Unsound(status)) => Ok(status),
+        // Nothing asks it to end so.
+        Ok(Served::Ended) => Err(ServeFault::Address),
+        Err(fault) => Err(fault),
+    }
 }
 
 /// The same, of the system's file of a name.

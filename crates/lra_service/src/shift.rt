@@ -5,98 +5,130 @@ ghost use Rattle.lra_ticket.specs.Locks.{lock_id};
 ghost use Rattle.lra_service.specs.inner.Opened.{IsAt};
 
 use crate::disk::JournalFile;
-use crate::entrance::Entrance;
-use crate::polls::Polls;
+use crate::ending::Ending;
+use crate::entrance::{Entrance, Line};
+use crate::gate::CarrierGate;
+use crate::herald::{Herald, tell_answered, tell_carried};
+use crate::polls::{Polls, Stall};
 use crate::post::Duty;
-use lra_callbacks::{Callbacks, Names, Share};
+use lra_callbacks::{Callbacks, Names, Patience, Share};
 use lra_clocks::SystemClock;
 use lra_durable::Progress;
 use lra_office::{Clerk, OfficeOf, Serving, WhichLock, Window};
-use lra_rounds::{Arrivals, Rounds};
-use lra_workers::{OpenUntil, run_carrier};
-use mio::{Poll, Waker};
+use lra_rounds::{Arrivals, Rounds, Times};
+use lra_settings::Settings;
+use lra_workers::{WorkerEnd, run_carrier};
+use mio::Waker;
 use std::alloc::{AllocError, Global};
 use std::marker::{Brand, Send, Sync};
 use std::net::{Net, TcpListener, TcpStream};
-use std::sync::atomic::{AtomicBool, AtomicU64, Ordering};
-use std::sync::{Mutex, Wait};
+use std::sync::atomic::{AtomicU64, Ordering};
+use std::sync::{Arc, Wait};
 use std::thread;
 use std::thread::{Threads, join};
 use std::time::Clock;
 
-/// How many connections a service has at most, shared by those who answer.
-const MOST: usize = 10_000;
-
 /// What the threads of a service share.
 #[derive(Drop)]
-pub(crate) struct Shift<'a, R> {
+pub(crate) struct Shift<'a, R, H> {
     rt: &'a R,
     alloc: Global,
-    door: Entrance<'a, R, JournalFile>,
+    herald: &'a H,
+    door: Entrance<'a, R>,
     progress: &'a Progress<JournalFile>,
+    ending: &'a Arc<Ending>,
     /// The moment at which it began, in milliseconds.
     pub(crate) moment: u64,
     /// How many connections one who answers has at most.
     most: usize,
-    /// How many have begun to answer connections.
-    begun: AtomicU64,
+    /// How long a client has.
+    times: Times,
     /// How many answer connections.
     answering: AtomicU64,
-    /// What those who carry wait with, until each takes one.
-    polls: Mutex<Vec<Poll>>,
+    /// The places of those who carry.
+    stalls: Vec<Stall>,
     /// What wakes them, once something may be due.
     bells: Vec<Waker>,
     /// The addresses of members' hosts.
     names: Names,
     /// What each who carries has under way at most.
     share: Share,
-    /// No one answers any more.
-    has_ended: AtomicBool,
 }
 
-impl<'a, R: Wait + Clock> Shift<'a, R> {
+/// So many seconds, in milliseconds.
+fn in_ms(seconds: u64) -> u64 {
+    seconds.saturating_mul(1_000)
+}
+
+/// How long a client has, by some settings.
+fn times_of(settings: &Settings) -> Times {
+    Times {
+        idle: in_ms(settings.idle_seconds),
+        request: in_ms(settings.request_seconds),
+        reply: in_ms(settings.reply_seconds),
+    }
+}
+
+/// What each of so many who carry has under way at most, by some settings.
+fn share_of(settings: &Settings, workers: usize) -> Share {
+    let patience = Patience {
+        connect: in_ms(settings.connect_seconds),
+        reply: in_ms(settings.callback_seconds),
+    };
+    Share::of(
+        u32::try_from(workers).unwrap_or(u32::MAX),
+        u32::try_from(settings.callbacks).unwrap_or(u32::MAX),
+        u32::try_from(settings.host_share).unwrap_or(u32::MAX),
+        patience,
+    )
+}
+
+impl<'a, R: Wait + Clock, H> Shift<'a, R, H> {
     /// One that begins, with those who answer and those who carry that wait with these.
     pub(crate) fn new(
         rt: &'a R,
         alloc: Global,
+        herald: &'a H,
+        settings: &Settings,
         progress: &'a Progress<JournalFile>,
-        listener: TcpListener,
-        moment: u64,
+        ending: &'a Arc<Ending>,
+        line: Line,
         polls: Polls,
-    ) -> Shift<'a, R>
+        moment: u64,
+    ) -> Shift<'a, R, H>
         ensures { result.moment ≡ moment }
     {
         let Polls {
             arrivals,
-            polls,
+            stalls,
             bells,
         } = polls;
         let workers = arrivals.len();
+        let most = settings.connections.div_ceil((workers as u64).max(1));
         Shift {
             rt,
             alloc,
-            door: Entrance::new(rt, progress, listener, arrivals),
+            herald,
+            door: Entrance::new(rt, line, ending, arrivals),
             progress,
+            ending,
             moment,
-            most: MOST.div_ceil(workers.max(1)),
-            begun: AtomicU64::new(0),
+            most: most as usize,
+            times: times_of(settings),
             answering: AtomicU64::new(workers as u64),
-            share: Share::of(u32::try_from(workers).unwrap_or(u32::MAX)),
-            polls: Mutex::new(polls),
+            share: share_of(settings, workers),
+            stalls,
             bells,
             names: Names::new(alloc),
-            has_ended: AtomicBool::new(false),
         }
     }
 }
 
-impl<R: Wait + Clock + Net<Stream = TcpStream, Listener = TcpListener>> Shift<'_, R> {
+impl<R: Wait + Clock + Net<Stream = TcpStream, Listener = TcpListener>, H: Herald> Shift<'_, R, H> {
     /// Takes down that one who answered connections has ended: with the last one all end.
     fn leave(&self) {
         if self.answering.fetch_sub(1, Ordering::SeqCst) <= 1 {
-            self.has_ended.store(true, Ordering::SeqCst);
-            self.names.close(self.rt);
-            self.door.wake();
+            self.ending.finish();
         }
     }
 
@@ -119,16 +151,16 @@ impl<R: Wait + Clock + Net<Stream = TcpStream, Listener = TcpListener>> Shift<'_
             arrivals,
             &self.bells,
             self.most,
+            self.times,
         );
-        rounds.run(&mut window, &mut clock);
+        tell_answered(self.herald, rounds.run(&mut window, &mut clock));
         drop(window.into_clerk());
     }
 
     /// Answers connections.
-    fn answer<V: Serving>(&self, office: &OfficeOf<V>, clerk: Clerk<V>)
+    fn answer<V: Serving>(&self, place: u32, office: &OfficeOf<V>, clerk: Clerk<V>)
         requires { IsAt V.setting office.now clerk }
     {
-        let place = self.begun.fetch_add(1, Ordering::SeqCst);
         match self.door.arrivals(place) {
             Some(arrivals) => {
                 self.answer_at::<V, Brand>(arrivals, office, clerk);
@@ -140,10 +172,10 @@ impl<R: Wait + Clock + Net<Stream = TcpStream, Listener = TcpListener>> Shift<'_
     }
 
     /// The callbacks of one who carries: none are under way.
-    fn callbacks(&self) -> Option<Callbacks<'_, R, JournalFile>>
+    fn callbacks<'b>(&'b self, stall: &'b Stall) -> Option<Callbacks<'b, R, JournalFile>>
         ensures { IfSome result (λ made. made ≡ []) }
     {
-        let poll = self.polls.lock(self.rt).pop()?;
+        let poll = stall.poll.lock(self.rt).take()?;
         Callbacks::new(
             self.rt,
             self.alloc,
@@ -151,25 +183,38 @@ impl<R: Wait + Clock + Net<Stream = TcpStream, Listener = TcpListener>> Shift<'_
             &self.names,
             poll,
             self.share,
+            &stall.under_way,
         )
         .ok()
     }
 
+    /// What one who carries is let do.
+    fn gate<'b>(&'b self, stall: &'b Stall) -> CarrierGate<'b, R> {
+        CarrierGate::new(self.rt, self.ending, self.progress, &stall.under_way)
+    }
+
     /// Lets limits fire and carries errands, many at once. Where that can't be begun no one answers any more.
-    fn carry<V: Serving>(&self, office: &OfficeOf<V>, clerk: Clerk<V>)
+    fn carry<V: Serving>(&self, place: u32, office: &OfficeOf<V>, clerk: Clerk<V>)
         requires { IsAt V.setting office.now clerk }
     {
-        match self.callbacks() {
+        let Some(stall) = self.stalls.get(place as usize) else {
+            drop(clerk);
+            self.door.close();
+            return;
+        };
+        match self.callbacks(stall) {
             Some(mut callbacks) => {
-                run_carrier(
+                let (clerk, end) = run_carrier(
                     self.rt,
                     office,
                     clerk,
                     &mut callbacks,
-                    &mut OpenUntil::new(&self.has_ended),
+                    &mut self.gate(stall),
                     &mut SystemClock::new(self.rt, self.moment),
                 );
                 drop(callbacks);
+                drop(clerk);
+                self.tell_end(end);
             }
             None => {
                 drop(clerk);
@@ -178,17 +223,30 @@ impl<R: Wait + Clock + Net<Stream = TcpStream, Listener = TcpListener>> Shift<'_
         }
     }
 
+    /// Tells why one who carried has ended, unless the disk has failed: then the program ends, and says so.
+    fn tell_end(&self, end: WorkerEnd) {
+        if !self.progress.has_failed(self.rt) {
+            tell_carried(self.alloc, self.herald, end);
+        }
+    }
+
     /// Looks up the names of members' hosts.
     fn look_up(&self) {
         self.names.run(self.rt, &self.bells);
+    }
+
+    /// All that answered and carried have ended: so do those who look names up, and who waits for connections.
+    fn end(&self) {
+        self.names.close(self.rt);
+        self.ending.finish();
     }
 
     fn work<V: Serving>(&self, office: &OfficeOf<V>, duty: Duty, clerk: Clerk<V>)
         requires { IsAt V.setting office.now clerk }
     {
         match duty {
-            Duty::Answer => self.answer(office, clerk),
-            Duty::Carry => self.carry(office, clerk),
+            Duty::Answer(place) => self.answer(place, office, clerk),
+            Duty::Carry(place) => self.carry(place, office, clerk),
         }
     }
 }
@@ -197,16 +255,23 @@ impl<R: Wait + Clock + Net<Stream = TcpStream, Listener = TcpListener>> Shift<'_
 fn work_all<
     V: Serving + Send,
     R: Threads + Wait + Clock + Net<Stream = TcpStream, Listener = TcpListener> + Sync,
->(shift: &Shift<'_, R>, office: &OfficeOf<V>, jobs: Vec<(Duty, Clerk<V>)>) -> Result<(), AllocError>
+    H: Herald + Sync,
+>(
+    shift: &Shift<'_, R, H>,
+    office: &OfficeOf<V>,
+    jobs: Vec<(Duty, Clerk<V>)>,
+) -> Result<(), AllocError>
     requires { All (λ job. IsAt V.setting office.now job.1) jobs.items }
 {
-    thread::map_vec(
+    let worked = thread::map_vec(
         shift.rt,
         jobs,
         &|job: (Duty, Clerk<V>)|
             requires { IsAt V.setting office.now job.1 }
         { shift.work(office, job.0, job.1) },
-    )?;
+    );
+    shift.end();
+    worked?;
     Ok(())
 }
 
@@ -214,7 +279,12 @@ fn work_all<
 fn work_by_name<
     V: Serving + Send,
     R: Threads + Wait + Clock + Net<Stream = TcpStream, Listener = TcpListener> + Sync,
->(shift: &Shift<'_, R>, office: &OfficeOf<V>, jobs: Vec<(Duty, Clerk<V>)>) -> Result<(), AllocError>
+    H: Herald + Sync,
+>(
+    shift: &Shift<'_, R, H>,
+    office: &OfficeOf<V>,
+    jobs: Vec<(Duty, Clerk<V>)>,
+) -> Result<(), AllocError>
     requires { All (λ job. IsAt V.setting office.now job.1) jobs.items }
 {
     let (_, worked) = join(
@@ -233,7 +303,12 @@ fn work_by_name<
 pub(crate) fn work<
     V: Serving + Send,
     R: Threads + Wait + Clock + Net<Stream = TcpStream, Listener = TcpListener> + Sync,
->(shift: &Shift<'_, R>, office: &OfficeOf<V>, jobs: Vec<(Duty, Clerk<V>)>) -> Result<(), AllocError>
+    H: Herald + Sync,
+>(
+    shift: &Shift<'_, R, H>,
+    office: &OfficeOf<V>,
+    jobs: Vec<(Duty, Clerk<V>)>,
+) -> Result<(), AllocError>
     requires { All (λ job. IsAt V.setting office.now job.1) jobs.items }
 {
     let (_, worked) = join(

@@ -1,0 +1,134 @@
+//! What would be served, told with nothing served.
+
+ghost use Rattle.std.specs.Prelude.{◌≡◌, ◌≢◌, IsFalse, IfOk, IsErrAnd};
+ghost use Rattle.lra_ids.specs.Addresses.{is_base};
+ghost use Rattle.lra_ids.specs.Bases.{base_text};
+ghost use Rattle.lra_opening.specs.Ends.{IsRefused, IsOfAddress};
+
+use crate::base::base_at;
+use lra_journal::whole;
+use lra_opening::{Found, Place, ServeFault, find_journal, refuse};
+use lra_reports::put;
+use lra_settings::{Parameter, Settings};
+use std::alloc::Global;
+use std::io::Write;
+
+/// Writes a line of a word and a number.
+fn put_number<W: Write>(
+    alloc: Global,
+    word: &str,
+    number: u64,
+    writer: &mut W,
+) -> Result<(), ServeFault> {
+    let line = format!(in alloc; "{word} = {number}\n")?;
+    Ok(put(writer, line.as_bytes())?)
+}
+
+/// Writes a line of a word and a text.
+fn put_text<W: Write>(
+    alloc: Global,
+    word: &str,
+    text: &str,
+    writer: &mut W,
+) -> Result<(), ServeFault> {
+    let line = format!(in alloc; "{word} = \"{text}\"\n")?;
+    Ok(put(writer, line.as_bytes())?)
+}
+
+/// Writes a line for each setting.
+fn put_settings<W: Write>(
+    alloc: Global,
+    settings: &Settings,
+    writer: &mut W,
+) -> Result<(), ServeFault> {
+    for parameter in &Parameter::ALL {
+        put_number(alloc, parameter.name(), settings.get(*parameter), writer)?;
+    }
+    let line = if settings.stop_at_eof {
+        "stop-at-eof = true\n"
+    } else {
+        "stop-at-eof = false\n"
+    };
+    Ok(put(writer, line.as_bytes())?)
+}
+
+/// How many entries a journal has: one for each whole line but the first.
+fn entries_in(journal: &[u8]) -> u64 {
+    let mut lines = 0u64;
+    for byte in &journal[..whole(journal)] {
+        if *byte == b'\n' {
+            lines = lines.saturating_add(1);
+        }
+    }
+    lines.saturating_sub(1)
+}
+
+/// Writes what a sound journal has.
+fn put_journal<W: Write>(alloc: Global, journal: &[u8], writer: &mut W) -> Result<(), ServeFault> {
+    if journal.is_empty() {
+        Ok(put(writer, "journal = \"new\"\n".as_bytes())?)
+    } else {
+        put_number(alloc, "entries", entries_in(journal), writer)
+    }
+}
+
+/// Whether a journal that was found so could be added to.
+fn can_be_kept<P: Place>(place: &P, found: &Found<P::File>) -> Result<(), ServeFault> {
+    match found {
+        Found::Missing => place.sync_name(),
+        Found::Guarded(_) => Err(ServeFault::File),
+        Found::Open(_) => Ok(()),
+    }
+}
+
+/// Writes what would be served at an address, a line each: the address, the name of the journal's file, the threads of a kind, what the journal has, and all
+/// settings. The place's file is found, locked and audited for that, as before it is served, and nothing is created, bound or written. Where the journal isn't
+/// sound, that is written as `lra audit` does. The answer is the program's status.
+pub fn check_place<P: Place, W: Write>(
+    alloc: Global,
+    address: &str,
+    file: &str,
+    place: &P,
+    workers: u32,
+    settings: &Settings,
+    writer: &mut W,
+) -> Result<u8, ServeFault>
+    ensures unsound { IfOk result (λ status. status ≢ 0 → IsRefused (P.had place.now) (W.contents writer.old) (W.contents writer.new) status) }
+    ensures base { IsFalse (is_base (base_text address.now)) → IsErrAnd result IsOfAddress × (W.contents writer.new ≡ W.contents writer.old) }
+{
+    drop(base_at(alloc, address)?);
+    let (found, journal) = find_journal(alloc, place)?;
+    if let Some(told) = refuse(alloc, &journal, writer) {
+        drop(found);
+        drop(journal);
+        return told;
+    }
+    let kept = can_be_kept(place, &found);
+    drop(found);
+    let told = match kept {
+        Ok(()) => tell(alloc, address, file, &journal, workers, settings, writer),
+        Err(fault) => Err(fault),
+    };
+    drop(journal);
+    match told {
+        Ok(()) => Ok(0),
+        Err(fault) => Err(fault),
+    }
+}
+
+/// Writes what would be served, of a journal that could be.
+fn tell<W: Write>(
+    alloc: Global,
+    address: &str,
+    file: &str,
+    journal: &[u8],
+    workers: u32,
+    settings: &Settings,
+    writer: &mut W,
+) -> Result<(), ServeFault> {
+    put_text(alloc, "address", address, writer)?;
+    put_text(alloc, "file", file, writer)?;
+    put_number(alloc, "workers", u64::from(workers), writer)?;
+    put_journal(alloc, journal, writer)?;
+    put_settings(alloc, settings, writer)
+}
