@@ -1,0 +1,60 @@
+//! Why nothing is served by some options.
+
+ghost use Rattle.std.specs.Prelude.{◌≡◌};
+ghost use Rattle.lra_options.specs.declared.fault.OptionsFault.TheVariants.{Memory};
+
+use std::alloc::{AllocError, AllocFailed, Global};
+use thiserror::Error;
+
+/// Why nothing is served by some options.
+#[derive(Debug, Drop, Error)]
+pub enum OptionsFault {
+    #[error("out of memory")]
+    Memory,
+    /// What is wrong, and with which option.
+    #[error("{0}")]
+    Wrong(String),
+    /// Help was asked for, which is this.
+    #[error("{0}")]
+    Help(String),
+}
+
+impl From<AllocError> for OptionsFault {
+    ghost from_gives = { λ _ fault. fault ≡ Memory };
+
+    fn from(_error: AllocError) -> OptionsFault {
+        OptionsFault::Memory
+    }
+}
+
+impl<T: Drop> From<AllocFailed<T>> for OptionsFault {
+    ghost from_gives = { λ _ fault. fault ≡ Memory };
+
+    fn from(_failed: AllocFailed<T>) -> OptionsFault {
+        OptionsFault::Memory
+    }
+}
+
+/// The lines of a text, up to an empty one, as one line.
+pub(crate) fn one_line(alloc: Global, text: &str) -> Result<String, AllocError> {
+    let mut line = String::new(alloc);
+    for part in text.lines() {
+        let part = part.trim();
+        if part.is_empty() {
+            return Ok(line);
+        }
+        if !line.is_empty() {
+            line.push(' ')?;
+        }
+        line.push_str(part)?;
+    }
+    Ok(line)
+}
+
+/// The fault of a text, where there is memory for it.
+pub(crate) fn wrong(text: Result<String, AllocError>) -> OptionsFault {
+    match text {
+        Ok(text) => OptionsFault::Wrong(text),
+        Err(_) => OptionsFault::Memory,
+    }
+}

@@ -1,0 +1,206 @@
+//! The words of the command line.
+
+use crate::fault::{OptionsFault, one_line, wrong};
+use crate::given::Given;
+use crate::number::{number_in, out_of_range, value_in};
+use clap::error::ErrorKind;
+use clap::{Arg, ArgAction, ArgMatches, Command, Error};
+use lra_settings::Parameter;
+use std::alloc::{AllocError, Global};
+
+/// How many threads of a kind a service may have.
+const MOST_WORKERS: u64 = 16;
+
+/// What the words say.
+#[derive(Clone, Copy)]
+pub(crate) struct Line<'a> {
+    pub(crate) address: &'a str,
+    pub(crate) file: &'a str,
+    pub(crate) workers: u32,
+    /// The file that has further settings, if one is named.
+    pub(crate) config: Option<&'a str>,
+    /// It is only told what would be served.
+    pub(crate) is_check: bool,
+    pub(crate) given: Given,
+}
+
+/// What a parameter says in the help.
+fn help_of(parameter: Parameter) -> &'static str {
+    match parameter {
+        Parameter::Connections => "Connections at once [10000]",
+        Parameter::Callbacks => "Callbacks that go out at once [1024]",
+        Parameter::HostShare => "Callbacks at once to one host and port [64]",
+        Parameter::IdleTimeout => "How long a client has until its next request begins [30]",
+        Parameter::RequestTimeout => "How long a client has for a whole request [10]",
+        Parameter::ReplyTimeout => "How long a client has to take the replies that wait [10]",
+        Parameter::ConnectTimeout => "How long a member has to take a connection [5]",
+        Parameter::CallbackTimeout => "How long a member has for a whole callback [30]",
+        Parameter::RetryFirst => "The pause before a member is first asked again [100]",
+        Parameter::RetryLast => "The longest pause before it is asked again [60000]",
+    }
+}
+
+/// What a parameter is counted in.
+fn unit_of(parameter: Parameter) -> &'static str {
+    match parameter {
+        Parameter::Connections | Parameter::Callbacks | Parameter::HostShare => "N",
+        Parameter::RetryFirst | Parameter::RetryLast => "MS",
+        _ => "S",
+    }
+}
+
+/// An option with a value.
+fn value_arg<'a>(alloc: Global, name: &'a str, unit: &'a str, help: &'a str) -> Arg<'a> {
+    Arg::new(alloc, name)
+        .long(name)
+        .value_name(unit)
+        .action(ArgAction::Set)
+        .help(help)
+}
+
+/// With an option with a value.
+fn with_value<'a>(
+    alloc: Global,
+    command: Command<'a>,
+    name: &'a str,
+    unit: &'a str,
+    help: &'a str,
+) -> Result<Command<'a>, AllocError> {
+    command.arg(value_arg(alloc, name, unit, help))
+}
+
+/// An option that is said or isn't.
+fn flag_arg<'a>(alloc: Global, name: &'a str, help: &'a str) -> Arg<'a> {
+    Arg::new(alloc, name)
+        .long(name)
+        .action(ArgAction::SetTrue)
+        .help(help)
+}
+
+/// A word that has to be there.
+fn word_arg<'a>(alloc: Global, name: &'a str, help: &'a str) -> Arg<'a> {
+    Arg::new(alloc, name)
+        .required(true)
+        .action(ArgAction::Set)
+        .help(help)
+}
+
+/// With the three words that have to be there.
+fn with_words(alloc: Global, command: Command<'_>) -> Result<Command<'_>, AllocError> {
+    let address = word_arg(
+        alloc,
+        "ADDRESS",
+        "Host and port, as services reach the coordinator",
+    );
+    let file = word_arg(
+        alloc,
+        "FILE",
+        "The journal, made where it is missing or empty",
+    );
+    let workers = word_arg(alloc, "WORKERS", "How many threads of a kind, from 1 to 16");
+    command.arg(address)?.arg(file)?.arg(workers)
+}
+
+/// With the options that are no parameters.
+fn with_flags(alloc: Global, command: Command<'_>) -> Result<Command<'_>, AllocError> {
+    let config = value_arg(
+        alloc,
+        "config",
+        "FILE",
+        "A TOML file of settings, by the names of these options; the line goes before it",
+    );
+    let stop = flag_arg(
+        alloc,
+        "stop-at-eof",
+        "Ends gently once standard input has ended",
+    );
+    let check = flag_arg(alloc, "check", "Tells what would be served, and ends");
+    command.arg(stop)?.arg(config)?.arg(check)
+}
+
+/// What the words are read by.
+fn command_of<'a>(alloc: Global) -> Result<Command<'a>, AllocError> {
+    let mut command = Command::new(alloc, "lra serve").no_binary_name(true);
+    for parameter in &Parameter::ALL {
+        let (name, unit, help) = (parameter.name(), unit_of(*parameter), help_of(*parameter));
+        command = with_value(alloc, command, name, unit, help)?;
+    }
+    with_words(alloc, with_flags(alloc, command)?)
+}
+
+/// Why the words can't be read.
+fn fault_of(alloc: Global, error: &Error) -> OptionsFault {
+    let Ok(text) = format!(in alloc; "{error}") else {
+        return OptionsFault::Memory;
+    };
+    match error.kind() {
+        ErrorKind::OutOfMemory => OptionsFault::Memory,
+        ErrorKind::DisplayHelp => OptionsFault::Help(text),
+        _ => match text.as_str().strip_prefix("error: ") {
+            Some(told) => wrong(one_line(alloc, told)),
+            None => wrong(one_line(alloc, text.as_str())),
+        },
+    }
+}
+
+/// What is said of the settings.
+fn given_in(alloc: Global, matches: &ArgMatches<'_>) -> Result<Given, OptionsFault> {
+    let mut given = Given::nothing();
+    for parameter in &Parameter::ALL {
+        if let Some(text) = matches.get_str(parameter.name()) {
+            let option = option_of(alloc, *parameter)?;
+            let value = value_in(alloc, *parameter, option.as_str(), text)?;
+            given.put(*parameter, value);
+        }
+    }
+    if matches.get_flag("stop-at-eof") {
+        given.stop_at_eof = Some(true);
+    }
+    Ok(given)
+}
+
+/// The option of a parameter, as it is written.
+fn option_of(alloc: Global, parameter: Parameter) -> Result<String, AllocError> {
+    let name = parameter.name();
+    format!(in alloc; "--{name}")
+}
+
+/// How many threads of a kind a text spells.
+fn workers_in(alloc: Global, text: &str) -> Result<u32, OptionsFault> {
+    match number_in(text) {
+        Some(number) if 0 < number && number <= MOST_WORKERS => Ok(number as u32),
+        _ => Err(out_of_range(alloc, "WORKERS", text, MOST_WORKERS)),
+    }
+}
+
+/// What is said by a required word.
+fn word_in<'a>(matches: &ArgMatches<'a>, name: &str) -> &'a str {
+    match matches.get_str(name) {
+        Some(text) => text,
+        // The words were refused then.
+        None => "",
+    }
+}
+
+/// What the matches say.
+fn line_of<'a>(alloc: Global, matches: &ArgMatches<'a>) -> Result<Line<'a>, OptionsFault> {
+    let given = given_in(alloc, matches)?;
+    let workers = workers_in(alloc, word_in(matches, "WORKERS"))?;
+    Ok(Line {
+        address: word_in(matches, "ADDRESS"),
+        file: word_in(matches, "FILE"),
+        workers,
+        config: matches.get_str("config"),
+        is_check: matches.get_flag("check"),
+        given,
+    })
+}
+
+/// What the words after the verb say.
+pub(crate) fn read_line<'a>(alloc: Global, words: &'a [String]) -> Result<Line<'a>, OptionsFault> {
+    let command = command_of(alloc)?;
+    match command.try_get_matches_from(words) {
+        Ok(matches) => line_of(alloc, &matches),
+        Err(error) => Err(fault_of(alloc, &error)),
+    }
+}

@@ -1,0 +1,31 @@
+//! Numbers in texts.
+
+use crate::fault::{OptionsFault, wrong};
+use lra_settings::{LEAST, Parameter};
+use std::alloc::Global;
+
+/// The number that some digits spell.
+pub(crate) fn number_in(text: &str) -> Option<u64> {
+    if !text.bytes().all(|byte| byte.is_ascii_digit()) {
+        return None;
+    }
+    text.parse::<u64>().ok()
+}
+
+/// The fault of a text that is no number in its range. A place says whose it is.
+pub(crate) fn out_of_range(alloc: Global, place: &str, text: &str, most: u64) -> OptionsFault {
+    wrong(format!(in alloc; "{place}: {text} is not from {LEAST} to {most}"))
+}
+
+/// What a parameter is by a text. A place says whose it is.
+pub(crate) fn value_in(
+    alloc: Global,
+    parameter: Parameter,
+    place: &str,
+    text: &str,
+) -> Result<u64, OptionsFault> {
+    match number_in(text) {
+        Some(value) if parameter.fits(value) => Ok(value),
+        _ => Err(out_of_range(alloc, place, text, parameter.most())),
+    }
+}
