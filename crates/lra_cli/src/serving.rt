@@ -1,0 +1,201 @@
+//! What is served.
+
+use lra_opening::NamedFile;
+use lra_options::{Options, OptionsFault, read_options};
+use lra_reports::{RunFault, error_line, put, settle, tell, tell_usage};
+use lra_service::{Aloud, ServeFault, Served, check_place, fault_line, serve_with};
+use lra_settings::Settings;
+use std::fs::{File, OpenOptions};
+use std::io;
+use std::marker::Sync;
+use std::net::{Net, TcpListener, TcpStream};
+use std::os::fd::AsFd;
+use std::process::ChildStdout;
+use std::rt::Files;
+use std::sync::Wait;
+use std::thread::Threads;
+use std::time::Clock;
+
+/// A file that takes and gives nothing, if it can be had.
+fn nothing<R: Files<File = File>>(rt: &R) -> Option<File> {
+    OpenOptions::new()
+        .read(true)
+        .write(true)
+        .open(rt, "/dev/null")
+        .ok()
+}
+
+/// Files with the system's numbers of those standard streams that are closed: else the journal's file would get one, and what is printed
+/// would go there.
+fn stand_ins<R: Files<File = File>>(rt: &R) -> [Option<File>; 3] {
+    [nothing(rt), nothing(rt), nothing(rt)]
+}
+
+/// Whether words ask for a service by options.
+pub(crate) fn have_options(words: &[String]) -> bool {
+    match words {
+        [verb, rest @ ..] => {
+            verb.as_str() == "serve" && rest.iter().any(|word| word.as_str().starts_with("--"))
+        }
+        [] => false,
+    }
+}
+
+/// Standard input, to be read by a thread of its own. What reads a child's output reads any descriptor.
+fn standard_input<R: Input>(rt: &R) -> io::Result<ChildStdout>
+where
+    R::Reader: AsFd,
+{
+    let reader = rt.reader();
+    let input = reader.as_fd().try_clone_to_owned()?;
+    Ok(ChildStdout::from(input))
+}
+
+/// The status of a service that has ended, or isn't there. A fault is told.
+fn settle_serving<R: AllocGlobal + Eprint>(
+    rt: &R,
+    outcome: Result<u8, ServeFault>,
+    options: &Options<'_>,
+) -> u8 {
+    match outcome {
+        Ok(status) => status,
+        Err(fault) => tell(
+            rt,
+            fault_line(rt.alloc(), fault, options.address, options.file),
+        ),
+    }
+}
+
+/// Tells what would be served.
+fn answer_check<R: AllocGlobal + Files<File = File> + Print + Eprint>(
+    rt: &R,
+    options: &Options<'_>,
+) -> u8 {
+    let outcome = check_place(
+        rt.alloc(),
+        options.address,
+        options.file,
+        &NamedFile::new(rt, options.file),
+        options.workers,
+        &options.settings,
+        &mut io::writer(rt),
+    );
+    settle_serving(rt, outcome, options)
+}
+
+/// Serves, until an input has ended if there is one, and answers the program's status.
+fn answer_until<
+    R: AllocGlobal
+        + Files<File = File>
+        + Net<Stream = TcpStream, Listener = TcpListener>
+        + Clock
+        + Threads
+        + Wait
+        + Print
+        + Eprint
+        + Sync,
+>(rt: &R, options: &Options<'_>, input: Option<ChildStdout>) -> u8 {
+    let served = serve_with(
+        rt,
+        options.address,
+        &NamedFile::new(rt, options.file),
+        options.workers,
+        options.settings,
+        input,
+        &Aloud { rt },
+        &mut io::writer(rt),
+    );
+    let outcome = match served {
+        Ok(Served::Unsound(status)) => Ok(status),
+        Ok(Served::Ended) => Ok(0),
+        Err(fault) => Err(fault),
+    };
+    settle_serving(rt, outcome, options)
+}
+
+/// Serves with the usual settings, and answers the program's status.
+pub(crate) fn answer_serve<
+    R: AllocGlobal
+        + Files<File = File>
+        + Net<Stream = TcpStream, Listener = TcpListener>
+        + Clock
+        + Threads
+        + Wait
+        + Print
+        + Eprint
+        + Sync,
+>(rt: &R, address: &str, file: &str, workers: u32) -> u8 {
+    let _streams = stand_ins(rt);
+    let options = Options {
+        address,
+        file,
+        workers,
+        settings: Settings::usual(),
+        is_check: false,
+    };
+    answer_until(rt, &options, None)
+}
+
+/// Serves by options, and answers the program's status.
+fn answer_serving<
+    R: AllocGlobal
+        + Files<File = File>
+        + Net<Stream = TcpStream, Listener = TcpListener>
+        + Clock
+        + Threads
+        + Wait
+        + Input
+        + Print
+        + Eprint
+        + Sync,
+>(rt: &R, options: &Options<'_>) -> u8
+where
+    R::Reader: AsFd,
+{
+    let _streams = stand_ins(rt);
+    if !options.settings.stop_at_eof {
+        return answer_until(rt, options, None);
+    }
+    match standard_input(rt) {
+        Ok(input) => answer_until(rt, options, Some(input)),
+        Err(_) => tell(rt, error_line(rt.alloc(), RunFault::Read, "-")),
+    }
+}
+
+/// Prints the line of what is wrong with options on standard error, or help on standard output. The answer is the program's status.
+fn tell_fault<R: AllocGlobal + Print + Eprint>(rt: &R, fault: OptionsFault) -> u8 {
+    match fault {
+        OptionsFault::Help(text) => {
+            let outcome = put(&mut io::writer(rt), text.as_str().as_bytes());
+            settle(rt, outcome.map(|_| 0), "-")
+        }
+        OptionsFault::Wrong(text) => tell(rt, format!(in rt.alloc(); "lra: {text}\n")),
+        OptionsFault::Memory => tell(rt, error_line(rt.alloc(), RunFault::Memory, "-")),
+    }
+}
+
+/// Carries out what the words of a service by options ask for, and answers the program's status.
+pub(crate) fn answer_options<
+    R: AllocGlobal
+        + Files<File = File>
+        + Net<Stream = TcpStream, Listener = TcpListener>
+        + Clock
+        + Threads
+        + Wait
+        + Input
+        + Print
+        + Eprint
+        + Sync,
+>(rt: &R, words: &[String]) -> u8
+where
+    R::Reader: AsFd,
+{
+    let [_verb, rest @ ..] = words else {
+        return tell_usage(rt);
+    };
+    match read_options(rt, rest) {
+        Ok(options) if options.is_check => answer_check(rt, &options),
+        Ok(options) => answer_serving(rt, &options),
+        Err(fault) => tell_fault(rt, fault),
+    }
+}
