@@ -109,7 +109,7 @@ def test_words_that_are_no_options_are_refused(setting):
     refused_beginning(setting, "lra: unexpected argument '--colour' found", "--colour", "red")
     refused_beginning(setting, "lra: the argument '--callbacks <N>' cannot be used multiple times", "--callbacks", "5", "--callbacks", "6")
     refused_beginning(setting, "lra: the argument '--check' cannot be used multiple times", "--check", "--check")
-    refused_beginning(setting, "lra: unexpected argument 'more' found", "--check", "more")
+    refused_beginning(setting, "lra: unexpected argument '2' found", "--check", "more")
     told = setting.run("serve", "--check", f"{HOST}:1", setting.journal)
     check(f"{told}", told.status == 2 and told.told.startswith("lra: ") and "WORKERS" in told.told)
     told = setting.run("serve", f"{HOST}:1", setting.journal, "2", "--callbacks")
@@ -285,7 +285,8 @@ def test_a_callback_in_flight_is_recorded_at_a_gentle_end(setting):
         equal("it waits", service.process.poll(), None)
         release.set()
         seconds = ends(service)
-        equal("the outcome", [it[1] for it in [(k, o) for k, _, o, _ in journal.asks_of(journal.entries(setting.journal), number_of(recovery))]], ["done"])
+        asks = journal.asks_of(journal.entries(setting.journal), number_of(recovery))
+        equal("the outcome", [outcome for _, _, outcome, _ in asks], ["done"])
         equal("the requests", len(member.requests), 1)
     return seconds
 
@@ -388,8 +389,10 @@ def test_a_host_has_as_many_callbacks_as_are_set(setting):
 
 def test_connections_past_those_that_are_set_close_the_one_that_has_been_idle_longest(setting):
     with Stopping(setting, "--connections", "3", workers=1) as service:
-        streams = [service.connect() for _ in range(3)]
-        time.sleep(0.5)
+        streams = []
+        for _ in range(3):
+            streams.append(service.connect())
+            time.sleep(0.3)
         with service.client() as client:
             client.start()
         check("the oldest is there", is_ready(streams[0], 2))
