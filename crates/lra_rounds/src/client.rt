@@ -1,6 +1,6 @@
 //! A client: its stream, its connection, and what has to be kept before a reply leaves.
 
-ghost use Rattle.std.specs.Prelude.{◌≡◌, ◌⊎◌, ◌↔◌, ◌≤◌, [], length, None, IfOk, IsSomeAnd, IsTrue};
+ghost use Rattle.std.specs.Prelude.{◌≡◌, ◌⊎◌, ◌↔◌, ◌≤◌, [], length, None, option_map, IfOk, IsSomeAnd, IsTrue};
 ghost use Rattle.lra_steps.specs.History.{begun, room_of, took};
 ghost use Rattle.lra_rounds.specs.Answered.{AnswersOf, Asks};
 ghost use Rattle.lra_rounds.specs.Clients.{Reads, HandsOut};
@@ -8,7 +8,7 @@ ghost use Rattle.lra_rounds.specs.Clients.{Reads, HandsOut};
 use crate::answering::{Stage, answer_some};
 use crate::coordinator::WhichCoordinator;
 use lra_commands::Counter;
-use lra_durable::{Disk, Due, Progress, release};
+use lra_durable::{Disk, Noted, Progress, release};
 use lra_front::{Clock, Routes};
 use lra_ids::{Address, Instance};
 use lra_model::Memory;
@@ -64,29 +64,29 @@ pub enum Handing {
     Done,
 }
 
-/// A client of a coordinator.
+/// A client of a coordinator, whose requests are given to a counter.
 #[derive(Drop)]
-pub struct Client<S, D: Disk, P: WhichCoordinator> {
+pub struct Client<S, D: Disk, P: WhichCoordinator, C> {
     stream: S,
     connection: Connection,
-    /// What has to be kept before what may be handed out leaves.
-    due: Option<Due<D>>,
+    /// What has to be kept before what may be handed out leaves: what the disk had taken when the counter had given all its answers.
+    noted: Option<Noted<D, C>>,
     of: PhantomData<P>,
     ghost here: { (connection.instance ≡ P.instance) × (connection.base ≡ P.base) },
 }
 
-impl<S, D: Disk, P: WhichCoordinator> Client<S, D, P> {
+impl<S, D: Disk, P: WhichCoordinator, C: Counter> Client<S, D, P, C> {
     /// One that has just come in.
-    pub fn new(alloc: Global, stream: S, instance: Instance, base: &Address) -> Client<S, D, P>
+    pub fn new(alloc: Global, stream: S, instance: Instance, base: &Address) -> Client<S, D, P, C>
         requires { (instance ≡ P.instance) × (base.now ≡ P.base) }
         ensures stream { result.stream ≡ stream }
         ensures connection { result.connection ≡ begun instance base.now }
-        ensures due { result.due ≡ None }
+        ensures due { result.noted ≡ None }
     {
         Client {
             stream,
             connection: Connection::new(alloc, instance, base),
-            due: None,
+            noted: None,
             of: PhantomData,
         }
     }
@@ -99,8 +99,8 @@ impl<S, D: Disk, P: WhichCoordinator> Client<S, D, P> {
     }
 
     /// Has the requests answered that are whole, a few at most and none while many replies wait, and notes that the replies wait for what the disk
-    /// has taken by then. Where memory is refused, those stand answered that were.
-    pub fn answer<R: Wait, C: Counter, K: Clock>(
+    /// has taken once the counter has given all answers. Where memory is refused, those stand answered that were.
+    pub fn answer<R: Wait, K: Clock>(
         &mut self,
         rt: &R,
         alloc: Global,
@@ -111,12 +111,12 @@ impl<S, D: Disk, P: WhichCoordinator> Client<S, D, P> {
     ) -> Result<Stage, Memory>
         requires { Asks P.instance P.base (C.sight counter.old) }
         ensures answered { AnswersOf C.gives K.tells self.old.connection self.new.connection (C.sight counter.old) clock.old (C.sight counter.new) clock.new }
-        ensures due { (self.new.connection.out ≡ []) ⊎ IsSomeAnd self.new.due (λ n. IsTrue (D.took n)) }
+        ensures due { (self.new.connection.out ≡ []) ⊎ IsSomeAnd self.new.noted (λ n. IsTrue (D.took n.due) × (n.of.value ≡ counter.new)) }
         ensures stream { self.new.stream ≡ self.old.stream }
     {
         let stage = answer_some(alloc, routes, &mut self.connection, counter, clock);
         if !self.connection.out().is_empty() {
-            self.due = Some(progress.due(rt));
+            self.noted = Some(progress.note(rt, counter));
         }
         stage
     }
@@ -141,11 +141,11 @@ fn take_in(connection: &mut Connection, bytes: &[u8]) -> Result<Reading, ClientF
     Ok(Reading::Came)
 }
 
-impl<S: Read, D: Disk, P: WhichCoordinator> Client<S, D, P> {
+impl<S: Read, D: Disk, P: WhichCoordinator, C: Counter> Client<S, D, P, C> {
     /// Reads once, what came and there is room for.
     pub fn read(&mut self, buffer: &mut [u8]) -> Result<Reading, ClientFault>
         ensures read { IfOk result (Reads (S.remaining self.old.stream) (S.remaining self.new.stream) self.old.connection self.new.connection) }
-        ensures due { self.new.due ≡ self.old.due }
+        ensures due { self.new.noted ≡ self.old.noted }
     {
         let room = self.connection.room().min(buffer.len());
         if room == 0 {
@@ -163,22 +163,23 @@ impl<S: Read, D: Disk, P: WhichCoordinator> Client<S, D, P> {
     }
 }
 
-impl<S: Write, D: Disk, P: WhichCoordinator> Client<S, D, P> {
+impl<S: Write, D: Disk, P: WhichCoordinator, C: Counter> Client<S, D, P, C> {
     /// Hands out once what may be, where all that is due is kept.
     pub fn hand_out<R: Wait>(
         &mut self,
         rt: &R,
         progress: &Progress<D>,
     ) -> Result<Handing, ClientFault>
-        ensures handed { IfOk result (HandsOut D.took D.keeps self.old.due (S.contents self.old.stream) (S.contents self.new.stream) self.old.connection self.new.connection) }
-        ensures due { self.new.due ≡ self.old.due }
+        ensures handed { IfOk result (HandsOut D.took D.keeps (option_map (λ n. n.due) self.old.noted) (S.contents self.old.stream) (S.contents self.new.stream) self.old.connection self.new.connection) }
+        ensures due { self.new.noted ≡ self.old.noted }
     {
         if self.connection.out().is_empty() {
             return Ok(Handing::Done);
         }
-        let Some(due) = &self.due else {
+        let Some(noted) = &self.noted else {
             return Ok(Handing::Unkept);
         };
+        let due = noted.due();
         match release(rt, progress, due, &mut self.stream, self.connection.out()) {
             Ok(None) => Ok(Handing::Unkept),
             Ok(Some((0, _))) => Err(ClientFault::Io),

@@ -26,10 +26,10 @@ const MOST_AGAIN: u64 = 16;
 
 /// The clients of a thread, each under a key, and what is to be done for whom.
 #[derive(Drop)]
-pub(crate) struct Clients<D: Disk, P: WhichCoordinator> {
+pub(crate) struct Clients<D: Disk, P: WhichCoordinator, C: Counter> {
     alloc: Global,
     times: Times,
-    seats: Slab<Seat<D, P>>,
+    seats: Slab<Seat<D, P, C>>,
     /// Until when those that are idle have to begin a request, as limits; and the others to go on with theirs, or with a reply, as retries.
     agenda: Agenda,
     /// The keys of those whose streams may be ready.
@@ -40,9 +40,9 @@ pub(crate) struct Clients<D: Disk, P: WhichCoordinator> {
     waiting: Vec<usize>,
 }
 
-impl<D: Disk, P: WhichCoordinator> Clients<D, P> {
+impl<D: Disk, P: WhichCoordinator, C: Counter> Clients<D, P, C> {
     /// None yet, each of whom will have these times.
-    pub(crate) fn new(alloc: Global, times: Times) -> Clients<D, P> {
+    pub(crate) fn new(alloc: Global, times: Times) -> Clients<D, P, C> {
         Clients {
             alloc,
             times,
@@ -174,7 +174,7 @@ impl<D: Disk, P: WhichCoordinator> Clients<D, P> {
     }
 
     /// Reads what came of one client, and has its requests answered that are whole.
-    fn serve_one<R: Wait, C: Counter, K: Clock>(
+    fn serve_one<R: Wait, K: Clock>(
         &mut self,
         means: &Means<'_, R, D>,
         buffer: &mut [u8],
@@ -197,7 +197,7 @@ impl<D: Disk, P: WhichCoordinator> Clients<D, P> {
 
     /// Reads what came of those whose streams may be ready, and of some of those to visit again, and has their requests answered that are whole, a few of each.
     /// So one whose request has just come waits for few of those that have more to do.
-    pub(crate) fn serve<R: Wait, C: Counter, K: Clock>(
+    pub(crate) fn serve<R: Wait, K: Clock>(
         &mut self,
         means: &Means<'_, R, D>,
         buffer: &mut [u8],

@@ -135,7 +135,11 @@ impl<'a, R: Wait + time::Clock, D: Disk> Rounds<'a, R, D> {
     }
 
     /// How long the next wait for streams may last.
-    fn wait<P: WhichCoordinator>(&self, clients: &Clients<D, P>, now: u64) -> Duration {
+    fn wait<P: WhichCoordinator, C: Counter>(
+        &self,
+        clients: &Clients<D, P, C>,
+        now: u64,
+    ) -> Duration {
         if clients.has_ready() || clients.has_waiting() {
             return Duration::ZERO;
         }
@@ -147,10 +151,10 @@ impl<'a, R: Wait + time::Clock, D: Disk> Rounds<'a, R, D> {
     }
 
     /// Notes whose streams may be ready, and takes in those who have come.
-    fn take_in<P: WhichCoordinator>(
+    fn take_in<P: WhichCoordinator, C: Counter>(
         &self,
         watch: &Watch<'a, R>,
-        clients: &mut Clients<D, P>,
+        clients: &mut Clients<D, P, C>,
         instance: Instance,
         base: &Address,
         now: u64,
@@ -171,10 +175,10 @@ impl<'a, R: Wait + time::Clock, D: Disk> Rounds<'a, R, D> {
     }
 
     /// Hands out what may leave. Once nothing else is to be done, or replies have waited for some rounds, the disk keeps first what it took.
-    fn hand_out<P: WhichCoordinator>(
+    fn hand_out<P: WhichCoordinator, C: Counter>(
         &self,
         rounds: &mut u32,
-        clients: &mut Clients<D, P>,
+        clients: &mut Clients<D, P, C>,
         is_quiet: bool,
         now: u64,
     ) {
@@ -193,10 +197,10 @@ impl<'a, R: Wait + time::Clock, D: Disk> Rounds<'a, R, D> {
     }
 
     /// A round in which nothing is read any more: replies that wait leave. Tells whether there need be no other.
-    fn part<P: WhichCoordinator>(
+    fn part<P: WhichCoordinator, C: Counter>(
         &self,
         watch: &mut Watch<'a, R>,
-        clients: &mut Clients<D, P>,
+        clients: &mut Clients<D, P, C>,
         now: u64,
     ) -> bool {
         for event in watch.events.iter() {
@@ -215,7 +219,7 @@ impl<'a, R: Wait + time::Clock, D: Disk> Rounds<'a, R, D> {
         &self,
         means: &Means<'_, R, D>,
         watch: &mut Watch<'a, R>,
-        clients: &mut Clients<D, P>,
+        clients: &mut Clients<D, P, C>,
         counter: &mut C,
         clock: &mut K,
         now: u64,
@@ -237,7 +241,7 @@ impl<'a, R: Wait + time::Clock, D: Disk> Rounds<'a, R, D> {
         &self,
         means: &Means<'_, R, D>,
         watch: &mut Watch<'a, R>,
-        clients: &mut Clients<D, P>,
+        clients: &mut Clients<D, P, C>,
         counter: &mut C,
         clock: &mut K,
     ) -> Option<RoundsEnd>
@@ -268,7 +272,7 @@ impl<'a, R: Wait + time::Clock, D: Disk> Rounds<'a, R, D> {
         &self,
         means: &Means<'_, R, D>,
         watch: &mut Watch<'a, R>,
-        clients: &mut Clients<D, P>,
+        clients: &mut Clients<D, P, C>,
         counter: &mut C,
         clock: &mut K,
     ) -> RoundsEnd
@@ -310,7 +314,7 @@ impl<'a, R: Wait + time::Clock, D: Disk> Rounds<'a, R, D> {
             routes,
             progress: self.progress,
         };
-        let mut clients: Clients<D, P> = Clients::new(self.alloc, self.times);
+        let mut clients: Clients<D, P, C> = Clients::new(self.alloc, self.times);
         let end = self.go_on(&means, &mut watch, &mut clients, counter, clock);
         drop(clients);
         drop(watch);

@@ -45,8 +45,8 @@ pub(crate) enum Need {
 
 /// A client, and what is known of its stream and of its time.
 #[derive(Drop)]
-pub(crate) struct Seat<D: Disk, P: WhichCoordinator> {
-    client: Client<TcpStream, D, P>,
+pub(crate) struct Seat<D: Disk, P: WhichCoordinator, C: Counter> {
+    client: Client<TcpStream, D, P, C>,
     turn: Turn,
     /// How much room it has while nothing of a request has come.
     whole: usize,
@@ -66,9 +66,9 @@ pub(crate) struct Seat<D: Disk, P: WhichCoordinator> {
     is_waiting: bool,
 }
 
-impl<D: Disk, P: WhichCoordinator> Seat<D, P> {
+impl<D: Disk, P: WhichCoordinator, C: Counter> Seat<D, P, C> {
     /// One that has just come in.
-    pub(crate) fn new(client: Client<TcpStream, D, P>) -> Seat<D, P> {
+    pub(crate) fn new(client: Client<TcpStream, D, P, C>) -> Seat<D, P, C> {
         let whole = client.room();
         Seat {
             client,
@@ -119,7 +119,7 @@ impl<D: Disk, P: WhichCoordinator> Seat<D, P> {
     }
 
     /// Reads what came, once all requests before are answered, and has those answered that are whole; but not while replies wait to leave.
-    pub(crate) fn serve<R: Wait, C: Counter, K: Clock>(
+    pub(crate) fn serve<R: Wait, K: Clock>(
         &mut self,
         means: &Means<'_, R, D>,
         buffer: &mut [u8],
