@@ -1,12 +1,10 @@
 """Many clients at once: those that keep their connections, that send slowly, that take nothing and that break off; others are answered beside them."""
 import resource
-import socket
-import struct
 import threading
 import time
 
 from patience import narrow, serves
-from service import LeftOut, check, equal, id_of
+from service import LeftOut, check, equal, id_of, reset
 
 # How many connections are kept at once, and how many clients are slow in each way.
 KEPT, SLOW = 2000, 500
@@ -122,6 +120,5 @@ def test_a_reset_in_the_middle_of_a_request_or_a_reply_does_no_harm(setting):
                 stream.sendall(requests)
             time.sleep(0.2)
             for stream in streams:
-                stream.setsockopt(socket.SOL_SOCKET, socket.SO_LINGER, struct.pack("ii", 1, 0))
-            close_all(streams)
+                reset(stream)
             serves(service)

@@ -7,7 +7,7 @@ import time
 import journal
 from asks import recorded
 from participant import Participant
-from service import HOST, PATIENCE, check, equal, id_of, is_ready, number_of, received
+from service import HOST, PATIENCE, check, equal, id_of, is_ready, number_of, received, reset
 
 # How many seconds a client has between requests, and for one message; and a member to take a connection, and in all.
 BETWEEN, MESSAGE, CONNECT, WHOLE = 30, 10, 5, 30
@@ -241,8 +241,6 @@ def test_clients_that_break_off_do_no_harm(setting):
         for data in (b"", b"GET", b"POST /lra-coordinator HTTP/1.1\r\nHost: h\r\n\r\n" * 50):
             for _ in range(10):
                 stream = service.connect()
-                # Closing it resets the connection.
-                stream.setsockopt(socket.SOL_SOCKET, socket.SO_LINGER, b"\x01\x00\x00\x00\x00\x00\x00\x00")
                 stream.sendall(data)
-                stream.close()
+                reset(stream)
         serves(service)

@@ -6,6 +6,7 @@ import random
 import select
 import signal
 import socket
+import struct
 import subprocess
 import threading
 import uuid
@@ -66,6 +67,12 @@ def received(stream):
     except ConnectionResetError:
         return data, False
     return data, True
+
+
+def reset(stream):
+    """Closes a connection by a reset."""
+    stream.setsockopt(socket.SOL_SOCKET, socket.SO_LINGER, struct.pack("ii", 1, 0))
+    stream.close()
 
 
 def number_of(uri):
