@@ -30,6 +30,7 @@ front     the replies to one connection: standard input has a journal, an empty 
 ids       address texts tested a second, short and long
 lock      handovers of the ticket lock, beside a Mutex
 office    commands a second through an office by several threads, beside a Mutex and one thread alone
+pieces    the same as front, by a connection as steps: before the journal stands a line with the sizes in which the bytes come
 requests  HTTP requests answered a second, beside reading them and beside their commands
 timers    the calls of an agenda, as its pairs grow from 1,000 to 400,000
 wire      requests read a second, whole and in small pieces";
@@ -42,8 +43,9 @@ fn run(rt: &HostRuntime, name: &str) -> anyhow::Result<ExitCode> {
     match name {
         "audit" => audit::run(rt)?,
         "core" => coordinator::run(rt)?,
-        "front" => front::run(rt)?,
+        "front" => front::run(rt, false)?,
         "ids" => ids::run(rt)?,
+        "pieces" => front::run(rt, true)?,
         "requests" => requests::run(rt)?,
         "timers" => timers::run(rt)?,
         "wire" => wire::run(rt)?,
