@@ -409,9 +409,18 @@ def never_answering(stack):
         yield "http://{}:{}/u".format(*listener.getsockname())
 
 
-def lateness_of_limits(setting):
+def called_after(client, member, path):
+    """How many seconds after its close begins a member has its request."""
+    action = client.start()
+    client.join(action, compensate=member.uri("u"), complete=member.uri(path))
+    begun = time.monotonic()
+    client.end(action, "close")
+    return member.wait(path)[0].moment - begun
+
+
+def lateness_of_limits(path):
     """How many milliseconds late each limit has cancelled its action, by the journal."""
-    entries = journal.entries(setting.journal)
+    entries = journal.entries(path)
     ends = {it.fields[0]: it.moment + int(it.fields[2]) for it in entries if it.deed == "start"}
     return [it.moment - ends[it.fields[0]] for it in entries if it.deed == "cancel" and it.fields[1] == "limit"]
 
@@ -423,15 +432,9 @@ def test_a_thousand_silent_members_hold_up_nobody(setting):
         for place in range(SILENT):
             cancelled(client, silent[place % HOSTS])
         limits = [client.start(limit=500) for _ in range(LOOKS)]
-        late = []
-        for place in range(LOOKS):
-            action = client.start()
-            client.join(action, compensate=member.uri("u"), complete=member.uri(f"c{place}"))
-            begun = time.monotonic()
-            client.end(action, "close")
-            late.append(member.wait(f"c{place}")[0].moment - begun)
+        late = [called_after(client, member, f"c{place}") for place in range(LOOKS)]
         wait_until("the limits", lambda: all(client.status(action) == "Cancelled" for action in limits))
-        passed = lateness_of_limits(setting)
+        passed = lateness_of_limits(setting.journal)
         asked = {it.fields[1] for it in journal.entries(setting.journal) if it.deed == "ask"}
         check(f"only {len(asked)} members are asked", len(asked) >= SILENT)
         check(f"a member is called after {max(late):.2f} s", max(late) < LATE)
