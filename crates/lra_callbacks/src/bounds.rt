@@ -29,6 +29,13 @@ impl Bounds {
         self.open >= self.most
     }
 
+    /// How many are open.
+    pub(crate) fn open(&self) -> u32
+        ensures { result ≡ self.now.open }
+    {
+        self.open
+    }
+
     /// Counts one more, to a host that has so many, unless there are as many in all or to it as may be.
     pub(crate) fn enter(&mut self, to_host: &mut u32) -> bool
         ensures goes { IsTrue result ↔ ((self.old.open < self.old.most) × (to_host.old < self.old.each)) }

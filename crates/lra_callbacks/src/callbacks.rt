@@ -317,8 +317,10 @@ impl<R: Wait + Net + Clock, D: Disk> Carriage for Callbacks<'_, R, D> {
 
     ghost gives = { λ ask kind outcome. MayCome D.took D.keeps ask kind outcome };
 
+    /// There is none while all sockets are taken, or will be once the disk keeps what is waited for: what is due is left to the other carriers.
     fn has_room(&self) -> bool {
         self.calls.len() < self.share.held as usize
+            && self.traffic.moving() < self.share.sockets as usize
     }
 
     fn take(&mut self, errand: Errand) -> Result<(), Errand> {
@@ -341,6 +343,9 @@ impl<R: Wait + Net + Clock, D: Disk> Carriage for Callbacks<'_, R, D> {
         if !self.traffic.unkept.is_empty() {
             self.settle();
             self.depart_all();
+            // So that what still waits then waits for its host.
+            let now = self.traffic.moment(self.rt);
+            self.start_all(now);
         }
         self.linger();
     }

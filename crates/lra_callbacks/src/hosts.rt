@@ -120,6 +120,11 @@ impl Hosts {
         self.line_up(number);
     }
 
+    /// How many sockets are open.
+    pub(crate) fn open(&self) -> u32 {
+        self.bounds.open()
+    }
+
     /// One of a host's addresses.
     pub(crate) fn address(&self, number: usize, place: usize) -> Option<SocketAddr> {
         self.hosts.get(number)?.addresses.get(place).copied()

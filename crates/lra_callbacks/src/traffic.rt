@@ -82,6 +82,11 @@ impl Traffic {
             .ok()
     }
 
+    /// How many errands have a socket, or may have one as soon as the disk keeps what they wait for.
+    pub(crate) fn moving(&self) -> usize {
+        (self.hosts.open() as usize).saturating_add(self.unkept.len())
+    }
+
     /// One waits for its host. Where that has no address, or memory is refused, nothing comes of it.
     pub(crate) fn enlist(&mut self, key: usize, socket: Option<String>) {
         let is_listed = match socket {
