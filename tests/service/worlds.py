@@ -32,6 +32,8 @@ EMPTY, AT_ONCE = 3000, 100
 PEERS, NUDGES, NUDGERS = 500, 2, 5
 # Members that never answer, the hosts that they are at, and how often it is looked how late others are.
 SILENT, HOSTS, LOOKS = 1000, 16, 20
+# How many such members fall due at once, each at a host of its own.
+DUE = 800
 # How many seconds late is too late for a test, which may be busy: 0.1 are wanted.
 LATE = 3
 # The part of a processor that is too much for a service which has nothing to do.
@@ -402,10 +404,10 @@ def test_polls_of_callbacks_that_are_woken_for_nothing(setting):
         return f"{counts['nudges']} urgent bytes, {wakes(service) - before} wakes, {others} actions meanwhile"
 
 
-def never_answering(stack):
+def never_answering(stack, hosts):
     """A listener on each of some hosts, at which connections wait for ever."""
-    for place in range(HOSTS):
-        listener = stack.enter_context(socket.create_server((f"127.0.0.{place + 2}", 0), backlog=SILENT))
+    for place in range(hosts):
+        listener = stack.enter_context(socket.create_server((f"127.0.{place // 250}.{place % 250 + 2}", 0), backlog=SILENT))
         yield "http://{}:{}/u".format(*listener.getsockname())
 
 
@@ -425,18 +427,35 @@ def lateness_of_limits(path):
     return [it.moment - ends[it.fields[0]] for it in entries if it.deed == "cancel" and it.fields[1] == "limit"]
 
 
+def asked(setting):
+    """The members that have been asked."""
+    return {it.fields[1] for it in journal.entries(setting.journal) if it.deed == "ask"}
+
+
 def test_a_thousand_silent_members_hold_up_nobody(setting):
     with setting.serve(4) as service, Participant() as member, service.client() as client, contextlib.ExitStack() as open_ones:
         room_for(service, SILENT)
-        silent = list(never_answering(open_ones))
+        silent = list(never_answering(open_ones, HOSTS))
         for place in range(SILENT):
             cancelled(client, silent[place % HOSTS])
         limits = [client.start(limit=500) for _ in range(LOOKS)]
         late = [called_after(client, member, f"c{place}") for place in range(LOOKS)]
         wait_until("the limits", lambda: all(client.status(action) == "Cancelled" for action in limits))
         passed = lateness_of_limits(setting.journal)
-        asked = {it.fields[1] for it in journal.entries(setting.journal) if it.deed == "ask"}
-        check(f"only {len(asked)} members are asked", len(asked) >= SILENT)
+        check(f"only {len(asked(setting))} members are asked", len(asked(setting)) >= SILENT)
         check(f"a member is called after {max(late):.2f} s", max(late) < LATE)
         check(f"a limit is {max(passed)} ms late", len(passed) == LOOKS and 0 <= min(passed) and max(passed) < 1000 * LATE)
         return f"a good member is called after {1000 * max(late):.0f} ms at most, a limit fires {max(passed)} ms late at most"
+
+
+def test_silent_members_that_fall_due_at_once_hold_up_nobody(setting):
+    with setting.serve(4) as service, Participant() as member, service.client() as client, contextlib.ExitStack() as open_ones:
+        room_for(service, DUE)
+        action = client.start()
+        for uri in never_answering(open_ones, DUE):
+            client.join(action, compensate=uri)
+        client.end(action, "cancel")
+        wait_until("the asks", lambda: len(asked(setting)) == DUE)
+        late = [called_after(client, member, f"c{place}") for place in range(LOOKS)]
+        check(f"a member is called after {max(late):.2f} s", max(late) < LATE)
+        return f"a good member is called after {1000 * max(late):.0f} ms at most"
