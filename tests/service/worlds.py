@@ -289,15 +289,16 @@ def test_files_that_are_used_up_and_free_again(setting):
         streams = [open_ones.enter_context(service.connect()) for _ in range(MORE)]
         for stream in streams:
             stream.sendall(UNKNOWN)
+        wait_until("replies", lambda: sum(is_ready(stream, 0) for stream in streams) > FILES / 2)
         time.sleep(0.5)
-        first = [stream for stream in streams if is_ready(stream, 0)]
-        others = [stream for stream in streams if stream not in first]
-        check(f"{len(first)} of {MORE} are answered with {FILES} files", FILES / 2 < len(first) < FILES)
         equal("a close", client.end(action, "cancel"), "Cancelling")
         spent = share(service, 3)
         check(f"it takes {spent:.2f} of a processor", spent < MUCH)
         equal("a status", client.status(action), "Cancelling")
-        check("there are files left", not any(is_ready(stream, 0) for stream in others) and not member.requests)
+        equal("requests to the member", len(member.requests), 0)
+        first = [stream for stream in streams if is_ready(stream, 0)]
+        others = [stream for stream in streams if stream not in first]
+        check(f"{len(first)} of {MORE} are answered with {FILES} files", len(first) < FILES)
         for stream in first:
             one_reply(stream)
             stream.close()
