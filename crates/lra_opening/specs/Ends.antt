@@ -3,7 +3,9 @@ use Rattle.std.specs.Prelude.{◌≡◌, ◌⊎◌, ℕ, List, [], ◌∷◌, co
 use Rattle.std.specs.Io.KnownBytes.{Appends}
 use Rattle.lra_office.specs.Wholes.{whole_lines}
 use Rattle.lra_reports.specs.declared.fault.RunFault.TheVariants.{Read, Write, TooLong, Memory, Line}
-use Rattle.lra_reports.specs.Report.{joined, line_feed, ReportsAudit}
+use Rattle.lra_auditor.specs.declared.verdict.Verdict.{Verdict}
+use Rattle.lra_auditor.specs.Verdicts.{IsVerdict}
+use Rattle.lra_reports.specs.Report.{joined, line_feed, status_of, ReportsAudit}
 use Rattle.lra_opening.specs.declared.fault.ServeFault.{ServeFault}
 use Rattle.lra_opening.specs.declared.fault.ServeFault.TheVariants.{Run, File, Address}
 
@@ -25,6 +27,12 @@ IsSaid address before after (Run Memory) = SaysAtMost address before after
 IsSaid address before after Address = SaysAtMost address before after
 IsSaid address before after (Run Write) = ⊤
 IsSaid address before after (Run (Line number)) = ⊥
+
+-- an audit finds these lines of a journal sound
+pub record IsFoundSound (lines : List ℕ) : Type 0 where
+  pub verdict : Verdict
+  pub right : IsVerdict lines verdict
+  pub sound : status_of verdict ≡ 0
 
 -- what has gone out where a journal isn't served: its audit's report, which finds the whole lines of what was read unsound; and what was read
 -- is what was found where it is kept, if that is known

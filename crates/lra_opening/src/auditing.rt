@@ -1,8 +1,10 @@
 //! The audit of what was found where a journal is kept.
 
-ghost use Rattle.std.specs.Prelude.{◌≡◌, ◌≢◌, ℕ, List, Option, Ok, None, IfSome, IfOk, IfErr};
+ghost use Rattle.std.specs.Prelude.{◌≡◌, ◌≢◌, ◌⊎◌, ℕ, List, [], Option, Ok, None, IfSome, IfOk, IfErr};
+ghost use Rattle.lra_office.specs.Wholes.{whole_lines};
 ghost use Rattle.lra_reports.specs.Report.{ReportsAudit};
-ghost use Rattle.lra_opening.specs.Ends.{IsSaid, IsRefused};
+ghost use Rattle.lra_opening.specs.Ends.{IsFoundSound, IsSaid, IsRefused};
+ghost use Rattle.lra_opening.specs.Faults.{IsOfRun};
 
 use crate::fault::ServeFault;
 use lra_journal::whole;
@@ -14,8 +16,10 @@ use std::io::Write;
 /// answer is the program's status.
 fn audit_front<W: Write>(alloc: Global, front: &[u8], writer: &mut W) -> Result<u8, ServeFault>
     ensures sound { result ≡ Ok 0 → W.contents writer.new ≡ W.contents writer.old }
+    ensures audited { result ≡ Ok 0 → IsFoundSound front.now }
     ensures unsound { IfOk result (λ status. status ≢ 0 → ReportsAudit front.now status (W.contents writer.old) (W.contents writer.new)) }
     ensures fault { (address : List ℕ) → IfErr result (IsSaid address (W.contents writer.old) (W.contents writer.new)) }
+    ensures of_run { IfErr result IsOfRun }
 {
     let mut report = Vec::new(alloc);
     match audit_run(alloc, front, &mut report) {
@@ -38,9 +42,12 @@ pub fn refuse<W: Write>(
     writer: &mut W,
 ) -> Option<Result<u8, ServeFault>>
     ensures sound { result ≡ None → W.contents writer.new ≡ W.contents writer.old }
+    // Nothing is passed over: what can be served is no journal yet, or one whose whole lines an audit finds sound.
+    ensures audited { result ≡ None → (journal.now ≡ []) ⊎ IsFoundSound (whole_lines journal.now) }
     ensures unsound { (found : Option (List ℕ)) → IfSome found (λ had. journal.now ≡ had)
         → IfSome result (λ told. IfOk told (IsRefused found (W.contents writer.old) (W.contents writer.new))) }
     ensures fault { (address : List ℕ) → IfSome result (λ told. IfErr told (IsSaid address (W.contents writer.old) (W.contents writer.new))) }
+    ensures of_run { IfSome result (λ told. IfErr told IsOfRun) }
 {
     if journal.is_empty() {
         return None;

@@ -1,7 +1,7 @@
 //! Why nothing is served.
 
 ghost use Rattle.std.specs.Prelude.{◌≡◌, IfOk, string_bytes};
-ghost use Rattle.lra_opening.specs.Faults.{fault_line, IsOfNoScript};
+ghost use Rattle.lra_opening.specs.Faults.{fault_line, enrol_fault, IsOfNoScript};
 
 use lra_commands::Refusal;
 use lra_model::Memory;
@@ -62,7 +62,8 @@ impl<T: Drop> From<AllocFailed<T>> for ServeFault {
 
 /// Why nothing is served, where that is what keeps a clerk from being enrolled.
 pub fn enrol_fault(refusal: OfficeRefusal) -> ServeFault
-    ensures { IsOfNoScript result }
+    ensures fault { result ≡ enrol_fault refusal }
+    ensures other { IsOfNoScript result }
 {
     match refusal {
         OfficeRefusal::Refused(Refusal::Memory) => ServeFault::Run(RunFault::Memory),
