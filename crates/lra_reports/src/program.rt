@@ -1,5 +1,7 @@
 //! What a program does on a system: it takes its words, answers a question by its status, and tells faults on standard error.
 
+ghost use Rattle.std.specs.Prelude.{◌≡◌, IfOk, IfErr};
+
 use crate::dispatch::{Sources, run};
 use crate::errors::{error_line, input_name};
 use crate::fault::RunFault;
@@ -34,7 +36,9 @@ impl<R: Files + Input> Sources for System<'_, R> {
 }
 
 /// Prints the line of a fault on standard error, or that there was no memory for it. The answer is the program's status.
-pub fn tell<R: Eprint>(rt: &R, line: Result<String, AllocError>) -> u8 {
+pub fn tell<R: Eprint>(rt: &R, line: Result<String, AllocError>) -> u8
+    ensures { result ≡ FAULT }
+{
     let _ = match line {
         Ok(line) => eprint!(rt; "{line}"),
         Err(_) => eprintln!(rt; "lra: out of memory"),
@@ -43,13 +47,18 @@ pub fn tell<R: Eprint>(rt: &R, line: Result<String, AllocError>) -> u8 {
 }
 
 /// Tells that the words of the command line ask for nothing. The answer is the program's status.
-pub fn tell_usage<R: Eprint>(rt: &R) -> u8 {
+pub fn tell_usage<R: Eprint>(rt: &R) -> u8
+    ensures { result ≡ FAULT }
+{
     let _ = eprintln!(rt; "lra: usage");
     FAULT
 }
 
 /// The status of a run on this input: what it answered, or that of its fault, which is told.
-pub fn settle<R: AllocGlobal + Eprint>(rt: &R, outcome: Result<u8, RunFault>, input: &str) -> u8 {
+pub fn settle<R: AllocGlobal + Eprint>(rt: &R, outcome: Result<u8, RunFault>, input: &str) -> u8
+    ensures answered { IfOk outcome (λ status. result ≡ status) }
+    ensures fault { IfErr outcome (λ _. result ≡ FAULT) }
+{
     match outcome {
         Ok(status) => status,
         Err(fault) => tell(rt, error_line(rt.alloc(), fault, input)),
@@ -84,7 +93,9 @@ pub fn answer_question<R: AllocGlobal + Files + Input + Print + Eprint>(
 }
 
 /// The words of the command line, without the program's own name; or the program's status where they can't be had, which is told.
-pub fn words_of<R: AllocGlobal + Env + Eprint>(rt: &R) -> Result<Vec<String>, u8> {
+pub fn words_of<R: AllocGlobal + Env + Eprint>(rt: &R) -> Result<Vec<String>, u8>
+    ensures { IfErr result (λ status. status ≡ FAULT) }
+{
     match read_words(rt) {
         Ok(words) => Ok(words),
         Err(error) if error.kind() == io::ErrorKind::OutOfMemory => {
