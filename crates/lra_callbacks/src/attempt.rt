@@ -1,6 +1,6 @@
 //! An errand from when it is taken until something has come of it.
 
-ghost use Rattle.std.specs.Prelude.{◌≡◌, Some, IfSome, IsTrue, option_map};
+ghost use Rattle.std.specs.Prelude.{◌≡◌, Some, None, IfSome, IsTrue, option_map};
 ghost use Rattle.std.specs.Option.{ForSome};
 ghost use Rattle.lra_durable.specs.Leaves.{MayLeave};
 ghost use Rattle.lra_callbacks.specs.Outcomes.{IsFor, MayCome};
@@ -146,7 +146,8 @@ impl<D: Disk> Attempt<D> {
 
     /// Moves bytes between the callback and its stream.
     pub(crate) fn pump<S: Read + Write>(&mut self, stream: &mut S, buffer: &mut [u8]) -> Moved
-        ensures { self.new.errand ≡ self.old.errand }
+        ensures errand { self.new.errand ≡ self.old.errand }
+        ensures leave { self.old.flight ≡ None → stream.new ≡ stream.old }
     {
         match &mut self.flight {
             Some(flight) => pump(&mut flight.carrying, stream, buffer),

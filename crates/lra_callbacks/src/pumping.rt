@@ -1,6 +1,6 @@
 //! The bytes of one callback.
 
-ghost use Rattle.lra_callbacks.specs.inner.Attempts.{IsOfSame};
+ghost use Rattle.lra_callbacks.specs.inner.Attempts.{IsOfSame, HandsOut};
 
 use lra_carrying::{Carrying, Step};
 use std::io::{ErrorKind, Read, Write};
@@ -19,7 +19,8 @@ pub(crate) enum Moved {
 
 /// Hands bytes of the request to a stream, and tells whether it may take more now.
 fn hand_out<S: Write>(carrying: &mut Carrying, stream: &mut S) -> bool
-    ensures { IsOfSame carrying.old carrying.new }
+    ensures same { IsOfSame carrying.old carrying.new }
+    ensures out { HandsOut carrying.old carrying.new (S.contents stream.old) (S.contents stream.new) }
 {
     match stream.write(carrying.out()) {
         Ok(0) => carrying.failed(),

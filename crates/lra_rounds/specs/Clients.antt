@@ -8,12 +8,12 @@ use Rattle.lra_rounds.specs.declared.client.Reading.TheVariants.{Came, Waits as 
 use Rattle.lra_rounds.specs.declared.client.Handing.{Handing}
 use Rattle.lra_rounds.specs.declared.client.Handing.TheVariants.{Went, Waits, Unkept, Done}
 
--- The bytes that came were taken, all and in order; or none came yet; or the stream has ended, and no more will come.
+-- The bytes that came were taken, all and in order; or none came yet; or the stream has ended, and no more will come. No byte is lost.
 abbrev pub Reads : Option (List ℕ) → Option (List ℕ) → History → History → Reading → Type 0
 Reads before after old new Came = (bytes : List ℕ) × Consumes before after bytes × (new ≡ took old bytes)
 Reads before after old new WaitsForBytes = Keeps before after × (new ≡ old)
-Reads before after old new Ended = IsAtEnd after × (new ≡ finished old)
-Reads before after old new Full = new ≡ old
+Reads before after old new Ended = IsAtEnd after × Keeps before after × (new ≡ finished old)
+Reads before after old new Full = Keeps before after × (new ≡ old)
 
 -- a front of the bytes that may be handed out left, while the disk kept what was due
 pub record Leaves (took keeps : ℕ → Bool) (due : Option ℕ) (before after : Option (List ℕ)) (old new : History) : Type 0 where
@@ -27,9 +27,9 @@ pub record Leaves (took keeps : ℕ → Bool) (due : Option ℕ) (before after :
   pub wrote : Appends before after (take count old.out)
   pub gone : new ≡ went old count
 
--- some bytes left so; or none, and the connection is as it was
+-- some bytes left so; or none, and the stream and the connection are as they were
 abbrev pub HandsOut : (ℕ → Bool) → (ℕ → Bool) → Option ℕ → Option (List ℕ) → Option (List ℕ) → History → History → Handing → Type 0
 HandsOut took keeps due before after old new Went = Leaves took keeps due before after old new
-HandsOut took keeps due before after old new Waits = new ≡ old
-HandsOut took keeps due before after old new Unkept = new ≡ old
-HandsOut took keeps due before after old new Done = (old.out ≡ []) × (new ≡ old)
+HandsOut took keeps due before after old new Waits = Keeps before after × (new ≡ old)
+HandsOut took keeps due before after old new Unkept = Keeps before after × (new ≡ old)
+HandsOut took keeps due before after old new Done = (old.out ≡ []) × Keeps before after × (new ≡ old)

@@ -1,6 +1,7 @@
 //! A client: its stream, its connection, and what has to be kept before a reply leaves.
 
-ghost use Rattle.std.specs.Prelude.{◌≡◌, ◌⊎◌, ◌↔◌, ◌≤◌, [], length, None, option_map, IfOk, IsSomeAnd, IsTrue};
+ghost use Rattle.std.specs.Prelude.{◌≡◌, ◌⊎◌, ◌↔◌, ◌≤◌, [], length, None, option_map, IfOk, OnErr, IsSomeAnd, IsTrue};
+ghost use Rattle.std.specs.Io.KnownBytes.{Keeps};
 ghost use Rattle.lra_steps.specs.History.{begun, room_of, took};
 ghost use Rattle.lra_rounds.specs.Answered.{AnswersOf, Asks};
 ghost use Rattle.lra_rounds.specs.Clients.{Reads, HandsOut};
@@ -171,6 +172,7 @@ impl<S: Write, D: Disk, P: WhichCoordinator, C: Counter> Client<S, D, P, C> {
         progress: &Progress<D>,
     ) -> Result<Handing, ClientFault>
         ensures handed { IfOk result (HandsOut D.took D.keeps (option_map (λ n. n.due) self.old.noted) (S.contents self.old.stream) (S.contents self.new.stream) self.old.connection self.new.connection) }
+        ensures failed { OnErr result (Keeps (S.contents self.old.stream) (S.contents self.new.stream)) }
         ensures due { self.new.noted ≡ self.old.noted }
     {
         if self.connection.out().is_empty() {

@@ -1,0 +1,17 @@
+-- Streams of which no byte was taken, and to which none was written.
+use Rattle.std.proofs.Common.{◌≡◌, ℕ, List, [], ◌++◌, append-nil, Option, Some, None, sym, refl, subst, ◌∙◌}
+use Rattle.std.specs.Io.KnownBytes.{Keeps, Appends, Consumes}
+
+pub keeps_same : (k : Option (List ℕ)) → Keeps k k
+keeps_same None = tt
+keeps_same (Some xs) = refl
+
+pub keeps_none_written : (k l : Option (List ℕ)) → Appends k l [] → Keeps k l
+keeps_none_written None l h = tt
+keeps_none_written (Some xs) None h = h
+keeps_none_written (Some xs) (Some ys) h = h ∙ append-nil xs
+
+pub keeps_none_read : (k l : Option (List ℕ)) → Consumes k l [] → Keeps k l
+keeps_none_read None l h = tt
+keeps_none_read (Some xs) None h = h
+keeps_none_read (Some xs) (Some ys) h = sym h
