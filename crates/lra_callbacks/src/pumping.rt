@@ -1,6 +1,6 @@
 //! The bytes of one callback.
 
-ghost use Rattle.lra_callbacks.specs.inner.Attempts.{IsOfSame, HandsOut};
+ghost use Rattle.lra_callbacks.specs.inner.Attempts.{IsOfSame, HandsOut, TakesIn};
 
 use lra_carrying::{Carrying, Step};
 use std::io::{ErrorKind, Read, Write};
@@ -36,7 +36,8 @@ fn hand_out<S: Write>(carrying: &mut Carrying, stream: &mut S) -> bool
 
 /// Takes bytes of the response from a stream, and tells whether it may have more now.
 fn take_in<S: Read>(carrying: &mut Carrying, stream: &mut S, buffer: &mut [u8]) -> bool
-    ensures { IsOfSame carrying.old carrying.new }
+    ensures same { IsOfSame carrying.old carrying.new }
+    ensures taken { TakesIn carrying.old carrying.new (S.remaining stream.old) (S.remaining stream.new) }
 {
     let room = carrying.room().min(buffer.len());
     match stream.read(&mut buffer[..room]) {
