@@ -4,6 +4,7 @@ ghost use Rattle.std.specs.Prelude.{◌≡◌, Some, None, IfSome, IsTrue, optio
 ghost use Rattle.std.specs.Option.{ForSome};
 ghost use Rattle.lra_durable.specs.Leaves.{MayLeave};
 ghost use Rattle.lra_callbacks.specs.Outcomes.{IsFor, MayCome};
+ghost use Rattle.lra_callbacks.specs.inner.Attempts.{outcome_of};
 
 use crate::pumping::{Moved, pump};
 use lra_carrying::Carrying;
@@ -157,7 +158,8 @@ impl<D: Disk> Attempt<D> {
 
     /// What has come of the callback: silence, where nothing has.
     fn outcome(&self) -> Outcome
-        ensures { IfSome self.now.errand (λ e. MayCome D.took D.keeps e.ask e.kind result) }
+        ensures may { IfSome self.now.errand (λ e. MayCome D.took D.keeps e.ask e.kind result) }
+        ensures told { ForSome self.now.flight (λ f. result ≡ outcome_of f.carrying) }
     {
         let Some(flight) = &self.flight else {
             return Outcome::Silent;
@@ -170,6 +172,7 @@ impl<D: Disk> Attempt<D> {
     pub(crate) fn finish(self) -> Option<(Errand, Outcome)>
         ensures errand { option_map (λ came. came.0) result ≡ self.errand }
         ensures came { IfSome result (λ came. MayCome D.took D.keeps came.0.ask came.0.kind came.1) }
+        ensures told { IfSome result (λ came. ForSome self.flight (λ f. came.1 ≡ outcome_of f.carrying)) }
     {
         let outcome = self.outcome();
         let Attempt { errand, .. } = self;

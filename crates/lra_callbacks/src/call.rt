@@ -1,7 +1,9 @@
 //! An errand with its socket.
 
 ghost use Rattle.std.specs.Prelude.{◌≡◌, Some, IfSome, option_map};
+ghost use Rattle.std.specs.Option.{ForSome};
 ghost use Rattle.lra_callbacks.specs.Outcomes.{MayCome};
+ghost use Rattle.lra_callbacks.specs.inner.Attempts.{outcome_of};
 
 use crate::attempt::{Attempt, Leave};
 use crate::pumping::Moved;
@@ -80,6 +82,7 @@ impl<D: Disk> Call<D> {
     pub(crate) fn finish(self) -> Option<(Errand, Outcome)>
         ensures errand { option_map (λ came. came.0) result ≡ self.attempt.errand }
         ensures came { IfSome result (λ came. MayCome D.took D.keeps came.0.ask came.0.kind came.1) }
+        ensures told { IfSome result (λ came. ForSome self.attempt.flight (λ f. came.1 ≡ outcome_of f.carrying)) }
     {
         let Call { attempt, .. } = self;
         attempt.finish()

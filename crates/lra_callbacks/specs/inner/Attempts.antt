@@ -1,6 +1,9 @@
 -- What moving bytes keeps of a callback.
-use Rattle.std.specs.Prelude.{◌≡◌, ◌⊎◌, ℕ, ◌+◌, List, ◌++◌, take, drop, Option}
+use Rattle.std.specs.Prelude.{◌≡◌, ◌⊎◌, ℕ, ◌+◌, List, ◌++◌, take, drop, Option, option_map, unwrap_or}
+use Rattle.std.specs.Result.{result_unwrap_or}
 use Rattle.std.specs.Io.KnownBytes.{Appends, Consumes}
+use Rattle.lra_model.specs.declared.asks.Outcome.{Outcome}
+use Rattle.lra_model.specs.declared.asks.Outcome.TheVariants.{Silent}
 use Rattle.lra_carrying.specs.Carried.{Carried}
 
 -- it is the same member that is asked the same
@@ -16,3 +19,7 @@ HandsOut old new before after = (count : ℕ) × (new.gone ≡ old.gone + count)
 -- what is taken of a response is just what a stream gave; where memory is refused for it, nothing is
 abbrev pub TakesIn : Carried → Carried → Option (List ℕ) → Option (List ℕ) → Type 0
 TakesIn old new before after = (bytes : List ℕ) × Consumes before after bytes × ((new.taken ≡ old.taken ++ bytes) ⊎ (new.taken ≡ old.taken))
+
+-- what a callback came to is what is told of it, and silence where it came to nothing
+abbrev pub outcome_of : Carried → Outcome
+outcome_of c = unwrap_or (option_map (λ told. result_unwrap_or told Silent) c.came) Silent
