@@ -34,19 +34,6 @@ value_of s CallbackTimeout = s.callback_seconds
 value_of s RetryFirst = s.retry_first_ms
 value_of s RetryLast = s.retry_last_ms
 
--- the settings, but for one parameter, which is so much
-abbrev pub changed : Settings → Parameter → ℕ → Settings
-changed s Connections n = record s { connections = n }
-changed s Callbacks n = record s { callbacks = n }
-changed s HostShare n = record s { host_share = n }
-changed s IdleTimeout n = record s { idle_seconds = n }
-changed s RequestTimeout n = record s { request_seconds = n }
-changed s ReplyTimeout n = record s { reply_seconds = n }
-changed s ConnectTimeout n = record s { connect_seconds = n }
-changed s CallbackTimeout n = record s { callback_seconds = n }
-changed s RetryFirst n = record s { retry_first_ms = n }
-changed s RetryLast n = record s { retry_last_ms = n }
-
 -- each parameter may be what it is
 abbrev pub are_in_range : Settings → Bool
 are_in_range s =

@@ -1,7 +1,7 @@
 //! All settings.
 
 ghost use Rattle.std.specs.Prelude.{◌≡◌};
-ghost use Rattle.lra_settings.specs.Settings.{usual, value_of, changed, are_in_range, are_fit};
+ghost use Rattle.lra_settings.specs.Settings.{usual, value_of, are_in_range, are_fit};
 
 use crate::parameter::Parameter;
 
@@ -68,26 +68,6 @@ impl Settings {
             Parameter::RetryFirst => self.retry_first_ms,
             Parameter::RetryLast => self.retry_last_ms,
         }
-    }
-
-    /// These, but for one parameter, which is so much.
-    pub fn with(self, parameter: Parameter, value: u64) -> Settings
-        ensures { result ≡ changed self parameter value }
-    {
-        let mut settings = self;
-        match parameter {
-            Parameter::Connections => settings.connections = value,
-            Parameter::Callbacks => settings.callbacks = value,
-            Parameter::HostShare => settings.host_share = value,
-            Parameter::IdleTimeout => settings.idle_seconds = value,
-            Parameter::RequestTimeout => settings.request_seconds = value,
-            Parameter::ReplyTimeout => settings.reply_seconds = value,
-            Parameter::ConnectTimeout => settings.connect_seconds = value,
-            Parameter::CallbackTimeout => settings.callback_seconds = value,
-            Parameter::RetryFirst => settings.retry_first_ms = value,
-            Parameter::RetryLast => settings.retry_last_ms = value,
-        }
-        settings
     }
 
     /// Whether each parameter may be what it is.
