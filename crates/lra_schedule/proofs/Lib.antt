@@ -1,3 +1,4 @@
 pub mod Found
 pub mod Firsts
+pub mod FirstMoment
 pub mod Renewed

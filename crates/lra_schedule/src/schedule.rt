@@ -1,13 +1,13 @@
 //! The moments at which a coordinator acts by itself.
 
-ghost use Rattle.std.specs.Prelude.{◌≡◌, ◌+◌, ◌≤◌, ◌<◌, [], OnOk, OnErr, IsOk, length};
+ghost use Rattle.std.specs.Prelude.{◌≡◌, ◌+◌, ◌≤◌, ◌<◌, ◌||◌, ℕ, Bool, [], OnOk, OnErr, IsOk, is_some, length};
 ghost use Rattle.std.specs.List.{range_with_len};
 ghost use Rattle.lra_model.specs.History.{History};
 ghost use Rattle.lra_laws.specs.Sheets.{StandsFor};
 ghost use Rattle.lra_tables.specs.Plans.{CoversWants, CoversLimits};
 ghost use Rattle.lra_commands.specs.declared.limits.Limits.{Limits as LimitsValue};
 ghost use Rattle.lra_commands.specs.Due.{due, late};
-ghost use Rattle.lra_schedule.specs.Schedules.{IsScheduleOf};
+ghost use Rattle.lra_schedule.specs.Schedules.{IsScheduleOf, IsFirst, IsFirstMoment};
 ghost use Rattle.lra_schedule.specs.inner.Renewals.{renew, AreRenewed, retry_in, limit_in};
 
 use crate::moments::{limit_of, retry_of};
@@ -31,6 +31,19 @@ impl Model for Schedule {
     ghost coded = { planned_code };
 
     ghost view = { λ s. s.agenda };
+}
+
+/// The earlier of two moments, where there are any.
+fn earlier(one: Option<u64>, other: Option<u64>) -> Option<u64>
+    ensures { (f g : ℕ → Bool) → IsFirst f one → IsFirst g other → IsFirst (λ n. f n || g n) result }
+{
+    let Some(first) = one else {
+        return other;
+    };
+    match other {
+        Some(second) => Some(first.min(second)),
+        None => Some(first),
+    }
 }
 
 impl Schedule {
@@ -65,6 +78,33 @@ impl Schedule {
         ensures { (l : LimitsValue) (J : History) → IsScheduleOf l self.now J → result ≡ late J now }
     {
         self.agenda.first_due(now)
+    }
+
+    /// The first moment at which a want is due.
+    fn first_want(&self, limits: &Limits, tables: &Tables) -> Option<u64>
+        ensures { (J : History) → IsScheduleOf limits.now self.now J → StandsFor tables.now.sheet J → IsFirst (λ n. is_some (due limits.now J n)) result }
+    {
+        match self.agenda.next_retry(u64::MAX) {
+            Some(member) => retry_of(limits, tables, member),
+            None => None,
+        }
+    }
+
+    /// The first moment at which a limit has passed.
+    fn first_limit(&self, tables: &Tables) -> Option<u64>
+        ensures { (l : LimitsValue) (J : History) → IsScheduleOf l self.now J → StandsFor tables.now.sheet J → IsFirst (λ n. is_some (late J n)) result }
+    {
+        match self.agenda.first_due(u64::MAX) {
+            Some(action) => limit_of(tables, action),
+            None => None,
+        }
+    }
+
+    /// The first moment at which a want is due or a limit has passed, by the same limits as before: one that has come lies back. Where there is none, neither ever is.
+    pub fn next(&self, limits: &Limits, tables: &Tables) -> Option<u64>
+        ensures { (J : History) → IsScheduleOf limits.now self.now J → StandsFor tables.now.sheet J → IsFirstMoment limits.now J result }
+    {
+        earlier(self.first_want(limits, tables), self.first_limit(tables))
     }
 
     fn put_retry(&mut self, member: u64, moment: Option<u64>)
