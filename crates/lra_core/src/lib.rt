@@ -9,11 +9,12 @@ mod errand;
 mod laws;
 mod making;
 mod opening;
+mod past;
 mod queries;
 
 pub use bench::Bench;
 pub use block::{Block, Committed, Prepared};
-pub use coordinator::Coordinator;
+pub use coordinator::{Coordinator, CoordinatorOf};
 pub use errand::{Command, Errand, Request};
 pub use laws::{
     asks_are_answered_once, blocks_fit_once, commands_make_sound_texts, errands_are_of_asks,
@@ -25,3 +26,4 @@ pub use lra_commands::{
 pub use lra_ids::{Address, Instance};
 pub use lra_model::{Memory, Rule, Version};
 pub use opening::OpenFault;
+pub use past::{Counted, Kept, Past};

@@ -5,18 +5,28 @@ ghost use Rattle.lra_commands.specs.Calls.{Call};
 ghost use Rattle.lra_commands.specs.Answers.{answer};
 ghost use Rattle.lra_commands.specs.Queries.{asks, answer_as, tell};
 ghost use Rattle.lra_commands.specs.Counters.{terms_of};
+ghost use Rattle.lra_schedule.specs.Schedules.{IsFirstMoment};
 
-use crate::coordinator::Coordinator;
+use crate::coordinator::CoordinatorOf;
+use crate::past::Past;
 use lra_commands::{Known, Query, Refusal, Told};
 use lra_judge::tell;
 
-impl Coordinator {
+impl<P: Past> CoordinatorOf<P> {
     /// What a query is told of the history, whoever asks and whenever. This changes nothing and takes no memory, and neither limits
     /// nor a journal that can't be written refuse it: `NoSuchAction` and `NoSuchMember` alone do.
     pub fn query(&self, query: Query) -> Result<Known, Refusal>
         ensures { result ≡ tell self.now.setting.limits self.now.history query }
     {
         tell(&self.terms.limits, &self.tables, query)
+    }
+
+    /// The first moment at which a want is due or a limit has passed, in milliseconds, where there is any: one that has come lies back. A command comes no earlier
+    /// than the last entry, so what isn't due yet at a moment may be so at once. This changes nothing and takes no memory.
+    pub fn next_moment(&self) -> Option<u64>
+        ensures { IsFirstMoment self.now.setting.limits self.now.history result }
+    {
+        self.schedule.next(&self.terms.limits, &self.tables)
     }
 
     /// What a clerk's command is told that only asks.

@@ -1,6 +1,6 @@
 -- A command under the lock: what the one that gave it knows afterwards.
 use Rattle.std.specs.Prelude.{◌==◌}
-use Rattle.std.proofs.Common.{◌≡◌, ℕ, Bool, true, false, cond, eqb-true, List, [], ◌++◌, Ok, Err, Result, refl, sym, ap, ◌∙◌, subst, append-nil}
+use Rattle.std.proofs.Common.{◌≡◌, ℕ, Bool, true, false, cond, eqb-true, List, [], ◌++◌, Option, Ok, Err, Result, refl, sym, ap, ◌∙◌, subst, append-nil}
 use mathlib.Core.List.{IsPrefix}
 use Rattle.lra_model.specs.declared.entry.Entry.{Entry}
 use Rattle.lra_model.specs.History.{History}
@@ -17,12 +17,13 @@ use Rattle.lra_commands.specs.Calls.{Command, Call}
 use Rattle.lra_commands.specs.Answers.{growth}
 use Rattle.lra_commands.specs.Counters.{Setting, terms_of}
 use Rattle.lra_commands.specs.Queries.{tell}
+use Rattle.lra_schedule.specs.Schedules.{IsFirstMoment}
 use Rattle.lra_core.specs.declared.block.Committed.{Committed}
 use Rattle.lra_office.specs.declared.fault.OfficeRefusal.TheVariants.{Refused}
 use Rattle.lra_office.specs.Serves.{IsServed, IsDone, IsKeptBy}
 use Rattle.lra_office.specs.Stops.{HasStopped}
 use Rattle.lra_office.specs.inner.Given.{IsNumberOf}
-use Rattle.lra_office.specs.Orders.{IsMet, grown_view, met_view, IsGrown, IsAnswered, IsNotGiven}
+use Rattle.lra_office.specs.Orders.{IsMet, grown_view, met_view, IsGrown, IsAnswered, IsForetold, IsNotGiven}
 use Rattle.lra_office.proofs.Written.{add_nothing, add_served}
 
 -- a call only adds to the history
@@ -93,8 +94,17 @@ extends_same v w J h = ([], append-nil w.seen ∙ ap (λ (u : View _). u.seen) h
 pub may_add_nothing : {O : Type 0} (v w : View O) (J : History) → HasTaken v J w → MayAdd w.number w.seen (block_after w.seen J)
 may_add_nothing v w J h = subst (λ (u : View _). MayAdd u.number u.seen (block_after u.seen J)) (sym h.2) (add_nothing v.number J)
 
+-- the lock was given back as it was taken
+unchanged : {O : Type 0} (v w u : View O) (J : History) → HasTaken v J w → u ≡ given w J → u ≡ met_view v J
+unchanged v w u J h e = given_after v w u J J [] h e (sym (append-nil J)) ∙ nothing_added v J
+
 -- it was answered
 pub answered : {O : Type 0} (set : O → Setting) (v w u : View O) (o : O) (J : History) (q : Query) (r : Result Known Refusal) → o ≡ v.origin → IsMet (set o) v J → HasTaken v J w → r ≡ tell (set o).limits J q → u ≡ given w J
     → IsAnswered (set v.origin) v q r u
 answered set v w u o J q r same met h s e =
-    subst (λ x. IsAnswered (set x) v q r u) same (record { history = J; met = met; told = s; after = given_after v w u J J [] h e (sym (append-nil J)) ∙ nothing_added v J })
+    subst (λ x. IsAnswered (set x) v q r u) same (record { history = J; met = met; told = s; after = unchanged v w u J h e })
+
+-- the first moment was told
+pub foretold : {O : Type 0} (set : O → Setting) (v w u : View O) (o : O) (J : History) (next : Option ℕ) → o ≡ v.origin → IsMet (set o) v J → HasTaken v J w → IsFirstMoment (set o).limits J next → u ≡ given w J
+    → IsForetold (set v.origin) v next u
+foretold set v w u o J next same met h s e = subst (λ x. IsForetold (set x) v next u) same (record { history = J; met = met; told = s; after = unchanged v w u J h e })

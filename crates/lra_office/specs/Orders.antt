@@ -18,6 +18,7 @@ use Rattle.lra_commands.specs.Calls.{Call}
 use Rattle.lra_commands.specs.Answers.{growth}
 use Rattle.lra_commands.specs.Counters.{Setting, terms_of}
 use Rattle.lra_commands.specs.Queries.{tell}
+use Rattle.lra_schedule.specs.Schedules.{IsFirstMoment}
 use Rattle.lra_core.specs.Performs.{RecordsAs}
 use Rattle.lra_office.specs.declared.fault.OfficeRefusal.{OfficeRefusal}
 use Rattle.lra_office.specs.declared.fault.OfficeRefusal.TheVariants.{Refused, Worn}
@@ -62,6 +63,19 @@ abbrev pub IsQueried : {O : Type 0} → Setting → View O → Query → Result 
 IsQueried g v q (Ok k) w = IsAnswered g v q (Ok k) w
 IsQueried g v q (Err (Refused r)) w = IsAnswered g v q (Err r) w
 IsQueried g v q (Err Worn) w = w ≡ moved v (Looked last_ticket)
+
+-- the first moment at which something is due or late was told of a history that was met, and nothing was changed
+pub record IsForetold {O : Type 0} (g : Setting) (v : View O) (next : Option ℕ) (w : View O) : Type 0 where
+  pub history : History
+  pub met : IsMet g v history
+  pub told : IsFirstMoment g.limits history next
+  pub after : w ≡ met_view v history
+
+-- that moment was told, or no ticket was left
+abbrev pub IsLookedAhead : {O : Type 0} → Setting → View O → Result (Option ℕ) OfficeRefusal → View O → Type 0
+IsLookedAhead g v (Ok next) w = IsForetold g v next w
+IsLookedAhead g v (Err Worn) w = w ≡ moved v (Looked last_ticket)
+IsLookedAhead g v (Err (Refused r)) w = ⊥
 
 -- a call was refused, or the scribe has stopped, or no ticket was left
 abbrev pub IsNotGiven : {O : Type 0} → Setting → View O → Call → OfficeRefusal → View O → Type 0

@@ -13,6 +13,7 @@ pub trait Serving: Kept {
     ghost use Rattle.lra_commands.specs.declared.refusal.Refusal.TheVariants.{Stopped};
     ghost use Rattle.lra_commands.specs.Counters.{Setting};
     ghost use Rattle.lra_commands.specs.Queries.{tell};
+    ghost use Rattle.lra_schedule.specs.Schedules.{IsFirstMoment};
     ghost use Rattle.lra_office.specs.Serves.{IsServed, IsKeptBy};
 
     // What the coordinator behind an origin was made with.
@@ -33,6 +34,10 @@ pub trait Serving: Kept {
     /// What a query is told of its history.
     fn query(&self, query: Query) -> Result<Known, Refusal>
         ensures { result ≡ tell (setting (Self.origin self.now)).limits (Self.history self.now) query };
+
+    /// The first moment at which something is due or late in its history, in milliseconds, where there is any.
+    fn next_moment(&self) -> Option<u64>
+        ensures { IsFirstMoment (setting (Self.origin self.now)).limits (Self.history self.now) result };
 
     // What its laws say of its history.
     ghost tells: { (x : Self) → Self.Kept.lawful x → IsKeptBy (setting (Self.Kept.origin x)) (Self.Kept.history x) };

@@ -12,6 +12,14 @@ pub fn put_answer(answer: Result<Told, Refusal>, text: &mut Vec<u8>) -> Option<(
     }
 }
 
+/// Takes down when something is due first.
+pub fn put_next(next: Option<u64>, text: &mut Vec<u8>) -> Option<()> {
+    match next {
+        Some(moment) => writeln!(text, "at {moment}").ok(),
+        None => writeln!(text, "never").ok(),
+    }
+}
+
 /// Takes down what a query was told.
 pub fn put_known(known: Result<Known, Refusal>, text: &mut Vec<u8>) -> Option<()> {
     match known {

@@ -7,16 +7,14 @@ ghost use Rattle.std.specs.Prelude.{◌≡◌, IfSome};
 ghost use Rattle.lra_office.specs.Clerks.{IsClerkOf};
 ghost use Rattle.lra_ticket.specs.Locks.{lock_id, pass_id, pass_view};
 
-use crate::answers::{put_answer, put_known};
+use crate::answers::{put_answer, put_known, put_next};
 use crate::coordinator::base;
 use crate::errands::Errands;
 use crate::rows::{REOPENED, SCRIPTS};
 use crate::same::assert_same;
-use crate::spelling::spell_journal;
 use crate::words::{Words, asks, parted, uris};
 use lra_commands::{Order, Query};
 use lra_core::{Errand, Instance, Limits, Refusal, Told};
-use lra_journal::whole;
 use lra_model::{Outcome, suits};
 use lra_office::{Clerk, Desk, Office, OfficeOf, OfficeRefusal, ReopenFault, Serving};
 use lra_ticket::Pass;
@@ -103,6 +101,9 @@ impl<V: Serving, R: Wait> Player<'_, V, R> {
         if asks(first) {
             return self.query(words.query(first)?);
         }
+        if first == "next" {
+            return self.next_moment();
+        }
         let moment = words.number()?;
         self.give_at(moment, words)
     }
@@ -174,6 +175,14 @@ impl<V: Serving, R: Wait> Player<'_, V, R> {
     fn query(&mut self, query: Query) -> Option<()> {
         match self.office.query(self.rt, &mut self.clerk, query) {
             Ok(known) => put_known(Ok(known), self.text),
+            Err(refusal) => put(Err(refusal), self.text),
+        }
+    }
+
+    /// Asks when something is due first, and takes it down.
+    fn next_moment(&mut self) -> Option<()> {
+        match self.office.next_moment(self.rt, &mut self.clerk) {
+            Ok(next) => put_next(next, self.text),
             Err(refusal) => put(Err(refusal), self.text),
         }
     }
@@ -277,7 +286,10 @@ fn named<V: Serving, R: Wait>(
 
 /// Whether a line of a script is a command that the clerk gives, discards an errand, or only asks.
 fn is_given(line: &str) -> bool {
-    line.starts_with("1 ") || line.starts_with("discard ") || asks(parted(line, " ").0)
+    line.starts_with("1 ")
+        || line.starts_with("discard ")
+        || line.starts_with("next ")
+        || asks(parted(line, " ").0)
 }
 
 /// Adds what is to come of a script: the commands that are given, with their answers; and the journal, which is the lines that they
@@ -346,13 +358,12 @@ fn given<V: Serving, R: Wait>(mut player: Player<'_, V, R>, script: &str) -> (Of
     (office, clerk)
 }
 
-/// Adds the journal by the coordinator of an office, which is shut. It takes no memory where there is room.
-fn shut<W: Write + Drop>(office: Office<W>, clerk: Clerk<Desk<W>>, kept: &mut Vec<u8>)
+/// Shuts an office by its clerk, and lets go of what is left of it.
+fn shut<W: Write + Drop>(office: Office<W>, clerk: Clerk<Desk<W>>)
     requires { IsClerkOf office.lock clerk }
 {
     match office.shut(clerk) {
         Ok((coordinator, scribe)) => {
-            let _ = spell_journal(&coordinator, kept);
             drop(coordinator);
             drop(scribe);
         }
@@ -370,15 +381,7 @@ fn enrolment(script: &str) -> Option<u64> {
     words.number()
 }
 
-/// What comes of a script at an office, beside what its writer takes: the answers to its commands, and the journal by its
-/// coordinator.
-#[derive(Drop)]
-struct Came<'a> {
-    text: &'a mut Vec<u8>,
-    kept: &'a mut Vec<u8>,
-}
-
-/// Plays a script at an office, whose first clerk enrols at this moment.
+/// Plays a script at an office, whose first clerk enrols at this moment. The answers to its commands are added to a text.
 fn play_at<W: Write + Drop, R: Wait>(
     rt: &R,
     alloc: Global,
@@ -387,7 +390,7 @@ fn play_at<W: Write + Drop, R: Wait>(
     moment: u64,
     script: &str,
     journal: &Mutex<Vec<u8>>,
-    came: Came<'_>,
+    text: &mut Vec<u8>,
 )
     requires lock { pass_id pass ≡ lock_id office.lock }
     requires newcomer { (pass_view pass).number ≡ 0 }
@@ -401,10 +404,10 @@ fn play_at<W: Write + Drop, R: Wait>(
                 clerk,
                 journal,
                 held: Errands::new(alloc),
-                text: came.text,
+                text,
             };
             let (office, clerk) = given(player, script);
-            shut(office, clerk, came.kept);
+            shut(office, clerk);
         }
         None => drop(office),
     }
@@ -416,7 +419,7 @@ fn play_once<R: Wait>(
     alloc: Global,
     script: &str,
     journal: &Mutex<Vec<u8>>,
-    came: Came<'_>,
+    text: &mut Vec<u8>,
 ) -> Option<()> {
     let moment = enrolment(script)?;
     let instance = Instance::new(7)?;
@@ -424,7 +427,7 @@ fn play_once<R: Wait>(
     let writer = Shared { rt, taken: journal };
     match Office::create(alloc, instance, base, Limits::usual(), writer) {
         Ok((office, pass)) => {
-            play_at(rt, alloc, office, pass, moment, script, journal, came);
+            play_at(rt, alloc, office, pass, moment, script, journal, text);
             Some(())
         }
         Err((_, writer)) => {
@@ -435,31 +438,24 @@ fn play_once<R: Wait>(
 }
 
 /// The same, with memory for the office the second time. What the writer took.
-fn play<R: Wait>(
-    rt: &R,
-    alloc: Global,
-    script: &str,
-    text: &mut Vec<u8>,
-    kept: &mut Vec<u8>,
-) -> Vec<u8> {
+fn play<R: Wait>(rt: &R, alloc: Global, script: &str, text: &mut Vec<u8>) -> Vec<u8> {
     let journal = Mutex::new(room(alloc));
-    if play_once(rt, alloc, script, &journal, Came { text, kept }).is_none() {
+    if play_once(rt, alloc, script, &journal, text).is_none() {
         journal.lock(rt).clear();
-        play_once(rt, alloc, script, &journal, Came { text, kept });
+        play_once(rt, alloc, script, &journal, text);
     }
     journal.into_inner()
 }
 
 /// What comes of a script is what it says.
 fn assert_script<R: Abort + Wait>(rt: &R, alloc: Global, script: &str) {
-    let (mut text, mut kept) = (room(alloc), room(alloc));
-    let taken = play(rt, alloc, script, &mut text, &mut kept);
+    let mut text = room(alloc);
+    let taken = play(rt, alloc, script, &mut text);
     let (mut answers, mut lines) = (room(alloc), room(alloc));
     let is_put = put_wanted(script, &mut answers, &mut lines).is_ok();
     assert!(rt; is_put);
     assert_same(rt, text.as_slice(), answers.as_slice());
     assert_same(rt, taken.as_slice(), lines.as_slice());
-    assert_same(rt, kept.as_slice(), lines.as_slice());
 }
 
 #[test]
@@ -486,14 +482,12 @@ fn refusal_word(renewed: Result<Told, OfficeRefusal>) -> &'static str {
     }
 }
 
-/// What a renewal is refused by at the office of a journal, whose coordinator's journal is added to `kept`. Nothing, where memory was
-/// refused.
+/// What a renewal is refused by at the office of a journal. Nothing, where memory was refused.
 fn goes_on<R: Wait>(
     rt: &R,
     alloc: Global,
     row: Reopening<'_>,
     taken: &Mutex<Vec<u8>>,
-    kept: &mut Vec<u8>,
 ) -> Option<&'static str> {
     let journal = Vec::from_slice(alloc, row.journal.as_bytes()).ok()?;
     let Some(base) = base(alloc) else {
@@ -504,7 +498,7 @@ fn goes_on<R: Wait>(
     match Office::reopen(alloc, journal, base, Limits::usual(), writer, row.moment) {
         Ok((office, mut clerk)) => {
             let renewed = office.renew(rt, &mut clerk, row.moment, 1, 5);
-            shut(office, clerk, kept);
+            shut(office, clerk);
             Some(refusal_word(renewed))
         }
         Err((fault, writer)) => {
@@ -534,33 +528,23 @@ fn goes_on_twice<R: Wait>(
     alloc: Global,
     row: Reopening<'_>,
     taken: &Mutex<Vec<u8>>,
-    kept: &mut Vec<u8>,
 ) -> &'static str {
-    if let Some(word) = goes_on(rt, alloc, row, taken, kept) {
+    if let Some(word) = goes_on(rt, alloc, row, taken) {
         return word;
     }
     if !take_back(rt, taken, row.written) {
         return "a part was written";
     }
-    goes_on(rt, alloc, row, taken, kept).unwrap_or("memory is refused twice")
-}
-
-/// Whether a journal by a coordinator is the whole lines of that from which it went on, and what was written then.
-fn goes_on_from(kept: &[u8], row: Reopening<'_>) -> bool {
-    let journal = row.journal.as_bytes();
-    let (lines, _) = journal.split_at(whole(journal));
-    kept.strip_prefix(lines) == Some(row.written.as_bytes())
+    goes_on(rt, alloc, row, taken).unwrap_or("memory is refused twice")
 }
 
 /// What comes of a journal that is reopened is what its row says.
 fn assert_reopened<R: Abort + Wait>(rt: &R, alloc: Global, row: Reopening<'_>, wanted: &str) {
-    let mut kept = room(alloc);
     let taken = Mutex::new(room(alloc));
-    let word = goes_on_twice(rt, alloc, row, &taken, &mut kept);
+    let word = goes_on_twice(rt, alloc, row, &taken);
     let taken = taken.into_inner();
     assert!(rt; word == wanted, "{word}");
     assert_same(rt, taken.as_slice(), row.written.as_bytes());
-    assert!(rt; goes_on_from(kept.as_slice(), row));
 }
 
 /// The reopening of a row, and what the renewal is to be refused by.

@@ -22,14 +22,17 @@ audit 2 -> sound 4 entries 1 actions 0 unended 1 closed 0 cancelled
 1 12 join 1 http://q.test/u http://q.test/c * * * -> Member(2)
 + 1 12 join 2 1 http://q.test/u http://q.test/c * * *
 awaited 1 0 -> AwaitsNothing
+next -> never
 1 20 close 1 -> Now(Closing)
 + 1 20 close 1 client
+next -> at 0
 1 21 ask -> ask 1 1 complete http://p.test/c
 + 1 21 ask 1 1 complete
 awaited 1 0 -> Awaits { place: 0, awaited: Member { member: 1, ask: Some(1) } }
 awaited 1 1 -> Awaits { place: 1, awaited: Member { member: 2, ask: None } }
 1 22 ask -> ask 2 2 complete http://q.test/c
 + 1 22 ask 2 2 complete
+next -> never
 awaited 1 1 -> Awaits { place: 1, awaited: Member { member: 2, ask: Some(2) } }
 1 23 reply 2 done -> Recorded
 + 1 23 reply 2 done
@@ -44,6 +47,7 @@ counted members 2 0 -> refused NoSuchAction
 1 24 reply 1 accepted -> Recorded
 + 1 24 reply 1 accepted
 listed members 1 0 -> Row { place: 0, row: Member { member: 1, status: Completing, ask: None, want: Some(Want { kind: Status, repeats: 1, due: 124 }) } }
+next -> at 124
 awaited 1 0 -> Awaits { place: 0, awaited: Member { member: 1, ask: None } }
 1 30 report 1 Completed -> MemberNow(Completed)
 + 1 30 report 1 done
@@ -226,12 +230,15 @@ audit 2 -> sound 10 entries 2 actions 0 unended 1 closed 1 cancelled
 1 1000 start * 100 -> Action(1)
 + 1 1000 start 1 * 100
 1 1099 tick -> Idle
+next -> at 1100
 1 1100 tick -> Fired(1)
 + 1 1100 cancel 1 limit
 + 1 1100 end 1 Cancelled
+next -> never
 1 500 start * 18446744073709551615 -> refused LimitTooFar
 1 500 start * 18446744073709550515 -> Action(2)
 + 1 1100 start 2 * 18446744073709550515
+next -> at 18446744073709551615
 |0 0 enrol -> Clerk(1)
 + 1 0 enrol
 1 0 start * 0 -> Action(1)
@@ -271,9 +278,11 @@ audit 2 -> sound 10 entries 2 actions 0 unended 1 closed 1 cancelled
 + 1 0 enrol
 1 0 start * 100 -> Action(1)
 + 1 0 start 1 * 100
+next -> at 100
 1 90 renew 1 100 -> Renewed
 + 1 90 renew 1 100
 1 90 renew 1 18446744073709551615 -> refused LimitTooFar
+next -> at 190
 1 100 tick -> Idle
 1 189 tick -> Idle
 1 190 tick -> Fired(1)

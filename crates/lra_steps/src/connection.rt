@@ -12,12 +12,12 @@ ghost use Rattle.lra_steps.specs.Steps.{Steps, Takes, Tells};
 ghost use Rattle.lra_steps.specs.inner.Ends.{Finds, EndsWithout};
 ghost use Rattle.lra_steps.specs.inner.Fields.{backs, fronts, turn_of};
 
-use crate::log::Log;
 use crate::queue::Queue;
 use crate::reply::{push_fault, push_reply};
 use http::Method;
 use lra_front::{Answer, StreamEnd};
 use lra_ids::{Address, Instance};
+use lra_log::Log;
 use lra_model::Memory;
 use lra_wire::{Front, RequestRead, Seen, WireFault, end_fault, request_front, request_front_seen};
 use std::alloc::{AllocError, Global};

@@ -3,7 +3,6 @@
 #![tactic(auto)]
 
 mod connection;
-mod log;
 mod queue;
 mod reply;
 mod serve;

@@ -4,7 +4,10 @@ ghost use Rattle.std.specs.Prelude.{◌≡◌, ◌≤◌, [], ◌++◌, length, 
 use std::alloc::{AllocError, Global};
 use std::marker::Model;
 
-/// A contract sees the bytes that are still there. It has memory only while there are some.
+/// How much memory is kept while there are no bytes: enough for a short message, so that one after another takes no memory anew.
+const LEAST: usize = 256;
+
+/// A contract sees the bytes that are still there. It has more than a little memory only while there are some.
 #[derive(Drop)]
 pub(crate) struct Queue {
     bytes: Vec<u8>,
@@ -56,8 +59,19 @@ impl Queue {
     {
         self.gone += count;
         if self.gone == self.bytes.len() {
-            self.bytes = Vec::new(*self.bytes.allocator());
-            self.gone = 0;
+            self.clear();
         }
+    }
+
+    /// All bytes leave.
+    fn clear(&mut self)
+        ensures { self.new ≡ [] }
+    {
+        if self.bytes.capacity() > LEAST {
+            self.bytes = Vec::new(*self.bytes.allocator());
+        } else {
+            self.bytes.clear();
+        }
+        self.gone = 0;
     }
 }

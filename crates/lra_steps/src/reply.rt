@@ -11,6 +11,9 @@ use lra_model::Memory;
 use lra_wire::WireFault;
 use std::alloc::{AllocError, Global};
 
+/// How many bytes a reply has room for from the start: most take fewer.
+const PAGE: usize = 512;
+
 /// Appends the reply to an answer.
 pub(crate) fn push_reply(
     alloc: Global,
@@ -26,7 +29,7 @@ pub(crate) fn push_reply(
     ensures ok { OnOk result (out.new ≡ out.old ++ reply_bytes instance base.now answer head close) }
     ensures err { OnErr result (out.new ≡ out.old) }
 {
-    let mut page = Vec::new(alloc);
+    let mut page = Vec::with_capacity(alloc, PAGE)?;
     let mut text = Vec::new(alloc);
     match answer.write(&mut page, &mut text, instance, base, head, close) {
         Ok(()) => out.push(text.as_slice()),

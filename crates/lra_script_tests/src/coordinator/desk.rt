@@ -3,7 +3,7 @@
 ghost use Rattle.std.specs.Prelude.{◌≡◌, true};
 ghost use Rattle.lra_core.specs.Prepares.{is_suited};
 
-use crate::answers::{put_answer, put_known};
+use crate::answers::{put_answer, put_known, put_next};
 use crate::errands::Errands;
 use crate::spelling::spell_entries;
 use crate::words::{Words, asks, uris};
@@ -120,6 +120,9 @@ impl Desk<'_> {
         }
         if asks(first) {
             return self.query(words.query(first)?);
+        }
+        if first == "next" {
+            return put_next(self.coordinator.next_moment(), &mut self.text);
         }
         self.give_by(first.parse().ok()?, words)
     }

@@ -1,8 +1,0 @@
-use Rattle.lra_core.proofs.Numbers.{stands}
-use Rattle.lra_core.proofs.coordinator.Coordinator.query.Goals as goal
-
-pub returns : goal.returns
-returns c =
-    let J = c.self.inside.entries.items in
-    let k = stands c.self.inside.terms c.self.inside.tables c.self.inside.schedule J c.self.invariant.1 in
-    rw (← c.self.view_is) (c.tell.ensures J k)
