@@ -11,9 +11,10 @@ ghost use Rattle.lra_carrying.specs.Steps.{Takes, Steps};
 
 use crate::told::{Asked, look};
 use lra_courier::{CallFault, Callback, SendFault};
+use lra_ids::Address;
 use lra_model::{Memory, Outcome};
 use lra_wire::{MAX_RESPONSE, SeenResponse};
-use std::alloc::Global;
+use std::alloc::{AllocError, Global};
 use std::marker::Model;
 
 /// What stands next.
@@ -62,26 +63,37 @@ impl Carrying {
         ensures address { result ≡ Err SendFault.BadAddress → is_address callback.now.address ≡ false }
         ensures err { IfErr result (λ fault. fault ≢ SendFault.Io) }
     {
-        let mut request = Vec::new(alloc);
-        match callback.send(alloc, &mut request) {
-            Ok(()) => Ok(Carrying {
-                alloc,
-                asked: Asked {
-                    kind: callback.kind,
-                    direction: callback.direction,
-                },
-                request,
-                gone: 0,
-                kept: Vec::new(alloc),
-                seen: SeenResponse::nothing(alloc),
-                closed: false,
-                failed: false,
-                came: None,
-            }),
-            Err(SendFault::BadAddress) => Err(SendFault::BadAddress),
-            // A list takes all bytes, unless memory is refused.
-            Err(_) => Err(SendFault::Memory),
+        let to = callback.to(alloc)?;
+        match Carrying::at(alloc, &to, callback) {
+            Ok(carrying) => Ok(carrying),
+            Err(AllocError) => Err(SendFault::Memory),
         }
+    }
+
+    /// The same, where the callback's address has been read.
+    pub fn at(alloc: Global, to: &Address, callback: &Callback<'_>) -> Result<Carrying, Memory>
+        requires { to.now ≡ callback.now.address }
+        ensures { IfOk result (λ made. made ≡ begun callback.now) }
+    {
+        let mut request = Vec::new(alloc);
+        // A list takes all bytes, unless memory is refused.
+        if callback.send_to(alloc, to, &mut request).is_err() {
+            return Err(AllocError);
+        }
+        Ok(Carrying {
+            alloc,
+            asked: Asked {
+                kind: callback.kind,
+                direction: callback.direction,
+            },
+            request,
+            gone: 0,
+            kept: Vec::new(alloc),
+            seen: SeenResponse::nothing(alloc),
+            closed: false,
+            failed: false,
+            came: None,
+        })
     }
 
     /// What is true of every callback that is carried.

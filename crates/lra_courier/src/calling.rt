@@ -11,7 +11,6 @@ use crate::courier::Courier;
 use crate::dialler::Dialler;
 use crate::fault::{CallFault, SendFault};
 use crate::socket::socket_text;
-use crate::writing::own_address;
 use lra_core::Errand;
 use lra_ids::Address;
 use lra_model::Outcome;
@@ -37,7 +36,7 @@ impl<D: Dialler> DiallingCourier<D> {
         ensures calls { Calls D.gives D.Stream.contents D.Stream.remaining self.now.dialler callback.now result }
         ensures suits { IfOk result (λ outcome. IsTrue (outcome_suits callback.now.kind outcome)) }
     {
-        match own_address(self.alloc, callback.address) {
+        match callback.to(self.alloc) {
             Ok(to) => self.call_at(&to, callback),
             Err(fault) => Err(CallFault::Send(fault)),
         }

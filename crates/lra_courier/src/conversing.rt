@@ -7,7 +7,6 @@ ghost use Rattle.lra_courier.specs.Exchanges.{Answers, Converses};
 
 use crate::callback::Callback;
 use crate::fault::CallFault;
-use crate::writing::{own_address, write};
 use lra_ids::Address;
 use lra_model::Outcome;
 use lra_wire::{Inbox, WireFault};
@@ -55,7 +54,7 @@ impl<'a> Callback<'a> {
         ensures suits { IfOk result (λ outcome. IsTrue (outcome_suits self.now.kind outcome)) }
     {
         let mut stream = stream;
-        match write(alloc, &mut stream, self, to) {
+        match self.send_to(alloc, to, &mut stream) {
             Ok(()) => self.answer_of(alloc, stream),
             Err(fault) => Err(CallFault::Send(fault)),
         }
@@ -70,7 +69,7 @@ impl<'a> Callback<'a> {
         ensures converses { (sent : S) × Converses (S.contents stream) (S.contents sent) (S.remaining sent) self.now result }
         ensures suits { IfOk result (λ outcome. IsTrue (outcome_suits self.now.kind outcome)) }
     {
-        let to = match own_address(alloc, self.address) {
+        let to = match self.to(alloc) {
             Ok(to) => to,
             Err(fault) => return Err(CallFault::Send(fault)),
         };

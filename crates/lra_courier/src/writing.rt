@@ -12,7 +12,7 @@ use std::alloc::Global;
 use std::io::Write;
 
 // The address that the text is as it stands.
-pub(crate) fn own_address(alloc: Global, text: &str) -> Result<Address, SendFault>
+fn own_address(alloc: Global, text: &str) -> Result<Address, SendFault>
     ensures ok { IfOk result (λ own. own ≡ text.now) }
     ensures address { OnOk result (is_address text.now ≡ true) }
     ensures io { IfErr result (λ fault. fault ≢ SendFault.Io) }
@@ -33,43 +33,54 @@ pub(crate) fn own_address(alloc: Global, text: &str) -> Result<Address, SendFaul
     }
 }
 
-// Writes the request of a callback, whose address this is.
-pub(crate) fn write<W: Write>(
-    alloc: Global,
-    writer: &mut W,
-    callback: &Callback<'_>,
-    to: &Address,
-) -> Result<(), SendFault>
-    requires { to.now ≡ callback.now.address }
-    ensures { Posts (W.contents writer.old) (W.contents writer.new) callback.now result }
-{
-    let body = callback.body();
-    let Ok(size) = format!(in alloc; "{}", body.len()) else {
-        return Err(SendFault::Memory);
-    };
-    let Ok(fields) = callback.fields(alloc, to.authority(), size.as_str()) else {
-        return Err(SendFault::Memory);
-    };
-    let request = RequestWrite {
-        method: method_of(callback.kind),
-        target: to.target(),
-        fields: fields.as_slice(),
-        body: body.as_bytes(),
-    };
-    match write_request(alloc, writer, &request) {
-        Ok(()) => Ok(()),
-        Err(WireFault::Memory) => Err(SendFault::Memory),
-        Err(_) => Err(SendFault::Io),
-    }
-}
-
 impl<'a> Callback<'a> {
+    /// Where the member is asked, as an address that is read once for all that is done with it. Refused by `BadAddress` where the
+    /// text isn't an address as it stands, and by `Memory`.
+    pub fn to(&self, alloc: Global) -> Result<Address, SendFault>
+        ensures ok { IfOk result (λ to. to ≡ self.now.address) }
+        ensures address { OnOk result (is_address self.now.address ≡ true) }
+        ensures io { IfErr result (λ fault. fault ≢ SendFault.Io) }
+        ensures err { result ≡ Err SendFault.BadAddress → is_address self.now.address ≡ false }
+    {
+        own_address(alloc, self.address)
+    }
+
+    /// Writes the request as [`send`](Callback::send) does, where the address has been read.
+    pub fn send_to<W: Write>(
+        &self,
+        alloc: Global,
+        to: &Address,
+        writer: &mut W,
+    ) -> Result<(), SendFault>
+        requires { to.now ≡ self.now.address }
+        ensures { Posts (W.contents writer.old) (W.contents writer.new) self.now result }
+    {
+        let body = self.body();
+        let Ok(size) = format!(in alloc; "{}", body.len()) else {
+            return Err(SendFault::Memory);
+        };
+        let Ok(fields) = self.fields(alloc, to.authority(), size.as_str()) else {
+            return Err(SendFault::Memory);
+        };
+        let request = RequestWrite {
+            method: method_of(self.kind),
+            target: to.target(),
+            fields: fields.as_slice(),
+            body: body.as_bytes(),
+        };
+        match write_request(alloc, writer, &request) {
+            Ok(()) => Ok(()),
+            Err(WireFault::Memory) => Err(SendFault::Memory),
+            Err(_) => Err(SendFault::Io),
+        }
+    }
+
     /// Writes the request. Where memory was refused, or the address isn't one as it stands, nothing was written; where the
     /// writer failed, a front of the request was.
     pub fn send<W: Write>(&self, alloc: Global, writer: &mut W) -> Result<(), SendFault>
         ensures { Posts (W.contents writer.old) (W.contents writer.new) self.now result }
     {
-        let to = own_address(alloc, self.address)?;
-        write(alloc, writer, self, &to)
+        let to = self.to(alloc)?;
+        self.send_to(alloc, &to, writer)
     }
 }

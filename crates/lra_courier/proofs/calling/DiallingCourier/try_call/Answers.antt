@@ -1,5 +1,4 @@
 use Rattle.std.proofs.Common.{Err, inl, refl, ap}
-use Rattle.lra_courier.specs.Callbacks.{Calling}
 use Rattle.lra_courier.proofs.SendLemmas.{unread}
 use Rattle.lra_courier.proofs.calling.DiallingCourier.try_call.Goals as goal
 
@@ -7,6 +6,6 @@ pub returns-in-Err-clause-calls : goal.returns-in-Err-clause-calls
 returns-in-Err-clause-calls g c = inl (
   _,
   refl,
-  unread g.D.Dialler.gives c.args.self.now.dialler _ c.args.callback.now.address c.in-Err.fault (ap (λ (v : Calling). v.address) c.callback.view_is) c.in-Err.ensures.io
+  unread g.D.Dialler.gives c.args.self.now.dialler _ c.args.callback.now.address c.in-Err.fault refl c.in-Err.ensures.io
       (λ e. c.in-Err.ensures.err (ap Err e)),
 )

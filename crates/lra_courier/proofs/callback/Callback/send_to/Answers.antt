@@ -5,13 +5,13 @@ use Rattle.lra_wire.specs.Writing.{AppendsFront}
 use Rattle.lra_courier.specs.Callbacks.{Calling, method_of}
 use Rattle.lra_courier.specs.inner.Fields.{seen}
 use Rattle.lra_courier.proofs.SendLemmas.{parts_are}
-use Rattle.lra_courier.proofs.writing.write.Goals as goal
+use Rattle.lra_courier.proofs.callback.Callback.send_to.Goals as goal
 
 pub returns-in-Ok-write_request : goal.returns-in-Ok-write_request
 returns-in-Ok-write_request g c =
     subst (λ (text : List ℕ). Appends (g.W.Write.contents c.args.writer.now) (g.W.Write.contents c.write_request.new.writer) text)
-    (parts_are c.method_of.result.now c.target.result.now c.as_bytes.result.now c.as_slice.result.now c.args.callback.now
-    (c.method_of.ensures ∙ ap (λ (v : Calling). method_of v.kind) c.callback.view_is)
+    (parts_are c.method_of.result.now c.target.result.now c.as_bytes.result.now c.as_slice.result.now c.args.self.now
+    (c.method_of.ensures ∙ ap (λ (v : Calling). method_of v.kind) c.self.view_is)
     (c.target.ensures ∙ ap target_of c.requires)
     (ap seen c.as_slice.ensures.value ∙ c.in-Ok-fields.ensures)
     (c.as_bytes.ensures.value ∙ c.body-body.ensures))
@@ -20,8 +20,8 @@ returns-in-Ok-write_request g c =
 pub returns : goal.returns
 returns g c =
     subst (λ (text : List ℕ). AppendsFront (g.W.Write.contents c.args.writer.now) (g.W.Write.contents c.write_request.new.writer) text)
-    (parts_are c.method_of.result.now c.target.result.now c.as_bytes.result.now c.as_slice.result.now c.args.callback.now
-    (c.method_of.ensures ∙ ap (λ (v : Calling). method_of v.kind) c.callback.view_is)
+    (parts_are c.method_of.result.now c.target.result.now c.as_bytes.result.now c.as_slice.result.now c.args.self.now
+    (c.method_of.ensures ∙ ap (λ (v : Calling). method_of v.kind) c.self.view_is)
     (c.target.ensures ∙ ap target_of c.requires)
     (ap seen c.as_slice.ensures.value ∙ c.in-Ok-fields.ensures)
     (c.as_bytes.ensures.value ∙ c.body-body.ensures))
