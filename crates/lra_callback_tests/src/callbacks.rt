@@ -3,6 +3,7 @@
 use crate::members::{listen, serve, serve_all, socket_at};
 use crate::setting::{Held, NoPen, NoSync, Ready, errands};
 use lra_callbacks::{Callbacks, Names, Patience, Share, bell};
+use lra_clocks::{SystemClock, milliseconds};
 use lra_courier::Carriage;
 use lra_durable::Progress;
 use lra_model::Outcome;
@@ -61,7 +62,7 @@ fn carry_until<R: Clock, C: Carriage>(rt: &R, carriage: &mut C, wanted: u64) -> 
         return count;
     };
     for _ in 0..u64::MAX {
-        carriage.carry();
+        carriage.carry(None);
         count_done(carriage, &mut count);
         let passed = start.elapsed(rt).unwrap_or(Duration::MAX);
         if count.done.saturating_add(count.other) >= wanted || passed > Duration::from_secs(20) {
@@ -88,7 +89,11 @@ fn carry<R: Wait + Net + Clock>(
     };
     let under_way = AtomicU64::new(0);
     let share = Share::of(1, 1_024, 64, PATIENCE);
-    let made = Callbacks::new(rt, alloc, &progress, names, poll, share, &under_way);
+    let clock = SystemClock::new(rt, 0);
+    let bells: [Waker; 0] = [];
+    let made = Callbacks::new(
+        rt, alloc, &progress, names, poll, share, &under_way, clock, &bells,
+    );
     if let Ok(mut callbacks) = made {
         take_all(&mut callbacks, held);
         count = carry_until(rt, &mut callbacks, wanted);
@@ -219,4 +224,44 @@ where
 #[test]
 fn nobody_listens(rt: HostRuntime) {
     assert!(rt; is_done_at_no_port(&rt, rt.alloc()) == Some(false));
+}
+
+/// How long one rests that has nothing under way, where something is due in so many milliseconds, if anything is.
+fn rested<R: Wait + Net + Clock>(rt: &R, alloc: Global, millis: Option<u64>) -> Option<Duration> {
+    let (poll, _bell) = bell(rt).ok()?;
+    let progress = Progress::<Ready>::open(&NoPen, NoSync).ok()?;
+    let names = Names::new(alloc);
+    let under_way = AtomicU64::new(0);
+    let bells: [Waker; 0] = [];
+    let share = Share::of(1, 1_024, 64, PATIENCE);
+    let clock = SystemClock::new(rt, 0);
+    let made = Callbacks::new(
+        rt, alloc, &progress, &names, poll, share, &under_way, clock, &bells,
+    );
+    let Ok(mut callbacks) = made else {
+        return None;
+    };
+    let passed = rest_of(rt, &mut callbacks, millis);
+    drop(callbacks);
+    passed
+}
+
+/// How long a carriage carries nothing.
+fn rest_of<R: Clock, C: Carriage>(
+    rt: &R,
+    carriage: &mut C,
+    millis: Option<u64>,
+) -> Option<Duration> {
+    let now = milliseconds(rt)?;
+    let start = Instant::now(rt).ok()?;
+    carriage.carry(millis.map(|millis| now.saturating_add(millis)));
+    start.elapsed(rt).ok()
+}
+
+#[test]
+fn it_rests_until_something_is_due(rt: HostRuntime) {
+    let soon = rested(&rt, rt.alloc(), Some(200)).unwrap_or(Duration::ZERO);
+    assert!(rt; soon >= Duration::from_millis(190));
+    let never = rested(&rt, rt.alloc(), None).unwrap_or(Duration::ZERO);
+    assert!(rt; never >= Duration::from_millis(990));
 }

@@ -1,17 +1,18 @@
 //! An errand from when it is taken until something has come of it.
 
-ghost use Rattle.std.specs.Prelude.{◌≡◌, Some, None, IfSome, IsTrue, option_map};
+ghost use Rattle.std.specs.Global.{Global};
+ghost use Rattle.std.specs.Prelude.{◌≡◌, Some, None, IfSome, IsTrue, String, option_map, string_bytes};
 ghost use Rattle.std.specs.Option.{ForSome};
+ghost use Rattle.lra_courier.specs.Sockets.{socket_text};
 ghost use Rattle.lra_durable.specs.Leaves.{MayLeave};
 ghost use Rattle.lra_callbacks.specs.Outcomes.{IsFor, MayCome};
-ghost use Rattle.lra_callbacks.specs.inner.Attempts.{outcome_of};
+ghost use Rattle.lra_callbacks.specs.inner.Attempts.{outcome_of, Goes};
 
 use crate::pumping::{Moved, pump};
 use lra_carrying::Carrying;
 use lra_core::Errand;
 use lra_courier::{Callback, socket_text};
 use lra_durable::{Disk, Due, Noted, Progress};
-use lra_ids::address;
 use lra_model::Outcome;
 use std::alloc::Global;
 use std::io::{Read, Write};
@@ -65,9 +66,10 @@ impl Held {
 }
 
 /// Whether a callback may leave.
-#[derive(Clone, Copy, Debug, PartialEq, Eq)]
+#[derive(Debug, Drop)]
 pub(crate) enum Leave {
-    Now,
+    /// To this host and port.
+    Now(String),
     /// Once the disk keeps what it had taken when the errand was given.
     Later,
     /// The disk has failed, or there is no request.
@@ -79,6 +81,23 @@ pub(crate) enum Leave {
 pub(crate) struct Flight {
     carrying: Carrying,
     kept: u64,
+}
+
+/// The callback of an errand, and the host and port that are asked. Nothing, where it has no address or memory is refused.
+fn callback_of(alloc: Global, errand: &Errand) -> Option<(Carrying, String)>
+    ensures { IfSome result (λ made. Goes made.0 made.1 errand.now) }
+{
+    let callback = Callback::of(errand);
+    let Ok(to) = callback.to(alloc) else {
+        return None;
+    };
+    let Ok(carrying) = Carrying::at(alloc, &to, &callback) else {
+        return None;
+    };
+    match socket_text(alloc, &to) {
+        Ok(socket) => Some((carrying, socket)),
+        Err(_) => None,
+    }
 }
 
 /// An errand that was taken. Its request is made once the disk keeps all that it had taken by then: what that is was noted with the errand at hand.
@@ -110,19 +129,20 @@ impl<D: Disk> Attempt<D> {
         self.noted.due()
     }
 
-    /// The callback of the errand. Nothing, where it has no address or memory is refused.
-    fn callback(&self, alloc: Global) -> Option<Carrying>
-        ensures { IfSome result (λ carrying. ForSome self.now.errand (IsFor carrying)) }
+    /// The callback of the errand, and the host and port that are asked. Nothing, where it has no address or memory is refused.
+    fn callback(&self, alloc: Global) -> Option<(Carrying, String)>
+        ensures { IfSome result (λ made. ForSome self.now.errand (Goes made.0 made.1)) }
     {
         match self.errand.get() {
-            Some(errand) => Carrying::new(alloc, &Callback::of(errand)).ok(),
+            Some(errand) => callback_of(alloc, errand),
             None => None,
         }
     }
 
-    /// Makes the callback, where it may leave.
+    /// Makes the callback, where it may leave, and tells the host and port of its errand's address.
     pub(crate) fn begin<R: Wait>(&mut self, rt: &R, alloc: Global, progress: &Progress<D>) -> Leave
-        ensures { self.new.errand ≡ self.old.errand }
+        ensures errand { self.new.errand ≡ self.old.errand }
+        ensures socket { (socket : String Global) → result ≡ Leave.Now socket → ForSome self.old.errand (λ e. string_bytes socket ≡ socket_text e.address) }
     {
         let Ok(kept) = progress.kept(rt, self.noted.due()) else {
             return Leave::Never;
@@ -131,18 +151,12 @@ impl<D: Disk> Attempt<D> {
             return Leave::Later;
         };
         match self.callback(alloc) {
-            Some(carrying) => {
+            Some((carrying, socket)) => {
                 self.flight = Some(Flight { carrying, kept });
-                Leave::Now
+                Leave::Now(socket)
             }
             None => Leave::Never,
         }
-    }
-
-    /// The host and port that are asked.
-    pub(crate) fn socket(&self, alloc: Global) -> Option<String> {
-        let to = address(alloc, self.errand.get()?.address()).ok()?;
-        socket_text(alloc, &to).ok()
     }
 
     /// Moves bytes between the callback and its stream.

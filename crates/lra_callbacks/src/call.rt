@@ -1,7 +1,9 @@
 //! An errand with its socket.
 
-ghost use Rattle.std.specs.Prelude.{◌≡◌, Some, IfSome, option_map};
+ghost use Rattle.std.specs.Global.{Global};
+ghost use Rattle.std.specs.Prelude.{◌≡◌, Some, IfSome, String, option_map, string_bytes};
 ghost use Rattle.std.specs.Option.{ForSome};
+ghost use Rattle.lra_courier.specs.Sockets.{socket_text};
 ghost use Rattle.lra_callbacks.specs.Outcomes.{MayCome};
 ghost use Rattle.lra_callbacks.specs.inner.Attempts.{outcome_of};
 
@@ -61,9 +63,10 @@ impl<D: Disk> Call<D> {
         }
     }
 
-    /// Makes the callback, where it may leave.
+    /// Makes the callback, where it may leave, and tells the host and port of its errand's address.
     pub(crate) fn begin<R: Wait>(&mut self, rt: &R, alloc: Global, progress: &Progress<D>) -> Leave
-        ensures { self.new.attempt.errand ≡ self.old.attempt.errand }
+        ensures errand { self.new.attempt.errand ≡ self.old.attempt.errand }
+        ensures socket { (socket : String Global) → result ≡ Leave.Now socket → ForSome self.old.attempt.errand (λ e. string_bytes socket ≡ socket_text e.address) }
     {
         self.attempt.begin(rt, alloc, progress)
     }
@@ -71,11 +74,6 @@ impl<D: Disk> Call<D> {
     /// What the disk has to keep before it leaves.
     pub(crate) fn due(&self) -> &Due<D> {
         self.attempt.due()
-    }
-
-    /// The host and port that are asked.
-    pub(crate) fn socket(&self, alloc: Global) -> Option<String> {
-        self.attempt.socket(alloc)
     }
 
     /// The errand, and what came of it.

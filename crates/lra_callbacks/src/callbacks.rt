@@ -9,23 +9,22 @@ use crate::attempt::Leave;
 use crate::call::{Call, Seen};
 use crate::hosts::Next;
 use crate::names::Names;
+use crate::resting::{SHORT_REST_MS, rest_for};
 use crate::share::Share;
-use crate::traffic::Traffic;
+use crate::traffic::{Traffic, ring};
+use lra_clocks::{Clock, SystemClock};
 use lra_core::Errand;
 use lra_courier::Carriage;
 use lra_durable::{Disk, Progress};
 use lra_model::{Memory, Outcome};
-use mio::Poll;
+use mio::{Poll, Waker};
 use slab::Slab;
 use std::alloc::{AllocError, Global};
 use std::marker::Model;
 use std::net::Net;
 use std::sync::Wait;
 use std::sync::atomic::{AtomicU64, Ordering};
-use std::time::Clock;
-
-/// How long a carrier waits for its sockets before it looks at its office again.
-const REST_MS: u64 = 50;
+use std::time;
 
 /// How long it leaves its office alone in any case.
 const PAUSE_MS: u64 = 2;
@@ -45,6 +44,12 @@ pub struct Callbacks<'a, R, D: Disk> {
     traffic: Traffic,
     /// When it looked at its office last.
     looked: u64,
+    /// The office's clock.
+    clock: SystemClock<'a, R>,
+    /// What wakes those who carry.
+    bells: &'a [Waker],
+    /// When it woke them last, by the office's clock.
+    rang: u64,
 }
 
 impl<'a, R, D: Disk> Model for Callbacks<'a, R, D> {
@@ -57,8 +62,9 @@ impl<'a, R, D: Disk> Model for Callbacks<'a, R, D> {
     ghost view = { λ c. map (λ slot. option_and_then (λ call. call.attempt.errand) slot) c.calls.slots };
 }
 
-impl<'a, R: Wait + Net + Clock, D: Disk> Callbacks<'a, R, D> {
-    /// None is under way. The poll is one that [`bell`](crate::bell) gave. How many are is told there whenever one is taken or done.
+impl<'a, R: Wait + Net + time::Clock, D: Disk> Callbacks<'a, R, D> {
+    /// None is under way. The poll is one that [`bell`](crate::bell) gave, as the bells of all who carry. How many are is told there whenever one is taken or done.
+    /// The clock is the one by which its office's moments are given.
     pub fn new(
         rt: &'a R,
         alloc: Global,
@@ -67,6 +73,8 @@ impl<'a, R: Wait + Net + Clock, D: Disk> Callbacks<'a, R, D> {
         poll: Poll,
         share: Share,
         under_way: &'a AtomicU64,
+        clock: SystemClock<'a, R>,
+        bells: &'a [Waker],
     ) -> Result<Callbacks<'a, R, D>, Memory>
         ensures { IfOk result (λ made. made ≡ []) }
     {
@@ -83,6 +91,9 @@ impl<'a, R: Wait + Net + Clock, D: Disk> Callbacks<'a, R, D> {
             calls: Slab::new(alloc),
             traffic,
             looked: 0,
+            clock,
+            bells,
+            rang: 0,
         })
     }
 
@@ -111,10 +122,7 @@ impl<'a, R: Wait + Net + Clock, D: Disk> Callbacks<'a, R, D> {
         match call.begin(self.rt, self.alloc, self.progress) {
             Leave::Later => return false,
             Leave::Never => self.traffic.end(key),
-            Leave::Now => {
-                let socket = call.socket(self.alloc);
-                self.traffic.enlist(key, socket);
-            }
+            Leave::Now(socket) => self.traffic.enlist(key, socket),
         }
         true
     }
@@ -283,12 +291,34 @@ impl<'a, R: Wait + Net + Clock, D: Disk> Callbacks<'a, R, D> {
         self.start_all(now);
     }
 
-    /// How long sockets may be waited for.
-    fn rest(&self) -> u64 {
-        if self.traffic.unkept.is_empty() && self.traffic.ended.is_empty() {
-            REST_MS
-        } else {
-            0
+    /// How long sockets may be waited for, where something is due next at that moment of the office's clock. Others are woken where it is due already.
+    fn rest(&mut self, next: Option<u64>) -> u64
+        ensures { self.new ≡ self.old }
+    {
+        let now = self.clock.now();
+        if next.is_some_and(|moment| moment <= now) {
+            self.call_others(now);
+        }
+        if !self.traffic.unkept.is_empty() || !self.traffic.ended.is_empty() {
+            return 0;
+        }
+        rest_for(next, now, self.is_roomy(), self.traffic.has_to_look())
+    }
+
+    /// Whether one more is taken. None is while all sockets are taken, or will be once the disk keeps what is waited for.
+    fn is_roomy(&self) -> bool {
+        self.calls.len() < self.share.held as usize
+            && self.traffic.moving() < self.share.sockets as usize
+    }
+
+    /// Wakes those who carry, since something is due that wasn't taken here: there is no room for it, or there was too much at once. It does so every 50 ms at
+    /// most, so that those who have no room either may rest.
+    fn call_others(&mut self, now: u64)
+        ensures { self.new ≡ self.old }
+    {
+        if now >= self.rang.saturating_add(SHORT_REST_MS) {
+            self.rang = now;
+            ring(self.bells);
         }
     }
 
@@ -308,7 +338,7 @@ impl<'a, R: Wait + Net + Clock, D: Disk> Callbacks<'a, R, D> {
     }
 }
 
-impl<R: Wait + Net + Clock, D: Disk> Carriage for Callbacks<'_, R, D> {
+impl<R: Wait + Net + time::Clock, D: Disk> Carriage for Callbacks<'_, R, D> {
     ghost use Rattle.lra_callbacks.specs.Outcomes.{MayCome, coming_suits};
     ghost use Rattle.lra_callbacks.specs.Held.{errand_at};
     ghost use Rattle.std.proofs.Common.{inr, refl};
@@ -317,10 +347,9 @@ impl<R: Wait + Net + Clock, D: Disk> Carriage for Callbacks<'_, R, D> {
 
     ghost gives = { λ ask kind outcome. MayCome D.took D.keeps ask kind outcome };
 
-    /// There is none while all sockets are taken, or will be once the disk keeps what is waited for: what is due is left to the other carriers.
+    /// Where there is none, what is due is left to the other carriers.
     fn has_room(&self) -> bool {
-        self.calls.len() < self.share.held as usize
-            && self.traffic.moving() < self.share.sockets as usize
+        self.is_roomy()
     }
 
     fn take(&mut self, errand: Errand) -> Result<(), Errand> {
@@ -337,9 +366,11 @@ impl<R: Wait + Net + Clock, D: Disk> Carriage for Callbacks<'_, R, D> {
         Ok(())
     }
 
-    fn carry(&mut self) {
+    /// It rests for a second at most, and for 50 ms where it has no room, since what is due then can't be taken.
+    fn carry(&mut self, next: Option<u64>) {
         self.depart_all();
-        self.turn(self.rest());
+        let rest = self.rest(next);
+        self.turn(rest);
         if !self.traffic.unkept.is_empty() {
             self.settle();
             self.depart_all();

@@ -130,6 +130,11 @@ impl Hosts {
         self.hosts.get(number)?.addresses.get(place).copied()
     }
 
+    /// Whether any host's name is waited for.
+    pub(crate) fn wait_for_names(&self) -> bool {
+        !self.unknown.is_empty()
+    }
+
     /// Those whose names may be known by now stand in line again.
     pub(crate) fn ask_again(&mut self) {
         for _ in 0..self.unknown.len() {

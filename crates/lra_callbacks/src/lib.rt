@@ -9,10 +9,11 @@ mod callbacks;
 mod hosts;
 mod names;
 mod pumping;
+mod resting;
 mod share;
 mod traffic;
 
 pub use callbacks::Callbacks;
 pub use names::Names;
 pub use share::{Patience, Share};
-pub use traffic::bell;
+pub use traffic::{bell, ring};

@@ -1,6 +1,7 @@
 //! The addresses of hosts that have names.
 
 use crate::book::{Book, Found};
+use crate::traffic::ring;
 use mio::Waker;
 use std::alloc::Global;
 use std::net::{Net, SocketAddr, ToSocketAddrs};
@@ -64,9 +65,7 @@ impl Names {
             let found = look_up(rt, self.alloc, socket.as_str());
             let now = steady_now(rt).unwrap_or(0);
             self.book.lock(rt).tell(socket.as_str(), found, now);
-            for bell in bells {
-                let _ = bell.wake();
-            }
+            ring(bells);
         }
     }
 

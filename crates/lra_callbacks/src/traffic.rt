@@ -2,6 +2,7 @@
 
 use crate::hosts::Hosts;
 use crate::names::steady_now;
+use crate::resting::REST_MS;
 use crate::share::Share;
 use lra_timers::Agenda;
 use mio::{Events, Poll, Token, Waker};
@@ -25,6 +26,13 @@ pub fn bell<R: Net>(rt: &R) -> io::Result<(Poll, Waker)> {
     let poll = Poll::new(rt)?;
     let waker = Waker::new(poll.registry(), BELL)?;
     Ok((poll, waker))
+}
+
+/// Rings all of them: where one can't be rung, who waits there looks by itself.
+pub fn ring(bells: &[Waker]) {
+    for bell in bells {
+        let _ = bell.wake();
+    }
 }
 
 /// What goes on at the sockets, apart from the errands themselves. Each is named by the place of its errand.
@@ -87,13 +95,9 @@ impl Traffic {
         (self.hosts.open() as usize).saturating_add(self.unkept.len())
     }
 
-    /// One waits for its host. Where that has no address, or memory is refused, nothing comes of it.
-    pub(crate) fn enlist(&mut self, key: usize, socket: Option<String>) {
-        let is_listed = match socket {
-            Some(socket) => self.hosts.enlist(key, socket),
-            None => false,
-        };
-        if !is_listed {
+    /// One waits for its host. Where memory is refused, nothing comes of it.
+    pub(crate) fn enlist(&mut self, key: usize, socket: String) {
+        if !self.hosts.enlist(key, socket) {
             self.end(key);
         }
     }
@@ -111,6 +115,12 @@ impl Traffic {
                 let _ = self.reported.push(event.token().0);
             }
         }
+    }
+
+    /// Whether one has to look at the time while it rests: a socket's time is up then, or a host's name is waited for.
+    pub(crate) fn has_to_look(&self) -> bool {
+        let end = self.now.saturating_add(REST_MS);
+        self.hosts.wait_for_names() || self.agenda.first_due(end).is_some()
     }
 
     /// A socket has time until then. Where memory is refused it has none.

@@ -11,7 +11,7 @@ use crate::gate::CarrierGate;
 use crate::herald::{Herald, tell_answered, tell_carried};
 use crate::polls::{Polls, Stall};
 use crate::post::Duty;
-use lra_callbacks::{Callbacks, Names, Patience, Share};
+use lra_callbacks::{Callbacks, Names, Patience, Share, ring};
 use lra_clocks::SystemClock;
 use lra_durable::Progress;
 use lra_office::{Clerk, OfficeOf, Serving, WhichLock, Window};
@@ -129,7 +129,14 @@ impl<R: Wait + Clock + Net<Stream = TcpStream, Listener = TcpListener>, H: Heral
     fn leave(&self) {
         if self.answering.fetch_sub(1, Ordering::SeqCst) <= 1 {
             self.ending.finish();
+            ring(&self.bells);
         }
+    }
+
+    /// Hands on the connections that come, until there are to be no others. Then those who carry look whether they are to end.
+    fn admit(&self) {
+        self.door.open();
+        ring(&self.bells);
     }
 
     /// Answers the connections that come in, at an office with a lock that the type says.
@@ -142,7 +149,7 @@ impl<R: Wait + Clock + Net<Stream = TcpStream, Listener = TcpListener>, H: Heral
         requires clerk { IsAt V.setting office.now clerk }
         requires here { lock_id office.now.lock ≡ Q.lock }
     {
-        let mut clock = SystemClock::new(self.rt, self.moment);
+        let mut clock = self.clock();
         let mut window: Window<'_, V, R, Q> = Window::new(self.rt, office, clerk);
         let rounds = Rounds::new(
             self.rt,
@@ -171,6 +178,11 @@ impl<R: Wait + Clock + Net<Stream = TcpStream, Listener = TcpListener>, H: Heral
         self.leave();
     }
 
+    /// The office's clock.
+    fn clock(&self) -> SystemClock<'_, R> {
+        SystemClock::new(self.rt, self.moment)
+    }
+
     /// The callbacks of one who carries: none are under way.
     fn callbacks<'b>(&'b self, stall: &'b Stall) -> Option<Callbacks<'b, R, JournalFile>>
         ensures { IfSome result (λ made. made ≡ []) }
@@ -184,6 +196,8 @@ impl<R: Wait + Clock + Net<Stream = TcpStream, Listener = TcpListener>, H: Heral
             poll,
             self.share,
             &stall.under_way,
+            self.clock(),
+            &self.bells,
         )
         .ok()
     }
@@ -210,7 +224,7 @@ impl<R: Wait + Clock + Net<Stream = TcpStream, Listener = TcpListener>, H: Heral
                     clerk,
                     &mut callbacks,
                     &mut self.gate(stall),
-                    &mut SystemClock::new(self.rt, self.moment),
+                    &mut self.clock(),
                 );
                 drop(callbacks);
                 drop(clerk);
@@ -313,7 +327,7 @@ pub(crate) fn work<
 {
     let (_, worked) = join(
         shift.rt,
-        move || shift.door.open(),
+        move || shift.admit(),
         move || -> Result<(), AllocError>
             requires { All (λ job. IsAt V.setting office.now job.1) jobs.items }
         { work_by_name(shift, office, jobs) },

@@ -1,11 +1,13 @@
 //! A worker that has many errands under way.
 
-ghost use Rattle.std.specs.Prelude.{◌≡◌, ℕ, OnOk, IfErr, MatchResult};
+ghost use Rattle.std.specs.Prelude.{◌≡◌, ◌⊎◌, ℕ, OnOk, IfOk, IfErr, MatchResult};
 ghost use Rattle.lra_office.specs.Clerks.{clerk_view, IsClerkOf};
 ghost use Rattle.lra_commands.specs.Given.{IsOfAsk};
+ghost use Rattle.lra_schedule.specs.Schedules.{IsFirstMoment};
 ghost use Rattle.lra_courier.specs.Carriages.{AreFree};
 ghost use Rattle.lra_office.specs.Stops.{HasStopped};
 ghost use Rattle.lra_workers.specs.Work.{Post, post, Works, TellsWhy, EndsWork};
+ghost use Rattle.lra_workers.specs.Carrying.{Carries, EndsCarrying};
 ghost use Rattle.lra_workers.specs.inner.Held.{AreOfAsks};
 
 use crate::gate::Gate;
@@ -206,7 +208,38 @@ fn begin<V: Serving, R: Wait, C: Carriage, G: Gate, K: Clock>(
     take_due(rt, office, clerk, carriage, gate, clock)
 }
 
-/// Has all that is under way carried, and records what came of it.
+/// Begins what new work there is, where the gate lets it, and tells the first moment at which something will be due then, or is due that wasn't taken.
+fn begin_next<V: Serving, R: Wait, C: Carriage, G: Gate, K: Clock>(
+    rt: &R,
+    office: &OfficeOf<V>,
+    clerk: &mut Clerk<V>,
+    carriage: &mut C,
+    gate: &mut G,
+    clock: &mut K,
+) -> Result<Option<u64>, WorkerEnd>
+    requires clerk { IsClerkOf office.now.lock clerk.old }
+    requires held { AreOfAsks (clerk_view clerk.old).seen (C.held carriage.old) }
+    ensures clerk { IsClerkOf office.now.lock clerk.new }
+    ensures number { clerk.new.number ≡ clerk.old.number }
+    ensures held { OnOk result (AreOfAsks (clerk_view clerk.new).seen (C.held carriage.new)) }
+    ensures next { IfOk result (λ next. G.is_closing gate.new ⊎ IsFirstMoment (V.setting (clerk_view clerk.new).origin).limits (clerk_view clerk.new).seen next) }
+    ensures work { (s : Post V.Origin K) → Carries V.setting C.gives K.tells s (post (clerk_view clerk.old) clock.old)
+        → MatchResult result (λ _. Carries V.setting C.gives K.tells s (post (clerk_view clerk.new) clock.new)) (λ end. EndsCarrying V.setting C.gives K.tells s end (post (clerk_view clerk.new) clock.new)) }
+    ensures why { IfErr result (TellsWhy (G.is_shut gate.new) (G.holds gate.new) (HasStopped V.origin V.history V.lawful V.has_stopped (clerk_view clerk.new)) (clerk_view clerk.new).seen) }
+{
+    if !gate.begins() {
+        return Ok(None);
+    }
+    if let Err(end) = begin(rt, office, clerk, carriage, gate, clock) {
+        return Err(end);
+    }
+    match office.next_moment(rt, clerk) {
+        Ok(next) => Ok(next),
+        Err(refusal) => Err(WorkerEnd::Refused(refusal)),
+    }
+}
+
+/// Has all that is under way carried, until that moment at most, and records what came of it.
 fn carry_on<V: Serving, R: Wait, C: Carriage, G: Gate, K: Clock>(
     rt: &R,
     office: &OfficeOf<V>,
@@ -214,6 +247,7 @@ fn carry_on<V: Serving, R: Wait, C: Carriage, G: Gate, K: Clock>(
     carriage: &mut C,
     gate: &mut G,
     clock: &mut K,
+    next: Option<u64>,
 ) -> Result<(), WorkerEnd>
     requires clerk { IsClerkOf office.now.lock clerk.old }
     requires held { AreOfAsks (clerk_view clerk.old).seen (C.held carriage.old) }
@@ -224,7 +258,7 @@ fn carry_on<V: Serving, R: Wait, C: Carriage, G: Gate, K: Clock>(
         → MatchResult result (λ _. Works V.setting C.gives K.tells s (post (clerk_view clerk.new) clock.new)) (λ end. EndsWork V.setting C.gives K.tells s end (post (clerk_view clerk.new) clock.new)) }
     ensures why { IfErr result (TellsWhy (G.is_shut gate.new) (G.holds gate.new) (HasStopped V.origin V.history V.lawful V.has_stopped (clerk_view clerk.new)) (clerk_view clerk.new).seen) }
 {
-    carriage.carry();
+    carriage.carry(next);
     record_done(rt, office, clerk, carriage, gate, clock)
 }
 
@@ -242,21 +276,19 @@ fn take_turn<V: Serving, R: Wait, C: Carriage, G: Gate, K: Clock>(
     ensures clerk { IsClerkOf office.now.lock clerk.new }
     ensures number { clerk.new.number ≡ clerk.old.number }
     ensures held { OnOk result (AreOfAsks (clerk_view clerk.new).seen (C.held carriage.new)) }
-    ensures work { (s : Post V.Origin K) → Works V.setting C.gives K.tells s (post (clerk_view clerk.old) clock.old)
-        → MatchResult result (λ _. Works V.setting C.gives K.tells s (post (clerk_view clerk.new) clock.new)) (λ end. EndsWork V.setting C.gives K.tells s end (post (clerk_view clerk.new) clock.new)) }
+    ensures work { (s : Post V.Origin K) → Carries V.setting C.gives K.tells s (post (clerk_view clerk.old) clock.old)
+        → MatchResult result (λ _. Carries V.setting C.gives K.tells s (post (clerk_view clerk.new) clock.new)) (λ end. EndsCarrying V.setting C.gives K.tells s end (post (clerk_view clerk.new) clock.new)) }
     ensures why { IfErr result (TellsWhy (G.is_shut gate.new) (G.holds gate.new) (HasStopped V.origin V.history V.lawful V.has_stopped (clerk_view clerk.new)) (clerk_view clerk.new).seen) }
 {
-    if !gate.begins() {
-        return carry_on(rt, office, clerk, carriage, gate, clock);
+    match begin_next(rt, office, clerk, carriage, gate, clock) {
+        Ok(next) => carry_on(rt, office, clerk, carriage, gate, clock, next),
+        Err(end) => Err(end),
     }
-    if let Err(end) = begin(rt, office, clerk, carriage, gate, clock) {
-        return Err(end);
-    }
-    carry_on(rt, office, clerk, carriage, gate, clock)
 }
 
 /// Works as a clerk of an office, with many errands under way: lets limits fire, takes the errands of what is due in the order in which it is, and
-/// records what comes of each when it comes, turn by turn as long as the gate lets it. An errand is taken at once: the gate isn't asked to hold it.
+/// records what comes of each when it comes, turn by turn as long as the gate lets it. An errand is taken at once: the gate isn't asked to hold it. In each turn
+/// the carriage is told when something will be due next, so that it rests no longer.
 ///
 /// The errands that are under way when it ends stay in the carriage.
 pub fn run_carrier<V: Serving, R: Wait, C: Carriage, G: Gate, K: Clock>(
@@ -271,7 +303,7 @@ pub fn run_carrier<V: Serving, R: Wait, C: Carriage, G: Gate, K: Clock>(
     requires none { AreFree (C.held carriage.old) }
     ensures clerk { IsClerkOf office.now.lock result.0 }
     ensures number { result.0.number ≡ clerk.number }
-    ensures work { EndsWork V.setting C.gives K.tells (post (clerk_view clerk) clock.old) result.1 (post (clerk_view result.0) clock.new) }
+    ensures work { EndsCarrying V.setting C.gives K.tells (post (clerk_view clerk) clock.old) result.1 (post (clerk_view result.0) clock.new) }
     ensures why { TellsWhy (G.is_shut gate.new) (G.holds gate.new) (HasStopped V.origin V.history V.lawful V.has_stopped (clerk_view result.0)) (clerk_view result.0).seen result.1 }
 {
     let mut clerk = clerk;

@@ -22,12 +22,17 @@ pub trait Gate {
     // What is known of one that has held the errand of an ask back.
     ghost holds: { Self → ℕ → Type 0 } = { λ _ _. Unit {0} };
 
+    // What is known of one that lets nothing new be begun.
+    ghost is_closing: { Self → Type 0 } = { λ _. Unit {0} };
+
     /// Whether another turn is made. A gate of a running service pauses here.
     fn more(&mut self) -> bool
         ensures { result ≡ false → is_shut self.new };
 
     /// Whether new work is begun in a turn: limits fire, and errands are taken. Else it is only recorded what comes of those under way.
-    fn begins(&self) -> bool {
+    fn begins(&self) -> bool
+        ensures { result ≡ false → is_closing self.now }
+    {
         true
     }
 

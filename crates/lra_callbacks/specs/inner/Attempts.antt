@@ -1,10 +1,14 @@
 -- What moving bytes keeps of a callback.
-use Rattle.std.specs.Prelude.{◌≡◌, ◌⊎◌, ℕ, ◌+◌, List, ◌++◌, take, drop, Option, option_map, unwrap_or}
+use Rattle.std.specs.Prelude.{◌≡◌, ◌⊎◌, ℕ, ◌+◌, List, ◌++◌, take, drop, Option, option_map, unwrap_or, String, string_bytes}
 use Rattle.std.specs.Result.{result_unwrap_or}
+use Rattle.std.specs.Global.{Global}
 use Rattle.std.specs.Io.KnownBytes.{Appends, Consumes}
 use Rattle.lra_model.specs.declared.asks.Outcome.{Outcome}
 use Rattle.lra_model.specs.declared.asks.Outcome.TheVariants.{Silent}
+use Rattle.lra_commands.specs.Errands.{Asking}
+use Rattle.lra_courier.specs.Sockets.{socket_text}
 use Rattle.lra_carrying.specs.Carried.{Carried}
+use Rattle.lra_callbacks.specs.Outcomes.{IsFor}
 
 -- it is the same member that is asked the same
 pub record IsOfSame (old new : Carried) : Type 0 where
@@ -23,3 +27,8 @@ TakesIn old new before after = (bytes : List ℕ) × Consumes before after bytes
 -- what a callback came to is what is told of it, and silence where it came to nothing
 abbrev pub outcome_of : Carried → Outcome
 outcome_of c = unwrap_or (option_map (λ told. result_unwrap_or told Silent) c.came) Silent
+
+-- what is carried is the callback of an errand, and goes to the host and port of its address
+pub record Goes (carried : Carried) (socket : String Global) (errand : Asking) : Type 0 where
+  pub own : IsFor carried errand
+  pub to : string_bytes socket ≡ socket_text errand.address

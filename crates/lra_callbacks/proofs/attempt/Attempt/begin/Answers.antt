@@ -15,5 +15,5 @@ invariant_of-self g c =
     record {
       of = c.args.self.now.of;
       leave = λ x e. subst (λ (f : Flight). IsTrue (g.D.Disk.took due) × MayLeave g.D.Disk.keeps due f.kept) (same_Some _ x e) kept;
-      own = λ x e. subst (λ (f : Flight). ForSome c.args.self.now.errand (IsFor f.carrying)) (same_Some _ x e) c.in-Some-callback.ensures;
+      own = λ x e. subst (λ (f : Flight). ForSome c.args.self.now.errand (IsFor f.carrying)) (same_Some _ x e) (λ y h. (c.in-Some-callback.ensures y h).own);
     }

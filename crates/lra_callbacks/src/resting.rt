@@ -1,0 +1,31 @@
+//! How long a carrier rests.
+
+ghost use Rattle.std.specs.Prelude.{◌≡◌};
+ghost use Rattle.lra_callbacks.specs.inner.Resting.{rest, most_rest};
+
+/// How long a carrier waits for its sockets at most before it looks at its office again, in milliseconds.
+pub(crate) const REST_MS: u64 = 1_000;
+
+/// How long it does where it has no room for what is due, or has to look at the time before.
+pub(crate) const SHORT_REST_MS: u64 = 50;
+
+fn most_rest(has_room: bool, is_watchful: bool) -> u64
+    ensures { result ≡ most_rest has_room is_watchful }
+{
+    if has_room && !is_watchful {
+        REST_MS
+    } else {
+        SHORT_REST_MS
+    }
+}
+
+/// How long a carrier may wait for its sockets at a moment of its office's clock, where something is due next at that other one, if anything is.
+pub(crate) fn rest_for(next: Option<u64>, now: u64, has_room: bool, is_watchful: bool) -> u64
+    ensures { result ≡ rest next now has_room is_watchful }
+{
+    let most = most_rest(has_room, is_watchful);
+    match next {
+        Some(moment) if has_room => moment.saturating_sub(now).min(most),
+        _ => most,
+    }
+}

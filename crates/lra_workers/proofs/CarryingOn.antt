@@ -1,0 +1,65 @@
+-- A worker's calls, and looks ahead between them.
+use Rattle.std.proofs.Common.{◌≢◌, ℕ, zero, suc, inl, inr, refl, sym, subst, Option}
+use Rattle.std.specs.Prelude.{Result, Ok, Err, MatchResult}
+use mathlib.Core.List.{IsPrefix}
+use Rattle.lra_model.specs.declared.asks.AskKind.{AskKind}
+use Rattle.lra_model.specs.declared.asks.Outcome.{Outcome}
+use Rattle.lra_ticket.specs.declared.view.View.{View}
+use Rattle.lra_commands.specs.Counters.{Setting}
+use Rattle.lra_commands.specs.declared.refusal.Refusal.TheVariants.{Stopped}
+use Rattle.lra_office.specs.declared.fault.OfficeRefusal.{OfficeRefusal}
+use Rattle.lra_office.specs.declared.fault.OfficeRefusal.TheVariants as office
+use Rattle.lra_office.specs.Orders.{IsForetold, IsLookedAhead}
+use Rattle.lra_schedule.specs.Schedules.{IsFirstMoment}
+use Rattle.lra_workers.specs.declared.worker.WorkerEnd.{WorkerEnd}
+use Rattle.lra_workers.specs.declared.worker.WorkerEnd.TheVariants.{Ended, Held, Refused}
+use Rattle.lra_workers.specs.Work.{Post, post, Works, EndsWork}
+use Rattle.lra_workers.specs.Carrying.{CarriesIn, Carries, CarriesUpTo, EndsCarrying}
+use Rattle.lra_workers.proofs.Working.{works_none}
+
+-- who looks ahead has seen all that it had
+pub foretold_seen : {O : Type 0} (g : Setting) (v w : View O) (next : Option ℕ) → IsForetold g v next w → IsPrefix v.seen w.seen
+foretold_seen g v w next h = subst (λ (x : View _). IsPrefix v.seen x.seen) (sym h.after) h.met.begins
+
+-- and is told of just what it has seen then
+pub foretold_first : {O : Type 0} (set : O → Setting) (v w : View O) (next : Option ℕ) → IsForetold (set v.origin) v next w → IsFirstMoment (set w.origin).limits w.seen next
+foretold_first set v w next h = subst (λ (x : View _). IsFirstMoment (set x.origin).limits x.seen next) (sym h.after) h.told
+
+-- a look ahead never says that the scribe has stopped
+pub looked_not_stopped : {O : Type 0} (g : Setting) (v w : View O) (x : OfficeRefusal) → IsLookedAhead g v (Err x) w → x ≢ office.Refused Stopped
+looked_not_stopped g v w office.Worn h e = absurd cc
+looked_not_stopped g v w (office.Refused r) h e = absurd h
+
+module _ {O K : Type 0} (setting : O → Setting) (gives : ℕ → AskKind → Outcome → Type 0) (tells : K → ℕ → K → Type 0) where
+  pub carries_none : (s : Post O K) → Carries setting gives tells s s
+  unfolding CarriesIn
+  carries_none s = (0, works_none setting gives tells s)
+
+  pub carries_on : (s a b : Post O K) → ((x : Post O K) → Works setting gives tells x a → Works setting gives tells x b) → Carries setting gives tells s a → Carries setting gives tells s b
+  unfolding CarriesIn
+  carries_on s a b more (zero, h) = (0, more s h)
+  carries_on s a b more (suc n, (u, v, next, before, look, h)) = (suc n, (u, v, next, before, look, more v h))
+
+  carries_up_to : (s a b : Post O K) (r : OfficeRefusal) → ((x : Post O K) → Works setting gives tells x a → EndsWork setting gives tells x (Refused r) b) → Carries setting gives tells s a → CarriesUpTo setting gives tells s r b
+  unfolding CarriesIn
+  carries_up_to s a b r more (zero, h) = let (w, works, fails, ends) = more s h in (w, (0, works), inl fails, ends)
+  carries_up_to s a b r more (suc n, (u, v, next, before, look, h)) = let (w, works, fails, ends) = more v h in (w, (suc n, (u, v, next, before, look, works)), inl fails, ends)
+
+  pub ends_carrying : (s a b : Post O K) (end : WorkerEnd) → ((x : Post O K) → Works setting gives tells x a → EndsWork setting gives tells x end b) → Carries setting gives tells s a → EndsCarrying setting gives tells s end b
+  ends_carrying s a b Ended more h = carries_on s a b more h
+  ends_carrying s a b Held more h = carries_on s a b more h
+  ends_carrying s a b (Refused r) more h = carries_up_to s a b r more h
+
+  -- a worker's calls are a carrier's
+  pub carries : {A : Type 0} (s a b : Post O K) (r : Result A WorkerEnd) → ((x : Post O K) → Works setting gives tells x a → MatchResult r (λ _. Works setting gives tells x b) (λ end. EndsWork setting gives tells x end b))
+      → Carries setting gives tells s a → MatchResult r (λ _. Carries setting gives tells s b) (λ end. EndsCarrying setting gives tells s end b)
+  carries s a b (Ok y) more h = carries_on s a b more h
+  carries s a b (Err end) more h = ends_carrying s a b end more h
+
+  -- a look ahead
+  pub looks : (s : Post O K) (v w : View O) (k : K) (r : Result (Option ℕ) OfficeRefusal) → IsLookedAhead (setting v.origin) v r w → Carries setting gives tells s (post v k)
+      → MatchResult r (λ _. Carries setting gives tells s (post w k)) (λ x. CarriesUpTo setting gives tells s x (post w k))
+  unfolding CarriesIn
+  looks s v w k (Ok next) h before = (suc before.0, (post v k, post w k, next, before.1, record { clock = refl; told = h }, works_none setting gives tells (post w k)))
+  looks s v w k (Err office.Worn) h before = (post v k, before, inr (record { clock = refl; told = h }), tt)
+  looks s v w k (Err (office.Refused r)) h before = absurd h
