@@ -30,7 +30,8 @@ pub(crate) struct Clients<D: Disk, P: WhichCoordinator, C: Counter> {
     alloc: Global,
     times: Times,
     seats: Slab<Seat<D, P, C>>,
-    /// Until when those that are idle have to begin a request, as limits; and the others to go on with theirs, or with a reply, as retries.
+    /// Until when those that are idle have to begin a request, as limits; and the others to go on with theirs, or with a reply, as retries. What stands
+    /// here may come too soon: then it is put right (see `settle`).
     agenda: Agenda,
     /// The keys of those whose streams may be ready.
     ready: Vec<usize>,
@@ -96,12 +97,35 @@ impl<D: Disk, P: WhichCoordinator, C: Counter> Clients<D, P, C> {
         if self.seats.len() < most {
             return true;
         }
-        match self.agenda.first_due(u64::MAX) {
-            Some(key) => {
-                self.end(key as usize);
-                true
+        for _stale in 0..=self.seats.len() {
+            let Some(key) = self.agenda.first_due(u64::MAX) else {
+                return false;
+            };
+            let key = key as usize;
+            if self.is_as_noted(key) {
+                self.end(key);
+                return true;
             }
-            None => false,
+            self.settle(key);
+        }
+        false
+    }
+
+    /// Whether what is noted of a client is the end of its turn.
+    fn is_as_noted(&self, key: usize) -> bool {
+        match self.seats.get(key) {
+            Some(seat) => seat.noted() == seat.turn(),
+            None => true,
+        }
+    }
+
+    /// Notes the end of a client's turn anew. Where memory is refused the client is ended.
+    fn settle(&mut self, key: usize) {
+        if let Some(seat) = self.seats.get(key) {
+            let turn = seat.turn();
+            if !self.set_time(key, turn) {
+                self.end(key);
+            }
         }
     }
 
@@ -139,22 +163,24 @@ impl<D: Disk, P: WhichCoordinator, C: Counter> Clients<D, P, C> {
         let Some(seat) = self.seats.get_mut(key) else {
             return;
         };
-        let before = seat.turn();
         let need = seat.next(times, now);
-        let after = seat.turn();
+        let (is_to_note, turn) = (seat.is_to_note(), seat.turn());
         let is_placed = match need {
             Need::End => false,
             Need::Rest => true,
             Need::Visit => !seat.list() || self.again.push_back(key).is_ok(),
             Need::Leave => !seat.wait() || self.waiting.push(key).is_ok(),
         };
-        if !is_placed || before != after && !self.set_time(key, after) {
+        if !is_placed || is_to_note && !self.set_time(key, turn) {
             self.end(key);
         }
     }
 
     /// Notes until when a client's turn lasts. Tells whether there was memory for it.
     fn set_time(&mut self, key: usize, turn: Turn) -> bool {
+        if let Some(seat) = self.seats.get_mut(key) {
+            seat.note(turn);
+        }
         let key = key as u64;
         match turn {
             Turn::Begins(until) => {
@@ -258,14 +284,19 @@ impl<D: Disk, P: WhichCoordinator, C: Counter> Clients<D, P, C> {
     pub(crate) fn end_late(&mut self, now: u64) {
         for _late in 0..self.seats.len() {
             let late = self.agenda.first_due(now);
-            match late.or(self.agenda.next_retry(now)) {
-                Some(key) => self.end(key as usize),
-                None => return,
+            let Some(key) = late.or(self.agenda.next_retry(now)) else {
+                return;
+            };
+            let key = key as usize;
+            if self.is_as_noted(key) {
+                self.end(key);
+            } else {
+                self.settle(key);
             }
         }
     }
 
-    /// The moment at which the first turn has lasted too long, if someone has a turn.
+    /// The first moment that is noted as the end of a turn, if one is.
     pub(crate) fn first_end(&self) -> Option<u64> {
         let idle = self.end_of(self.agenda.first_due(u64::MAX));
         let busy = self.end_of(self.agenda.next_retry(u64::MAX));
@@ -276,10 +307,10 @@ impl<D: Disk, P: WhichCoordinator, C: Counter> Clients<D, P, C> {
         }
     }
 
-    /// Until when the turn of one who may be there lasts.
+    /// Until when the turn lasts that is noted of one who may be there.
     fn end_of(&self, key: Option<u64>) -> Option<u64> {
         let seat = self.seats.get(key? as usize)?;
-        match seat.turn() {
+        match seat.noted() {
             Turn::Begins(until) | Turn::Asks(until) | Turn::Takes(until) => Some(until),
             Turn::Waits => None,
         }

@@ -48,6 +48,8 @@ pub(crate) enum Need {
 pub(crate) struct Seat<D: Disk, P: WhichCoordinator, C: Counter> {
     client: Client<TcpStream, D, P, C>,
     turn: Turn,
+    /// The turn whose end is noted, which may have passed into others that last longer; none is, where it says that the disk's is.
+    noted: Turn,
     /// How much room it has while nothing of a request has come.
     whole: usize,
     /// Its stream may have bytes that weren't read.
@@ -73,6 +75,7 @@ impl<D: Disk, P: WhichCoordinator, C: Counter> Seat<D, P, C> {
         Seat {
             client,
             turn: Turn::Waits,
+            noted: Turn::Waits,
             whole,
             may_read: false,
             is_closing: false,
@@ -86,6 +89,26 @@ impl<D: Disk, P: WhichCoordinator, C: Counter> Seat<D, P, C> {
 
     pub(crate) fn turn(&self) -> Turn {
         self.turn
+    }
+
+    /// The turn whose end is noted.
+    pub(crate) fn noted(&self) -> Turn {
+        self.noted
+    }
+
+    /// The end of that turn is noted.
+    pub(crate) fn note(&mut self, turn: Turn) {
+        self.noted = turn;
+    }
+
+    /// Whether the end of its turn has to be noted anew. What is noted may come too soon, but not too late: while one idles again and again, or waits for
+    /// the disk, nothing is.
+    pub(crate) fn is_to_note(&self) -> bool {
+        match (self.noted, self.turn) {
+            (_, Turn::Waits) => false,
+            (Turn::Begins(noted), Turn::Begins(until)) => until < noted,
+            (noted, turn) => noted != turn,
+        }
     }
 
     /// Its stream may be ready, to be read and to be written, and may have come to its end.
