@@ -3,7 +3,7 @@ import os
 import socket
 
 import journal
-from files import UNSOUND, VERDICT
+from files import UNSOUND, VERDICT, hint
 from service import HOST, check, equal, free_port
 
 
@@ -31,7 +31,7 @@ def test_one_and_sixteen_workers_serve(setting):
 
 
 def test_help_and_version(setting):
-    wanted_texts = {"--help": ("audit", "show", "upgrade", "play", "serve ADDRESS FILE WORKERS"), "--version": ("lra ", "rattle logic ")}
+    wanted_texts = {"--help": ("audit", "show", "upgrade", "salvage", "play", "serve ADDRESS FILE WORKERS"), "--version": ("lra ", "rattle logic ")}
     for word, wanted in wanted_texts.items():
         status, output, fault = setting.run(word)
         equal(word, (status, fault), (0, ""))
@@ -76,6 +76,6 @@ def test_faults_come_in_their_order(setting):
         told(setting, "lra: usage", "serve", "a b", setting.journal, "0")
         told(setting, "lra: cannot serve a b", "serve", "a b", setting.folder, "2")
         told(setting, f"lra: cannot read {setting.folder}", "serve", used, setting.folder, "2")
-        equal("an unsound file", setting.run("serve", used, setting.journal, "2"), (1, VERDICT, ""))
+        equal("an unsound file", setting.run("serve", used, setting.journal, "2"), (1, VERDICT, hint(setting)))
         missing = setting.folder + "/missing/journal"
         told(setting, f"lra: cannot serve {used}", "serve", used, missing, "2")

@@ -17,6 +17,11 @@ VERDICT = "unsound line 7 unsettled\n"
 LONGEST, CLERKS = 2**30, 10**6
 
 
+def hint(setting):
+    """The line that names the way to what is sound of a journal that isn't."""
+    return f"lra: what is sound of it: lra salvage {setting.journal}\n"
+
+
 def stopped(client, method, path, **keys):
     reply = client.call(method, path, **keys)
     equal(f"{method} {path}", (reply.code, reply.phrase, reply.body), (503, "Service Unavailable", {"error": "Stopped"}))
@@ -106,7 +111,7 @@ def test_a_journal_of_version_1_goes_on_in_its_version(setting):
 def refused_unchanged(setting, data, verdict):
     journal.write(setting.journal, data)
     told = setting.run("serve", "127.0.0.1:2", setting.journal, "2")
-    equal("the program", told, (1, verdict, ""))
+    equal("the program", told, (1, verdict, hint(setting)))
     equal("the file", journal.read(setting.journal), data)
 
 

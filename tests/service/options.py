@@ -7,7 +7,7 @@ import time
 
 import journal
 from asks import recorded
-from files import SOUND, UNSOUND, VERDICT
+from files import SOUND, UNSOUND, VERDICT, hint
 from participant import Participant, wait_until
 from patience import REQUESTS, narrow
 from service import HOST, PATIENCE, Service, check, equal, free_port, id_of, is_ready, lock, number_of, received, started
@@ -163,7 +163,7 @@ def test_a_check_tells_what_would_be_served_and_leaves_all_as_it_is(setting):
 def test_a_check_tells_faults_as_a_start_does(setting):
     equal("an address", serve_by(setting, "--check", address="a b"), (2, "", "lra: cannot serve a b\n"))
     journal.write(setting.journal, UNSOUND)
-    equal("an unsound journal", serve_by(setting, "--check"), (1, VERDICT, ""))
+    equal("an unsound journal", serve_by(setting, "--check"), (1, VERDICT, hint(setting)))
     os.remove(setting.journal)
     with setting.serve() as service:
         equal("a locked one", serve_by(setting, "--check"), (2, "", f"lra: cannot write {setting.journal}\n"))

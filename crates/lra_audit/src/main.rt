@@ -1,7 +1,9 @@
-//! `lra_audit`: audits a journal of long running actions, lists its actions and members, and upgrades it, without a coordinator.
+//! `lra_audit`: audits a journal of long running actions or a folder of them, lists its actions and members, upgrades it, and salvages what is
+//! sound of it, without a coordinator.
 #![tactic(auto)]
 
-use lra_reports::{answer_question, read_question, tell_usage, words_of};
+use lra_folders::answer_question;
+use lra_reports::{read_question, tell_usage, words_of};
 use std::process::ExitCode;
 
 fn main(rt: HostRuntime) -> ExitCode {

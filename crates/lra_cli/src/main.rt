@@ -1,11 +1,12 @@
-//! `lra`: audits a journal of long running actions, lists its actions and members, and upgrades it; plays scripts of commands; and serves
-//! a coordinator.
+//! `lra`: audits a journal of long running actions or a folder of them, lists its actions and members, upgrades it, and salvages what is sound
+//! of it; plays scripts of commands; and serves a coordinator.
 #![tactic(auto)]
 
 mod serving;
 
 use crate::serving::{answer_options, answer_serve, have_options};
-use lra_reports::{System, answer_question, settle, tell_usage, words_of};
+use lra_folders::answer_question;
+use lra_reports::{System, settle, tell_usage, words_of};
 use lra_runs::{Task, play_file, read_task};
 use std::fs::File;
 use std::io;
@@ -35,7 +36,9 @@ fn answer<
         + Input
         + Print
         + Eprint
-        + Sync,
+        + Sync
+        + Clone
+        + Drop,
 >(rt: &R, words: &[String]) -> u8
 where
     R::Reader: AsFd,

@@ -2,7 +2,7 @@
 
 use lra_opening::NamedFile;
 use lra_options::{Options, OptionsFault, read_options};
-use lra_reports::{RunFault, error_line, put, settle, tell, tell_usage};
+use lra_reports::{RunFault, error_line, hint_line, put, settle, tell, tell_usage};
 use lra_service::{Aloud, ServeFault, Served, check_place, fault_line, serve_with};
 use lra_settings::Settings;
 use std::fs::{File, OpenOptions};
@@ -51,14 +51,27 @@ where
     Ok(ChildStdout::from(input))
 }
 
-/// The status of a service that has ended, or isn't there. A fault is told.
+/// Names the way to what is sound of a journal that isn't served, on standard error.
+fn tell_way<R: AllocGlobal + Eprint>(rt: &R, file: &str) {
+    if let Ok(line) = hint_line(rt.alloc(), file) {
+        let _ = eprint!(rt; "{line}");
+    }
+}
+
+/// The status of a service that has ended, or isn't there. A fault is told, and so is where a journal isn't sound the way to what is sound
+/// of it.
 fn settle_serving<R: AllocGlobal + Eprint>(
     rt: &R,
     outcome: Result<u8, ServeFault>,
     options: &Options<'_>,
 ) -> u8 {
     match outcome {
-        Ok(status) => status,
+        Ok(status) => {
+            if status != 0 {
+                tell_way(rt, options.file);
+            }
+            status
+        }
         Err(fault) => tell(
             rt,
             fault_line(rt.alloc(), fault, options.address, options.file),

@@ -3,3 +3,4 @@ pub mod Feeding
 pub mod Versions
 pub mod Sourced
 pub mod Worded
+pub mod Fronts

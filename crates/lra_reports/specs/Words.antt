@@ -4,7 +4,7 @@ use Rattle.std.specs.Global.{Global}
 use Rattle.lra_reports.specs.declared.words.Invocation.{Invocation}
 use Rattle.lra_reports.specs.declared.words.Invocation.TheVariants.{AuditInput, Audit, Show, Upgrade}
 use Rattle.lra_reports.specs.declared.words.Question.{Question}
-use Rattle.lra_reports.specs.declared.words.Question.TheVariants.{Run, Help, Version}
+use Rattle.lra_reports.specs.declared.words.Question.TheVariants.{Run, Salvage, Help, Version}
 
 -- the bytes of each word
 abbrev pub texts : List (String Global) → List (List ℕ)
@@ -17,8 +17,9 @@ IsInvocation words (Audit file) = words ≡ codes "audit" ∷ file.now ∷ []
 IsInvocation words (Show file) = words ≡ codes "show" ∷ file.now ∷ []
 IsInvocation words (Upgrade file) = words ≡ codes "upgrade" ∷ file.now ∷ []
 
--- words that ask for a run; or `--help`; or `--version`
+-- words that ask for a run; or `salvage FILE`; or `--help`; or `--version`
 abbrev pub IsQuestion : List (List ℕ) → Question → Type 0
 IsQuestion words (Run invocation) = IsInvocation words invocation
+IsQuestion words (Salvage file) = words ≡ codes "salvage" ∷ file.now ∷ []
 IsQuestion words Help = words ≡ codes "--help" ∷ []
 IsQuestion words Version = words ≡ codes "--version" ∷ []

@@ -1,7 +1,7 @@
 //! The lines that a program prints on standard error.
 
 ghost use Rattle.std.specs.Prelude.{◌≡◌, IfOk, string_bytes};
-ghost use Rattle.lra_reports.specs.Faults.{error_line};
+ghost use Rattle.lra_reports.specs.Faults.{error_line, hint_line};
 ghost use Rattle.lra_reports.specs.Invoked.{input_name};
 
 use crate::fault::RunFault;
@@ -31,4 +31,11 @@ pub fn error_line(alloc: Global, fault: RunFault, input: &str) -> Result<String,
         RunFault::Memory => String::from_str(alloc, "lra: out of memory\n"),
         RunFault::Line(number) => format!(in alloc; "lra: bad script line {number}\n"),
     }
+}
+
+/// The line on standard error that names the way to what is sound of a file, where its journal as a whole isn't.
+pub fn hint_line(alloc: Global, file: &str) -> Result<String, Memory>
+    ensures { IfOk result (λ text. string_bytes text ≡ hint_line file.now) }
+{
+    format!(in alloc; "lra: what is sound of it: lra salvage {file}\n")
 }

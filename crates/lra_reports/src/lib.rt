@@ -1,5 +1,5 @@
 //! What reads an input and reports on it, over any reader and writer: an audit of a journal, a listing of its actions and members, its
-//! upgrade; and what the words of a command line ask of these.
+//! upgrade, and what is sound of it; and what the words of a command line ask of these.
 #![tactic(auto)]
 
 mod audit;
@@ -10,6 +10,7 @@ mod input;
 mod output;
 mod program;
 mod report;
+mod salvage;
 mod show;
 mod texts;
 mod upgrade;
@@ -17,11 +18,12 @@ mod words;
 
 pub use audit::audit_run;
 pub use dispatch::{Sources, run};
-pub use errors::{error_line, input_name};
+pub use errors::{error_line, hint_line, input_name};
 pub use fault::RunFault;
 pub use input::{LONGEST, read_input};
 pub use output::put;
 pub use program::{System, answer_question, settle, tell, tell_usage, words_of};
+pub use salvage::{salvage_file, salvage_run};
 pub use show::show_run;
 pub use texts::{HELP, VERSION};
 pub use upgrade::upgrade_run;

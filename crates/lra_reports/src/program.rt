@@ -1,11 +1,12 @@
 //! What a program does on a system: it takes its words, answers a question by its status, and tells faults on standard error.
 
-ghost use Rattle.std.specs.Prelude.{◌≡◌, IfOk, IfErr};
+ghost use Rattle.std.specs.Prelude.{◌≡◌, IfOk, IfErr, IfSome, IfNone};
 
 use crate::dispatch::{Sources, run};
 use crate::errors::{error_line, input_name};
 use crate::fault::RunFault;
 use crate::output::put;
+use crate::salvage::salvage_file;
 use crate::texts::{HELP, VERSION};
 use crate::words::{Invocation, Question};
 use std::alloc::AllocError;
@@ -74,6 +75,27 @@ fn answer_run<R: AllocGlobal + Files + Input + Print + Eprint>(
     settle(rt, outcome, input_name(invocation))
 }
 
+/// Prints the line that a salvage tells, if it does, on standard error. The answer is the program's status: 1 where something was left
+/// out, else 0.
+fn tell_end<R: Eprint>(rt: &R, told: Option<String>) -> u8
+    ensures all { IfNone told (result ≡ 0) }
+    ensures front { IfSome told (λ _. result ≡ 1) }
+{
+    match told {
+        Some(line) => {
+            let _ = eprint!(rt; "{line}");
+            1
+        }
+        None => 0,
+    }
+}
+
+/// Prints what is sound of a file's journal, and answers the program's status.
+fn answer_salvage<R: AllocGlobal + Files + Input + Print + Eprint>(rt: &R, file: &str) -> u8 {
+    let outcome = salvage_file(rt.alloc(), &System { rt }, file, &mut io::writer(rt));
+    settle(rt, outcome.map(|told| tell_end(rt, told)), file)
+}
+
 /// Prints a text, and answers the program's status.
 fn answer_text<R: AllocGlobal + Print + Eprint>(rt: &R, text: &str) -> u8 {
     let outcome = put(&mut io::writer(rt), text.as_bytes());
@@ -87,6 +109,7 @@ pub fn answer_question<R: AllocGlobal + Files + Input + Print + Eprint>(
 ) -> u8 {
     match question {
         Question::Run(invocation) => answer_run(rt, invocation),
+        Question::Salvage { file } => answer_salvage(rt, file),
         Question::Help => answer_text(rt, HELP),
         Question::Version => answer_text(rt, VERSION),
     }

@@ -3,9 +3,10 @@
 /// How they are called.
 pub const HELP: &str = "\
 lra                               audits standard input
-lra audit FILE                    audits a journal
+lra audit FILE                    audits a journal, or all that a folder has
 lra show FILE                     lists a sound journal's actions and members
 lra upgrade FILE                  prints a sound journal in version 2
+lra salvage FILE                  prints what is sound of a journal, up to its first fault
 lra play SCRIPT                   plays commands on a coordinator in memory
 lra serve ADDRESS FILE WORKERS    serves a journal's coordinator at http://ADDRESS/, by 1 to 16 threads of a kind
 lra --help                        prints these calls

@@ -25,6 +25,8 @@ pub enum Invocation<'a> {
 pub enum Question<'a> {
     /// What a run on an input comes to.
     Run(Invocation<'a>),
+    /// What is sound of a file's journal.
+    Salvage { file: &'a str },
     /// How it is called.
     Help,
     /// Which version it is.
@@ -49,15 +51,17 @@ fn invocation_on<'a>(verb: &str, file: &'a str) -> Result<Invocation<'a>, Usage>
     }
 }
 
-/// The run that these words ask for.
-fn read_invocation(words: &[String]) -> Result<Invocation<'_>, Usage>
-    ensures invocation { IfOk result (IsInvocation (texts words.now)) }
-    ensures usage { IfErr result (λ _. (invocation : Invocation) → IsInvocation (texts words.now) invocation → ⊥) }
+/// What a verb asks of a file.
+fn question_on<'a>(verb: &str, file: &'a str) -> Result<Question<'a>, Usage>
+    ensures question { IfOk result (IsQuestion (verb.now ∷ file.now ∷ [])) }
+    ensures usage { IfErr result (λ _. (question : Question) → IsQuestion (verb.now ∷ file.now ∷ []) question → ⊥) }
 {
-    match words {
-        [] => Ok(Invocation::AuditInput),
-        [verb, file] => invocation_on(verb.as_str(), file.as_str()),
-        _ => Err(Usage),
+    if verb == "salvage" {
+        return Ok(Question::Salvage { file });
+    }
+    match invocation_on(verb, file) {
+        Ok(invocation) => Ok(Question::Run(invocation)),
+        Err(usage) => Err(usage),
     }
 }
 
@@ -79,10 +83,9 @@ pub fn read_question(words: &[String]) -> Result<Question<'_>, Usage>
     ensures usage { IfErr result (λ _. (question : Question) → IsQuestion (texts words.now) question → ⊥) }
 {
     match words {
+        [] => Ok(Question::Run(Invocation::AuditInput)),
         [word] => question_of(word.as_str()),
-        _ => match read_invocation(words) {
-            Ok(invocation) => Ok(Question::Run(invocation)),
-            Err(usage) => Err(usage),
-        },
+        [verb, file] => question_on(verb.as_str(), file.as_str()),
+        _ => Err(Usage),
     }
 }

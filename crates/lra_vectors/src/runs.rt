@@ -1,6 +1,7 @@
 //! The runs of the program, each over inputs in memory.
 
 mod fakes;
+mod salvage;
 
 use crate::texts::{Telling, assert_rows, assert_told, parted};
 use fakes::{Full, Halting, Halts, Shelf};
@@ -300,6 +301,7 @@ fn reported(invocation: Invocation<'_>) -> &'static str {
 fn task(alloc: Global, words: &[String]) -> Option<String> {
     let name = match read_task(words) {
         Ok(Task::Question(Question::Run(invocation))) => reported(invocation),
+        Ok(Task::Question(Question::Salvage { file: "it" })) => "salvage",
         Ok(Task::Play { script: "it" }) => "play",
         Ok(_) => "another task",
         Err(usage) => return format!(in alloc; "{usage}").ok(),
@@ -338,6 +340,8 @@ const TASKS: &str = "\
 audit it -> audit
 show it -> show
 upgrade it -> upgrade
+salvage it -> salvage
+salvage -> the words ask for nothing
 play it -> play
 it audit -> the words ask for nothing
 audits it -> the words ask for nothing
