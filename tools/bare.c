@@ -1,9 +1,11 @@
-// A bare server to compare with: bare PORT THREADS. Each thread has an epoll of its own and a listener at the same port, reads what came, and writes
+// A bare server to compare with: bare PORT THREADS [FILE]. Each thread has an epoll of its own and a listener at the same port, reads what came, and writes
 // one reply, as long as a status read's, where a head has ended in it. It looks at nothing else.
+// With a FILE it appends a line to that before each reply, and syncs it.
 //
 // gcc -O2 -pthread tools/bare.c -o bare
 #define _GNU_SOURCE
 #include <arpa/inet.h>
+#include <fcntl.h>
 #include <netinet/in.h>
 #include <netinet/tcp.h>
 #include <pthread.h>
@@ -19,7 +21,15 @@ static const char REPLY[] =
     "HTTP/1.1 200 OK\r\nContent-Type: application/json\r\nContent-Length: 105\r\n\r\n"
     "{\"lra\":\"http://127.0.0.1:8080/lra-coordinator/00000000-0000-8007-8000-000000000001\",\"status\":\"Active\"}   ";
 
-static int port;
+static const char LINE[] = "1 1700000000000 start 100000 * 0\n";
+
+static int port, journal = -1;
+
+static int answer(int client) {
+    if (journal >= 0 && (write(journal, LINE, sizeof LINE - 1) < 0 || fdatasync(journal)))
+        return -1;
+    return write(client, REPLY, sizeof REPLY - 1);
+}
 
 static int listen_at(void) {
     int one = 1, it = socket(AF_INET, SOCK_STREAM | SOCK_NONBLOCK, 0);
@@ -53,7 +63,7 @@ static void *serve(void *unused) {
                 continue;
             }
             ssize_t came = read(file, piece, sizeof piece);
-            if (came <= 0 || (memmem(piece, came, "\r\n\r\n", 4) && write(file, REPLY, sizeof REPLY - 1) < 0))
+            if (came <= 0 || (memmem(piece, came, "\r\n\r\n", 4) && answer(file) < 0))
                 close(file);
         }
     }
@@ -61,9 +71,11 @@ static void *serve(void *unused) {
 }
 
 int main(int words, char **word) {
-    if (words != 3)
+    if (words != 3 && words != 4)
         return 2;
     port = atoi(word[1]);
+    if (words == 4 && (journal = open(word[3], O_WRONLY | O_APPEND | O_CREAT, 0600)) < 0)
+        return 2;
     for (int thread = atoi(word[2]); thread > 0; thread--) {
         pthread_t it;
         pthread_create(&it, 0, serve, 0);
