@@ -6,6 +6,7 @@ mod auditor;
 mod broken;
 mod course;
 mod entries;
+mod following;
 mod lawful;
 mod laws;
 mod listing;
@@ -14,8 +15,9 @@ mod state;
 mod summary;
 mod verdict;
 
-pub use auditor::{Auditor, AuditorFault, audit};
+pub use auditor::{Auditor, AuditorFault, FaultyLine, audit};
 pub use entries::check;
+pub use following::Follower;
 pub use laws::{bytes_have_one_verdict, legal_texts_are_sound};
 pub use listing::{Account, ListedAction, ListedMember, Listing};
 pub use lra_model::{Memory, Rule, Version};
