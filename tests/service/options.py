@@ -10,7 +10,7 @@ from asks import recorded
 from files import SOUND, UNSOUND, VERDICT, hint
 from participant import Participant, wait_until
 from patience import REQUESTS, narrow
-from service import HOST, PATIENCE, Service, check, equal, free_port, id_of, is_ready, lock, number_of, received, started
+from service import HOST, LATE, PATIENCE, Service, check, equal, free_port, id_of, is_ready, lock, number_of, received, started
 
 # Each setting's word, what it is where nothing is said, the least and the most that it may be.
 NUMBERS = (
@@ -27,7 +27,7 @@ NUMBERS = (
 )
 USUAL = {name: str(usual) for name, usual, _, _ in NUMBERS} | {"stop-at-eof": "false"}
 # How long what is in flight has at a gentle end, and how many seconds late that may be on a busy machine.
-PARTING, LATE = 10, 5
+PARTING = 10
 
 
 def config(setting, text, name="settings.toml"):
@@ -208,7 +208,7 @@ class Stopping(Service):
         self.process.stdout.close()
 
 
-def ends(service, least=0.0, most=2.0):
+def ends(service, least=0.0, most=LATE):
     status, seconds, said = service.ended()
     equal("the status, and what is said", (status, said), (0, ""))
     check(f"it ended after {seconds:.1f} s", least <= seconds <= most)
@@ -412,5 +412,5 @@ def test_a_disk_that_is_full_is_still_told_by_status_two_or_a_gentle_end(setting
         service.stop()
         status, seconds, said = service.ended()
         equal("the status", status, 0)
-        check(f"it ended after {seconds:.1f} s", seconds < 2)
+        check(f"it ended after {seconds:.1f} s", seconds < LATE)
         check(f"it says {said!r}", all(line.startswith("lra: a thread that carried has ended: ") for line in said.splitlines()))

@@ -7,14 +7,12 @@ import time
 import journal
 from asks import recorded
 from participant import Participant
-from service import HOST, PATIENCE, check, equal, id_of, is_ready, number_of, received, reset
+from service import HOST, LATE, PATIENCE, check, equal, id_of, is_ready, number_of, received, reset
 
 # How many seconds a client has between requests, and for one message; and a member to take a connection, and in all.
 BETWEEN, MESSAGE, CONNECT, WHOLE = 30, 10, 5, 30
 # How many requests a client sends that takes no replies: as many as a connection may have.
 REQUESTS = 1000
-# How many seconds late an end may be noticed on a busy machine.
-LATE = 5
 
 
 def check_about(what, seconds, wanted):
@@ -26,7 +24,7 @@ def serves(service):
     begun = time.monotonic()
     with service.client(keep=False) as client:
         client.start()
-    check("another client waits", time.monotonic() - begun < 2)
+    check("another client waits", time.monotonic() - begun < LATE)
 
 
 def seconds_until(ended, service, most):

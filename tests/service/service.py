@@ -15,6 +15,8 @@ from collections import namedtuple
 HOST = "127.0.0.1"
 # How many seconds anything may take that has no limit of its own.
 PATIENCE = 20
+# How many seconds late an answer or an end may be on a busy machine, or where its disk takes its time.
+LATE = 5
 
 Reply = namedtuple("Reply", "code phrase fields body")
 Run = namedtuple("Run", "status output told")

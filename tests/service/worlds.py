@@ -16,7 +16,7 @@ import journal
 from crowds import UNKNOWN, close_all, one_reply, room_for
 from participant import Participant, plain, wait_until
 from patience import serves
-from service import HOST, PATIENCE, check, equal, id_of, is_ready, number_of, reset
+from service import HOST, LATE, PATIENCE, check, equal, id_of, is_ready, number_of, reset
 
 START = b"POST /lra-coordinator HTTP/1.1\r\nHost: h\r\n\r\n"
 LOCATION = re.compile(rb"^Location: (\S+)\r$", re.M)
@@ -306,7 +306,7 @@ def test_files_that_are_used_up_and_free_again(setting):
         for stream in others[: FILES // 2]:
             check("a reply", one_reply(stream)[0].startswith(b"HTTP/1.1 404 "))
         soon = time.monotonic() - begun
-        check(f"others wait for {soon:.1f} s", soon < 1)
+        check(f"others wait for {soon:.1f} s", soon < LATE)
         close_all(others)
         serves(service)
         member.wait("compensate")
