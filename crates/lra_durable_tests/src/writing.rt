@@ -58,7 +58,7 @@ fn a_write_that_cannot_be_taken_back_is_the_end(rt: HostRuntime) {
     assert!(rt; fails(&rt, rt.alloc()) == Some(true));
 }
 
-/// Whether writes stop before the room that there is, and go on where they fit.
+/// Whether a write that is a byte too long for the room that there is gets nothing, though the disk would take it, and one that just fits is added.
 fn keeps_within<R: Wait>(rt: &R, alloc: Global) -> Option<bool> {
     let Begun {
         platter,
@@ -68,9 +68,10 @@ fn keeps_within<R: Wait>(rt: &R, alloc: Global) -> Option<bool> {
     let mut keeper = Keeper::new(rt, &progress, pen, 5);
     let first = outcome(&mut keeper, b"abc").is_none();
     let past = outcome(&mut keeper, b"def") == Some(ErrorKind::FileTooLarge);
+    let is_untouched = platter.has(3, 0);
     let last = outcome(&mut keeper, b"de").is_none();
     let full = outcome(&mut keeper, b"f") == Some(ErrorKind::FileTooLarge);
-    Some(first && past && last && full && platter.has(5, 0))
+    Some(first && past && is_untouched && last && full && platter.has(5, 0))
 }
 
 #[test]
