@@ -2,15 +2,19 @@
 import os
 import resource
 import signal
+import sys
 import time
 from subprocess import Popen
 
+import grown
 import journal
 from participant import wait_until
-from service import HOST, Client, check, equal, free_port, id_of, run, started
+from service import HOST, Client, LeftOut, Service, check, equal, free_port, id_of, run, started
 
 SOUND = b"lra-journal 2 7\n1 0 enrol\n1 5 start 1 * 0\n1 6 start 2 1 0\n1 7 close 2 client\n1 7 end 2 Closed\n"
+# Its first action, and the one that is started next.
 FIRST = "/lra-coordinator/00000000-0000-8007-8000-000000000001"
+STARTED = "/lra-coordinator/00000000-0000-8007-8000-000000000003"
 UNSOUND = SOUND + b"1 9 end 1 Closed\n"
 VERDICT = "unsound line 7 unsettled\n"
 # How many bytes a file may have, and how many clerks a journal.
@@ -159,6 +163,88 @@ def test_a_file_of_the_longest_length_is_gone_on_from(setting):
         most = resident(service)
     check("the whole lines stay", journal.read(setting.journal).startswith(SOUND))
     return f"{most / 2**30:.2f} GiB of memory"
+
+
+class Grown(Service):
+    """A service whose file gets so many bytes, by a hole, between when it is read and when it is written to."""
+
+    def __init__(self, setting, length):
+        super().__init__(setting.program, setting.journal)
+        self.words = [sys.executable, grown.__file__, str(length), setting.journal, *self.words]
+
+    def __exit__(self, *_):
+        self.kill(signal.SIGTERM)
+
+    def first_line(self):
+        return watched(super().first_line())
+
+
+def watched(told):
+    """What such a service says, where the system lets it be watched."""
+    if told.startswith(grown.REFUSED):
+        raise LeftOut(grown.REFUSED)
+    return told
+
+
+def added(setting):
+    """How many bytes a service adds to the journal when it begins, and how many for a start."""
+    journal.write(setting.journal, SOUND)
+    with setting.serve() as service, service.client() as client:
+        begun = os.path.getsize(setting.journal)
+        client.start()
+    return begun - len(SOUND), os.path.getsize(setting.journal) - begun
+
+
+def close_hole(setting, length):
+    """Takes the hole out of a journal that got so many bytes. What is left is sound."""
+    with open(setting.journal, "rb") as it:
+        it.seek(length)
+        data = SOUND + it.read()
+    equal("its whole lines", data, journal.whole(data))
+    journal.check_sound(setting.program, data, setting.folder)
+    journal.write(setting.journal, data)
+
+
+def start_at_the_bound(setting, lacking):
+    """A start where so many bytes lack for it in the journal, and what follows. Then a service goes on from the journal, and the answer is whether it has
+    the started action."""
+    first, block = added(setting)
+    journal.write(setting.journal, SOUND)
+    length = LONGEST - first - block + lacking
+    with Grown(setting, length) as service, service.client() as client:
+        if lacking:
+            stopped(client, "POST", "/lra-coordinator")
+        else:
+            client.start()
+        most = length + first if lacking else LONGEST
+        equal("how long the journal is", os.path.getsize(setting.journal), most)
+        stopped(client, "PUT", FIRST + "/renew", limit=9)
+        stopped(client, "POST", "/lra-coordinator")
+        equal("a read", client.status(FIRST), "Active")
+        equal("how long it stays", os.path.getsize(setting.journal), most)
+    close_hole(setting, length)
+    with setting.serve() as service, service.client() as client:
+        equal("the action", client.status(FIRST), "Active")
+        return client.call("GET", STARTED).code == 200
+
+
+def test_a_journal_grows_to_the_longest_length_and_no_further(setting):
+    check("the started action is there", start_at_the_bound(setting, 0))
+
+
+def test_a_block_that_would_pass_the_longest_length_by_a_byte_is_not_taken(setting):
+    check("the refused action isn't there", not start_at_the_bound(setting, 1))
+
+
+def test_a_service_whose_first_lines_would_pass_the_longest_length_does_not_begin(setting):
+    first, _ = added(setting)
+    journal.write(setting.journal, SOUND)
+    length = LONGEST - first + 1
+    told = run(*Grown(setting, length).words)
+    watched(told.output)
+    equal("the program", told, (2, "", f"lra: cannot write {setting.journal}\n"))
+    check("it is no longer than it may be", os.path.getsize(setting.journal) <= LONGEST)
+    close_hole(setting, length)
 
 
 def resident(service):
