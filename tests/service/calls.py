@@ -1,5 +1,6 @@
 """How the program is called: its faults, each in one line on standard error with status 2, and what it prints otherwise."""
 import os
+import re
 import socket
 
 import journal
@@ -37,6 +38,43 @@ def test_help_and_version(setting):
         equal(word, (status, fault), (0, ""))
         for text in wanted:
             check(f"{word} prints {output!r}, without {text!r}", text in output)
+
+
+def words_of_help(setting):
+    """The verbs, the calls without one, and the options of a service, as the program's help has them."""
+    told, serving = setting.run("--help").output, setting.run("serve", "--help").output
+    verbs, calls = (set(re.findall(rf"^lra ({word}) ", told, re.M)) for word in ("[a-z]+", "--[a-z]+"))
+    options = set(re.findall(r"--[a-z][a-z-]*", serving))
+    equal("how many there are", (len(verbs), len(calls), len(options)), (6, 2, 14))
+    return verbs, calls, options
+
+
+def test_the_manual_has_each_word_of_the_help(setting):
+    verbs, calls, options = words_of_help(setting)
+    manual = journal.read(f"{setting.root}/man/lra.1").decode()
+    equal("the verbs", set(re.findall(r"^\.It Nm Cm ([a-z]+)", manual, re.M)), verbs)
+    equal("the options", {f"-{it}" for it in re.findall(r"^\.It (?:Nm )?Fl (-[a-z-]+)", manual, re.M)}, calls | options)
+
+
+def test_the_completions_have_each_word_of_the_help(setting):
+    verbs, calls, options = words_of_help(setting)
+    completions = journal.read(f"{setting.root}/completions/lra").decode()
+    flags, valued = (re.search(rf"^_lra_{name}='([^']*)'", completions, re.M)[1].split() for name in ("flags", "valued"))
+    equal("the options", set(flags + valued), options)
+    equal("the verbs", set(" ".join(re.findall(r"verbs\+?='([^']*)'", completions)).split()), verbs)
+    check("a call is missing", all(f" {call}" in completions for call in calls))
+
+
+def test_the_unit_s_settings_are_the_usual_ones(setting):
+    path = setting.folder + "/lra.toml"
+    text = journal.read(f"{setting.root}/examples/systemd/lra.toml").decode()
+    journal.write(path, re.sub(r"^#(?=[a-z])", "", text, flags=re.M).encode())
+    address = f"{HOST}:{free_port()}"
+    usual, told = (setting.run("serve", *words, "--check", address, setting.journal, "4") for words in ([], ["--config", path]))
+    equal("what would be served", told, usual)
+    _, _, options = words_of_help(setting)
+    named = {f"--{it}" for it in re.findall(r"^#([a-z-]+) = ", text, re.M)}
+    equal("what isn't among them", options - named, {"--stop-at-eof", "--config", "--check", "--help"})
 
 
 def test_an_address_that_is_no_base_cannot_be_served(setting):
