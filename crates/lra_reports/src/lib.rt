@@ -16,11 +16,11 @@ mod texts;
 mod upgrade;
 mod words;
 
-pub use audit::audit_run;
+pub use audit::{audit_run, report_fault};
 pub use dispatch::{Sources, run};
 pub use errors::{error_line, hint_line, input_name};
 pub use fault::RunFault;
-pub use input::{LONGEST, read_input};
+pub use input::{LONGEST, next_piece, read_input};
 pub use output::put;
 pub use program::{System, answer_question, settle, tell, tell_usage, words_of};
 pub use salvage::{salvage_file, salvage_run};
