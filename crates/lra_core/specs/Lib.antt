@@ -17,5 +17,6 @@ pub mod Performs
 pub mod Benches
 pub mod Laws
 pub mod Opens
+pub mod Fed
 pub mod Texts
 pub mod inner

@@ -6,6 +6,8 @@ mod block;
 mod commands;
 mod coordinator;
 mod errand;
+mod feeding;
+mod front;
 mod laws;
 mod making;
 mod opening;
@@ -16,6 +18,8 @@ pub use bench::Bench;
 pub use block::{Block, Committed, Prepared};
 pub use coordinator::{Coordinator, CoordinatorOf};
 pub use errand::{Command, Errand, Request};
+pub use feeding::{FaultyLine, Opening};
+pub use front::Front;
 pub use laws::{
     asks_are_answered_once, blocks_fit_once, commands_make_sound_texts, errands_are_of_asks,
 };
