@@ -7,10 +7,12 @@ pub mod Carried
 pub mod Committing
 pub mod Deciding
 pub mod Fullness
+pub mod Hearing
 pub mod Made
 pub mod Numbers
 pub mod Opened
 pub mod Performing
+pub mod Pieces
 pub mod Questions
 pub mod Reopening
 pub mod Replying

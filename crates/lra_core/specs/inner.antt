@@ -6,3 +6,4 @@ pub mod Made
 pub mod Opened
 pub mod Replied
 pub mod Spelled
+pub mod Hears

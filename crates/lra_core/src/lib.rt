@@ -9,6 +9,7 @@ mod errand;
 mod feeding;
 mod front;
 mod laws;
+mod ledger;
 mod making;
 mod opening;
 mod past;
@@ -18,11 +19,12 @@ pub use bench::Bench;
 pub use block::{Block, Committed, Prepared};
 pub use coordinator::{Coordinator, CoordinatorOf};
 pub use errand::{Command, Errand, Request};
-pub use feeding::{FaultyLine, Opening};
+pub use feeding::Opening;
 pub use front::Front;
 pub use laws::{
     asks_are_answered_once, blocks_fit_once, commands_make_sound_texts, errands_are_of_asks,
 };
+pub use lra_auditor::FaultyLine;
 pub use lra_commands::{
     Awaited, Counter, CounterFault, Known, Limits, Listing, Order, Query, Refusal, Resource, Row,
     Told, Want, calls_leave_quiet_histories, commands_keep_histories, commands_make_histories,
