@@ -2,7 +2,7 @@
 use Rattle.std.specs.Prelude.{◌≡◌, ◌⊎◌, ℕ, List, [], ◌∷◌, codes, Option, IfSome, ⊤}
 use Rattle.std.specs.Io.KnownBytes.{Appends}
 use Rattle.lra_office.specs.Wholes.{whole_lines}
-use Rattle.lra_reports.specs.declared.fault.RunFault.TheVariants.{Read, Write, TooLong, Memory, Line}
+use Rattle.lra_reports.specs.declared.fault.RunFault.TheVariants.{Read, Write, TooLong, Memory, Changed, Line}
 use Rattle.lra_auditor.specs.declared.verdict.Verdict.{Verdict}
 use Rattle.lra_auditor.specs.Verdicts.{IsVerdict}
 use Rattle.lra_reports.specs.Report.{joined, line_feed, status_of, ReportsAudit}
@@ -22,6 +22,7 @@ SaysAtMost address before after = (after ≡ before) ⊎ Appends before after (s
 abbrev pub IsSaid : List ℕ → Option (List ℕ) → Option (List ℕ) → ServeFault → Type 0
 IsSaid address before after (Run Read) = after ≡ before
 IsSaid address before after (Run TooLong) = after ≡ before
+IsSaid address before after (Run Changed) = after ≡ before
 IsSaid address before after File = SaysAtMost address before after
 IsSaid address before after (Run Memory) = SaysAtMost address before after
 IsSaid address before after Address = SaysAtMost address before after
@@ -49,5 +50,6 @@ IsOfAddress (Run Memory) = ⊤
 IsOfAddress (Run Read) = ⊥
 IsOfAddress (Run Write) = ⊥
 IsOfAddress (Run TooLong) = ⊥
+IsOfAddress (Run Changed) = ⊥
 IsOfAddress (Run (Line number)) = ⊥
 IsOfAddress File = ⊥

@@ -1,5 +1,5 @@
 pub mod Lines
-pub mod Feeding
+pub mod Pieces
 pub mod Versions
 pub mod Sourced
 pub mod Worded

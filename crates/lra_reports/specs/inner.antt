@@ -2,3 +2,4 @@
 pub mod Causes
 pub mod Headed
 pub mod Paging
+pub mod Taking

@@ -7,34 +7,11 @@ ghost use Rattle.lra_reports.specs.Invoked.{input_bytes, Runs};
 use crate::audit::audit_run;
 use crate::fault::RunFault;
 use crate::show::show_run;
-use crate::upgrade::upgrade_run;
+use crate::sources::Sources;
+use crate::upgrade::upgrade_file;
 use crate::words::Invocation;
 use std::alloc::Global;
-use std::io::{Read, Write};
-
-/// Where the inputs of runs come from.
-pub trait Sources {
-    ghost use Rattle.std.specs.Prelude.{◌≡◌, List, ℕ, Option, None, Some, IfOk, IfErr, IfSome};
-
-    type Input: Read + Drop;
-
-    type File: Read + Drop;
-
-    // The bytes of standard input, where they are known.
-    ghost standard: { Self → Option (List ℕ) } = { λ _. None };
-
-    // The bytes of the file of a name, where they are known.
-    ghost named: { Self → List ℕ → Option (List ℕ) } = { λ _ _. None };
-
-    /// A reader of standard input.
-    fn input(&self) -> Self::Input
-        ensures bytes { IfSome (standard self.now) (λ all. Self.Input.remaining result ≡ Some all) };
-
-    /// Opens the file of this name.
-    fn open(&self, name: &str) -> Result<Self::File, RunFault>
-        ensures bytes { IfOk result (λ file. IfSome (named self.now name.now) (λ all. Self.File.remaining file ≡ Some all)) }
-        ensures err { IfErr result (λ fault. fault ≡ RunFault.Read) };
-}
+use std::io::Write;
 
 /// Carries out an invocation, and answers the program's status.
 pub fn run<S: Sources, W: Write>(
@@ -53,6 +30,6 @@ pub fn run<S: Sources, W: Write>(
         Invocation::AuditInput => audit_run(alloc, sources.input(), writer),
         Invocation::Audit { file } => audit_run(alloc, sources.open(file)?, writer),
         Invocation::Show { file } => show_run(alloc, sources.open(file)?, writer),
-        Invocation::Upgrade { file } => upgrade_run(alloc, sources.open(file)?, writer),
+        Invocation::Upgrade { file } => upgrade_file(alloc, sources, file, writer),
     }
 }

@@ -29,6 +29,7 @@ pub fn error_line(alloc: Global, fault: RunFault, input: &str) -> Result<String,
         RunFault::Write => String::from_str(alloc, "lra: cannot write -\n"),
         RunFault::TooLong => String::from_str(alloc, "lra: input too long\n"),
         RunFault::Memory => String::from_str(alloc, "lra: out of memory\n"),
+        RunFault::Changed => format!(in alloc; "lra: cannot read {input} again\n"),
         RunFault::Line(number) => format!(in alloc; "lra: bad script line {number}\n"),
     }
 }

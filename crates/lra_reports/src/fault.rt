@@ -19,6 +19,9 @@ pub enum RunFault {
     TooLong,
     #[error("out of memory")]
     Memory,
+    /// What was read once and found sound can't be read a second time, or isn't sound then.
+    #[error("the input can't be read again")]
+    Changed,
     /// A line that a script can't have, counted from 1.
     #[error("line {0} of the script is bad")]
     Line(u64),

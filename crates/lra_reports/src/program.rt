@@ -2,11 +2,12 @@
 
 ghost use Rattle.std.specs.Prelude.{◌≡◌, IfOk, IfErr, IfSome, IfNone};
 
-use crate::dispatch::{Sources, run};
+use crate::dispatch::run;
 use crate::errors::{error_line, input_name};
 use crate::fault::RunFault;
 use crate::output::put;
 use crate::salvage::salvage_file;
+use crate::sources::Sources;
 use crate::texts::{HELP, VERSION};
 use crate::words::{Invocation, Question};
 use std::alloc::AllocError;
@@ -33,6 +34,13 @@ impl<R: Files + Input> Sources for System<'_, R> {
 
     fn open(&self, name: &str) -> Result<R::File, RunFault> {
         fs::open(self.rt, name).map_err(|_| RunFault::Read)
+    }
+
+    fn open_again(&self, name: &str) -> Option<R::File> {
+        match fs::metadata(self.rt, name) {
+            Ok(about) if about.is_file() => fs::open(self.rt, name).ok(),
+            _ => None,
+        }
     }
 }
 

@@ -159,6 +159,7 @@ output_is_play fault.Write h = tt
 output_is_play fault.Memory h = tt
 output_is_play fault.Read h = absurd h
 output_is_play fault.TooLong h = absurd h
+output_is_play fault.Changed h = absurd h
 output_is_play (fault.Line n) h = absurd h
 
 -- so is what comes of it

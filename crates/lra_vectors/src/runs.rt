@@ -1,5 +1,6 @@
 //! The runs of the program, each over inputs in memory.
 
+mod again;
 mod fakes;
 mod salvage;
 
@@ -276,6 +277,12 @@ fn faults_are_told_in_a_line(rt: HostRuntime) {
         "memory",
         line(alloc, RunFault::Memory),
         "lra: out of memory\n",
+    );
+    assert_told(
+        &rt,
+        "a second reading",
+        line(alloc, RunFault::Changed),
+        "lra: cannot read a file again\n",
     );
     assert_told(
         &rt,

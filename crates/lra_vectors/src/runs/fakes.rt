@@ -35,6 +35,11 @@ impl Sources for Shelf {
             _ => Err(RunFault::Read),
         }
     }
+
+    // Each is as a pipe.
+    fn open_again(&self, _name: &str) -> Option<&'static [u8]> {
+        None
+    }
 }
 
 /// One text, under every name, that comes haltingly.
@@ -59,6 +64,10 @@ impl Sources for Halts {
 
     fn open(&self, _name: &str) -> Result<Halting, RunFault> {
         Ok(self.input())
+    }
+
+    fn open_again(&self, _name: &str) -> Option<Halting> {
+        Some(self.input())
     }
 }
 
