@@ -7,7 +7,6 @@ pub mod Crosses
 pub mod Enrols
 pub mod Journals
 pub mod Restarts
-pub mod SoundFronts
 pub mod TakesUp
 pub mod Torn
 pub mod WholeLines
