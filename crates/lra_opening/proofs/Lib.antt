@@ -1,3 +1,3 @@
-mod LineLemmas
+pub mod Pieces
 pub mod Refused
 pub mod Mending

@@ -1,23 +1,28 @@
--- A journal that is audited, and isn't served.
-use Rattle.std.proofs.Common.{◌≡◌, ◌≢◌, ℕ, List, Option, subst}
-use Rattle.std.specs.Prelude.{IfSome}
-use Rattle.lra_auditor.specs.declared.verdict.Verdict.{Verdict}
-use Rattle.lra_auditor.specs.declared.verdict.Verdict.TheVariants.{Sound, Unsound}
+-- What an audit says of a journal that an opening was fed.
+use Rattle.std.proofs.Common.{◌≡◌, ℕ, List, Option, refl, sym, subst}
+use Rattle.lra_model.specs.declared.rule.Rule.{Rule}
+use Rattle.lra_model.specs.declared.version.Version.{Version}
+use Rattle.lra_model.specs.History.{History}
+use Rattle.lra_auditor.specs.declared.verdict.Verdict.TheVariants.{Sound}
+use Rattle.lra_auditor.specs.Verdicts.{summary, IsTextOf, IsFault}
+use Rattle.lra_core.specs.Fed.{Fed, IsFed}
 use Rattle.lra_office.specs.Wholes.{whole_lines}
-use Rattle.lra_reports.specs.Report.{ReportsAudit, status_of}
-use Rattle.lra_opening.specs.Ends.{IsRefused}
+use Rattle.lra_office.proofs.Torn.{fed_front}
+use Rattle.lra_reports.specs.Report.{ReportsAudit}
+use Rattle.lra_opening.specs.Ends.{IsFoundSound, IsRefused}
+use Rattle.lra_opening.specs.Places.{IsRead}
 
--- an audit's status that isn't 0 is 1
-one_of_two : (verdict : Verdict) (status : ℕ) → status ≡ status_of verdict → status ≢ 0 → status ≡ 1
-one_of_two (Sound s) status e other = absurd (other e)
-one_of_two (Unsound line rule) status e other = e
-
--- an audit that finds the whole lines of a journal unsound refuses it
-pub refused : (found : Option (List ℕ)) (journal front : List ℕ) (before after : Option (List ℕ)) (status : ℕ) → IfSome found (λ bytes. journal ≡ bytes) → front ≡ whole_lines journal
-    → ReportsAudit front status before after → status ≢ 0 → IsRefused found before after status
-refused found journal front before after status read e reported other = record {
-  journal = journal;
-  read = read;
-  reported = subst (λ (bytes : List ℕ). ReportsAudit bytes status before after) e reported;
-  unsound = one_of_two reported.verdict status reported.answered other;
+-- where its whole lines have a fault, the journal is refused
+pub refused : (found before after : Option (List ℕ)) (o : Fed) (line : ℕ) (rule : Rule) (status : ℕ) → IsRead found o → IsFault o.front line rule
+    → ((input : List ℕ) → IsFault input line rule → ReportsAudit input status before after) → status ≡ 1 → IsRefused found before after status
+refused found before after o line rule status read fault reported one = record {
+  journal = read.bytes;
+  read = read.all;
+  reported = subst (λ (bytes : List ℕ). ReportsAudit bytes status before after) (sym (fed_front read.bytes o read.fed)) (reported o.front fault);
+  unsound = one;
 }
+
+-- where they are the text of a legal history, an audit finds them sound
+pub found_sound : (bytes : List ℕ) (o : Fed) → IsFed bytes o → (v : Version) × (i : ℕ) × (J : History) × IsTextOf v i J o.front → IsFoundSound (whole_lines bytes)
+found_sound bytes o fed (v, i, J, text) =
+    subst IsFoundSound (sym (fed_front bytes o fed)) (record { verdict = Sound (summary J); right = (v, i, J, text, refl); sound = refl })

@@ -2,4 +2,3 @@ pub mod Faults
 pub mod Places
 pub mod Opened
 pub mod Ends
-pub mod Latest

@@ -4,14 +4,14 @@
 
 mod auditing;
 mod fault;
+mod feeding;
 mod file;
-mod latest;
 mod opening;
 mod place;
 
 pub use auditing::refuse;
 pub use fault::{ServeFault, enrol_fault, fault_line};
+pub use feeding::{is_new, read_opening};
 pub use file::NamedFile;
-pub use latest::latest_moment;
 pub use opening::open_office;
 pub use place::{Found, Place, find_journal, ready_file};

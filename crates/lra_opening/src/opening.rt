@@ -1,14 +1,17 @@
 //! The office of a service, and its first clerk.
 
-ghost use Rattle.std.specs.Prelude.{◌≡◌, true, IfOk, IfErr};
+ghost use Rattle.std.specs.Prelude.{◌≡◌, ℕ, List, true, IfOk, IfErr};
 ghost use Rattle.lra_commands.specs.Terms.{AreKeepable};
+ghost use Rattle.lra_core.specs.Fed.{IsFed};
 ghost use Rattle.lra_ids.specs.Addresses.{is_base};
 ghost use Rattle.lra_office.specs.Made.{new_origin};
 ghost use Rattle.lra_opening.specs.Faults.{IsOfNoScript};
 ghost use Rattle.lra_opening.specs.Opened.{IsBegun, GoesOn};
 
 use crate::fault::{ServeFault, enrol_fault};
+use crate::feeding::is_new;
 use lra_commands::Limits;
+use lra_core::Opening;
 use lra_ids::{Address, Instance};
 use lra_office::{Clerk, Desk, Office, ReopenFault, StartFault};
 use lra_reports::RunFault;
@@ -79,25 +82,25 @@ fn begin<W: Write + Drop, R: Wait>(
     }
 }
 
-/// An office that goes on from a journal, or begins one where there is none.
+/// An office that goes on from the journal that an opening was fed, or begins one where there is none.
 pub fn open_office<W: Write + Drop, R: Wait>(
     rt: &R,
     alloc: Global,
     base: Address,
     limits: Limits,
-    journal: Vec<u8>,
+    opening: Opening,
     writer: W,
     moment: u64,
 ) -> Result<(Office<W>, Clerk<Desk<W>>), ServeFault>
     requires base { is_base base ≡ true }
     requires limits { AreKeepable limits }
-    ensures opened { IfOk result (λ opened. GoesOn base limits journal.items moment (W.contents writer) opened.0 opened.1) }
+    ensures opened { IfOk result (λ opened. (b : List ℕ) → IsFed b opening → GoesOn base limits b moment (W.contents writer) opened.0 opened.1) }
     ensures fault { IfErr result IsOfNoScript }
 {
-    if journal.is_empty() {
+    if is_new(&opening) {
         return begin(rt, alloc, base, limits, writer, moment);
     }
-    match Office::reopen(alloc, journal, base, limits, writer, moment) {
+    match Office::resume(alloc, opening, base, limits, writer, moment) {
         Ok(opened) => Ok(opened),
         Err((fault, _)) => Err(reopen_fault(fault)),
     }

@@ -1,19 +1,11 @@
-use Rattle.std.proofs.Common.{Ok, ap, inr, subst, take}
-use Rattle.lra_office.proofs.WholeLines.{whole_at}
-use Rattle.lra_opening.specs.Ends.{IsFoundSound}
-use Rattle.lra_opening.proofs.Refused.{refused}
+use Rattle.std.proofs.Common.{inr}
+use Rattle.lra_opening.proofs.Refused.{refused, found_sound}
 use Rattle.lra_opening.proofs.auditing.refuse.Goals as goal
 
-pub returns-in-Ok-clause-unsound : goal.returns-in-Ok-clause-unsound
-returns-in-Ok-clause-unsound g c = λ found same.
-    let n = c.whole-front.result in
-    let journal = c.args.journal.now in
-    let is_front = whole_at n journal c.whole-front.ensures.within c.whole-front.ensures.ends c.whole-front.ensures.last in
-    refused found journal (take n journal) (g.W.Write.contents c.args.writer.now) (g.W.Write.contents c.audit_front.new.writer) c.in-Ok.status same is_front (c.in-Ok.ensures.unsound c.if-status-ne0.true) c.if-status-ne0.true
+pub returns-in_err-fault-clause-audited : goal.returns-in_err-fault-clause-audited
+returns-in_err-fault-clause-audited g c = λ bytes fed _. inr (found_sound bytes c.args.opening.now fed c.in_err-fault.ensures.none)
 
-pub returns-in-Ok-2-clause-audited : goal.returns-in-Ok-2-clause-audited
-returns-in-Ok-2-clause-audited g c = λ none.
-    let n = c.whole-front.result in
-    let journal = c.args.journal.now in
-    let is_front = whole_at n journal c.whole-front.ensures.within c.whole-front.ensures.ends c.whole-front.ensures.last in
-    inr (subst IsFoundSound is_front (c.in-Ok.ensures.audited (ap Ok c.if-status-ne0.false)))
+pub returns-in-Ok-clause-unsound : goal.returns-in-Ok-clause-unsound
+returns-in-Ok-clause-unsound g c = λ found read.
+    refused found (g.W.Write.contents c.args.writer.now) (g.W.Write.contents c.report_fault.new.writer) c.args.opening.now c.in_ok-fault.fault.line c.in_ok-fault.fault.rule c.in-Ok.status
+    read c.in_ok-fault.ensures.some c.in-Ok.ensures.ok c.in-Ok.ensures.unsound
