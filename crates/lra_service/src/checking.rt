@@ -6,8 +6,8 @@ ghost use Rattle.lra_ids.specs.Bases.{base_text};
 ghost use Rattle.lra_opening.specs.Ends.{IsRefused, IsOfAddress};
 
 use crate::base::base_at;
-use lra_journal::whole;
-use lra_opening::{Found, Place, ServeFault, find_journal, refuse};
+use lra_core::Opening;
+use lra_opening::{Found, Place, ServeFault, find_journal, is_new, refuse};
 use lra_reports::put;
 use lra_settings::{Parameter, Settings};
 use std::alloc::Global;
@@ -52,23 +52,16 @@ fn put_settings<W: Write>(
     Ok(put(writer, line.as_bytes())?)
 }
 
-/// How many entries a journal has: one for each whole line but the first.
-fn entries_in(journal: &[u8]) -> u64 {
-    let mut lines = 0u64;
-    for byte in &journal[..whole(journal)] {
-        if *byte == b'\n' {
-            lines = lines.saturating_add(1);
-        }
-    }
-    lines.saturating_sub(1)
-}
-
 /// Writes what a sound journal has.
-fn put_journal<W: Write>(alloc: Global, journal: &[u8], writer: &mut W) -> Result<(), ServeFault> {
-    if journal.is_empty() {
+fn put_journal<W: Write>(
+    alloc: Global,
+    opening: &Opening,
+    writer: &mut W,
+) -> Result<(), ServeFault> {
+    if is_new(opening) {
         Ok(put(writer, "journal = \"new\"\n".as_bytes())?)
     } else {
-        put_number(alloc, "entries", entries_in(journal), writer)
+        put_number(alloc, "entries", opening.count_entries(), writer)
     }
 }
 
@@ -97,19 +90,19 @@ pub fn check_place<P: Place, W: Write>(
     ensures base { IsFalse (is_base (base_text address.now)) → IsErrAnd result IsOfAddress × (W.contents writer.new ≡ W.contents writer.old) }
 {
     drop(base_at(alloc, address)?);
-    let (found, journal) = find_journal(alloc, place)?;
-    if let Some(told) = refuse(alloc, &journal, writer) {
+    let (found, opening) = find_journal(alloc, place)?;
+    if let Some(told) = refuse(alloc, &opening, writer) {
         drop(found);
-        drop(journal);
+        drop(opening);
         return told;
     }
     let kept = can_be_kept(place, &found);
     drop(found);
     let told = match kept {
-        Ok(()) => tell(alloc, address, file, &journal, workers, settings, writer),
+        Ok(()) => tell(alloc, address, file, &opening, workers, settings, writer),
         Err(fault) => Err(fault),
     };
-    drop(journal);
+    drop(opening);
     match told {
         Ok(()) => Ok(0),
         Err(fault) => Err(fault),
@@ -121,7 +114,7 @@ fn tell<W: Write>(
     alloc: Global,
     address: &str,
     file: &str,
-    journal: &[u8],
+    opening: &Opening,
     workers: u32,
     settings: &Settings,
     writer: &mut W,
@@ -129,6 +122,6 @@ fn tell<W: Write>(
     put_text(alloc, "address", address, writer)?;
     put_text(alloc, "file", file, writer)?;
     put_number(alloc, "workers", u64::from(workers), writer)?;
-    put_journal(alloc, journal, writer)?;
+    put_journal(alloc, opening, writer)?;
     put_settings(alloc, settings, writer)
 }

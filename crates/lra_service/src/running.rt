@@ -1,6 +1,6 @@
 //! The run of a service.
 
-ghost use Rattle.std.specs.Prelude.{◌≡◌, ℕ, List, true, None, option_map, ◌⊎◌, IsFalse, IfSome, IfOk, IfErr, OnOk, IsErrAnd};
+ghost use Rattle.std.specs.Prelude.{◌≡◌, ℕ, List, true, None, option_map, ◌⊎◌, IsFalse, IfOk, IfErr, OnOk, IsErrAnd};
 ghost use Rattle.lra_commands.specs.Terms.{AreKeepable};
 ghost use Rattle.std.specs.Io.KnownBytes.{Appends};
 ghost use Rattle.lra_ids.specs.Addresses.{is_base};
@@ -8,7 +8,7 @@ ghost use Rattle.lra_ids.specs.Bases.{base_text};
 ghost use Rattle.lra_office.specs.Wholes.{whole_lines};
 ghost use Rattle.lra_opening.specs.Ends.{serving_line, IsSaid, IsRefused, IsOfAddress};
 ghost use Rattle.lra_opening.specs.Faults.{IsOfNoScript};
-ghost use Rattle.lra_opening.specs.Places.{IsFound};
+ghost use Rattle.lra_opening.specs.Places.{IsFound, IsRead};
 ghost use Rattle.lra_service.specs.Outcomes.{HasSaid};
 ghost use Rattle.lra_service.specs.inner.Opened.{limits_of, IsOpenAt};
 
@@ -22,12 +22,12 @@ use crate::post::hire_all;
 use crate::shift::{Shift, work};
 use lra_clocks::milliseconds;
 use lra_commands::Limits;
+use lra_core::Opening;
 use lra_durable::{Keeper, Progress};
 use lra_ids::Address;
 use lra_office::{Clerk, Desk, Office};
 use lra_opening::{
-    Found, NamedFile, Place, ServeFault, find_journal, latest_moment, open_office, ready_file,
-    refuse,
+    Found, NamedFile, Place, ServeFault, find_journal, open_office, ready_file, refuse,
 };
 use lra_reports::RunFault;
 use lra_settings::Settings;
@@ -206,18 +206,18 @@ impl<
     fn open<K: Write + Drop>(
         &self,
         base: Address,
-        journal: Vec<u8>,
+        opening: Opening,
         keeper: K,
         moment: u64,
     ) -> Result<(Office<K>, Clerk<Desk<K>>), ServeFault>
         requires base { is_base base ≡ true }
         requires text { base ≡ base_text self.now.address.now }
-        requires journal { IfSome (P.had self.now.place.now) (λ had. journal.items ≡ had) }
+        requires journal { IsRead (P.had self.now.place.now) opening }
         ensures opened { IfOk result (λ opened. IsOpenAt (P.had self.now.place.now) (base_text self.now.address.now) (limits_of self.now.settings) moment opened.0 opened.1) }
         ensures fault { IfErr result IsOfNoScript }
     {
         let limits = limits_of(&self.settings);
-        open_office(self.rt, self.alloc, base, limits, journal, keeper, moment)
+        open_office(self.rt, self.alloc, base, limits, opening, keeper, moment)
     }
 
     /// Opens the office of a journal, and serves.
@@ -225,17 +225,17 @@ impl<
         &self,
         shift: &Shift<'_, R, H>,
         base: Address,
-        journal: Vec<u8>,
+        opening: Opening,
         keeper: K,
         writer: &mut W,
     ) -> Result<(), ServeFault>
         requires base { is_base base ≡ true }
         requires text { base ≡ base_text self.now.address.now }
-        requires journal { IfSome (P.had self.now.place.now) (λ had. journal.items ≡ had) }
+        requires journal { IsRead (P.had self.now.place.now) opening }
         ensures said { OnOk result (Appends (W.contents writer.old) (W.contents writer.new) (serving_line self.now.address.now)) }
         ensures fault { IfErr result (IsSaid self.now.address.now (W.contents writer.old) (W.contents writer.new)) }
     {
-        let (office, clerk) = self.open(base, journal, keeper, shift.moment)?;
+        let (office, clerk) = self.open(base, opening, keeper, shift.moment)?;
         let served = self.serve_office(shift, &office, clerk, writer);
         drop(office);
         served
@@ -246,12 +246,12 @@ impl<
         &self,
         stand: Stand,
         base: Address,
-        journal: Vec<u8>,
+        opening: Opening,
         writer: &mut W,
     ) -> Result<Served, ServeFault>
         requires base { is_base base ≡ true }
         requires text { base ≡ base_text self.now.address.now }
-        requires journal { IfSome (P.had self.now.place.now) (λ had. journal.items ≡ had) }
+        requires journal { IsRead (P.had self.now.place.now) opening }
         ensures ended { IfOk result (HasSaid (P.had self.now.place.now) self.now.address.now (W.contents writer.old) (W.contents writer.new)) }
         ensures fault { IfErr result (IsSaid self.now.address.now (W.contents writer.old) (W.contents writer.new)) }
     {
@@ -276,7 +276,7 @@ impl<
             polls,
             moment,
         );
-        let served = self.serve_journal(&shift, base, journal, keeper, writer);
+        let served = self.serve_journal(&shift, base, opening, keeper, writer);
         drop(shift);
         let end = end_of(self.rt, &progress, &ending);
         drop(progress);
@@ -288,7 +288,7 @@ impl<
     }
 
     /// The disk of a file that has just its journal's whole lines.
-    fn stand(&self, file: File, door: Doorway, journal: &[u8]) -> Result<Stand, ServeFault>
+    fn stand(&self, file: File, door: Doorway, latest: u64) -> Result<Stand, ServeFault>
         requires { P.contents file ≡ option_map whole_lines (P.had self.now.place.now) }
         ensures { IfErr result IsOfNoScript }
     {
@@ -297,7 +297,6 @@ impl<
         };
         let polls = polls_of(self.rt, self.alloc, self.workers)?;
         // A journal that was written to later, as by a clock that was wrong, is gone on from that moment.
-        let latest = latest_moment(journal).unwrap_or(0);
         stand_on(file, door, polls, now.max(latest))
     }
 
@@ -321,17 +320,17 @@ impl<
         &self,
         base: &Address,
         found: Found<File>,
-        journal: &[u8],
+        opening: &Opening,
         input: Option<I>,
     ) -> Result<Stand, ServeFault>
         requires found { IsFound P.contents (P.had self.now.place.now) found }
-        requires journal { IfSome (P.had self.now.place.now) (λ had. journal.now ≡ had) }
+        requires journal { IsRead (P.had self.now.place.now) opening.now }
         ensures { IfErr result IsOfNoScript }
     {
         let listener = bind(self.alloc, self.rt, base)?;
-        let file = ready_file(self.place, found, journal)?;
+        let file = ready_file(self.place, found, opening)?;
         let door = self.doorway(listener, input)?;
-        self.stand(file, door, journal)
+        self.stand(file, door, opening.last_moment())
     }
 
     /// Serves a sound journal that was found so.
@@ -339,22 +338,22 @@ impl<
         &self,
         base: Address,
         found: Found<File>,
-        journal: Vec<u8>,
+        opening: Opening,
         input: Option<I>,
         writer: &mut W,
     ) -> Result<Served, ServeFault>
         requires base { is_base base ≡ true }
         requires text { base ≡ base_text self.now.address.now }
         requires found { IsFound P.contents (P.had self.now.place.now) found }
-        requires journal { IfSome (P.had self.now.place.now) (λ had. journal.items ≡ had) }
+        requires journal { IsRead (P.had self.now.place.now) opening }
         ensures ended { IfOk result (HasSaid (P.had self.now.place.now) self.now.address.now (W.contents writer.old) (W.contents writer.new)) }
         ensures fault { IfErr result (IsSaid self.now.address.now (W.contents writer.old) (W.contents writer.new)) }
     {
-        match self.make_ready(&base, found, &journal, input) {
-            Ok(stand) => self.serve_at(stand, base, journal, writer),
+        match self.make_ready(&base, found, &opening, input) {
+            Ok(stand) => self.serve_at(stand, base, opening, writer),
             Err(fault) => {
                 drop(base);
-                drop(journal);
+                drop(opening);
                 Err(fault)
             }
         }
@@ -372,10 +371,10 @@ impl<
         ensures ended { IfOk result (HasSaid (P.had self.now.place.now) self.now.address.now (W.contents writer.old) (W.contents writer.new)) }
         ensures fault { IfErr result (IsSaid self.now.address.now (W.contents writer.old) (W.contents writer.new)) }
     {
-        let (found, journal) = find_journal(self.alloc, self.place)?;
-        if let Some(told) = refuse(self.alloc, &journal, writer) {
+        let (found, opening) = find_journal(self.alloc, self.place)?;
+        if let Some(told) = refuse(self.alloc, &opening, writer) {
             drop(found);
-            drop(journal);
+            drop(opening);
             drop(base);
             drop(input);
             return match told {
@@ -383,7 +382,7 @@ impl<
                 Err(fault) => Err(fault),
             };
         }
-        self.serve_found(base, found, journal, input, writer)
+        self.serve_found(base, found, opening, input, writer)
     }
 }
 
