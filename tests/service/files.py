@@ -74,6 +74,7 @@ def test_a_new_file_begins_with_the_time_as_its_instance(setting):
     before = time.time_ns() // 10**6
     with setting.serve(3):
         data = journal.read(setting.journal)
+        equal("its mode", oct(os.stat(setting.journal).st_mode & 0o777), oct(0o600))
     words = data.split(b"\n")[0].split(b" ")
     equal("the header", words[:2], [b"lra-journal", b"2"])
     check(f"the instance is {words[2]}", before <= int(words[2]) <= time.time_ns() // 10**6)
