@@ -72,7 +72,7 @@ fn scripts_come_to_what_they_say(rt: HostRuntime) {
 }
 
 /// A small number, and 0 for any other text.
-fn small(text: &str) -> u16 {
+pub fn small(text: &str) -> u16 {
     text.parse().unwrap_or(0)
 }
 
@@ -192,7 +192,7 @@ fn open(alloc: Global, journal: &str, entries: u32) -> Result<Coordinator, OpenF
 }
 
 /// Whether a fault is this: a line and a rule, or too many entries.
-fn is_so(fault: OpenFault, wanted: &str) -> bool {
+pub fn is_so(fault: OpenFault, wanted: &str) -> bool {
     match fault {
         OpenFault::Unsound { line, rule } => {
             let (number, code) = parted(wanted, " ");

@@ -10,6 +10,8 @@ mod errands;
 #[cfg(test)]
 mod office;
 #[cfg(test)]
+mod openings;
+#[cfg(test)]
 mod rows;
 #[cfg(test)]
 mod same;
