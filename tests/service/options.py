@@ -26,7 +26,7 @@ NUMBERS = (
     ("retry-last", 60000, 1, 86400000),
 )
 USUAL = {name: str(usual) for name, usual, _, _ in NUMBERS} | {"stop-at-eof": "false"}
-# How long what is in flight has at a gentle end, and how many seconds late that may be on a busy machine.
+# How many seconds what is in flight has at a gentle end.
 PARTING = 10
 
 
