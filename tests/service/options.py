@@ -2,15 +2,17 @@
 import os
 import resource
 import subprocess
+import sys
 import threading
 import time
 
+import held
 import journal
 from asks import recorded
 from files import SOUND, UNSOUND, VERDICT, hint
 from participant import Participant, wait_until
 from patience import REQUESTS, narrow
-from service import HOST, LATE, PATIENCE, Service, check, equal, free_port, id_of, is_ready, lock, number_of, received, started
+from service import HOST, LATE, PATIENCE, LeftOut, Service, check, equal, free_port, id_of, is_ready, lock, number_of, received, started
 
 # Each setting's word, what it is where nothing is said, the least and the most that it may be.
 NUMBERS = (
@@ -172,6 +174,32 @@ def test_a_check_tells_faults_as_a_start_does(setting):
     path = setting.folder + "/none/journal"
     equal("no folder", setting.run("serve", "--check", f"{HOST}:1", path, "1"), (2, "", f"lra: cannot write {path}\n"))
     equal("a folder", setting.run("serve", "--check", f"{HOST}:1", setting.folder, "1"), (2, "", f"lra: cannot read {setting.folder}\n"))
+
+
+def held_check(setting, told):
+    """What a check says that is held at its first reading of the journal for longer than a second, with `told` as standard error."""
+    words = [sys.executable, held.__file__, "1.2", "65536", setting.program, "serve", "--check", f"{HOST}:1", setting.journal, "1"]
+    done = subprocess.run(words, stdin=subprocess.DEVNULL, stdout=subprocess.PIPE, stderr=told, timeout=PATIENCE, check=False)
+    output = done.stdout.decode()
+    if output.startswith(held.REFUSED):
+        raise LeftOut(held.REFUSED)
+    equal("the status", done.returncode, 0)
+    return output
+
+
+def test_how_far_a_journal_is_read_is_told_once_a_second_where_a_terminal_shows_it(setting):
+    journal.write(setting.journal, SOUND)
+    screen, terminal = os.openpty()
+    try:
+        output = held_check(setting, terminal)
+        equal("on a terminal", os.read(screen, 4096).decode(), f"lra: reading {setting.journal}: 0 of 0 MB\r\n")
+    finally:
+        os.close(terminal)
+        os.close(screen)
+    with open(f"{setting.folder}/told", "w+b") as told:
+        equal("what is printed", held_check(setting, told), output)
+        told.seek(0)
+        equal("elsewhere", told.read(), b"")
 
 
 class Stopping(Service):

@@ -6,10 +6,12 @@ mod serving;
 
 use crate::serving::{answer_options, answer_serve, have_options};
 use lra_folders::answer_question;
+use lra_opening::{Herald, Watched};
 use lra_reports::{System, settle, tell_usage, words_of};
 use lra_runs::{Task, play_file, read_task};
 use std::fs::File;
 use std::io;
+use std::io::IsTerminal;
 use std::marker::Sync;
 use std::net::{Net, TcpListener, TcpStream};
 use std::os::fd::AsFd;
@@ -25,7 +27,7 @@ fn answer_play<R: AllocGlobal + Files + Input + Print + Eprint>(rt: &R, script: 
     settle(rt, outcome, script)
 }
 
-/// Carries out what these words ask for, and answers the program's status.
+/// Carries out what these words ask for, and answers the program's status. The watcher is told what takes a while.
 fn answer<
     R: AllocGlobal
         + Files<File = File>
@@ -39,7 +41,8 @@ fn answer<
         + Sync
         + Clone
         + Drop,
->(rt: &R, words: &[String]) -> u8
+    H: Herald,
+>(rt: &R, words: &[String], watcher: &H) -> u8
 where
     R::Reader: AsFd,
 {
@@ -52,15 +55,19 @@ where
                 file,
                 workers,
             },
-        ) => answer_serve(rt, address, file, workers),
-        Err(_) if have_options(words) => answer_options(rt, words),
+        ) => answer_serve(rt, address, file, workers, watcher),
+        Err(_) if have_options(words) => answer_options(rt, words, watcher),
         Err(_) => tell_usage(rt),
     }
 }
 
 fn main(rt: HostRuntime) -> ExitCode {
+    let watcher = Watched {
+        rt: &rt,
+        is_terminal: rt.stderr().is_terminal(),
+    };
     let status = match words_of(&rt) {
-        Ok(words) => answer(&rt, &words),
+        Ok(words) => answer(&rt, &words, &watcher),
         Err(status) => status,
     };
     ExitCode::from(status)

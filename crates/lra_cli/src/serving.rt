@@ -3,7 +3,7 @@
 use lra_opening::NamedFile;
 use lra_options::{Options, OptionsFault, read_options};
 use lra_reports::{RunFault, error_line, hint_line, put, settle, tell, tell_usage};
-use lra_service::{Aloud, ServeFault, Served, check_place, fault_line, serve_with};
+use lra_service::{Aloud, Herald, ServeFault, Served, check_place, fault_line, serve_with};
 use lra_settings::Settings;
 use std::fs::{File, OpenOptions};
 use std::io;
@@ -79,16 +79,17 @@ fn settle_serving<R: AllocGlobal + Eprint>(
     }
 }
 
-/// Tells what would be served.
-fn answer_check<R: AllocGlobal + Files<File = File> + Print + Eprint>(
+/// Tells what would be served. The watcher is told how far the journal has been read.
+fn answer_check<R: AllocGlobal + Files<File = File> + Clock + Print + Eprint, H: Herald>(
     rt: &R,
     options: &Options<'_>,
+    watcher: &H,
 ) -> u8 {
     let outcome = check_place(
         rt.alloc(),
         options.address,
         options.file,
-        &NamedFile::new(rt, options.file),
+        &NamedFile::told(rt, options.file, watcher),
         options.workers,
         &options.settings,
         &mut io::writer(rt),
@@ -96,7 +97,7 @@ fn answer_check<R: AllocGlobal + Files<File = File> + Print + Eprint>(
     settle_serving(rt, outcome, options)
 }
 
-/// Serves, until an input has ended if there is one, and answers the program's status.
+/// Serves, until an input has ended if there is one, and answers the program's status. The watcher is told how far the journal has been read.
 fn answer_until<
     R: AllocGlobal
         + Files<File = File>
@@ -107,11 +108,12 @@ fn answer_until<
         + Print
         + Eprint
         + Sync,
->(rt: &R, options: &Options<'_>, input: Option<ChildStdout>) -> u8 {
+    H: Herald,
+>(rt: &R, options: &Options<'_>, input: Option<ChildStdout>, watcher: &H) -> u8 {
     let served = serve_with(
         rt,
         options.address,
-        &NamedFile::new(rt, options.file),
+        &NamedFile::told(rt, options.file, watcher),
         options.workers,
         options.settings,
         input,
@@ -137,7 +139,8 @@ pub(crate) fn answer_serve<
         + Print
         + Eprint
         + Sync,
->(rt: &R, address: &str, file: &str, workers: u32) -> u8 {
+    H: Herald,
+>(rt: &R, address: &str, file: &str, workers: u32, watcher: &H) -> u8 {
     let _streams = stand_ins(rt);
     let options = Options {
         address,
@@ -146,7 +149,7 @@ pub(crate) fn answer_serve<
         settings: Settings::usual(),
         is_check: false,
     };
-    answer_until(rt, &options, None)
+    answer_until(rt, &options, None, watcher)
 }
 
 /// Serves by options, and answers the program's status.
@@ -161,16 +164,17 @@ fn answer_serving<
         + Print
         + Eprint
         + Sync,
->(rt: &R, options: &Options<'_>) -> u8
+    H: Herald,
+>(rt: &R, options: &Options<'_>, watcher: &H) -> u8
 where
     R::Reader: AsFd,
 {
     let _streams = stand_ins(rt);
     if !options.settings.stop_at_eof {
-        return answer_until(rt, options, None);
+        return answer_until(rt, options, None, watcher);
     }
     match standard_input(rt) {
-        Ok(input) => answer_until(rt, options, Some(input)),
+        Ok(input) => answer_until(rt, options, Some(input), watcher),
         Err(_) => tell(rt, error_line(rt.alloc(), RunFault::Read, "-")),
     }
 }
@@ -199,7 +203,8 @@ pub(crate) fn answer_options<
         + Print
         + Eprint
         + Sync,
->(rt: &R, words: &[String]) -> u8
+    H: Herald,
+>(rt: &R, words: &[String], watcher: &H) -> u8
 where
     R::Reader: AsFd,
 {
@@ -207,8 +212,8 @@ where
         return tell_usage(rt);
     };
     match read_options(rt, rest) {
-        Ok(options) if options.is_check => answer_check(rt, &options),
-        Ok(options) => answer_serving(rt, &options),
+        Ok(options) if options.is_check => answer_check(rt, &options, watcher),
+        Ok(options) => answer_serving(rt, &options, watcher),
         Err(fault) => tell_fault(rt, fault),
     }
 }

@@ -1,35 +1,9 @@
-//! Whom a service tells of what becomes of its threads.
+//! What a service tells of its threads.
 
+use lra_opening::Herald;
 use lra_rounds::RoundsEnd;
 use lra_workers::WorkerEnd;
 use std::alloc::Global;
-
-/// Whom a service tells of what becomes of its threads.
-pub trait Herald {
-    /// Tells a line.
-    fn tell(&self, line: &str);
-}
-
-/// Who tells nobody.
-#[derive(Clone, Copy, Debug)]
-pub struct Silence;
-
-impl Herald for Silence {
-    fn tell(&self, _line: &str) {}
-}
-
-/// Who tells on standard error.
-#[derive(Drop)]
-pub struct Aloud<'a, R> {
-    pub rt: &'a R,
-}
-
-impl<R: Eprint> Herald for Aloud<'_, R> {
-    fn tell(&self, line: &str) {
-        // Where nobody hears it nothing else can be done.
-        let _ = eprint!(self.rt; "{line}");
-    }
-}
 
 /// Why a thread that answered has ended, where the program's end doesn't say so.
 fn why_answered(end: RoundsEnd) -> Option<&'static str> {

@@ -15,9 +15,9 @@ mod shift;
 
 pub use checking::check_place;
 pub use disk::{FilePen, JournalFile};
-pub use herald::{Aloud, Herald, Silence};
 pub use lra_clocks::SystemClock;
 pub use lra_opening::{
-    Found, Place, ServeFault, fault_line, find_journal, open_office, ready_file,
+    Aloud, Found, Herald, Place, ServeFault, Silence, fault_line, find_journal, open_office,
+    ready_file,
 };
 pub use running::{Served, serve, serve_from, serve_with};

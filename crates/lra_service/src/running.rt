@@ -16,7 +16,6 @@ use crate::base::{base_at, bind};
 use crate::disk::{FilePen, JournalFile};
 use crate::ending::{Ending, watch};
 use crate::entrance::Line;
-use crate::herald::{Herald, Silence};
 use crate::polls::{Polls, polls_of};
 use crate::post::hire_all;
 use crate::shift::{Shift, work};
@@ -27,7 +26,8 @@ use lra_durable::{Keeper, Progress};
 use lra_ids::Address;
 use lra_office::{Clerk, Desk, Office};
 use lra_opening::{
-    Found, NamedFile, Place, ServeFault, find_journal, open_office, ready_file, refuse,
+    Found, Herald, NamedFile, Place, ServeFault, Silence, find_journal, open_office, ready_file,
+    refuse,
 };
 use lra_reports::RunFault;
 use lra_settings::Settings;

@@ -1,0 +1,91 @@
+//! How far a file has been read, told once a second.
+
+ghost use Rattle.std.specs.Prelude.{◌≡◌};
+
+use crate::herald::Herald;
+use std::alloc::Global;
+use std::io;
+use std::io::Read;
+use std::time::{Clock, Duration, Instant};
+
+/// How many seconds there are from one line to the next.
+const PAUSE: u64 = 1;
+
+/// A megabyte, in bytes.
+const MEGABYTE: u64 = 1_000_000;
+
+/// A reader of a file that tells once a second how far it is. Of what is told nothing is promised: where the clock or memory fails there is
+/// one line less.
+#[derive(Drop)]
+pub(crate) struct Progress<'a, F, R, H> {
+    reader: F,
+    alloc: Global,
+    clock: &'a R,
+    herald: &'a H,
+    name: &'a str,
+    /// How many bytes the file has.
+    all: u64,
+    /// How many were read.
+    read: u64,
+    /// The moment from which the next line is due, where the clock told one.
+    due: Option<Instant>,
+}
+
+/// The moment a pause from now.
+fn next_due<R: Clock>(clock: &R) -> Option<Instant> {
+    Instant::now(clock).ok()?.checked_add(Duration::from_secs(PAUSE))
+}
+
+impl<'a, F: Read, R: Clock, H: Herald> Progress<'a, F, R, H> {
+    /// A reader of the file of a name that has so many bytes.
+    pub(crate) fn new(
+        reader: F,
+        alloc: Global,
+        clock: &'a R,
+        herald: &'a H,
+        name: &'a str,
+        all: u64,
+    ) -> Progress<'a, F, R, H> {
+        Progress {
+            reader,
+            alloc,
+            clock,
+            herald,
+            name,
+            all,
+            read: 0,
+            due: next_due(clock),
+        }
+    }
+
+    /// Whether the next line is due.
+    fn is_due(&self) -> bool {
+        match (self.due, Instant::now(self.clock)) {
+            (Some(due), Ok(now)) => due.saturating_duration_since(now).is_zero(),
+            _ => false,
+        }
+    }
+
+    /// Tells how far it is, where that is due.
+    fn tell(&mut self) {
+        if !self.is_due() {
+            return;
+        }
+        let (name, read, all) = (self.name, self.read / MEGABYTE, self.all / MEGABYTE);
+        if let Ok(line) = format!(in self.alloc; "lra: reading {name}: {read} of {all} MB\n") {
+            self.herald.tell(&line);
+        }
+        self.due = next_due(self.clock);
+    }
+}
+
+impl<F: Read, R: Clock, H: Herald> Read for Progress<'_, F, R, H> {
+    ghost remaining = { λ p. F.remaining p.reader };
+
+    fn read(&mut self, buf: &mut [u8]) -> io::Result<usize> {
+        let count = self.reader.read(buf)?;
+        self.read = self.read.saturating_add(count as u64);
+        self.tell();
+        Ok(count)
+    }
+}
