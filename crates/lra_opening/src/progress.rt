@@ -33,7 +33,9 @@ pub(crate) struct Progress<'a, F, R, H> {
 
 /// The moment a pause from now.
 fn next_due<R: Clock>(clock: &R) -> Option<Instant> {
-    Instant::now(clock).ok()?.checked_add(Duration::from_secs(PAUSE))
+    Instant::now(clock)
+        .ok()?
+        .checked_add(Duration::from_secs(PAUSE))
 }
 
 impl<'a, F: Read, R: Clock, H: Herald> Progress<'a, F, R, H> {

@@ -1,6 +1,6 @@
 //! The moments at which a coordinator acts by itself.
 
-ghost use Rattle.std.specs.Prelude.{◌≡◌, ◌+◌, ◌≤◌, ◌<◌, ◌||◌, ℕ, Bool, [], OnOk, OnErr, IsOk, is_some, length};
+ghost use Rattle.std.specs.Prelude.{◌≡◌, ◌+◌, ◌≤◌, ◌<◌, ◌||◌, ℕ, Bool, [], OnOk, IfOk, IsOk, is_some, length};
 ghost use Rattle.std.specs.List.{range_with_len};
 ghost use Rattle.lra_model.specs.History.{History};
 ghost use Rattle.lra_laws.specs.Sheets.{StandsFor};
@@ -163,43 +163,36 @@ impl Schedule {
         self.refresh_actions(tables, actions);
     }
 
-    fn fill_members(&mut self, limits: &Limits, tables: &Tables, count: u64)
-        requires { count ≤ self.old.room }
-        ensures retries { (K : History) → StandsFor tables.now.sheet K → AreRenewed (retry_in limits.now K) self.old.retries self.new.retries (range_with_len 1 count) }
+    fn fill_members(&mut self, limits: &Limits, tables: &Tables, count: u64) -> Result<(), Memory>
+        ensures retries { OnOk result ((K : History) → StandsFor tables.now.sheet K → AreRenewed (retry_in limits.now K) self.old.retries self.new.retries (range_with_len 1 count)) }
         ensures limits { self.new.limits ≡ self.old.limits }
-        ensures room { self.old.room ≤ self.new.room + count }
     {
         for place in 0..count {
+            self.room(1)?;
             self.put_retry(place + 1, retry_of(limits, tables, place + 1));
         }
+        Ok(())
     }
 
-    fn fill_actions(&mut self, tables: &Tables, count: u64)
-        requires { count ≤ self.old.room }
-        ensures limits { (K : History) → StandsFor tables.now.sheet K → AreRenewed (limit_in K) self.old.limits self.new.limits (range_with_len 1 count) }
+    fn fill_actions(&mut self, tables: &Tables, count: u64) -> Result<(), Memory>
+        ensures limits { OnOk result ((K : History) → StandsFor tables.now.sheet K → AreRenewed (limit_in K) self.old.limits self.new.limits (range_with_len 1 count)) }
         ensures retries { self.new.retries ≡ self.old.retries }
-        ensures room { self.old.room ≤ self.new.room + count }
     {
         for place in 0..count {
+            self.room(1)?;
             self.put_limit(place + 1, limit_of(tables, place + 1));
         }
+        Ok(())
     }
 
-    /// Takes up all members and actions of the tables, where there were none before, as for a coordinator that is opened again. After `Memory`
-    /// there are still none.
-    pub fn fill(&mut self, limits: &Limits, tables: &Tables) -> Result<(), Memory>
-        ensures schedule { OnOk result ((K : History) → IsScheduleOf limits.now self.old [] → StandsFor tables.now.sheet K → IsScheduleOf limits.now self.new K) }
-        ensures limits { OnErr result (self.new.limits ≡ self.old.limits) }
-        ensures retries { OnErr result (self.new.retries ≡ self.old.retries) }
+    /// The moments of the history that tables stand for, as for a coordinator that is opened again. There is room for those that are there,
+    /// and for few more.
+    pub fn of(alloc: Global, limits: &Limits, tables: &Tables) -> Result<Schedule, Memory>
+        ensures { IfOk result (λ schedule. (K : History) → StandsFor tables.now.sheet K → IsScheduleOf limits.now schedule K) }
     {
-        let members = tables.count_members();
-        let actions = tables.count_actions();
-        let Some(count) = members.checked_add(actions) else {
-            return Err(Memory);
-        };
-        self.room(count as usize)?;
-        self.fill_members(limits, tables, members);
-        self.fill_actions(tables, actions);
-        Ok(())
+        let mut schedule = Schedule::new(alloc);
+        schedule.fill_members(limits, tables, tables.count_members())?;
+        schedule.fill_actions(tables, tables.count_actions())?;
+        Ok(schedule)
     }
 }
