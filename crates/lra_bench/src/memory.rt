@@ -9,7 +9,7 @@ fn number_after(text: &str, word: &str) -> Option<u64> {
     rest.split_whitespace().next()?.parse().ok()
 }
 
-/// The kilobytes on a line of the program's status: `VmHWM:` for the most memory that it has had so far, `VmRSS:` for what it has.
+/// The kilobytes on a line of the program's status, as `VmRSS:` for the memory that it has.
 pub fn kilobytes(rt: &HostRuntime, line: &str) -> Result<u64> {
     let status = fs::read_to_string(rt, "/proc/self/status")?;
     let told = number_after(status.as_str(), line);

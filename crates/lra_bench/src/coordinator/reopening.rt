@@ -1,18 +1,22 @@
-//! How long it takes to go on from a journal, beside an audit of its text, and how much memory.
+//! How long it takes to go on from a journal's bytes, beside their audit, and how much memory the coordinator holds then.
 
 use crate::journals::{Journal, Kind};
 use crate::line::Line;
 use crate::memory::kilobytes;
-use crate::setting::{base, instance, limits};
+use crate::setting::{base, limits};
 use crate::stopwatch::Stopwatch;
 use anyhow::{Result, ensure};
 use lra_auditor::{Verdict, audit};
-use lra_core::Coordinator;
-use lra_journal::read_journal;
+use lra_core::Opening;
+use lra_model::Memory;
+use std::alloc::Global;
 use std::num::nearest_u64_to_f64;
 
 /// How many entries the journal has.
 const ENTRIES: u64 = 4_000_000;
+
+/// How often each is timed: the shortest counts, since what else the machine does only makes a run longer.
+const RUNS: u32 = 3;
 
 /// The seconds that an audit takes.
 fn time_audit(rt: &HostRuntime, text: &[u8]) -> Result<f64> {
@@ -25,19 +29,46 @@ fn time_audit(rt: &HostRuntime, text: &[u8]) -> Result<f64> {
     Ok(seconds)
 }
 
-/// The seconds that it takes to go on from a journal's entries, once they are read.
-fn time_opening(rt: &HostRuntime, text: &[u8]) -> Result<f64> {
-    let alloc = rt.alloc();
-    let instance = instance()?;
-    let base = base(alloc)?;
-    let (version, _, entries) = read_journal(alloc, text)?;
+/// What it takes to go on from a journal.
+#[derive(Clone, Copy)]
+struct Cost {
+    seconds: f64,
+    /// The memory that the coordinator holds then.
+    kilobytes: u64,
+}
+
+/// An opening that was fed a whole journal.
+fn fed(alloc: Global, text: &[u8]) -> Result<Opening, Memory> {
+    Opening::new(alloc).feed(text)
+}
+
+/// Goes on from a journal's bytes, which are read, audited and taken into the tables line by line.
+fn open(rt: &HostRuntime, text: &[u8]) -> Result<Cost> {
+    let base = base(rt.alloc())?;
+    let before = kilobytes(rt, "VmRSS:")?;
     let watch = Stopwatch::start(rt);
-    let coordinator = Coordinator::from_journal(alloc, version, instance, base, limits(), entries)?;
+    let opening = fed(rt.alloc(), text)?;
+    let counted = opening.count_entries();
+    let coordinator = opening.finish(base, limits())?;
     let seconds = watch.seconds(rt);
-    let counted = coordinator.entries().len() as u64;
+    let held = kilobytes(rt, "VmRSS:");
     drop(coordinator);
     ensure!(counted == ENTRIES, "{counted} entries were read");
-    Ok(seconds)
+    Ok(Cost {
+        seconds,
+        kilobytes: held?.saturating_sub(before),
+    })
+}
+
+/// The shortest audit and the shortest opening of some, taken in turn.
+fn shortest(rt: &HostRuntime, text: &[u8]) -> Result<(f64, Cost)> {
+    let mut audit = time_audit(rt, text)?;
+    let mut opened = open(rt, text)?;
+    for _ in 1..RUNS {
+        audit = audit.min(time_audit(rt, text)?);
+        opened.seconds = opened.seconds.min(open(rt, text)?.seconds);
+    }
+    Ok((audit, opened))
 }
 
 /// A line for a time, beside that of the audit.
@@ -53,17 +84,16 @@ fn line(what: &str, seconds: f64, audit: f64) -> Line<'_> {
 }
 
 fn print_all(rt: &HostRuntime, text: &[u8]) -> Result<()> {
-    let audit = time_audit(rt, text)?;
+    let (audit, opened) = shortest(rt, text)?;
     line("audit", audit, audit).print(rt)?;
-    let opening = time_opening(rt, text)?;
-    let opened = line("from_journal", opening, audit);
-    opened.print(rt)?;
-    let kilobytes = nearest_u64_to_f64(kilobytes(rt, "VmHWM:")?);
+    let opening = line("opening", opened.seconds, audit);
+    opening.print(rt)?;
+    let kilobytes = nearest_u64_to_f64(opened.kilobytes);
     let memory = Line {
         figure: kilobytes / 1e3,
-        unit: "MB at most, to its text",
+        unit: "MB held, to its text",
         ratio: kilobytes * 1024.0 / nearest_u64_to_f64(text.len() as u64),
-        ..opened
+        ..opening
     };
     memory.print(rt)
 }
@@ -74,7 +104,7 @@ fn print_with(rt: &HostRuntime, journal: &mut Journal) -> Result<()> {
     print_all(rt, text)
 }
 
-/// Prints the times, and the most memory that the program had: the text, its entries, and what is kept beside them.
+/// Prints the times, and the memory that the coordinator holds.
 pub fn run(rt: &HostRuntime) -> Result<()> {
     let mut journal = Journal::new(rt.alloc(), Kind::Wide, ENTRIES);
     let printed = print_with(rt, &mut journal);
