@@ -11,3 +11,4 @@ pub mod Marks
 pub mod LegalTexts
 pub mod OneVerdict
 pub mod OneVerdictWorked
+pub mod PlainAddresses

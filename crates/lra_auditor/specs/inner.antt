@@ -5,3 +5,4 @@ pub mod Course
 pub mod Totals
 pub mod Listings
 pub mod Reading
+pub mod Plain

@@ -13,6 +13,7 @@ ghost use Rattle.lra_laws.specs.Rows.{State};
 ghost use Rattle.lra_laws.specs.inner.RowFacts.{action_by, member_by, facts_by, is_standing};
 ghost use Rattle.lra_laws.specs.Rows.{row_at};
 
+use crate::plain::is_plain_address;
 use crate::state::Rows;
 use lra_ids::is_address_text;
 use lra_journal::{DeedRef, UrisRef};
@@ -72,6 +73,7 @@ fn is_absent_or_address(alloc: Global, text: Option<&str>) -> Result<bool, Memor
     ensures { IfOk result (λ own. own ≡ option_map_or is_address (option_copied text.entry) true) }
 {
     match text {
+        Some(text) if is_plain_address(text.as_bytes()) => Ok(true),
         Some(text) => is_address_text(alloc, text.as_bytes()),
         None => Ok(true),
     }

@@ -10,6 +10,7 @@ mod following;
 mod lawful;
 mod laws;
 mod listing;
+mod plain;
 mod reading;
 mod state;
 mod summary;
