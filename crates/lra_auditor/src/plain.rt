@@ -1,11 +1,11 @@
 //! Addresses in the plain form, that most have: they are known by one look at each byte, without the URL's parser.
 
-ghost use Rattle.std.specs.Prelude.{◌≡◌, ◌≢◌, ◌<◌, ◌++◌, ◌∷◌, ℕ, List, Some, true, codes, length, slice_index, IfSome, MatchOption};
+ghost use Rattle.std.specs.Prelude.{◌≡◌, ◌≢◌, ◌++◌, ℕ, List, Some, true, codes, MatchOption};
 ghost use Rattle.std.specs.Fmt.{decimal};
 ghost use Rattle.lra_ids.specs.Addresses.{is_address};
 ghost use Rattle.lra_auditor.specs.inner.Plain.{is_letter, is_name_byte, is_path_byte, is_host, is_path, IsPort, IsAuthority};
 
-use lra_journal::read_number;
+use lra_journal::{read_number, split_once};
 
 /// The most bytes of an address.
 const LONGEST: usize = 512;
@@ -69,23 +69,6 @@ fn is_path(bytes: &[u8]) -> bool
         }
     }
     true
-}
-
-/// The place of the first byte of that value.
-fn first_place(bytes: &[u8], value: u8) -> Option<usize>
-    ensures { IfSome result (λ i. (i < length bytes.now) × (slice_index bytes.now i ≡ value)) }
-{
-    bytes.iter().position(|b| *b == value)
-}
-
-/// What stands before the first byte of that value, and what stands behind it.
-fn split_once(bytes: &[u8], value: u8) -> Option<(&[u8], &[u8])>
-    ensures { IfSome result (λ x. bytes.now ≡ x.0.now ++ value ∷ x.1.now) }
-{
-    let place = first_place(bytes, value)?;
-    let (front, back) = bytes.split_at(place);
-    let (_, behind) = back.split_at(1);
-    Some((front, behind))
 }
 
 /// What stands behind the scheme.
