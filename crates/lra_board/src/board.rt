@@ -6,7 +6,8 @@ ghost use Rattle.lra_model.specs.declared.entry.Deed.TheVariants as deeds;
 ghost use Rattle.lra_laws.specs.Settles.{turn_by, end_by};
 
 use crate::ready::Ready;
-use lra_model::{Deed, Entry, Memory, Uris};
+use lra_model::{Deed, Entry, Memory};
+use lra_packed::Packed;
 use lra_rows::{Rows, Step};
 use std::alloc::Global;
 use std::marker::Model;
@@ -103,7 +104,7 @@ impl Board {
 
     /// One more entry, which is allowed after those that the board stands for, and has room: it takes no memory. The addresses
     /// of a member that joins are handed in.
-    pub fn carry(&mut self, entry: &Entry, uris: Option<Uris>) -> Step
+    pub fn carry(&mut self, entry: &Entry, uris: Option<Packed>) -> Step
         requires follows { Follows self.old.rows.sheet entry.now }
         requires room { has_room entry.now self.old ≡ true }
         requires uris { uris ≡ addresses_joined entry.now.deed }
@@ -120,7 +121,7 @@ impl Board {
 
     /// Takes the entry that was carried out last back, by its step, and gives the addresses of the member that joined by it: the
     /// board is as before it, and has the room that it had. This takes no memory.
-    pub fn take_back(&mut self, entry: &Entry, step: Step) -> Option<Uris>
+    pub fn take_back(&mut self, entry: &Entry, step: Step) -> Option<Packed>
         requires { CameBy entry.now step self.old }
         ensures back { self.new ≡ uncarried entry.now step self.old }
         ensures uris { result ≡ addresses_back step self.old.rows }

@@ -4,7 +4,8 @@ ghost use Rattle.std.specs.Prelude.{◌≡◌, ℕ, List, ◌∷◌, ◌++◌, [
 ghost use Rattle.lra_board.specs.inner.Trail.{IsTrail, Going, SettlesTo};
 
 use crate::board::Board;
-use lra_model::{Deed, Entry, Memory, Uris};
+use lra_model::{Deed, Entry, Memory};
+use lra_packed::Packed;
 use lra_rows::{Step, copy_joined};
 use std::alloc::Global;
 
@@ -64,7 +65,7 @@ impl Board {
     ghost use Rattle.lra_board.specs.inner.Trail.{IsTrail, HasTrail, MayGoOn, GoesOn, Going, SettlesTo};
 
     /// Carries an entry out, for which the trail has room.
-    fn follow(&mut self, trail: &mut Trail, entry: Entry, uris: Option<Uris>)
+    fn follow(&mut self, trail: &mut Trail, entry: Entry, uris: Option<Packed>)
         requires follows { Follows self.old.rows.sheet entry }
         requires room { has_room entry self.old ≡ true }
         requires uris { uris ≡ addresses_joined entry.deed }
@@ -176,7 +177,7 @@ impl Board {
         ensures room { OnOk result (has_room entry self.new ≡ true) }
         ensures entries { IfOk result (λ entries. (J : History) (h : StandsFor self.old.rows.sheet J) → allows h.version h.is_address J entry ≡ true → entries.items ≡ with_settling J entry) }
     {
-        let uris = copy_joined(&entry)?;
+        let uris = copy_joined(alloc, &entry)?;
         let mut trail = Trail::new(alloc);
         trail.reserve()?;
         self.reserve(&entry)?;

@@ -1,15 +1,27 @@
 //! Digests of an action and five addresses.
 
 ghost use Rattle.std.specs.Prelude.{◌≡◌};
+ghost use Rattle.std.specs.Option.{option_copied};
 ghost use Rattle.lra_model.specs.Addresses.{text_of};
 ghost use Rattle.lra_joined.specs.Digests as words;
 
 use lra_model::Uris;
+use lra_packed::Packed;
 use std::hash::{DefaultHasher, Hasher};
 
+/// The text of an address, if there is one.
+fn borrowed(text: &Option<String>) -> Option<&str>
+    ensures { option_copied result ≡ text_of text.now }
+{
+    match text {
+        Some(text) => Some(text.as_str()),
+        None => None,
+    }
+}
+
 /// The hasher is fed an address, or that there is none.
-fn feed(state: &mut DefaultHasher, text: &Option<String>)
-    ensures { state.new ≡ words.fed (text_of text.now) state.old }
+fn feed(state: &mut DefaultHasher, text: Option<&str>)
+    ensures { state.new ≡ words.fed (option_copied text.entry) state.old }
 {
     match text {
         Some(text) => {
@@ -29,10 +41,26 @@ pub(crate) fn digest_of(key: u128, action: u64, uris: &Uris) -> u64
     let mut state = DefaultHasher::new();
     state.write_u128(key);
     state.write_u64(action);
-    feed(&mut state, &uris.compensate);
-    feed(&mut state, &uris.complete);
-    feed(&mut state, &uris.status);
-    feed(&mut state, &uris.forget);
-    feed(&mut state, &uris.after);
+    feed(&mut state, borrowed(&uris.compensate));
+    feed(&mut state, borrowed(&uris.complete));
+    feed(&mut state, borrowed(&uris.status));
+    feed(&mut state, borrowed(&uris.forget));
+    feed(&mut state, borrowed(&uris.after));
+    state.finish()
+}
+
+/// The same of addresses that are kept.
+#[tactic(auto, unfolding(crate::specs::Digests::digest_of))]
+pub(crate) fn digest_of_kept(key: u128, action: u64, uris: &Packed) -> u64
+    ensures { result ≡ words.digest_of key action uris.now }
+{
+    let mut state = DefaultHasher::new();
+    state.write_u128(key);
+    state.write_u64(action);
+    feed(&mut state, uris.compensate());
+    feed(&mut state, uris.complete());
+    feed(&mut state, uris.status());
+    feed(&mut state, uris.forget());
+    feed(&mut state, uris.after());
     state.finish()
 }

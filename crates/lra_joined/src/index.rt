@@ -6,8 +6,9 @@ ghost use Rattle.lra_joined.specs.Digests.{digest_of};
 ghost use Rattle.lra_joined.specs.Listed.{number_at, IsListed, IsCounted, without};
 ghost use Rattle.lra_joined.specs.inner.Ranks.{same_rank, at, IsList, IsCountable, IsMissing, IsFirstRank, IsClosed};
 
-use crate::digest::digest_of;
+use crate::digest::{digest_of, digest_of_kept};
 use lra_model::{Memory, Uris};
+use lra_packed::Packed;
 use std::alloc::Global;
 use std::collections::HashMap;
 use std::marker::Model;
@@ -114,6 +115,13 @@ impl Index {
         ensures { result ≡ digest_of self.now.key action uris.now }
     {
         digest_of(self.key, action, uris)
+    }
+
+    /// The digest of an action and addresses that are kept.
+    pub fn digest_of_kept(&self, action: u64, uris: &Packed) -> u64
+        ensures { result ≡ digest_of self.now.key action uris.now }
+    {
+        digest_of_kept(self.key, action, uris)
     }
 
     /// Makes room for so many more numbers.

@@ -69,7 +69,7 @@ fn can_compensate(tables: &Tables, member: u64) -> bool
     ensures { (J : History) → StandsFor tables.now.sheet J → result ≡ awaits.can_compensate J member }
 {
     match tables.addresses(member) {
-        Some(uris) => uris.compensate.is_some(),
+        Some(uris) => uris.compensate().is_some(),
         None => false,
     }
 }

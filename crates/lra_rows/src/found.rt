@@ -11,7 +11,8 @@ ghost use Rattle.lra_rows.specs.inner.Held as held;
 use crate::contact::{Repeats, stage_of};
 use crate::lists::{at, lent};
 use crate::rows::Rows;
-use lra_model::{ActionStatus, AskKind, Direction, MemberStatus, Outcome, Uris};
+use lra_model::{ActionStatus, AskKind, Direction, MemberStatus, Outcome};
+use lra_packed::Packed;
 use lra_states::{MemberState, way_asked};
 
 /// An action, as it is now.
@@ -156,7 +157,7 @@ impl Rows {
         self.held_member(number)
     }
 
-    fn held_addresses(&self, number: u64) -> Option<&Uris>
+    fn held_addresses(&self, number: u64) -> Option<&Packed>
         ensures { option_copied result ≡ held.held_addresses self.now.sheet number }
     {
         match lent(&self.contacts, number) {
@@ -166,7 +167,7 @@ impl Rows {
     }
 
     /// The addresses that a member joined with, if it is there.
-    pub fn addresses(&self, number: u64) -> Option<&Uris>
+    pub fn addresses(&self, number: u64) -> Option<&Packed>
         ensures { (J : History) → StandsFor self.now.sheet J → option_copied result ≡ found_addresses J number }
     {
         self.held_addresses(number)

@@ -11,7 +11,7 @@ use crate::lists::{place_of, remove_last, restore};
 use crate::nest::{Listed, Nest};
 use crate::rows::Rows;
 use crate::step::{Added, Counts, Repeated, Step, Writes};
-use lra_model::Uris;
+use lra_packed::Packed;
 
 /// Removes the last number of a list of an action, if the action is there.
 fn remove_at(nests: &mut Vec<Nest>, list: Listed, action: u64)
@@ -43,7 +43,7 @@ fn restore_repeats(contacts: &mut Vec<Contact>, repeated: Option<Repeated>)
 }
 
 /// Removes the last member's contact, and gives its addresses.
-fn remove_contact(contacts: &mut Vec<Contact>) -> Option<Uris>
+fn remove_contact(contacts: &mut Vec<Contact>) -> Option<Packed>
     ensures items { contacts.new.items ≡ without_last contacts.old.items }
     ensures uris { result ≡ option_map (λ (c : sheets.Contact). c.addresses) (row_at contacts.old.items (length contacts.old.items)) }
     ensures capacity { vec_capacity contacts.new ≡ vec_capacity contacts.old }
@@ -69,7 +69,7 @@ impl Rows {
         }
     }
 
-    fn remove_member(&mut self, action: u64, top: u64) -> Option<Uris>
+    fn remove_member(&mut self, action: u64, top: u64) -> Option<Packed>
         ensures rows { self.new ≡ without_added (kinds.Member action top) self.old }
         ensures uris { result ≡ added_addresses (kinds.Member action top) self.old.sheet.contacts }
     {
@@ -80,7 +80,7 @@ impl Rows {
     }
 
     /// Removes what was added last.
-    fn remove(&mut self, added: Added) -> Option<Uris>
+    fn remove(&mut self, added: Added) -> Option<Packed>
         ensures rows { self.new ≡ without_added added self.old }
         ensures uris { result ≡ added_addresses added self.old.sheet.contacts }
     {
@@ -120,7 +120,7 @@ impl Rows {
 
     /// Takes the last entry that was carried out back, by its step, and gives the addresses of the member that joined by it: the
     /// rows are as before it, and have the room that they had. This takes no memory.
-    pub fn take_back(&mut self, step: Step) -> Option<Uris>
+    pub fn take_back(&mut self, step: Step) -> Option<Packed>
         ensures rows { self.new ≡ taken_back step self.old }
         ensures uris { result ≡ addresses_back step self.old }
     {

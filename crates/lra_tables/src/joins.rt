@@ -3,9 +3,7 @@
 ghost use Rattle.std.specs.Prelude.{◌≡◌, ◌+◌, ◌≤◌, ◌&&◌, not};
 ghost use Rattle.lra_model.specs.declared.entry.Deed.TheVariants as deeds;
 ghost use Rattle.lra_model.specs.declared.entry.Entry.{Entry as EntryValue};
-ghost use Rattle.lra_model.specs.Addresses.{text_of};
 ghost use Rattle.lra_model.specs.History.{History};
-ghost use Rattle.lra_model.specs.Joins as words;
 ghost use Rattle.lra_model.specs.Joins.{already_member};
 ghost use Rattle.lra_laws.specs.Sheets.{StandsFor};
 ghost use Rattle.lra_tables.specs.inner.Kept.{IsKept, IsKeptBefore, TakesOne};
@@ -14,28 +12,6 @@ ghost use Rattle.lra_tables.specs.inner.Same.{found_same};
 use lra_joined::Index;
 use lra_model::{Deed, Entry, MemberStatus, Uris};
 use lra_rows::Rows;
-
-/// Whether two addresses are the same, or both absent.
-fn is_same_address(left: &Option<String>, right: &Option<String>) -> bool
-    ensures { result ≡ words.same_address (text_of left.now) (text_of right.now) }
-{
-    match (left, right) {
-        (Some(left), Some(right)) => left.as_bytes() == right.as_bytes(),
-        (None, None) => true,
-        _ => false,
-    }
-}
-
-/// Whether two members have the same five addresses.
-fn are_same_addresses(left: &Uris, right: &Uris) -> bool
-    ensures { result ≡ words.same_addresses left.now right.now }
-{
-    is_same_address(&left.compensate, &right.compensate)
-        && is_same_address(&left.complete, &right.complete)
-        && is_same_address(&left.status, &right.status)
-        && is_same_address(&left.forget, &right.forget)
-        && is_same_address(&left.after, &right.after)
-}
 
 /// Whether a member of the action is there, hasn't left, and has these addresses.
 fn is_same_member(rows: &Rows, number: u64, action: u64, uris: &Uris) -> bool
@@ -49,7 +25,7 @@ fn is_same_member(rows: &Rows, number: u64, action: u64, uris: &Uris) -> bool
     };
     row.action == action
         && !matches!(row.status, MemberStatus::Left)
-        && are_same_addresses(addresses, uris)
+        && addresses.is_same(uris)
 }
 
 /// The least member of an action that hasn't left and has these addresses already, found among those whose digest is the same.
@@ -86,7 +62,7 @@ fn forget(index: &mut Index, rows: &Rows, member: u64)
         Some(addresses) => addresses,
         None => return,
     };
-    let digest = index.digest(row.action, addresses);
+    let digest = index.digest_of_kept(row.action, addresses);
     index.remove(digest, member);
 }
 

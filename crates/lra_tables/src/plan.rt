@@ -2,7 +2,8 @@
 
 ghost use Rattle.std.specs.Prelude.{◌≡◌};
 
-use lra_model::{Entry, Uris};
+use lra_model::Entry;
+use lra_packed::Packed;
 use std::marker::Model;
 
 /// An entry and all that settles after it, before any of it is appended. Dropping a plan changes nothing.
@@ -12,7 +13,7 @@ pub struct Plan {
     pub(crate) members: Vec<u64>,
     pub(crate) actions: Vec<u64>,
     /// The addresses of the member that joins, for the tables to keep.
-    pub(crate) uris: Option<Uris>,
+    pub(crate) uris: Option<Packed>,
 }
 
 impl Model for Plan {
