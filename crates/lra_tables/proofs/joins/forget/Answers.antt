@@ -11,7 +11,7 @@ returns-in-None-clause-kept c =
     absurd (not_missing _ _ there (c.in-None.ensures (now c.args.index.now c.requires.0 c.args.rows.now.sheet before) (stands_now c.args.index.now c.requires.0 c.args.rows.now.sheet before)))
 
 pub remove-requires : goal.remove-requires
-remove-requires c = counted c.args.index.now c.requires.0 c.args.rows.now.sheet c.requires.1 c.digest-digest.result
+remove-requires c = counted c.args.index.now c.requires.0 c.args.rows.now.sheet c.requires.1 c.digest_of_kept-digest.result
 
 pub returns-clause-kept : goal.returns-clause-kept
 returns-clause-kept c =
@@ -19,5 +19,5 @@ returns-clause-kept c =
     let stands = stands_now c.args.index.now c.requires.0 c.args.rows.now.sheet c.requires.1 in
     let action : c.in-Some.row.action ≡ action_of history c.args.member = row_action history c.args.member c.in-Some.row (c.in-Some.ensures history stands) in
     let addresses : c.in-Some-addresses.addresses.now ≡ addresses_of history c.args.member = row_addresses history c.args.member c.in-Some-addresses.addresses.now (c.in-Some-addresses.ensures history stands) in
-    kept_left c.args.index.now c.remove.new.self c.requires.0 c.args.rows.now.sheet c.requires.1 c.args.member c.digest-digest.result c.requires.2
-    (c.digest-digest.ensures ∙ (λ k. digest_of c.args.index.now.key (action k) (addresses k))) c.remove.ensures.key c.remove.ensures.listed
+    kept_left c.args.index.now c.remove.new.self c.requires.0 c.args.rows.now.sheet c.requires.1 c.args.member c.digest_of_kept-digest.result c.requires.2
+    (c.digest_of_kept-digest.ensures ∙ (λ k. digest_of c.args.index.now.key (action k) (addresses k))) c.remove.ensures.key c.remove.ensures.listed
