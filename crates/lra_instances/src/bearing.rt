@@ -1,0 +1,26 @@
+//! Reads the instances of identifiers.
+
+ghost use Rattle.std.specs.Prelude.{◌≡◌};
+ghost use Rattle.lra_instances.specs.Bearing as spec;
+
+use lra_ids::Instance;
+use uuid::Uuid;
+
+/// How many characters the text of an identifier has.
+const ID_LENGTH: usize = 36;
+
+/// The instance that a text bears, where it is a UUID in any of its forms. Whether it is spelled as an identifier isn't looked at.
+pub fn instance_in(text: &[u8]) -> Option<Instance>
+    ensures { result ≡ spec.instance_in text.now }
+{
+    let (high, _) = Uuid::try_parse_ascii(text).ok()?.as_u64_pair();
+    Instance::new(high / (1 << 16) * (1 << 12) + high % (1 << 12))
+}
+
+/// The instance that a URI bears at its end.
+pub fn instance_at_end(uri: &[u8]) -> Option<Instance>
+    ensures { result ≡ spec.instance_at_end uri.now }
+{
+    let before = uri.len().saturating_sub(ID_LENGTH);
+    instance_in(&uri[before..])
+}
