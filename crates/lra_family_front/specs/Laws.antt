@@ -1,0 +1,54 @@
+-- What follows from which instance a request names.
+use Rattle.std.specs.Prelude.{◌≡◌, ◌≢◌, ◌⊎◌, ◌<◌, ◌^◌, ℕ, List, codes, Some, Result, Ok, Err}
+use Rattle.serde_json.specs.Data.{Members}
+use Rattle.lra_ids.specs.Identifiers.{id_text, action_uri}
+use Rattle.lra_instances.specs.Bearing.{instance_at_end}
+use Rattle.lra_instances.specs.Laws.{IsBorne}
+use Rattle.lra_wire.specs.Request.{Request}
+use Rattle.lra_commands.specs.declared.refusal.Refusal.TheVariants as refusal
+use Rattle.lra_front.specs.declared.route.Route.{Route}
+use Rattle.lra_front.specs.declared.route.Route.TheVariants as route
+use Rattle.lra_front.specs.declared.denial.Denial.{Denial}
+use Rattle.lra_front.specs.declared.denial.Denial.TheVariants.{Refused}
+use Rattle.lra_front.specs.declared.wish.Wish.{Wish}
+use Rattle.lra_front.specs.Routes.{route_of, id_in}
+use Rattle.lra_front.specs.Bodies.{body_of, object_in, text_under}
+use Rattle.lra_front.specs.Wishes.{MayAsk, LacksMemory, IsNamed, no_action, no_member}
+use Rattle.lra_family_front.specs.Naming.{instance_of}
+use Rattle.lra_family_front.specs.Serving.{IsUnknown}
+
+-- the path of a request has the identifier of an instance, and isn't one where actions are started
+pub record HasIdentifier (request : Request) (i : ℕ) : Type 0 where
+  pub place : Route
+  pub served : route_of request.method request.target ≡ Ok place
+  pub inside : place ≢ route.Start
+  pub number : ℕ
+  pub borne : IsBorne i number
+  pub text : id_in request.target ≡ id_text i number
+
+-- the body of a start has the URI of an action of an instance, at whatever base
+pub record HasParent (request : Request) (i : ℕ) : Type 0 where
+  pub served : route_of request.method request.target ≡ Ok route.Start
+  pub members : Members
+  pub read : object_in request.body ≡ Some members
+  pub base : List ℕ
+  pub number : ℕ
+  pub borne : IsBorne i number
+  pub text : text_under (codes "parent") members ≡ Some (action_uri i base number)
+
+-- Whose identifier stands in the path or is the parent is named.
+abbrev pub IdentifiersName : Type 0
+IdentifiersName = (request : Request) (i : ℕ) → HasIdentifier request i ⊎ HasParent request i → instance_of request ≡ Some i
+
+-- A coordinator that isn't the one which a request names denies it, whatever its base: as an identifier that isn't its own.
+abbrev pub StrangersDeny : Type 0
+StrangersDeny = (i j : ℕ) (base : List ℕ) (request : Request) (w : Result Wish Denial) → i < 2 ^ 60 → instance_of request ≡ Some j → i ≢ j
+    → MayAsk i base request w → (d : Denial) × IsUnknown request d × (w ≡ Err d)
+
+-- A member leaves by a recovery URI of another instance than that of the coordinator which is asked: it is refused as one that isn't its own, after the
+-- identifier of the path.
+abbrev pub TwoAreRefused : Type 0
+TwoAreRefused = (i : ℕ) (base : List ℕ) (request : Request) (members : Members) (uri : List ℕ) (w : Result Wish Denial) → i < 2 ^ 60
+    → route_of request.method request.target ≡ Ok route.Remove → body_of route.Remove request.body ≡ Some members
+    → text_under (codes "recovery") members ≡ Some uri → instance_at_end uri ≢ Some i → MayAsk i base request w
+    → ((w ≡ Err (Refused refusal.Memory)) × LacksMemory request) ⊎ IsNamed (id_text i) (id_in request.target) no_action (λ action v. v ≡ Err no_member) w

@@ -1,0 +1,4 @@
+pub mod inner
+pub mod Naming
+pub mod Serving
+pub mod Laws

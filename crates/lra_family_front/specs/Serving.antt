@@ -1,0 +1,58 @@
+-- What one request does at a family: whose it is, and what is answered.
+use Rattle.std.specs.Prelude.{◌≡◌, ◌⊎◌, ℕ, List, MatchOption, unwrap_or, Result}
+use Rattle.std.specs.Result.{MatchResult}
+use Rattle.lra_commands.specs.declared.command.Told.{Told}
+use Rattle.lra_commands.specs.declared.counter.Order.{Order}
+use Rattle.lra_commands.specs.declared.counter.CounterFault.{CounterFault}
+use Rattle.lra_commands.specs.declared.refusal.Refusal.TheVariants as refusal
+use Rattle.lra_commands.specs.Counters.{Sight}
+use Rattle.lra_wire.specs.Request.{Request}
+use Rattle.lra_front.specs.declared.route.Route.{Route}
+use Rattle.lra_front.specs.declared.route.Route.TheVariants as route
+use Rattle.lra_front.specs.declared.denial.Denial.{Denial}
+use Rattle.lra_front.specs.declared.denial.Denial.TheVariants.{BadBody, Refused}
+use Rattle.lra_front.specs.declared.answer.Answer.{Answer}
+use Rattle.lra_front.specs.declared.answer.Answer.TheVariants.{Denied}
+use Rattle.lra_front.specs.Routes.{route_of}
+use Rattle.lra_front.specs.Bodies.{body_of}
+use Rattle.lra_front.specs.Wishes.{LacksMemory, no_action, no_member}
+use Rattle.lra_front.specs.Serving.{Responds}
+use Rattle.lra_family.specs.Counted.{name}
+use Rattle.lra_family.specs.Families.{newest, MovesAt}
+use Rattle.lra_family_front.specs.Naming.{instance_of}
+
+-- a request at a moment, and what it is answered
+pub record Turn : Type 0 where
+  pub moment : ℕ
+  pub request : Request
+  pub answer : Answer
+
+-- the instance that a turn names, where that one is the newest: an outermost start is the newest's
+abbrev pub names : ℕ → Turn → ℕ
+names newest turn = unwrap_or (instance_of turn.request) newest
+
+-- how a route denies an identifier that isn't its journal's
+abbrev pub unknown_at : Route → Denial
+unknown_at route.MemberStatus = no_member
+unknown_at route.Report = no_member
+unknown_at _ = no_action
+
+-- How a request is denied whose identifier is of no journal that is there: as each counter denies one that isn't its own. What is wrong with the
+-- body is said first, and memory may be refused in reading it.
+abbrev pub IsUnknown : Request → Denial → Type 0
+IsUnknown request d = ((d ≡ Refused refusal.Memory) × LacksMemory request) ⊎ MatchResult (route_of request.method request.target)
+    (λ r. MatchOption (body_of r request.body) (d ≡ BadBody) (λ members. d ≡ unknown_at r))
+    (λ e. d ≡ e)
+
+-- no journal is there that the turn names, and it is denied
+abbrev pub Lacks : Turn → Type 0
+Lacks turn = (d : Denial) × IsUnknown turn.request d × (turn.answer ≡ Denied d)
+
+module _ (gives : Sight → ℕ → Order → Result Told CounterFault → Sight → Type 0) where
+  -- what a turn does at its counter: what the front does there
+  abbrev pub Does : Sight → Turn → Sight → Type 0
+  Does before turn after = Responds gives before turn.moment turn.request after turn.answer
+
+  -- what a turn does in a family
+  abbrev pub Serves : List Sight → Turn → List Sight → Type 0
+  Serves before turn after = MovesAt name (names (newest name before) turn) before (λ s t. Does s turn t) (Lacks turn) after

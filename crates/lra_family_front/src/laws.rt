@@ -1,0 +1,31 @@
+//! Laws of a family's front: public functions that do nothing, whose contracts say what follows from the definitions.
+
+ghost use Rattle.lra_family.specs.Counted.{name};
+ghost use Rattle.lra_family.specs.Laws as laws;
+ghost use Rattle.lra_family_front.specs.Laws.{IdentifiersName, StrangersDeny, TwoAreRefused};
+ghost use Rattle.lra_family_front.specs.Serving.{names, Does, Lacks};
+
+use lra_commands::Counter;
+
+/// A request names the instance whose identifier stands in its path, and a start that of its parent.
+pub fn requests_name_instances()
+    ensures { IdentifiersName }
+{}
+
+/// A coordinator denies whatever names another instance than its own.
+pub fn strangers_are_denied()
+    ensures { StrangersDeny }
+{}
+
+/// A request that names one instance by its path and another by its body is refused by the one that is asked.
+pub fn two_instances_are_refused()
+    ensures { TwoAreRefused }
+{}
+
+/// The requests that name a journal are its own, each once and in order: to it they are a connection over it alone, whatever the others are
+/// asked. Those that name none that is there are denied, and reach none.
+pub fn each_member_answers_its_own<C: Counter>()
+    ensures chains { laws.EachHasItsChain name names (Does C.gives) Lacks }
+    ensures others { laws.OthersAreLacking name names (Does C.gives) Lacks }
+    ensures cut { laws.RunsCanBeCut name names (Does C.gives) Lacks }
+{}

@@ -1,0 +1,13 @@
+//! The front over a family of journals: which one a request names, and what is answered.
+#![tactic(auto)]
+
+mod laws;
+mod naming;
+mod serving;
+
+pub use laws::{
+    each_member_answers_its_own, requests_name_instances, strangers_are_denied,
+    two_instances_are_refused,
+};
+pub use naming::instance_of;
+pub use serving::{Answered, respond};

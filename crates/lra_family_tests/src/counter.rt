@@ -1,0 +1,122 @@
+//! A counter that counts the orders that it is given, and does none of them; and a family of two.
+ghost use Rattle.std.specs.Prelude.{◌≡◌, true, IsTrue, IfSome};
+ghost use Rattle.lra_ids.specs.Addresses.{is_base};
+
+use lra_commands::{Counter, CounterFault, Order, Told};
+use lra_family::{Family, Visit};
+use lra_ids::{Address, Instance, base_of};
+use std::alloc::Global;
+
+/// The instances of the older and of the newer member, which differ in the upper bits alone.
+pub(super) const OLDER: u64 = 7;
+
+pub(super) const NEWER: u64 = 4103;
+
+#[derive(Drop)]
+pub(super) struct Counting {
+    instance: Instance,
+    base: Address,
+    orders: u64,
+    ghost is_base: { IsTrue (is_base base) },
+}
+
+/// The base of both members.
+fn base(alloc: Global) -> Option<Address>
+    ensures { IfSome result (λ base. is_base base ≡ true) }
+{
+    match base_of(alloc, "h.test") {
+        Ok(found) => found,
+        Err(_) => None,
+    }
+}
+
+fn counter_of(alloc: Global, instance: u64) -> Option<Counting> {
+    let instance = Instance::new(instance)?;
+    let base = base(alloc)?;
+    Some(Counting {
+        instance,
+        base,
+        orders: 0,
+    })
+}
+
+impl Counter for Counting {
+    ghost use Rattle.std.specs.Prelude.{◌≡◌, [], Result, Err};
+    ghost use Rattle.std.proofs.Common.{sym, ap, subst};
+    ghost use Rattle.lra_model.specs.declared.version.Version.TheVariants.{Two};
+    ghost use Rattle.lra_commands.specs.declared.command.Told.{Told};
+    ghost use Rattle.lra_commands.specs.declared.counter.CounterFault.{CounterFault};
+    ghost use Rattle.lra_commands.specs.declared.counter.CounterFault.TheVariants as fault;
+    ghost use Rattle.lra_commands.specs.Terms.{usual};
+    ghost use Rattle.lra_commands.specs.Counters.{KeepsHistory};
+
+    ghost sight = { λ c. record {
+      setting = record { version = Two; instance = c.instance; base = c.base; limits = usual };
+      number = 1;
+      seen = [];
+    } };
+
+    ghost gives = { λ before moment order reply after. (reply ≡ Err fault.Worn) × (after ≡ before) };
+
+    fn instance(&self) -> Instance {
+        self.instance
+    }
+
+    fn base(&self) -> &Address {
+        &self.base
+    }
+
+    fn give(&mut self, _moment: u64, _order: &Order<'_>) -> Result<Told, CounterFault> {
+        self.orders = self.orders.wrapping_add(1);
+        Err(CounterFault::Worn)
+    }
+
+    ghost keeps = { λ before after moment order reply h.
+        let P : Result Told CounterFault → Type 0 = λ r. KeepsHistory before moment order r after in
+        subst P (sym h.0) (record {
+          same = record { setting = ap (λ w. w.setting) h.1; number = ap (λ w. w.number) h.1 };
+          seen = ap (λ w. w.seen) h.1;
+        }) };
+}
+
+/// How many orders a counter was given.
+struct Orders;
+
+impl Visit<Counting> for Orders {
+    ghost use Rattle.std.specs.Prelude.{◌≡◌};
+    ghost use Rattle.std.proofs.Common.{ap};
+
+    type Answer = u64;
+
+    ghost does = { λ v before answer after. after ≡ before };
+
+    ghost keeps = { λ v before after answer h. ap (λ s. s.setting) h };
+
+    fn visit(&self, counter: &mut Counting) -> u64 {
+        counter.orders
+    }
+}
+
+/// How many orders the member of an instance was given.
+pub(super) fn orders_of(family: &mut Family<Counting>, instance: u64) -> Option<u64> {
+    family.visit(Instance::new(instance)?, &Orders)
+}
+
+/// A newer member joins a family.
+fn rolled(family: &mut Family<Counting>, newer: Counting) -> bool {
+    family.newest().number() < newer.instance.number() && family.roll(newer).is_ok()
+}
+
+/// The family of both.
+pub(super) fn family(alloc: Global) -> Option<Family<Counting>> {
+    let older = counter_of(alloc, OLDER)?;
+    let newer = counter_of(alloc, NEWER)?;
+    let Ok(mut family) = Family::new(alloc, older) else {
+        return None;
+    };
+    if rolled(&mut family, newer) {
+        Some(family)
+    } else {
+        None
+    }
+}
