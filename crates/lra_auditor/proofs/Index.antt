@@ -1,10 +1,12 @@
 -- The place of the row that an ask stands in, by the index.
-use Rattle.std.proofs.Common.{◌≡◌, ℕ, zero, suc, ◌+◌, ◌<◌, ◌≤◌, Bool, true, false, cond, List, [], ◌∷◌, ◌++◌, Option, Some, None, refl, sym, ◌∙◌, ap, subst, ◌⊎◌, inl, inr, slice_get, slice_set, eqb, arith}
+use Rattle.std.proofs.Common.{◌≡◌, ℕ, zero, suc, ◌+◌, ◌<◌, ◌≤◌, Bool, true, false, ◌&&◌, not, cond, List, [], ◌∷◌, ◌++◌, Option, Some, None, refl, sym, ◌∙◌, ap, subst, ◌⊎◌, inl, inr, slice_get, slice_set, eqb, arith}
 use Rattle.std.specs.Option.{option_map_or}
 use Rattle.std.specs.List.{find}
 use Rattle.std.proofs.lemmas.Option.{same_Some, none-some}
 use Rattle.std.proofs.lemmas.Bool.{lt-ltb, cases_eq, eqb-true, eq-eqb, ne_eqb}
-use Rattle.lra_laws.specs.Rows.{MemberRow}
+use Rattle.lra_laws.specs.Rows.{ActionRow, MemberRow, recount, counts_as, is_left_to_complete, is_left_to_compensate, is_uncompleted, is_uncompensated}
+use Rattle.lra_model.specs.Words.{has_gone}
+use Rattle.lra_model.specs.declared.status.MemberStatus.{MemberStatus}
 use Rattle.lra_laws.specs.Rows.{Standing}
 use Rattle.lra_laws.specs.Rows.{State, change_row, stands_as, place_of, change_member, with_member, with_reply, with_reply_to}
 use Rattle.lra_laws.specs.inner.RowFacts.{member_asked}
@@ -96,6 +98,39 @@ change_row-there f (suc n) rows r e = rw e refl
 pub change_row-absent : {R : Type 0} (f : R → R) (n : ℕ) (rows : List R) → row_at rows n ≡ None → change_row f n rows ≡ rows
 change_row-absent f zero rows e = refl
 change_row-absent f (suc n) rows e = rw e refl
+
+-- where a change leaves each row as it is, it leaves all
+pub change_row-same : {R : Type 0} (f : R → R) (n : ℕ) (rows : List R) → ((r : R) → f r ≡ r) → change_row f n rows ≡ rows
+change_row-same f zero rows h = refl
+change_row-same {R} f (suc n) rows h = at n rows (slice_get rows n) refl
+  where
+    own : (k : ℕ) (xs : List R) (r : R) → slice_get xs k ≡ Some r → slice_set xs k r ≡ xs
+    own k [] r e = cc
+    own zero (x ∷ xs) r e = ap (λ y. y ∷ xs) (sym (same_Some x r e))
+    own (suc k) (x ∷ xs) r e = ap (λ ys. x ∷ ys) (own k xs r e)
+
+    at : (k : ℕ) (xs : List R) (o : Option R) → slice_get xs k ≡ o → option_map_or (λ r. slice_set xs k (f r)) o xs ≡ xs
+    at k xs None e = refl
+    at k xs (Some r) e = ap (slice_set xs k) (h r) ∙ own k xs r e
+
+recount-same : (b : Bool) (n : ℕ) → recount b b n ≡ n
+recount-same true n = omega arith
+recount-same false n = omega arith
+
+-- a member that counts as before leaves its action as it is
+pub with_member-same : (before now : MemberRow) → before.status ≡ now.status → before.addresses.compensate ≡ now.addresses.compensate → (r : ActionRow) → with_member before now r ≡ r
+with_member-same before now status address r = λ i. record r {
+  completing = part is_left_to_complete r.completing i;
+  compensating = part is_left_to_compensate r.compensating i;
+  uncompleted = part is_uncompleted r.uncompleted i;
+  uncompensated = part is_uncompensated r.uncompensated i;
+}
+  where
+    same : (test : MemberStatus → Bool) → counts_as test before ≡ counts_as test now
+    same test = λ i. address i && not (has_gone (status i)) && test (status i)
+
+    part : (test : MemberStatus → Bool) (n : ℕ) → recount (counts_as test before) (counts_as test now) n ≡ n
+    part test n = ap (λ b. recount b (counts_as test now) n) (same test) ∙ recount-same (counts_as test now) n
 
 -- a row that is pushed is behind all others
 pub row_at-push : {R : Type 0} (rows : List R) (r : R) (m : ℕ) → (row_at (rows ++ r ∷ []) m ≡ row_at rows m) ⊎ (row_at (rows ++ r ∷ []) m ≡ Some r)
