@@ -1,25 +1,25 @@
 -- A text in the plain form is an address.
-use Rattle.std.proofs.Common.{◌≡◌, ◌≢◌, ℕ, ◌<◌, ◌≤◌, ◌^◌, Bool, true, false, not, ◌&&◌, ◌||◌, ◌==◌, ◌⊎◌, inl, inr, cond, List, [], ◌∷◌, ◌++◌, ◌+◌, length, take, drop, get_or, Option, Some, None, All, refl, sym, ap, ◌∙◌, subst, append-nil, append_assoc, arith, lit<}
-use Rattle.std.specs.Prelude.{codes, is_some, option_map, unwrap_or, IfSome}
+use Rattle.std.proofs.Common.{◌≡◌, ℕ, ◌<◌, ◌≤◌, ◌^◌, Bool, true, false, not, ◌&&◌, ◌||◌, ◌==◌, ◌⊎◌, inl, inr, List, [], ◌∷◌, ◌++◌, length, Option, Some, None, All, refl, sym, ap, ◌∙◌, subst, append-nil, append_assoc, arith, lit<}
+use Rattle.std.specs.Prelude.{codes}
 use Rattle.std.specs.Fmt.{decimal}
 use Rattle.std.specs.List.{list_all}
 use Rattle.std.specs.Char.{is_ascii_digit, is_digit, is_ascii_graphic, to_ascii_lowercase}
-use Rattle.std.proofs.lemmas.Bool.{cond-true, cond-false, cases_Bool, cases_eq, eq-eqb, ne_eqb, eqb-true, and_parts, and_left, and_right, and_from, or_from, both_ways, not-true, not-false, true≢false}
+use Rattle.std.proofs.lemmas.Bool.{cond-true, cond-false, cases_Bool, eq-eqb, eqb-true, and_parts, and_left, and_right, and_from, or_from, both_ways, not-true, not-false, true≢false}
 use Rattle.std.proofs.lemmas.Bool.Decides.{nat_tests}
 use Rattle.std.specs.Str.{all_ascii_digits}
 use Rattle.std.proofs.lemmas.Fmt.{digits_decimal}
 use Rattle.std.proofs.lemmas.List.Folds.{list_all-append}
-use Rattle.std.proofs.lemmas.List.Elements.{All-nil, All-cons, All-append, All-weaker}
+use Rattle.std.proofs.lemmas.List.Elements.{All-nil, All-cons, All-weaker}
 use Rattle.url.specs.declared.host.Host.TheVariants.{Domain}
 use Rattle.url.specs.declared.scheme.SchemeType.TheVariants.{SpecialNotFile}
 use Rattle.url.specs.declared.sets.TheConstants.{PATH, FORBIDDEN_DOMAIN, USERINFO}
 use Rattle.percent_encoding.specs.Percent.{IsKept}
-use Rattle.url.specs.Input.{is_empty, rsplit_once, rsplit_step, when, lowercase}
+use Rattle.url.specs.Input.{is_empty, rsplit_once, rsplit_step}
 use Rattle.url.specs.Ipv4.{last_label_of, ends_in_a_number, split_radix, number_of, parse_number, is_number}
 use Rattle.url.specs.Host.{IsDomain}
 use Rattle.url.specs.Path.{dot_len, dot_count, join_segments, IsSegment, IsSegmentList}
-use Rattle.url.specs.Scheme.{IsScheme, is_slash, scheme_type, default_port}
-use Rattle.url.specs.Parts.{Parts, kind_of, serialize, IsPortOf, IsValidHead, IsValid}
+use Rattle.url.specs.Scheme.{IsScheme, is_slash}
+use Rattle.url.specs.Parts.{Parts, serialize, IsPortOf, IsValid}
 use Rattle.url.proofs.InputLemmas.{Passes, is_empty_nonempty, map_fixed, list_all_from_All}
 use Rattle.url.proofs.SetLemmas.{kept_from_passes}
 use Rattle.url.proofs.OnLiterals.{url_on_literals}

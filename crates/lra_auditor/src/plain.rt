@@ -36,16 +36,13 @@ fn is_host(bytes: &[u8]) -> bool
     let mut fresh = true;
     for b in bytes {
         let b = *b;
-        if b == b'.' {
-            if fresh {
-                return false;
-            }
-            fresh = true;
-        } else {
-            if !is_name_byte(b) || (fresh && !is_letter(b)) {
-                return false;
-            }
+        if is_letter(b) {
             fresh = false;
+        } else {
+            if fresh || !(is_name_byte(b) || b == b'.') {
+                return false;
+            }
+            fresh = b == b'.';
         }
     }
     !fresh
@@ -59,7 +56,9 @@ fn is_path(bytes: &[u8]) -> bool
     let mut fresh = true;
     for b in bytes {
         let b = *b;
-        if b == b'/' {
+        if is_letter(b) {
+            fresh = false;
+        } else if b == b'/' {
             fresh = true;
         } else {
             if !is_path_byte(b) || (fresh && b == b'.') {
