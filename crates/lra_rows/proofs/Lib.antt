@@ -1,4 +1,5 @@
 pub mod Finding
+mod AskNumbers
 pub mod Numbered
 pub mod Rooms
 pub mod Settling

@@ -195,7 +195,7 @@ room_kept old new same k (Start a parent limit) h =
 room_kept old new same k (Join p a uris) h =
     let x = both _ _ h in let y = both _ _ x.0 in let z = both _ _ y.0 in
     and_intro _ _ (and_intro _ _ (and_intro _ _ (k.members z.0) (k.contacts z.1)) (k.numbers a y.1)) (ap (λ s. takes_under new (top_at s.state a)) same ∙ k.under _ x.1)
-room_kept old new same k (Ask n p kind) h = k.asks h
+room_kept old new same k (Ask n p kind) h = let x = both _ _ h in and_intro _ _ (k.asks x.0) x.1
 room_kept old new same k d h = refl
 
 -- so for an entry, where there are as many as before

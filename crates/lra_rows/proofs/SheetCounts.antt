@@ -26,6 +26,7 @@ use Rattle.lra_states.proofs.Counting.{CountsTo-more}
 use Rattle.lra_rows.specs.inner.Counts.{RepeatsTo, DeepTo, CanCount}
 use Rattle.lra_laws.proofs.Legal.{IsNumbered, numbered_among, actions_numbered, members_numbered, allowed}
 use Rattle.lra_laws.proofs.Told.{Told, told}
+use Rattle.lra_laws.proofs.AskList.{asks_count}
 use Rattle.lra_laws.proofs.RowLists.{count_cons, row_there, row_absent}
 use Rattle.lra_laws.proofs.ActionWords.{counts_in, staying_count, is_parent, children_count}
 
@@ -133,6 +134,7 @@ CanCount-from_StandsFor s J h few = subst CanCount (sym h.sheet) (of_history (le
         forgetting = few_repeats p ask.Forget;
         telling = few_repeats p ask.After;
       });
+      asks = asks_count J;
     }
       where
         few_repeats : (p : ℕ) (stage : AskKind) → repeat_count J p stage ≤ 2 ^ 63

@@ -58,12 +58,12 @@ takes_member r a = list_takes_one (λ (n : Nest). n.members) (λ (c : NestCapaci
 abbrev pub takes_under : Rowed → ℕ → Bool
 takes_under r a = list_takes_one (λ (n : Nest). n.under) (λ (c : NestCapacity). c.under) r a
 
--- whether each list that a deed adds to takes one more (this project's choice)
+-- whether each list that a deed adds to takes one more; the numbers of members that are asked are less than 2^32 (this project's choice)
 abbrev pub deed_has_room : Deed → Rowed → Bool
 deed_has_room (Start a parent limit) r = takes_one r.sheet.state.actions r.capacity.actions && takes_one r.sheet.nests r.capacity.nests && option_map_or (takes_child r) parent true
 deed_has_room (Join p a uris) r =
     takes_one r.sheet.state.members r.capacity.members && takes_one r.sheet.contacts r.capacity.contacts && takes_member r a && takes_under r (top_at r.sheet.state a)
-deed_has_room (Ask n p kind) r = takes_one r.sheet.asks r.capacity.asks
+deed_has_room (Ask n p kind) r = takes_one r.sheet.asks r.capacity.asks && nat_lt p (2 ^ 32)
 deed_has_room _ r = true
 
 -- whether an entry can be carried out with no memory: each list that it adds to takes one more, and so do the counts, which are less

@@ -1,4 +1,5 @@
 pub mod Nested
+pub mod Asks
 pub mod Room
 pub mod Changes
 pub mod Counts

@@ -188,7 +188,7 @@ impl Rows {
     fn held_ask(&self, number: u64) -> Option<AskRow>
         ensures { result ≡ held.held_ask self.now.sheet number }
     {
-        let asked = at(&self.asks, number)?;
+        let asked = self.asks.at(number)?;
         Some(AskRow {
             member: asked.member,
             kind: asked.kind,

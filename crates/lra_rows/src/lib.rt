@@ -3,6 +3,7 @@
 #![tactic(auto)]
 
 mod apply;
+mod asks;
 mod carry;
 mod contact;
 mod found;

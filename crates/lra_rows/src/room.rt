@@ -5,6 +5,7 @@ ghost use Rattle.std.specs.Option.{option_map_or};
 ghost use Rattle.lra_rows.specs.inner.Nested.{nests_in, has_place_at};
 ghost use Rattle.lra_rows.specs.declared.nest.Listed.{Listed};
 
+use crate::asks::NARROW;
 use crate::carry::top_of;
 use crate::lists::{lent, place_of, reserve_one, takes_one};
 use crate::nest::{Listed, Nest};
@@ -40,6 +41,7 @@ fn reserve_at(nests: &mut Vec<Nest>, list: Listed, action: u64) -> Result<(), Me
 impl Rows {
     ghost use Rattle.std.specs.Prelude.{◌≡◌, ℕ, true, false, OnOk, OnErr};
     ghost use Rattle.lra_model.specs.declared.entry.Deed.TheVariants as deeds;
+    ghost use Rattle.lra_model.specs.declared.asks.AskKind.{AskKind};
     ghost use Rattle.lra_model.specs.declared.entry.Entry.{Entry};
     ghost use Rattle.lra_model.specs.Addresses.{Addresses};
     ghost use Rattle.lra_rows.specs.Rowed.{deed_has_room, has_room};
@@ -70,7 +72,7 @@ impl Rows {
         match deed {
             Deed::Start { parent, .. } => self.start_has_room(*parent),
             Deed::Join { action, .. } => self.join_has_room(*action),
-            Deed::Ask { .. } => takes_one(&self.asks),
+            Deed::Ask { member, .. } => self.asks.take_one() && *member < NARROW,
             _ => true,
         }
     }
@@ -111,6 +113,17 @@ impl Rows {
         )
     }
 
+    fn reserve_ask(&mut self, member: u64) -> Result<(), Memory>
+        ensures sheet { self.new.sheet ≡ self.old.sheet }
+        ensures ok { OnOk result ((n : ℕ) (kind : AskKind) → deed_has_room (deeds.Ask n member kind) self.new ≡ true) }
+        ensures kept { Keeps self.old self.new }
+    {
+        if member >= NARROW {
+            return Err(Memory);
+        }
+        self.asks.reserve_one()
+    }
+
     fn reserve_deed(&mut self, deed: &Deed) -> Result<(), Memory>
         ensures sheet { self.new.sheet ≡ self.old.sheet }
         ensures ok { OnOk result (deed_has_room deed.now self.new ≡ true) }
@@ -119,7 +132,7 @@ impl Rows {
         match deed {
             Deed::Start { parent, .. } => self.reserve_start(*parent),
             Deed::Join { action, .. } => self.reserve_join(*action),
-            Deed::Ask { .. } => reserve_one(&mut self.asks),
+            Deed::Ask { member, .. } => self.reserve_ask(*member),
             _ => Ok(()),
         }
     }

@@ -3,7 +3,8 @@
 ghost use Rattle.std.specs.Prelude.{◌≡◌, ℕ, length, Some, None, []};
 ghost use Rattle.lra_laws.specs.Rows as laws;
 
-use crate::contact::{Asked, Contact};
+use crate::asks::Asks;
+use crate::contact::Contact;
 use crate::lists::at;
 use crate::nest::Nest;
 use lra_states::{ActionState, MemberState};
@@ -27,7 +28,7 @@ pub struct Rows {
     pub(crate) members: Vec<MemberState>,
     pub(crate) nests: Vec<Nest>,
     pub(crate) contacts: Vec<Contact>,
-    pub(crate) asks: Vec<Asked>,
+    pub(crate) asks: Asks,
 }
 
 impl Model for Rows {
@@ -57,7 +58,7 @@ impl Model for Rows {
         members = vec_capacity r.members;
         nests = vec_capacity r.nests;
         contacts = vec_capacity r.contacts;
-        asks = vec_capacity r.asks;
+        asks = r.asks.capacity;
         lists = capacities_in r.nests.items;
       };
     } };
@@ -82,7 +83,7 @@ impl Rows {
             members: Vec::new(alloc),
             nests: Vec::new(alloc),
             contacts: Vec::new(alloc),
-            asks: Vec::new(alloc),
+            asks: Asks::new(alloc),
         }
     }
 }

@@ -92,7 +92,7 @@ impl Rows {
             }
             Added::Member { action, top } => self.remove_member(action, top),
             Added::Ask => {
-                remove_last(&mut self.asks);
+                self.asks.remove_last();
                 None
             }
         }

@@ -1,5 +1,5 @@
 -- What the counts of a sheet are at most, so that one more entry can raise each by one.
-use Rattle.std.specs.Prelude.{ℕ, ◌^◌, ◌<◌, ◌≤◌, IfSome}
+use Rattle.std.specs.Prelude.{◌≡◌, ℕ, ◌^◌, ◌<◌, ◌≤◌, length, IfSome}
 use Rattle.lra_laws.specs.Rows.{row_at}
 use Rattle.lra_laws.specs.Sheets.{Nest, Contact, Sheet}
 use Rattle.lra_states.specs.inner.Changes.{AllCanCount}
@@ -15,9 +15,10 @@ pub record RepeatsTo (n : ℕ) (c : Contact) : Type 0 where
 abbrev pub DeepTo : ℕ → Nest → Type 0
 DeepTo n x = x.depth ≤ n
 
--- there is room for one more entry in each count
+-- there is room for one more entry in each count, and as many asks are listed as were counted
 pub record CanCount (s : Sheet) : Type 0 where
   pub entries : s.entries < 2 ^ 63
   pub actions : AllCanCount s.state.actions
   pub nests : (a : ℕ) → IfSome (row_at s.nests a) (DeepTo (2 ^ 63))
   pub contacts : (p : ℕ) → IfSome (row_at s.contacts p) (RepeatsTo (2 ^ 63))
+  pub asks : length s.asks ≡ s.state.asks
