@@ -1,6 +1,7 @@
 pub mod Finding
 mod AskNumbers
 pub mod Numbered
+pub mod Reaching
 pub mod Rooms
 pub mod Settling
 pub mod SheetCounts

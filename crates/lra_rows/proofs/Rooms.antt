@@ -1,17 +1,19 @@
 -- Where the actions stand, with what their lists hold, and the room that there is for one more entry.
 use Rattle.std.proofs.Common.{◌≡◌, inl, inr, ℕ, zero, suc, ◌≤◌, ◌-◌, ◌^◌, Bool, true, false, List, [], ◌∷◌, ◌++◌, length, take, map, Option, Some, None, refl, sym, ap, ◌∙◌, IfSome, slice_get, slice_set}
-use Rattle.std.specs.Prelude.{nat_lt, option_map}
+use Rattle.std.specs.Prelude.{nat_lt, cond, option_map}
 use Rattle.std.specs.Option.{option_map_or}
 use Rattle.std.proofs.lemmas.Bool.{cases_eq}
 use Rattle.std.proofs.lemmas.List.{map-set, take-map, length-map}
 use Rattle.std.proofs.lemmas.Option.{slice_get-map}
 use Rattle.lra_model.specs.declared.entry.Deed.{Deed}
-use Rattle.lra_model.specs.declared.entry.Deed.TheVariants.{Start, Join, Ask}
+use Rattle.lra_model.specs.declared.entry.Deed.TheVariants.{Start, Join, Ask, Reply}
 use Rattle.lra_model.specs.declared.entry.Entry.{Entry}
+use Rattle.lra_model.specs.Words.{is_undecided}
+use Rattle.lra_model.specs.Members.{Asked}
 use Rattle.lra_laws.specs.Rows.{row_at, change_row}
 use Rattle.lra_laws.specs.Sheets.{Nest, with_child_number, with_member_number, with_number_under, new_nest, top_at}
 use Rattle.lra_laws.proofs.Tested.{both, and_intro}
-use Rattle.lra_rows.specs.Rowed.{NestCapacity, no_capacity, Rowed, takes_one, takes_child, takes_under, deed_has_room, has_room}
+use Rattle.lra_rows.specs.Rowed.{NestCapacity, no_capacity, Rowed, takes_one, takes_child, takes_under, is_ready_at, deed_has_room, has_room}
 use Rattle.lra_rows.specs.Steps.{without_last}
 use Rattle.lra_rows.specs.declared.nest.Listed.{Listed}
 use Rattle.lra_rows.specs.declared.nest.Listed.TheVariants as listed
@@ -44,7 +46,7 @@ map-same f (y ∷ rows) zero x n there e = ap (λ s. s ∷ map f rows) (e ∙ ap
 map-same f (y ∷ rows) (suc k) x n there e = ap (λ ss. f y ∷ ss) (map-same f rows k x n there e)
 
 -- a change that changes nothing
-change_none : {R : Type 0} (a : ℕ) (rows : List R) → change_row (λ r. r) a rows ≡ rows
+pub change_none : {R : Type 0} (a : ℕ) (rows : List R) → change_row (λ r. r) a rows ≡ rows
 change_none zero rows = refl
 change_none (suc k) rows = at k rows
   where
@@ -144,7 +146,7 @@ takes_nest rows n = ap (λ k. nat_lt k n) (length-map rows (λ (x : Nested). x.n
 
 -- ---- an action that starts
 
-map-more : {R S : Type 0} (f : R → S) (rows : List R) (r : R) → map f (rows ++ r ∷ []) ≡ map f rows ++ f r ∷ []
+pub map-more : {R S : Type 0} (f : R → S) (rows : List R) (r : R) → map f (rows ++ r ∷ []) ≡ map f rows ++ f r ∷ []
 map-more f [] r = refl
 map-more f (x ∷ rows) r = ap (λ ss. f x ∷ ss) (map-more f rows r)
 
@@ -196,6 +198,16 @@ room_kept old new same k (Join p a uris) h =
     let x = both _ _ h in let y = both _ _ x.0 in let z = both _ _ y.0 in
     and_intro _ _ (and_intro _ _ (and_intro _ _ (k.members z.0) (k.contacts z.1)) (k.numbers a y.1)) (ap (λ s. takes_under new (top_at s.state a)) same ∙ k.under _ x.1)
 room_kept old new same k (Ask n p kind) h = let x = both _ _ h in and_intro _ _ (k.asks x.0) x.1
+room_kept old new same k (Reply n o) h = of_outcome (is_undecided o) h
+  where
+    of_ask : (x : Option Asked) → option_map_or (λ (x : Asked). is_ready_at old.capacity.ready x.member) x true ≡ true → option_map_or (λ (x : Asked). is_ready_at new.capacity.ready x.member) x true ≡ true
+    of_ask None g = refl
+    of_ask (Some x) g = k.ready x.member g
+
+    of_outcome : (b : Bool) → cond b (option_map_or (λ (x : Asked). is_ready_at old.capacity.ready x.member) (row_at old.sheet.asks n) true) true ≡ true
+        → cond b (option_map_or (λ (x : Asked). is_ready_at new.capacity.ready x.member) (row_at new.sheet.asks n) true) true ≡ true
+    of_outcome false g = refl
+    of_outcome true g = ap (λ s. option_map_or (λ (x : Asked). is_ready_at new.capacity.ready x.member) (row_at s.asks n) true) same ∙ of_ask (row_at old.sheet.asks n) g
 room_kept old new same k d h = refl
 
 -- so for an entry, where there are as many as before

@@ -83,12 +83,12 @@ asked_back w old mid new m n x alone back e =
 
 -- and the repeats
 pub answered_back : (w : Writes) (old mid new : Rowed) (m : ℕ) (o : Option Repeated) (contacts : List Contact) → IsOfMember w → Undoes w new mid → mid ≡ record old { sheet = record old.sheet { state = record old.sheet.state { moment = m }; contacts = contacts } }
-    → repeats_back o contacts ≡ old.sheet.contacts → Undoes (record w { repeats = o }) new old
+    → repeats_back o old.capacity.ready contacts ≡ old.sheet.contacts → Undoes (record w { repeats = o }) new old
 answered_back w old mid new m o contacts alone back e h =
     ap fewer (subst (λ (a : Option Repeated). with_counts (counts_of mid.sheet) (rewritten (record w { repeats = a }) (without_added w.added new)) ≡ mid) alone.1.0 back) ∙ ap fewer e ∙ (λ i. record old { sheet = record old.sheet { contacts = h i } })
   where
     fewer : Rowed → Rowed
-    fewer r = with_counts (counts_of old.sheet) (record r { sheet = record r.sheet { contacts = repeats_back o r.sheet.contacts } })
+    fewer r = with_counts (counts_of old.sheet) (record r { sheet = record r.sheet { contacts = repeats_back o r.capacity.ready r.sheet.contacts } })
 
 -- a member that joined
 pub joined_undone : (w : Option (ℕ × ActionRow)) (p a t m : ℕ) (row : MemberRow) (contact : Contact) (actions : List ActionRow) (old : Rowed) → put_back w actions ≡ old.sheet.state.actions
@@ -99,6 +99,7 @@ pub joined_undone : (w : Option (ℕ × ActionRow)) (p a t m : ℕ) (row : Membe
         nests = change_row (with_number_under p) t (change_row (with_member_number p) a old.sheet.nests);
         contacts = old.sheet.contacts ++ contact ∷ [];
       };
+      capacity = record old.capacity { ready = old.capacity.ready ++ false ∷ [] };
     }) old
 joined_undone w p a t m row contact actions old h = λ i. record old {
   sheet = record old.sheet {
@@ -106,6 +107,7 @@ joined_undone w p a t m row contact actions old h = λ i. record old {
     nests = joined_back p a t old.sheet.nests i;
     contacts = without_more old.sheet.contacts contact i;
   };
+  capacity = record old.capacity { ready = without_more old.capacity.ready false i };
 }
 
 -- an action that started

@@ -1,10 +1,12 @@
 -- What rows are: the sheet of a history, and how much each list takes with no more memory.
-use Rattle.std.specs.Prelude.{ℕ, ◌^◌, ◌&&◌, nat_lt, Bool, true, List, [], ◌∷◌, ◌++◌, length, Option, Some, None}
+use Rattle.std.specs.Prelude.{ℕ, ◌^◌, ◌&&◌, nat_lt, Bool, true, false, cond, List, [], ◌∷◌, ◌++◌, length, Option, Some, None}
 use Rattle.std.specs.Option.{option_map_or}
 use Rattle.lra_model.specs.declared.entry.Deed.{Deed}
-use Rattle.lra_model.specs.declared.entry.Deed.TheVariants.{Start, Join, Ask}
+use Rattle.lra_model.specs.declared.entry.Deed.TheVariants.{Start, Join, Ask, Reply}
 use Rattle.lra_model.specs.declared.entry.Entry.{Entry}
 use Rattle.lra_model.specs.Addresses.{Addresses}
+use Rattle.lra_model.specs.Words.{is_undecided}
+use Rattle.lra_model.specs.Members.{Asked}
 use Rattle.lra_laws.specs.Rows.{row_at}
 use Rattle.lra_laws.specs.Sheets.{Nest, Sheet, top_at, sheet_after}
 
@@ -18,7 +20,8 @@ pub record NestCapacity : Type 0 where
 abbrev pub no_capacity : NestCapacity
 no_capacity = record { children = 0; members = 0; under = 0 }
 
--- how many rows each list holds with no more memory, and how many numbers the lists of each action do (this project's choice)
+-- how many rows each list holds with no more memory, how many numbers the lists of each action do, and which members' repeats have a place
+-- (this project's choice)
 pub record Capacity : Type 0 where
   pub actions : ℕ
   pub members : ℕ
@@ -26,15 +29,18 @@ pub record Capacity : Type 0 where
   pub contacts : ℕ
   pub asks : ℕ
   pub lists : List NestCapacity
+  pub ready : List Bool
 
 -- rows: the sheet that they have, and what they hold with no more memory (this project's choice)
 pub record Rowed : Type 0 where
   pub sheet : Sheet
   pub capacity : Capacity
 
--- what the lists hold after one more deed: one that starts an action brings lists of its own (this project's choice)
+-- what the lists hold after one more deed: one that starts an action brings lists of its own, and a member that joins has no place for repeats
+-- yet (this project's choice)
 abbrev pub capacity_after : Deed → Capacity → Capacity
 capacity_after (Start a parent limit) c = record c { lists = c.lists ++ no_capacity ∷ [] }
+capacity_after (Join p a uris) c = record c { ready = c.ready ++ false ∷ [] }
 capacity_after d c = c
 
 -- whether a list takes one more with no more memory (this project's choice)
@@ -58,12 +64,18 @@ takes_member r a = list_takes_one (λ (n : Nest). n.members) (λ (c : NestCapaci
 abbrev pub takes_under : Rowed → ℕ → Bool
 takes_under r a = list_takes_one (λ (n : Nest). n.under) (λ (c : NestCapacity). c.under) r a
 
--- whether each list that a deed adds to takes one more; the numbers of members that are asked are less than 2^32 (this project's choice)
+-- whether the repeats of a member have a place, where it is there (this project's choice)
+abbrev pub is_ready_at : List Bool → ℕ → Bool
+is_ready_at ready p = option_map_or (λ b. b) (row_at ready p) true
+
+-- whether each list that a deed adds to takes one more, and repeats have a place that a reply adds to; the numbers of members that are asked
+-- are less than 2^32 (this project's choice)
 abbrev pub deed_has_room : Deed → Rowed → Bool
 deed_has_room (Start a parent limit) r = takes_one r.sheet.state.actions r.capacity.actions && takes_one r.sheet.nests r.capacity.nests && option_map_or (takes_child r) parent true
 deed_has_room (Join p a uris) r =
     takes_one r.sheet.state.members r.capacity.members && takes_one r.sheet.contacts r.capacity.contacts && takes_member r a && takes_under r (top_at r.sheet.state a)
 deed_has_room (Ask n p kind) r = takes_one r.sheet.asks r.capacity.asks && nat_lt p (2 ^ 32)
+deed_has_room (Reply n o) r = cond (is_undecided o) (option_map_or (λ (x : Asked). is_ready_at r.capacity.ready x.member) (row_at r.sheet.asks n) true) true
 deed_has_room _ r = true
 
 -- whether an entry can be carried out with no memory: each list that it adds to takes one more, and so do the counts, which are less

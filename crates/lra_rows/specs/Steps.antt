@@ -1,5 +1,5 @@
 -- What an entry wrote over and added, and how that takes it back.
-use Rattle.std.specs.Prelude.{ℕ, ◌-◌, List, length, take, Option, Some, None, option_map}
+use Rattle.std.specs.Prelude.{ℕ, ◌-◌, Bool, cond, List, length, take, Option, Some, None, option_map}
 use Rattle.std.specs.Option.{option_map_or}
 use Rattle.lra_model.specs.declared.asks.AskKind.{AskKind}
 use Rattle.lra_model.specs.declared.asks.AskKind.TheVariants as ask
@@ -8,7 +8,7 @@ use Rattle.lra_laws.specs.Rows.{MemberRow, ActionRow, row_at, change_row}
 use Rattle.lra_laws.specs.Sheets.{Nest, Repeats, Contact}
 use Rattle.lra_rows.specs.declared.step.Added.{Added}
 use Rattle.lra_rows.specs.declared.step.Added.TheVariants as added
-use Rattle.lra_rows.specs.Rowed.{Rowed}
+use Rattle.lra_rows.specs.Rowed.{Rowed, is_ready_at}
 
 -- what is counted of a history: its entries, its clerks, its asks, the moment of the last entry, and up to which ask all are void
 pub record Counts : Type 0 where
@@ -74,6 +74,7 @@ without_added (added.Member a top) r = record r {
     nests = change_row without_member a (change_row without_under top r.sheet.nests);
     contacts = without_last r.sheet.contacts;
   };
+  capacity = record r.capacity { ready = without_last r.capacity.ready };
 }
 without_added added.Ask r = record r { sheet = record r.sheet { asks = without_last r.sheet.asks } }
 
@@ -90,16 +91,17 @@ with_repeats ask.Forget r c = record c { forgetting = r }
 with_repeats ask.After r c = record c { telling = r }
 with_repeats ask.Status r c = c
 
--- the members' repeats as they were
-abbrev pub repeats_back : Option Repeated → List Contact → List Contact
-repeats_back o contacts = option_map_or (λ (x : Repeated). change_row (with_repeats x.stage x.repeats) x.member contacts) o contacts
+-- the members' repeats as they were, where they have places
+abbrev pub repeats_back : Option Repeated → List Bool → List Contact → List Contact
+repeats_back o ready contacts =
+    option_map_or (λ (x : Repeated). cond (is_ready_at ready x.member) (change_row (with_repeats x.stage x.repeats) x.member contacts) contacts) o contacts
 
 -- each row that was written over as it was
 abbrev pub rewritten : Writes → Rowed → Rowed
 rewritten w r = record r {
   sheet = record r.sheet {
     state = record r.sheet.state { actions = put_back w.action (put_back w.parent r.sheet.state.actions); members = put_back w.member r.sheet.state.members };
-    contacts = repeats_back w.repeats r.sheet.contacts;
+    contacts = repeats_back w.repeats r.capacity.ready r.sheet.contacts;
   };
 }
 

@@ -1,5 +1,6 @@
 pub mod Nested
 pub mod Asks
+pub mod Reached
 pub mod Room
 pub mod Changes
 pub mod Counts

@@ -127,10 +127,8 @@ impl Rows {
         let Some(kind) = self.want(row) else {
             return Repeats::NONE;
         };
-        match lent(&self.contacts, number) {
-            Some(contact) => contact.repeats(stage_of(kind, way_asked(kind, row.status))),
-            None => Repeats::NONE,
-        }
+        self.contacts
+            .repeats(number, stage_of(kind, way_asked(kind, row.status)))
     }
 
     fn held_member(&self, number: u64) -> Option<MemberRow>
@@ -160,10 +158,7 @@ impl Rows {
     fn held_addresses(&self, number: u64) -> Option<&Packed>
         ensures { option_copied result ≡ held.held_addresses self.now.sheet number }
     {
-        match lent(&self.contacts, number) {
-            Some(contact) => Some(&contact.uris),
-            None => None,
-        }
+        self.contacts.addresses(number)
     }
 
     /// The addresses that a member joined with, if it is there.

@@ -6,6 +6,7 @@ mod apply;
 mod asks;
 mod carry;
 mod contact;
+mod contacts;
 mod found;
 mod lists;
 mod nest;

@@ -7,10 +7,11 @@ ghost use Rattle.lra_rows.specs.declared.nest.Listed.{Listed};
 
 use crate::asks::NARROW;
 use crate::carry::top_of;
+use crate::contact::is_undecided;
 use crate::lists::{lent, place_of, reserve_one, takes_one};
 use crate::nest::{Listed, Nest};
 use crate::rows::Rows;
-use lra_model::{Deed, Entry, Memory};
+use lra_model::{Deed, Entry, Memory, Outcome};
 
 /// Whether there is room for one more number in a list of an action, if the action is there.
 fn has_place_at(nests: &[Nest], list: Listed, action: u64) -> bool
@@ -61,9 +62,21 @@ impl Rows {
         ensures { (p : ℕ) (uris : Addresses) → result ≡ deed_has_room (deeds.Join p action uris) self.now }
     {
         takes_one(&self.members)
-            && takes_one(&self.contacts)
+            && self.contacts.take_one()
             && has_place_at(&self.nests, Listed::Members, action)
             && has_place_at(&self.nests, Listed::Under, top_of(&self.actions, action))
+    }
+
+    fn reply_has_room(&self, ask: u64, outcome: Outcome) -> bool
+        ensures { result ≡ deed_has_room (deeds.Reply ask outcome) self.now }
+    {
+        if !is_undecided(outcome) {
+            return true;
+        }
+        match self.asks.at(ask) {
+            Some(asked) => self.contacts.is_ready(asked.member),
+            None => true,
+        }
     }
 
     fn deed_has_room(&self, deed: &Deed) -> bool
@@ -73,6 +86,7 @@ impl Rows {
             Deed::Start { parent, .. } => self.start_has_room(*parent),
             Deed::Join { action, .. } => self.join_has_room(*action),
             Deed::Ask { member, .. } => self.asks.take_one() && *member < NARROW,
+            Deed::Reply { ask, outcome } => self.reply_has_room(*ask, *outcome),
             _ => true,
         }
     }
@@ -104,7 +118,7 @@ impl Rows {
         ensures kept { Keeps self.old self.new }
     {
         reserve_one(&mut self.members)?;
-        reserve_one(&mut self.contacts)?;
+        self.contacts.reserve_one()?;
         reserve_at(&mut self.nests, Listed::Members, action)?;
         reserve_at(
             &mut self.nests,
@@ -124,6 +138,20 @@ impl Rows {
         self.asks.reserve_one()
     }
 
+    fn reserve_reply(&mut self, ask: u64, outcome: Outcome) -> Result<(), Memory>
+        ensures sheet { self.new.sheet ≡ self.old.sheet }
+        ensures ok { OnOk result (deed_has_room (deeds.Reply ask outcome) self.new ≡ true) }
+        ensures kept { Keeps self.old self.new }
+    {
+        if !is_undecided(outcome) {
+            return Ok(());
+        }
+        match self.asks.at(ask) {
+            Some(asked) => self.contacts.make_ready(self.alloc, asked.member),
+            None => Ok(()),
+        }
+    }
+
     fn reserve_deed(&mut self, deed: &Deed) -> Result<(), Memory>
         ensures sheet { self.new.sheet ≡ self.old.sheet }
         ensures ok { OnOk result (deed_has_room deed.now self.new ≡ true) }
@@ -133,6 +161,7 @@ impl Rows {
             Deed::Start { parent, .. } => self.reserve_start(*parent),
             Deed::Join { action, .. } => self.reserve_join(*action),
             Deed::Ask { member, .. } => self.reserve_ask(*member),
+            Deed::Reply { ask, outcome } => self.reserve_reply(*ask, *outcome),
             _ => Ok(()),
         }
     }

@@ -4,7 +4,7 @@ ghost use Rattle.std.specs.Prelude.{◌≡◌, ℕ, length, Some, None, []};
 ghost use Rattle.lra_laws.specs.Rows as laws;
 
 use crate::asks::Asks;
-use crate::contact::Contact;
+use crate::contacts::Contacts;
 use crate::lists::at;
 use crate::nest::Nest;
 use lra_states::{ActionState, MemberState};
@@ -27,7 +27,7 @@ pub struct Rows {
     pub(crate) actions: Vec<ActionState>,
     pub(crate) members: Vec<MemberState>,
     pub(crate) nests: Vec<Nest>,
-    pub(crate) contacts: Vec<Contact>,
+    pub(crate) contacts: Contacts,
     pub(crate) asks: Asks,
 }
 
@@ -57,9 +57,10 @@ impl Model for Rows {
         actions = vec_capacity r.actions;
         members = vec_capacity r.members;
         nests = vec_capacity r.nests;
-        contacts = vec_capacity r.contacts;
+        contacts = r.contacts.capacity;
         asks = r.asks.capacity;
         lists = capacities_in r.nests.items;
+        ready = r.contacts.ready;
       };
     } };
 }
@@ -82,7 +83,7 @@ impl Rows {
             actions: Vec::new(alloc),
             members: Vec::new(alloc),
             nests: Vec::new(alloc),
-            contacts: Vec::new(alloc),
+            contacts: Contacts::new(alloc),
             asks: Asks::new(alloc),
         }
     }

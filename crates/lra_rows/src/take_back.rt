@@ -1,16 +1,13 @@
 //! What was carried out, taken back.
 
-ghost use Rattle.std.specs.Prelude.{◌≡◌, length, option_map, vec_capacity};
-ghost use Rattle.lra_laws.specs.Rows.{change_row, row_at};
-ghost use Rattle.lra_laws.specs.Sheets as sheets;
-ghost use Rattle.lra_rows.specs.Steps.{repeats_back, without_last};
+ghost use Rattle.std.specs.Prelude.{◌≡◌, vec_capacity};
+ghost use Rattle.lra_laws.specs.Rows.{change_row};
 ghost use Rattle.lra_rows.specs.inner.Nested.{without_number};
 
-use crate::contact::Contact;
 use crate::lists::{place_of, remove_last, restore};
 use crate::nest::{Listed, Nest};
 use crate::rows::Rows;
-use crate::step::{Added, Counts, Repeated, Step, Writes};
+use crate::step::{Added, Counts, Step, Writes};
 use lra_packed::Packed;
 
 /// Removes the last number of a list of an action, if the action is there.
@@ -23,34 +20,6 @@ fn remove_at(nests: &mut Vec<Nest>, list: Listed, action: u64)
     };
     if let Some(nest) = nests.get_mut(place) {
         nest.remove(list);
-    }
-}
-
-/// Puts a member's repeats back as they were.
-fn restore_repeats(contacts: &mut Vec<Contact>, repeated: Option<Repeated>)
-    ensures items { contacts.new.items ≡ repeats_back repeated contacts.old.items }
-    ensures capacity { vec_capacity contacts.new ≡ vec_capacity contacts.old }
-{
-    let Some(repeated) = repeated else {
-        return;
-    };
-    let Some(place) = place_of(repeated.member) else {
-        return;
-    };
-    if let Some(contact) = contacts.get_mut(place) {
-        contact.restore(repeated.stage, repeated.repeats);
-    }
-}
-
-/// Removes the last member's contact, and gives its addresses.
-fn remove_contact(contacts: &mut Vec<Contact>) -> Option<Packed>
-    ensures items { contacts.new.items ≡ without_last contacts.old.items }
-    ensures uris { result ≡ option_map (λ (c : sheets.Contact). c.addresses) (row_at contacts.old.items (length contacts.old.items)) }
-    ensures capacity { vec_capacity contacts.new ≡ vec_capacity contacts.old }
-{
-    match contacts.pop() {
-        Some(contact) => Some(contact.uris),
-        None => None,
     }
 }
 
@@ -76,7 +45,7 @@ impl Rows {
         remove_last(&mut self.members);
         remove_at(&mut self.nests, Listed::Under, top);
         remove_at(&mut self.nests, Listed::Members, action);
-        remove_contact(&mut self.contacts)
+        self.contacts.remove_last()
     }
 
     /// Removes what was added last.
@@ -105,7 +74,7 @@ impl Rows {
         restore(&mut self.actions, writes.parent);
         restore(&mut self.actions, writes.action);
         restore(&mut self.members, writes.member);
-        restore_repeats(&mut self.contacts, writes.repeats);
+        self.contacts.restore(writes.repeats);
     }
 
     fn set_counts(&mut self, counts: Counts)

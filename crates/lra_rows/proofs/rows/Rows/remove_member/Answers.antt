@@ -8,8 +8,9 @@ use Rattle.lra_rows.proofs.rows.Rows.remove_member.Goals as goal
 pub returns-clause-rows : goal.returns-clause-rows
 returns-clause-rows c =
     rw (
-      c.remove_contact.ensures.items,
-      c.remove_contact.ensures.capacity,
+      c.remove_last-2.ensures.items,
+      c.remove_last-2.ensures.capacity,
+      c.remove_last-2.ensures.ready,
       c.remove_at-2.ensures.items,
       c.remove_at-2.ensures.capacity,
       c.remove_at.ensures.items,

@@ -1,0 +1,56 @@
+-- How members are reached, with whether there are places for their repeats.
+use Rattle.std.specs.Prelude.{ℕ, Bool, true, cond, List, map, Option}
+use Rattle.std.specs.Option.{option_map_or}
+use Rattle.lra_model.specs.declared.asks.AskKind.{AskKind}
+use Rattle.lra_model.specs.declared.asks.Outcome.{Outcome}
+use Rattle.lra_model.specs.Addresses.{Addresses}
+use Rattle.lra_model.specs.Members.{Asked}
+use Rattle.lra_laws.specs.Rows.{row_at, change_row}
+use Rattle.lra_laws.specs.Sheets.{Repeats, Contact, no_repeats, with_answer}
+use Rattle.lra_rows.specs.Steps.{Repeated, with_repeats}
+
+-- repeats in each stage
+pub record Stages : Type 0 where
+  pub completing : Repeats
+  pub compensating : Repeats
+  pub forgetting : Repeats
+  pub telling : Repeats
+
+-- none in any stage
+abbrev pub no_stages : Stages
+no_stages = record { completing = no_repeats; compensating = no_repeats; forgetting = no_repeats; telling = no_repeats }
+
+-- how a member is reached that has these repeats
+abbrev pub contact_with : Addresses → Stages → Contact
+contact_with uris s = record { addresses = uris; completing = s.completing; compensating = s.compensating; forgetting = s.forgetting; telling = s.telling }
+
+-- how a member is reached, and whether there is a place for its repeats
+pub record Reached : Type 0 where
+  pub contact : Contact
+  pub is_ready : Bool
+
+-- how each is reached
+abbrev pub contacts_in : List Reached → List Contact
+contacts_in rows = map (λ (r : Reached). r.contact) rows
+
+-- whether there is a place for the repeats of each
+abbrev pub ready_in : List Reached → List Bool
+ready_in rows = map (λ (r : Reached). r.is_ready) rows
+
+-- a member that answers
+abbrev pub answered : ℕ → Outcome → Asked → Reached → Reached
+answered m o x r = record r { contact = with_answer m o x r.contact }
+
+-- a member with its repeats in a stage as they were, where there is a place for them
+abbrev pub with_stage : AskKind → Repeats → Reached → Reached
+with_stage stage repeats r = record r { contact = cond r.is_ready (with_repeats stage repeats r.contact) r.contact }
+
+-- the rows with a member's repeats as they were
+abbrev pub stages_back : Option Repeated → List Reached → List Reached
+stages_back o rows = option_map_or (λ (x : Repeated). change_row (with_stage x.stage x.repeats) x.member rows) o rows
+
+-- contacts, how many are held with no more memory, and for whose repeats there are places
+pub record Reachable : Type 0 where
+  pub items : List Contact
+  pub capacity : ℕ
+  pub ready : List Bool
