@@ -33,34 +33,62 @@ fn feed(state: &mut DefaultHasher, text: Option<&str>)
     }
 }
 
-/// The digest of an action and addresses under a key.
+/// The digest of an action and five addresses under a key.
 #[tactic(auto, unfolding(crate::specs::Digests::digest_of))]
-pub(crate) fn digest_of(key: u128, action: u64, uris: &Uris) -> u64
-    ensures { result ≡ words.digest_of key action uris.now }
+fn digest(
+    key: u128,
+    action: u64,
+    compensate: Option<&str>,
+    complete: Option<&str>,
+    status: Option<&str>,
+    forget: Option<&str>,
+    after: Option<&str>,
+) -> u64
+    ensures { result ≡ words.digest_of key action (record {
+      compensate = option_copied compensate.entry;
+      complete = option_copied complete.entry;
+      status = option_copied status.entry;
+      forget = option_copied forget.entry;
+      after = option_copied after.entry;
+    }) }
 {
     let mut state = DefaultHasher::new();
     state.write_u128(key);
     state.write_u64(action);
-    feed(&mut state, borrowed(&uris.compensate));
-    feed(&mut state, borrowed(&uris.complete));
-    feed(&mut state, borrowed(&uris.status));
-    feed(&mut state, borrowed(&uris.forget));
-    feed(&mut state, borrowed(&uris.after));
+    feed(&mut state, compensate);
+    feed(&mut state, complete);
+    feed(&mut state, status);
+    feed(&mut state, forget);
+    feed(&mut state, after);
     state.finish()
 }
 
-/// The same of addresses that are kept.
-#[tactic(auto, unfolding(crate::specs::Digests::digest_of))]
+/// The digest of an action and addresses.
+pub(crate) fn digest_of(key: u128, action: u64, uris: &Uris) -> u64
+    ensures { result ≡ words.digest_of key action uris.now }
+{
+    digest(
+        key,
+        action,
+        borrowed(&uris.compensate),
+        borrowed(&uris.complete),
+        borrowed(&uris.status),
+        borrowed(&uris.forget),
+        borrowed(&uris.after),
+    )
+}
+
+/// The digest of an action and addresses that are kept.
 pub(crate) fn digest_of_kept(key: u128, action: u64, uris: &Packed) -> u64
     ensures { result ≡ words.digest_of key action uris.now }
 {
-    let mut state = DefaultHasher::new();
-    state.write_u128(key);
-    state.write_u64(action);
-    feed(&mut state, uris.compensate());
-    feed(&mut state, uris.complete());
-    feed(&mut state, uris.status());
-    feed(&mut state, uris.forget());
-    feed(&mut state, uris.after());
-    state.finish()
+    digest(
+        key,
+        action,
+        uris.compensate(),
+        uris.complete(),
+        uris.status(),
+        uris.forget(),
+        uris.after(),
+    )
 }
