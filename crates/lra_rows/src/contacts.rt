@@ -18,12 +18,7 @@ use std::alloc::Global;
 use std::marker::Model;
 
 /// A member answers an ask.
-fn answer(
-    rows: &mut Vec<Contact>,
-    moment: u64,
-    outcome: Outcome,
-    asked: Asked,
-) -> Option<Repeated>
+fn answer(rows: &mut Vec<Contact>, moment: u64, outcome: Outcome, asked: Asked) -> Option<Repeated>
     requires few { (p : ℕ) → IfSome (row_at (contacts_in rows.old.items) p) (RepeatsTo (2 ^ 63)) }
     requires ready { is_undecided outcome ≡ true → is_ready_at (ready_in rows.old.items) asked.member ≡ true }
     ensures items { rows.new.items ≡ change_row (answered moment outcome asked) asked.member rows.old.items }

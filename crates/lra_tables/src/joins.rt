@@ -23,9 +23,7 @@ fn is_same_member(rows: &Rows, number: u64, action: u64, uris: &Uris) -> bool
     let Some(addresses) = rows.addresses(number) else {
         return false;
     };
-    row.action == action
-        && !matches!(row.status, MemberStatus::Left)
-        && addresses.is_same(uris)
+    row.action == action && !matches!(row.status, MemberStatus::Left) && addresses.is_same(uris)
 }
 
 /// The least member of an action that hasn't left and has these addresses already, found among those whose digest is the same.
