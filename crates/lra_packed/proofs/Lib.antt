@@ -1,1 +1,1 @@
-mod Packing
+mod Texts

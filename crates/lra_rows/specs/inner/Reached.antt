@@ -1,11 +1,11 @@
 -- How members are reached, with whether there are places for their repeats.
-use Rattle.std.specs.Prelude.{ℕ, Bool, true, cond, List, map, Option}
+use Rattle.std.specs.Prelude.{ℕ, Bool, cond, List, map, Option}
 use Rattle.std.specs.Option.{option_map_or}
 use Rattle.lra_model.specs.declared.asks.AskKind.{AskKind}
 use Rattle.lra_model.specs.declared.asks.Outcome.{Outcome}
 use Rattle.lra_model.specs.Addresses.{Addresses}
 use Rattle.lra_model.specs.Members.{Asked}
-use Rattle.lra_laws.specs.Rows.{row_at, change_row}
+use Rattle.lra_laws.specs.Rows.{change_row}
 use Rattle.lra_laws.specs.Sheets.{Repeats, Contact, no_repeats, with_answer}
 use Rattle.lra_rows.specs.Steps.{Repeated, with_repeats}
 

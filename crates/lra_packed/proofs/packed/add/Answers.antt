@@ -1,4 +1,4 @@
-use Rattle.lra_packed.proofs.Packing.{text_is}
+use Rattle.lra_packed.proofs.Texts.{text_is}
 use Rattle.lra_packed.proofs.packed.add.Goals as goal
 
 pub returns-in_err-push-clause-text : goal.returns-in_err-push-clause-text
