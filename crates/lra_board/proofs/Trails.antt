@@ -7,7 +7,8 @@ use Rattle.lra_model.specs.History.{History}
 use Rattle.lra_model.specs.Rules.{allows}
 use Rattle.lra_laws.specs.Sheets.{Sheet, StandsFor, Follows, sheet_after}
 use Rattle.lra_laws.proofs.SheetPush.{StandsFor-push}
-use Rattle.lra_rows.specs.Steps.{Step}
+use Rattle.lra_rows.specs.Rowed.{addresses_joined}
+use Rattle.lra_rows.specs.Steps.{Step, addresses_back}
 use Rattle.lra_board.specs.Boarded.{Boarded, carried, uncarried, CameBy}
 use Rattle.lra_board.specs.inner.Trail.{carried_all, IsTrail}
 
@@ -29,8 +30,8 @@ take-push (x ∷ xs) y (suc i) h = ap (λ ys. x ∷ ys) (take-push xs y i (omega
 
 -- one more entry
 pub trail_more : (b : Boarded) (es : List Entry) (ks : List Step) (now after : Boarded) (e : Entry) (k : Step) → IsTrail b es ks now → Follows now.rows.sheet e → after ≡ carried e now → uncarried e k after ≡ now
-    → IsTrail b (es ++ e ∷ []) (ks ++ k ∷ []) after
-trail_more b es ks now after e k h follows is back = record {
+    → addresses_back k after.rows ≡ addresses_joined e.deed → IsTrail b (es ++ e ∷ []) (ks ++ k ∷ []) after
+trail_more b es ks now after e k h follows is back gives = record {
   at = is ∙ ap (carried e) h.at ∙ sym (carried_all-push b es e);
   many = length-append ks (k ∷ []) ∙ (let n = h.many in omega arith) ∙ sym (length-append es (e ∷ []));
   follows = λ i x g. elim (of_more es e i x g) [
@@ -46,6 +47,15 @@ trail_more b es ks now after e k h follows is back = record {
         ap (λ (xs : List Entry). uncarried x q (carried_all b xs)) (take_all (suc i) (es ++ e ∷ []) (let l = length-append es (e ∷ []) in let n = here.0 in omega arith))
         ∙ (λ j. uncarried (sym here.1 j) (sym same j) (now_is j))
         ∙ back ∙ sym (whole i here.0)
+  ];
+  given = λ i x q g f. elim (of_more es e i x g) [
+    | inl before ↦
+        ap (λ (xs : List Entry). addresses_back q (carried_all b xs).rows) (take-push es e (suc i) (let l = before.0 in omega arith)) ∙ h.given i x q before.1 (older i q before.0 f)
+    | inr here ↦
+        let same : k ≡ q = newest i q here.0 f in
+        ap (λ (xs : List Entry). addresses_back q (carried_all b xs).rows) (take_all (suc i) (es ++ e ∷ []) (let l = length-append es (e ∷ []) in let n = here.0 in omega arith))
+        ∙ (λ j. addresses_back (sym same j) (now_is j).rows)
+        ∙ gives ∙ ap (λ (y : Entry). addresses_joined y.deed) here.1
   ];
 }
   where
@@ -84,11 +94,15 @@ last_came b es ks last now e k i n h number here step is =
 pub last_back : (b : Boarded) (es : List Entry) (ks : List Step) (last now : Boarded) (e : Entry) (k : Step) (i n : ℕ) → IsTrail b es ks last → n ≡ suc i → slice_get es i ≡ Some e → slice_get ks i ≡ Some k → now ≡ carried_all b (take n es) → uncarried e k now ≡ carried_all b (take i es)
 last_back b es ks last now e k i n h number here step is = ap (uncarried e k) (is ∙ ap (λ m. carried_all b (take m es)) number) ∙ h.back i e k here step
 
+-- and gives the addresses of the member that joined by it
+pub last_given : (b : Boarded) (es : List Entry) (ks : List Step) (last now : Boarded) (e : Entry) (k : Step) (i n : ℕ) → IsTrail b es ks last → n ≡ suc i → slice_get es i ≡ Some e → slice_get ks i ≡ Some k → now ≡ carried_all b (take n es) → addresses_back k now.rows ≡ addresses_joined e.deed
+last_given b es ks last now e k i n h number here step is = ap (λ (c : Boarded). addresses_back k c.rows) (is ∙ ap (λ m. carried_all b (take m es)) number) ∙ h.given i e k here step
+
 -- no entry yet
 pub trail_none : (b : Boarded) (es : List Entry) (ks : List Step) → es ≡ [] → ks ≡ [] → IsTrail b es ks b
 trail_none b es ks no_entry no_step =
     subst (λ (xs : List Entry). IsTrail b xs ks b) (sym no_entry)
-    (subst (λ (qs : List Step). IsTrail b [] qs b) (sym no_step) (record { at = refl; many = refl; follows = λ i e h. absurd cc; back = λ i e k h g. absurd cc }))
+    (subst (λ (qs : List Step). IsTrail b [] qs b) (sym no_step) (record { at = refl; many = refl; follows = λ i e h. absurd cc; back = λ i e k h g. absurd cc; given = λ i e k h g. absurd cc }))
 
 -- the board after an entry stands for the longer history
 pub carried_stands : (s : Sheet) (b after : Boarded) (J : History) (e : Entry) (h : StandsFor s J) → allows h.version h.is_address J e ≡ true → b.rows.sheet ≡ s → after ≡ carried e b → StandsFor after.rows.sheet (J ++ e ∷ [])

@@ -7,3 +7,4 @@ mod settle;
 
 pub use board::Board;
 pub use lra_model::Memory;
+pub use settle::Ahead;

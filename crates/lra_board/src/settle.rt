@@ -9,6 +9,13 @@ use lra_packed::Packed;
 use lra_rows::{Step, copy_joined};
 use std::alloc::Global;
 
+/// An entry with all that settles after it, and the addresses of the member that joins by the entry.
+#[derive(Drop)]
+pub struct Ahead {
+    pub entries: Vec<Entry>,
+    pub uris: Option<Packed>,
+}
+
 /// Entries that were carried out one after another, and the steps that take them back.
 #[derive(Drop)]
 struct Trail {
@@ -53,7 +60,7 @@ impl Trail {
 }
 
 impl Board {
-    ghost use Rattle.std.specs.Prelude.{◌≡◌, ◌∷◌, ◌++◌, [], true, ◌<◌, vec_len, vec_capacity, length, nat_lt, ◌^◌, OnOk, IfOk, Some, List, ℕ, Bool};
+    ghost use Rattle.std.specs.Prelude.{◌≡◌, ◌∷◌, ◌++◌, [], true, ◌<◌, vec_len, vec_capacity, length, nat_lt, slice_get, ◌^◌, OnOk, IfOk, Some, List, ℕ, Bool};
     ghost use Rattle.lra_model.specs.declared.version.Version.{Version};
     ghost use Rattle.lra_model.specs.History.{History};
     ghost use Rattle.lra_model.specs.Settling.{next_settling, most_settling, with_settling};
@@ -79,21 +86,18 @@ impl Board {
         trail.push(entry, step);
     }
 
-    fn undo(&mut self, entry: &Entry, step: Step)
-        requires { CameBy entry.now step self.old }
-        ensures { self.new ≡ uncarried entry.now step self.old }
-    {
-        let _ = self.take_back(entry, step);
-    }
-
-    /// Takes all entries of a trail back, the last one first.
-    fn go_back(&mut self, trail: &Trail)
+    /// Takes all entries of a trail back, the last one first, and gives the addresses of the member that joined by the first of
+    /// them.
+    fn go_back(&mut self, trail: &Trail) -> Option<Packed>
         requires { HasTrail trail.now.entries.items trail.now.steps.items self.old }
-        ensures { (b : Boarded) → IsTrail b trail.now.entries.items trail.now.steps.items self.old → self.new ≡ b }
+        ensures back { (b : Boarded) → IsTrail b trail.now.entries.items trail.now.steps.items self.old → self.new ≡ b }
+        ensures uris { (e : EntryValue) → slice_get trail.now.entries.items 0 ≡ Some e → result ≡ addresses_joined e.deed }
     {
+        let mut uris = None;
         for place in (0..trail.steps.len()).rev() {
-            self.undo(&trail.entries[place], trail.steps[place]);
+            uris = self.take_back(&trail.entries[place], trail.steps[place]);
         }
+        uris
     }
 
     /// Whether one more entry can be counted.
@@ -168,14 +172,15 @@ impl Board {
         self.settle_all(by, moment, most, trail)
     }
 
-    /// An entry that is allowed now, and all that settles after it, with room made for the entry. The board stays as it is, also
-    /// where memory was refused.
-    pub fn plan(&mut self, entry: Entry, alloc: Global) -> Result<Vec<Entry>, Memory>
+    /// An entry that is allowed now, and all that settles after it, with room made for the entry, and the addresses of the member that
+    /// joins by it. The board stays as it is, also where memory was refused.
+    pub fn plan(&mut self, entry: Entry, alloc: Global) -> Result<Ahead, Memory>
         requires { Follows self.old.rows.sheet entry }
         ensures same { self.new.rows.sheet ≡ self.old.rows.sheet }
         ensures kept { (e : EntryValue) → has_room e self.old ≡ true → has_room e self.new ≡ true }
         ensures room { OnOk result (has_room entry self.new ≡ true) }
-        ensures entries { IfOk result (λ entries. (J : History) (h : StandsFor self.old.rows.sheet J) → allows h.version h.is_address J entry ≡ true → entries.items ≡ with_settling J entry) }
+        ensures entries { IfOk result (λ a. (J : History) (h : StandsFor self.old.rows.sheet J) → allows h.version h.is_address J entry ≡ true → a.entries.items ≡ with_settling J entry) }
+        ensures uris { IfOk result (λ a. a.uris ≡ addresses_joined entry.deed) }
     {
         let uris = copy_joined(alloc, &entry)?;
         let mut trail = Trail::new(alloc);
@@ -185,8 +190,11 @@ impl Board {
         let moment = entry.moment;
         self.follow(&mut trail, entry, uris);
         let result = self.settle_rest(by, moment, &mut trail);
-        self.go_back(&trail);
+        let uris = self.go_back(&trail);
         result?;
-        Ok(trail.entries)
+        Ok(Ahead {
+            entries: trail.entries,
+            uris,
+        })
     }
 }

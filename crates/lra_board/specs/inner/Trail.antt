@@ -6,7 +6,8 @@ use Rattle.lra_model.specs.History.{History, clerks, is_among, last_moment}
 use Rattle.lra_model.specs.Rules.{is_number}
 use Rattle.lra_model.specs.Settling.{next_settling, settling_within}
 use Rattle.lra_laws.specs.Sheets.{StandsFor, Follows}
-use Rattle.lra_rows.specs.Steps.{Step}
+use Rattle.lra_rows.specs.Rowed.{addresses_joined}
+use Rattle.lra_rows.specs.Steps.{Step, addresses_back}
 use Rattle.lra_board.specs.Boarded.{Boarded, carried, uncarried}
 
 -- the board after entries
@@ -14,12 +15,13 @@ abbrev pub carried_all : Boarded → List Entry → Boarded
 carried_all b [] = b
 carried_all b (e ∷ es) = carried_all (carried e b) es
 
--- the entries lead from a board to the one now, and the steps lead back
+-- the entries lead from a board to the one now, and the steps lead back and give the addresses of those that joined
 pub record IsTrail (b : Boarded) (es : List Entry) (ks : List Step) (now : Boarded) : Type 0 where
   pub at : now ≡ carried_all b es
   pub many : length ks ≡ length es
   pub follows : (i : ℕ) (e : Entry) → slice_get es i ≡ Some e → Follows (carried_all b (take i es)).rows.sheet e
   pub back : (i : ℕ) (e : Entry) (k : Step) → slice_get es i ≡ Some e → slice_get ks i ≡ Some k → uncarried e k (carried_all b (take (suc i) es)) ≡ carried_all b (take i es)
+  pub given : (i : ℕ) (e : Entry) (k : Step) → slice_get es i ≡ Some e → slice_get ks i ≡ Some k → addresses_back k (carried_all b (take (suc i) es)).rows ≡ addresses_joined e.deed
 
 -- one who may go on writing after a history that the board stands for
 pub record MayGoOn (b : Boarded) (K : History) (by moment : ℕ) : Type 0 where
