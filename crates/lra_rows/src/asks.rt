@@ -1,14 +1,12 @@
 //! The asks that were made, by their numbers.
 
-ghost use Rattle.std.specs.Prelude.{◌≡◌};
-
 use crate::contact::Asked;
 use crate::lists::{add, at, remove_last, reserve_one, takes_one};
 use lra_model::{AskKind, Direction, Memory};
 use std::alloc::Global;
 use std::marker::Model;
 
-/// The numbers of members that are asked are less.
+/// The numbers of members that are asked are less than this.
 pub(crate) const NARROW: u64 = 1 << 32;
 
 /// An ask, but for its number, which its place tells.
@@ -27,9 +25,9 @@ pub(crate) struct Asks {
 
 impl Model for Asks {
     ghost use Rattle.std.specs.Prelude.{vec_capacity};
-    ghost use Rattle.lra_rows.specs.inner.Asks.{Listed, numbered};
+    ghost use Rattle.lra_rows.specs.inner.Asks.{AskList, numbered};
 
-    ghost Value = { Listed };
+    ghost Value = { AskList };
 
     ghost view = { λ a. record { items = numbered 0 a.rows.items; capacity = vec_capacity a.rows } };
 }

@@ -13,6 +13,6 @@ numbered n [] = []
 numbered n (x ∷ xs) = with_number (suc n) x ∷ numbered (suc n) xs
 
 -- asks, and how many are held with no more memory
-pub record Listed : Type 0 where
+pub record AskList : Type 0 where
   pub items : List Asked
   pub capacity : ℕ
