@@ -3,7 +3,7 @@ ghost use Rattle.std.specs.Prelude.{◌≡◌, true, IsTrue, IfSome};
 ghost use Rattle.lra_ids.specs.Addresses.{is_base};
 
 use lra_commands::{Counter, CounterFault, Order, Told};
-use lra_family::{Family, Visit};
+use lra_family::Family;
 use lra_ids::{Address, Instance, base_of};
 use std::alloc::Global;
 
@@ -79,27 +79,12 @@ impl Counter for Counting {
         }) };
 }
 
-/// How many orders a counter was given.
-struct Orders;
-
-impl Visit<Counting> for Orders {
-    ghost use Rattle.std.specs.Prelude.{◌≡◌};
-    ghost use Rattle.std.proofs.Common.{ap};
-
-    type Answer = u64;
-
-    ghost does = { λ v before answer after. after ≡ before };
-
-    ghost keeps = { λ v before after answer h. ap (λ s. s.setting) h };
-
-    fn visit(&self, counter: &mut Counting) -> u64 {
-        counter.orders
-    }
-}
-
 /// How many orders the member of an instance was given.
-pub(super) fn orders_of(family: &mut Family<Counting>, instance: u64) -> Option<u64> {
-    family.visit(Instance::new(instance)?, &Orders)
+pub(super) fn orders_of(family: &Family<Counting>, instance: u64) -> Option<u64> {
+    match family.member(Instance::new(instance)?) {
+        Some(counter) => Some(counter.orders),
+        None => None,
+    }
 }
 
 /// A newer member joins a family.

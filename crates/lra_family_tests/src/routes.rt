@@ -96,7 +96,7 @@ fn answered(
 }
 
 /// Whether the members were given as many orders as two digits say.
-fn were_given(family: &mut Family<Counting>, digits: &str) -> bool {
+fn were_given(family: &Family<Counting>, digits: &str) -> bool {
     let older = orders_of(family, OLDER);
     let newer = orders_of(family, NEWER);
     match digits {
@@ -113,7 +113,7 @@ fn comes_to(alloc: Global, head: &str, body: &str, wanted: &str, digits: &str) -
     let request = request(alloc, head, body)?;
     let mut family = family(alloc)?;
     let told = answered(alloc, &routes, &mut family, &request);
-    let given = were_given(&mut family, digits);
+    let given = were_given(&family, digits);
     Some(told == wanted && given)
 }
 
@@ -141,10 +141,10 @@ fn is_given_once(alloc: Global) -> Option<bool> {
     let request = request(alloc, "POST /lra-coordinator", NESTED)?;
     let mut family = family(alloc)?;
     let mut told = answered(alloc, &routes, &mut family, &request);
-    if told == "Memory" && were_given(&mut family, "0 0") {
+    if told == "Memory" && were_given(&family, "0 0") {
         told = answered(alloc, &routes, &mut family, &request);
     }
-    let given = were_given(&mut family, "1 0");
+    let given = were_given(&family, "1 0");
     Some(told == "Worn" && given)
 }
 

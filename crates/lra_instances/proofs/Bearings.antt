@@ -7,7 +7,7 @@ use Rattle.std.proofs.Math.Seq.{drop-append_seam}
 use Rattle.std.proofs.lemmas.List.{length-append}
 use Rattle.uuid.specs.Text.{parsed}
 use Rattle.uuid.proofs.OrderLemmas.{from_be_bytes-to_be_bytes_16}
-use Rattle.lra_ids.specs.Identifiers.{id_number, id_bytes, id_text, action_uri, recovery_uri}
+use Rattle.lra_ids.specs.Identifiers.{id_number, id_bytes, id_text}
 use Rattle.lra_ids.proofs.IdentifierFacts.{parsed-id_text, length-id_text, low-id_bytes}
 use Rattle.lra_instances.specs.Bearing.{instance_bits, instance_in, end_of, instance_at_end}
 use Rattle.lra_instances.specs.Laws.{IsBorne, AreOfOneInstance, AreReadWhole, AreReadAtEnds}
