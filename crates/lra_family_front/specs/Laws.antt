@@ -15,7 +15,14 @@ use Rattle.lra_front.specs.Routes.{route_of, id_in}
 use Rattle.lra_front.specs.Bodies.{body_of, object_in, text_under}
 use Rattle.lra_front.specs.Wishes.{MayAsk, LacksMemory, IsNamed, no_action, no_member}
 use Rattle.lra_family_front.specs.Naming.{instance_of}
-use Rattle.lra_family_front.specs.Serving.{IsUnknown}
+use Rattle.lra_commands.specs.declared.command.Told.{Told}
+use Rattle.lra_commands.specs.declared.counter.Order.{Order}
+use Rattle.lra_commands.specs.declared.counter.CounterFault.{CounterFault}
+use Rattle.lra_commands.specs.Counters.{Sight}
+use Rattle.lra_family.specs.Counted.{name}
+use Rattle.lra_family.specs.Runs.{Happens}
+use Rattle.lra_family.specs.Runs.Event.{Turn as OneTurn}
+use Rattle.lra_family_front.specs.Serving.{Turn, names, IsUnknown, Does, Lacks, Serves}
 
 -- the path of a request has the identifier of an instance, and isn't one where actions are started
 pub record HasIdentifier (request : Request) (i : ℕ) : Type 0 where
@@ -52,3 +59,7 @@ TwoAreRefused = (i : ℕ) (base : List ℕ) (request : Request) (members : Membe
     → route_of request.method request.target ≡ Ok route.Remove → body_of route.Remove request.body ≡ Some members
     → text_under (codes "recovery") members ≡ Some uri → instance_at_end uri ≢ Some i → MayAsk i base request w
     → ((w ≡ Err (Refused refusal.Memory)) × LacksMemory request) ⊎ IsNamed (id_text i) (id_in request.target) no_action (λ action v. v ≡ Err no_member) w
+
+-- What is done for one request is one turn of a run.
+abbrev pub AnswersAreTurns : (Sight → ℕ → Order → Result Told CounterFault → Sight → Type 0) → Type 0
+AnswersAreTurns gives = (before after : List Sight) (turn : Turn) → Serves gives before turn after → Happens name names (Does gives) Lacks before (OneTurn turn) after

@@ -2,7 +2,7 @@
 
 ghost use Rattle.lra_family.specs.Counted.{name};
 ghost use Rattle.lra_family.specs.Laws as laws;
-ghost use Rattle.lra_family_front.specs.Laws.{IdentifiersName, StrangersDeny, TwoAreRefused};
+ghost use Rattle.lra_family_front.specs.Laws.{AnswersAreTurns, IdentifiersName, StrangersDeny, TwoAreRefused};
 ghost use Rattle.lra_family_front.specs.Serving.{names, Does, Lacks};
 
 use lra_commands::Counter;
@@ -23,8 +23,9 @@ pub fn two_instances_are_refused()
 {}
 
 /// The requests that name a journal are its own, each once and in order: to it they are a connection over it alone, whatever the others are
-/// asked. Those that name none that is there are denied, and reach none.
+/// asked. Those that name none that is there are denied, and reach none. What `respond` does is a turn of such a run.
 pub fn each_member_answers_its_own<C: Counter>()
+    ensures turns { AnswersAreTurns C.gives }
     ensures chains { laws.EachHasItsChain name names (Does C.gives) Lacks }
     ensures others { laws.OthersAreLacking name names (Does C.gives) Lacks }
     ensures cut { laws.RunsCanBeCut name names (Does C.gives) Lacks }
