@@ -68,16 +68,12 @@ impl<'a, F: Read, R: Clock, H: Herald> Progress<'a, F, R, H> {
         }
     }
 
-    /// Tells how far it is, where that is due.
-    fn tell(&mut self) {
-        if !self.is_due() {
-            return;
-        }
+    /// Tells how far it is.
+    fn tell(&self) {
         let (name, read, all) = (self.name, self.read / MEGABYTE, self.all / MEGABYTE);
         if let Ok(line) = format!(in self.alloc; "lra: reading {name}: {read} of {all} MB\n") {
             self.herald.tell(&line);
         }
-        self.due = next_due(self.clock);
     }
 }
 
@@ -87,7 +83,10 @@ impl<F: Read, R: Clock, H: Herald> Read for Progress<'_, F, R, H> {
     fn read(&mut self, buf: &mut [u8]) -> io::Result<usize> {
         let count = self.reader.read(buf)?;
         self.read = self.read.saturating_add(count as u64);
-        self.tell();
+        if self.is_due() {
+            self.tell();
+            self.due = next_due(self.clock);
+        }
         Ok(count)
     }
 }
