@@ -27,7 +27,8 @@ def main(length, file, *words):
     except ptrace.Refused:
         print(REFUSED)
         return 2
-    signal.signal(signal.SIGTERM, lambda *_: process.kill())
+    # (Popen.kill looks first whether the process has ended, and so may take a stop that `follow` waits for)
+    signal.signal(signal.SIGTERM, lambda *_: os.kill(process.pid, signal.SIGKILL))
     return ptrace.follow(process, enters, lambda *_: None)
 
 
