@@ -54,10 +54,10 @@ refused_seen g v w c (office.Refused r) by h =
 refused_seen g v w c office.Worn by h = ap (λ (x : View _). x.seen) h
 
 -- commands keep the origin
-told_origin : {O : Type 0} (g : Setting) (v w : View O) (c : Call) (t : Told) (e : _) → IsGrown g v c t e w → w.origin ≡ v.origin
+pub told_origin : {O : Type 0} (g : Setting) (v w : View O) (c : Call) (t : Told) (e : _) → IsGrown g v c t e w → w.origin ≡ v.origin
 told_origin g v w c t e h = ap (λ (x : View _). x.origin) h.after
 
-refused_origin : {O : Type 0} (g : Setting) (v w : View O) (c : Call) (r : OfficeRefusal) → IsNotGiven g v c r w → w.origin ≡ v.origin
+pub refused_origin : {O : Type 0} (g : Setting) (v w : View O) (c : Call) (r : OfficeRefusal) → IsNotGiven g v c r w → w.origin ≡ v.origin
 refused_origin g v w c (office.Refused r) h = ap (λ (x : View _). x.origin) h.3
 refused_origin g v w c office.Worn h = ap (λ (x : View _). x.origin) h
 

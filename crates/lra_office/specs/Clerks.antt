@@ -8,6 +8,7 @@ use Rattle.lra_ticket.specs.declared.view.View.{View}
 use Rattle.lra_ticket.specs.Views.{view}
 use Rattle.lra_ticket.specs.Locks.{lock_id, pass_id, pass_view}
 use Rattle.lra_ticket.specs.declared.lock.TicketLock.{TicketLock}
+use Rattle.lra_commands.specs.Counters.{Setting, Sight}
 use Rattle.lra_office.specs.declared.clerk.Clerk.{Clerk}
 
 -- what a clerk has seen
@@ -19,3 +20,7 @@ pub record IsClerkOf {X O : Type 0} {g : Ghosts X O} (lock : TicketLock X O) (c 
   pub known : option_map (λ (p : Pass X O g). pass_id p) c.pass ≡ Some (lock_id lock)
   pub number : (clerk_view c).number ≡ c.number
   pub enrolled : c.number ≢ 0
+
+-- what callers know of a counter that gives a clerk's orders
+abbrev pub sight_of : {X O : Type 0} {g : Ghosts X O} → (O → Setting) → Clerk X O g → Sight
+sight_of setting c = record { setting = setting (clerk_view c).origin; number = c.number; seen = (clerk_view c).seen }

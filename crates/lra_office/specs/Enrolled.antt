@@ -6,7 +6,8 @@ use Rattle.lra_commands.specs.declared.command.Command.TheVariants.{Enrol}
 use Rattle.lra_commands.specs.declared.command.Told.TheVariants.{Clerk}
 use Rattle.lra_commands.specs.Calls.{Call}
 use Rattle.lra_commands.specs.Counters.{Setting}
-use Rattle.lra_office.specs.Orders.{IsGrown}
+use Rattle.lra_office.specs.declared.fault.OfficeRefusal.{OfficeRefusal}
+use Rattle.lra_office.specs.Orders.{IsGrown, IsNotGiven}
 
 -- the call by which a clerk enrols
 abbrev pub enrolment : ℕ → Call
@@ -16,3 +17,7 @@ enrolment moment = record { by = 0; moment = moment; command = Enrol }
 pub record IsEnrolled {O : Type 0} (g : Setting) (v : View O) (moment number : ℕ) (w : View O) : Type 0 where
   pub grown : IsGrown g v (enrolment moment) (Clerk number) None w
   pub fresh : entries_by number grown.history ≡ []
+
+-- a clerk wasn't enrolled, for a reason that the call met; whoever was to be it is gone
+abbrev pub IsNotEnrolled : {O : Type 0} → Setting → View O → ℕ → OfficeRefusal → Type 0
+IsNotEnrolled {O} g v moment refusal = (w : View O) × IsNotGiven g v (enrolment moment) refusal w

@@ -7,7 +7,8 @@ ghost use Rattle.lra_ticket.specs.Locks.{lock_id, pass_id, pass_view};
 ghost use Rattle.lra_office.specs.Clerks.{clerk_view, IsClerkOf};
 ghost use Rattle.lra_office.specs.Stops.{HasStopped};
 ghost use Rattle.lra_office.specs.declared.fault.OfficeRefusal.TheVariants.{Refused};
-ghost use Rattle.lra_office.specs.Enrolled.{enrolment, IsEnrolled};
+ghost use Rattle.lra_ticket.specs.Views.{newcomer};
+ghost use Rattle.lra_office.specs.Enrolled.{enrolment, IsEnrolled, IsNotEnrolled};
 ghost use Rattle.lra_office.specs.Orders.{IsNotGiven};
 
 use crate::clerk::Clerk;
@@ -54,6 +55,33 @@ impl<V: Serving> OfficeOf<V> {
                 pass: Some(pass),
             }),
             Err(refusal) => Err((pass, refusal)),
+        }
+    }
+
+    /// Enrols another clerk beside one that is lent, which stays as it is, whether that is refused or not.
+    pub fn enrol_beside<R: Wait>(
+        &self,
+        rt: &R,
+        clerk: &mut Clerk<V>,
+        moment: u64,
+    ) -> Result<Clerk<V>, OfficeRefusal>
+        requires { IsClerkOf self.now.lock clerk.old }
+        ensures clerk { IsClerkOf self.now.lock clerk.new }
+        ensures number { clerk.new.number ≡ clerk.old.number }
+        ensures same { clerk_view clerk.new ≡ clerk_view clerk.old }
+        ensures other { IfOk result (IsClerkOf self.now.lock) }
+        ensures enrolled { IfOk result (λ other. IsEnrolled (V.setting (clerk_view clerk.old).origin) (newcomer (clerk_view clerk.old)) moment other.number (clerk_view other)) }
+        ensures refused { IfErr result (IsNotEnrolled (V.setting (clerk_view clerk.old).origin) (newcomer (clerk_view clerk.old)) moment) }
+    {
+        let pass = clerk.take_pass();
+        let (first, second) = self.lock.split(pass);
+        clerk.pass = Some(first);
+        match self.clerk(rt, second, moment) {
+            Ok(other) => Ok(other),
+            Err((pass, refusal)) => {
+                drop(pass);
+                Err(refusal)
+            }
         }
     }
 }

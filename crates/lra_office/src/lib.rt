@@ -3,6 +3,7 @@
 
 mod clerk;
 mod commands;
+mod counter;
 mod desk;
 mod enrolling;
 mod fault;

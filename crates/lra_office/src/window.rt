@@ -6,7 +6,6 @@ ghost use Rattle.lra_ticket.specs.Locks.{lock_id};
 ghost use Rattle.lra_office.specs.Clerks.{clerk_view, IsClerkOf};
 ghost use Rattle.lra_office.specs.Orders.{IsQueried};
 ghost use Rattle.lra_office.specs.Windows.{IsOfficeOf};
-ghost use Rattle.lra_office.specs.inner.Given.{fault_of};
 
 use crate::clerk::Clerk;
 use crate::fault::OfficeRefusal;
@@ -83,15 +82,6 @@ impl<V: Serving, R: Wait, L: WhichLock> Window<'_, V, R, L> {
     }
 }
 
-fn fault_of(refusal: OfficeRefusal) -> CounterFault
-    ensures { result ≡ fault_of refusal }
-{
-    match refusal {
-        OfficeRefusal::Refused(refusal) => CounterFault::Refused(refusal),
-        OfficeRefusal::Worn => CounterFault::Worn,
-    }
-}
-
 impl<V: Serving, R: Wait, L: WhichLock> Counter for Window<'_, V, R, L> {
     ghost use Rattle.lra_commands.specs.Counters.{Sight};
     ghost use Rattle.lra_office.specs.Clerks.{clerk_view};
@@ -104,20 +94,15 @@ impl<V: Serving, R: Wait, L: WhichLock> Counter for Window<'_, V, R, L> {
     ghost keeps = { λ before after moment o reply given. given.keeps };
 
     fn instance(&self) -> Instance {
-        self.office.instance
+        self.office.instance()
     }
 
     fn base(&self) -> &Address {
-        &self.office.base
+        self.office.base()
     }
 
     fn give(&mut self, moment: u64, order: &Order<'_>) -> Result<Told, CounterFault> {
-        match self
-            .office
-            .tell(self.rt, &mut self.clerk, moment, &order.command())
-        {
-            Ok(told) => Ok(told),
-            Err(refusal) => Err(fault_of(refusal)),
-        }
+        self.office
+            .give_order(self.rt, &mut self.clerk, moment, order)
     }
 }

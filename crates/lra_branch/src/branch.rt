@@ -1,0 +1,122 @@
+//! An office that many threads share, with one clerk of it.
+
+ghost use Rattle.std.specs.Prelude.{◌≡◌, IfOk, IfErr};
+ghost use Rattle.std.specs.Arc.{arc_value};
+ghost use Rattle.lra_ticket.specs.Views.{newcomer};
+ghost use Rattle.lra_office.specs.Clerks.{clerk_view, IsClerkOf};
+ghost use Rattle.lra_office.specs.Enrolled.{IsEnrolled};
+ghost use Rattle.lra_office.specs.Orders.{IsQueried, IsLookedAhead};
+ghost use Rattle.lra_office.specs.Stops.{HasStopped};
+ghost use Rattle.lra_office.specs.Windows.{IsOfficeOf};
+ghost use Rattle.lra_courier.specs.Carriages.{AreFree};
+ghost use Rattle.lra_workers.specs.Work.{post, TellsWhy};
+ghost use Rattle.lra_workers.specs.Carrying.{EndsCarrying};
+
+use lra_commands::{Counter, CounterFault, Known, Order, Query, Refusal, Told};
+use lra_courier::Carriage;
+use lra_front::Clock;
+use lra_ids::{Address, Instance};
+use lra_office::{Clerk, OfficeOf, OfficeRefusal, Serving};
+use lra_workers::{Gate, WorkerEnd, run_carrier};
+use std::sync::{Arc, Wait};
+
+/// An office that many threads share, with one clerk of it: where orders are given as at a counter of one's own. A thread may have several, of different
+/// offices; an office ends with the last of its branches.
+#[derive(Drop)]
+pub struct Branch<'a, V: Serving, R> {
+    rt: &'a R,
+    office: Arc<OfficeOf<V>>,
+    clerk: Clerk<V>,
+    ghost there: { IsClerkOf (arc_value office).lock clerk },
+    ghost made: { IsOfficeOf (V.setting (clerk_view clerk).origin) (arc_value office) },
+}
+
+impl<'a, V: Serving, R> Branch<'a, V, R> {
+    /// A branch of an office, for a clerk of it.
+    pub fn new(rt: &'a R, office: Arc<OfficeOf<V>>, clerk: Clerk<V>) -> Branch<'a, V, R>
+        requires there { IsClerkOf (arc_value office).lock clerk }
+        requires made { IsOfficeOf (V.setting (clerk_view clerk).origin) (arc_value office) }
+        ensures office { result.office ≡ office }
+        ensures clerk { result.clerk ≡ clerk }
+    {
+        Branch { rt, office, clerk }
+    }
+}
+
+impl<'a, V: Serving, R: Wait> Branch<'a, V, R> {
+    /// Another branch of the office, for a clerk that is enrolled beside this one's, whether that can be done or not this one's stays as it is.
+    pub fn fork(&mut self, moment: u64) -> Result<Branch<'a, V, R>, OfficeRefusal>
+        ensures number { self.new.clerk.number ≡ self.old.clerk.number }
+        ensures same { clerk_view self.new.clerk ≡ clerk_view self.old.clerk }
+        ensures office { IfOk result (λ other. arc_value other.office ≡ arc_value self.old.office) }
+        ensures enrolled { IfOk result (λ other. IsEnrolled (V.setting (clerk_view self.old.clerk).origin) (newcomer (clerk_view self.old.clerk)) moment other.clerk.number (clerk_view other.clerk)) }
+    {
+        let Ok(office) = Arc::try_clone(&self.office) else {
+            return Err(OfficeRefusal::Refused(Refusal::Memory));
+        };
+        match self.office.enrol_beside(self.rt, &mut self.clerk, moment) {
+            Ok(clerk) => Ok(Branch::new(self.rt, office, clerk)),
+            Err(refusal) => {
+                drop(office);
+                Err(refusal)
+            }
+        }
+    }
+
+    /// Tells its clerk what that asks, as `OfficeOf::query` does.
+    pub fn query(&mut self, query: Query) -> Result<Known, OfficeRefusal>
+        ensures number { self.new.clerk.number ≡ self.old.clerk.number }
+        ensures known { IsQueried (V.setting (clerk_view self.old.clerk).origin) (clerk_view self.old.clerk) query result (clerk_view self.new.clerk) }
+    {
+        self.office.query(self.rt, &mut self.clerk, query)
+    }
+
+    /// Tells its clerk when something is due or late first, as `OfficeOf::next_moment` does.
+    pub fn next_moment(&mut self) -> Result<Option<u64>, OfficeRefusal>
+        ensures number { self.new.clerk.number ≡ self.old.clerk.number }
+        ensures next { IsLookedAhead (V.setting (clerk_view self.old.clerk).origin) (clerk_view self.old.clerk) result (clerk_view self.new.clerk) }
+    {
+        self.office.next_moment(self.rt, &mut self.clerk)
+    }
+
+    /// Works as its clerk with many errands under way, as `run_carrier` does, and gives the clerk.
+    pub fn carry<C: Carriage, G: Gate, K: Clock>(
+        self,
+        carriage: &mut C,
+        gate: &mut G,
+        clock: &mut K,
+    ) -> (Clerk<V>, WorkerEnd)
+        requires none { AreFree (C.held carriage.old) }
+        ensures clerk { IsClerkOf (arc_value self.entry.office).lock result.0 }
+        ensures number { result.0.number ≡ self.entry.clerk.number }
+        ensures work { EndsCarrying V.setting C.gives K.tells (post (clerk_view self.entry.clerk) clock.old) result.1 (post (clerk_view result.0) clock.new) }
+        ensures why { TellsWhy (G.is_shut gate.new) (G.holds gate.new) (HasStopped V.origin V.history V.lawful V.has_stopped (clerk_view result.0)) (clerk_view result.0).seen result.1 }
+    {
+        let Branch { rt, office, clerk } = self;
+        run_carrier(rt, &office, clerk, carriage, gate, clock)
+    }
+}
+
+impl<V: Serving, R: Wait> Counter for Branch<'_, V, R> {
+    ghost use Rattle.lra_office.specs.Clerks.{sight_of};
+    ghost use Rattle.lra_office.specs.Stops.{KeepsInTurn};
+
+    ghost sight = { λ b. sight_of V.setting b.clerk };
+
+    ghost gives = { KeepsInTurn V.setting V.origin V.history V.lawful V.has_stopped };
+
+    ghost keeps = { λ before after moment o reply given. given.keeps };
+
+    fn instance(&self) -> Instance {
+        self.office.instance()
+    }
+
+    fn base(&self) -> &Address {
+        self.office.base()
+    }
+
+    fn give(&mut self, moment: u64, order: &Order<'_>) -> Result<Told, CounterFault> {
+        self.office
+            .give_order(self.rt, &mut self.clerk, moment, order)
+    }
+}
