@@ -1,3 +1,4 @@
 pub mod Parents
 pub mod Strangers
 pub mod Deciding
+pub mod Kin

@@ -2,3 +2,4 @@ pub mod inner
 pub mod Naming
 pub mod Serving
 pub mod Laws
+pub mod Households

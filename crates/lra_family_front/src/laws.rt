@@ -3,9 +3,11 @@
 ghost use Rattle.lra_family.specs.Counted.{name};
 ghost use Rattle.lra_family.specs.Laws as laws;
 ghost use Rattle.lra_family_front.specs.Laws.{AnswersAreTurns, IdentifiersName, StrangersDeny, TwoAreRefused};
+ghost use Rattle.lra_family_front.specs.Households.{HouseholdsRun};
 ghost use Rattle.lra_family_front.specs.Serving.{names, Does, Lacks};
 
 use lra_commands::Counter;
+use lra_front::Clock;
 
 /// A request names the instance whose identifier stands in its path, and a start that of its parent.
 pub fn requests_name_instances()
@@ -29,4 +31,10 @@ pub fn each_member_answers_its_own<C: Counter>()
     ensures chains { laws.EachHasItsChain name names (Does C.gives) Lacks }
     ensures others { laws.OthersAreLacking name names (Does C.gives) Lacks }
     ensures cut { laws.RunsCanBeCut name names (Does C.gives) Lacks }
+{}
+
+/// Requests that a household answers one after another are turns of a run of its family, with joins and leaves between them: so what is known of such
+/// runs is known of the members of a household.
+pub fn households_are_families<C: Counter, K: Clock>()
+    ensures { HouseholdsRun C.gives K.tells }
 {}

@@ -18,6 +18,7 @@ use lra_commands::{Counter, Refusal};
 use lra_family::{Family, Visit};
 use lra_front::{Answer, Denial, Routes};
 use lra_model::Instance;
+use lra_steps::Answered;
 use lra_wire::RequestRead;
 use std::alloc::Global;
 
@@ -44,13 +45,6 @@ impl<'a, C: Counter> Visit<C> for Responding<'a> {
         self.routes
             .respond(self.alloc, counter, self.moment, self.request)
     }
-}
-
-/// What a request is answered, and the instance whose identifiers the answer names.
-#[derive(Clone, Copy, Debug, PartialEq, Eq)]
-pub struct Answered {
-    pub instance: Instance,
-    pub answer: Answer,
 }
 
 /// Answers a request at the counter of an instance, where there is one. Every other stays.
@@ -101,6 +95,8 @@ pub fn respond<C: Counter + Drop>(
         → result.instance ≡ unwrap_or (instance_of (request_of request.now)) (spec.newest name family.old) }
     // Its numbers are those that identifiers can have.
     ensures identifiers { HasIdentifiers result.answer }
+    // There is a newest one.
+    ensures family { IsFamily (map name family.old) }
 {
     let newest = family.newest();
     let Ok(named) = naming::instance_of(alloc, routes, request) else {

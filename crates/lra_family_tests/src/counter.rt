@@ -1,6 +1,7 @@
 //! A counter that counts the orders that it is given, and does none of them; and a family of two.
 ghost use Rattle.std.specs.Prelude.{◌≡◌, true, IsTrue, IfSome};
 ghost use Rattle.lra_ids.specs.Addresses.{is_base};
+ghost use Rattle.lra_family_front.specs.Households.{HaveBase, base_of as base_of_family};
 
 use lra_commands::{Counter, CounterFault, Order, Told};
 use lra_family::Family;
@@ -90,6 +91,22 @@ pub(super) fn orders_of(family: &Family<Counting>, instance: u64) -> Option<u64>
 /// A newer member joins a family.
 fn rolled(family: &mut Family<Counting>, newer: Counting) -> bool {
     family.newest().number() < newer.instance.number() && family.roll(newer).is_ok()
+}
+
+/// The family of the older member alone.
+pub(super) fn alone(alloc: Global) -> Option<Family<Counting>>
+    ensures { IfSome result (λ family. HaveBase (base_of_family family) family) }
+{
+    let older = counter_of(alloc, OLDER)?;
+    match Family::new(alloc, older) {
+        Ok(family) => Some(family),
+        Err(_) => None,
+    }
+}
+
+/// The newer member, before it joins.
+pub(super) fn newcomer(alloc: Global) -> Option<Counting> {
+    counter_of(alloc, NEWER)
 }
 
 /// The family of both.

@@ -5,3 +5,5 @@
 mod counter;
 #[cfg(test)]
 mod routes;
+#[cfg(test)]
+mod streams;

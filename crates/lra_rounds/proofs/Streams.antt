@@ -1,5 +1,5 @@
 -- Streams of which no byte was taken, and to which none was written.
-use Rattle.std.proofs.Common.{◌≡◌, ℕ, List, [], ◌++◌, append-nil, Option, Some, None, sym, refl, subst, ◌∙◌}
+use Rattle.std.proofs.Common.{ℕ, List, [], append-nil, Option, Some, None, sym, refl, ◌∙◌}
 use Rattle.std.specs.Io.KnownBytes.{Keeps, Appends, Consumes}
 
 pub keeps_same : (k : Option (List ℕ)) → Keeps k k

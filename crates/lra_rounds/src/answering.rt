@@ -3,10 +3,9 @@
 ghost use Rattle.std.specs.Prelude.{◌≡◌, IsSome};
 ghost use Rattle.lra_rounds.specs.Answered.{AnswersOf};
 
-use lra_commands::Counter;
 use lra_front::{Clock, Routes};
 use lra_model::Memory;
-use lra_steps::{Connection, Step, answer_request};
+use lra_steps::{Connection, Responder, Step, answer_request};
 use std::alloc::Global;
 
 /// How many requests of one connection are answered in a round.
@@ -27,44 +26,44 @@ pub enum Stage {
 }
 
 /// Has the request answered that stands.
-fn answer_standing<C: Counter, K: Clock>(
+fn answer_standing<A: Responder, K: Clock>(
     alloc: Global,
     routes: &Routes,
     connection: &mut Connection,
-    counter: &mut C,
+    responder: &mut A,
     clock: &mut K,
 )
     requires stands { IsSome connection.old.stands }
-    requires base { connection.old.base ≡ (C.sight counter.old).setting.base }
-    ensures { AnswersOf C.gives K.tells connection.old connection.new (C.sight counter.old) clock.old (C.sight counter.new) clock.new }
+    requires base { connection.old.base ≡ A.base_of (A.sight responder.old) }
+    ensures { AnswersOf A.base_of A.responds K.tells connection.old connection.new (A.sight responder.old) clock.old (A.sight responder.new) clock.new }
 {
     // Where its reply is lost, the connection's next step says so.
-    drop(answer_request(alloc, routes, connection, counter, clock));
+    drop(answer_request(alloc, routes, connection, responder, clock));
 }
 
 /// Has the next request answered, where it is whole and few replies wait. Tells otherwise where the connection stands.
-fn answer_next<C: Counter, K: Clock>(
+fn answer_next<A: Responder, K: Clock>(
     alloc: Global,
     routes: &Routes,
     connection: &mut Connection,
-    counter: &mut C,
+    responder: &mut A,
     clock: &mut K,
 ) -> Result<Option<Stage>, Memory>
-    requires { connection.old.base ≡ (C.sight counter.old).setting.base }
-    ensures { AnswersOf C.gives K.tells connection.old connection.new (C.sight counter.old) clock.old (C.sight counter.new) clock.new }
+    requires { connection.old.base ≡ A.base_of (A.sight responder.old) }
+    ensures { AnswersOf A.base_of A.responds K.tells connection.old connection.new (A.sight responder.old) clock.old (A.sight responder.new) clock.new }
 {
     if connection.out().len() > MOST_WAITING {
         return Ok(Some(Stage::Goes));
     }
-    match connection.next(counter.base())? {
+    match connection.next(responder.base())? {
         Step::Wants => Ok(Some(Stage::Wants)),
         Step::Ended(_) => Ok(Some(Stage::Ended)),
         Step::Stands => {
-            answer_standing(alloc, routes, connection, counter, clock);
+            answer_standing(alloc, routes, connection, responder, clock);
             Ok(None)
         }
         Step::Waits => {
-            answer_standing(alloc, routes, connection, counter, clock);
+            answer_standing(alloc, routes, connection, responder, clock);
             Ok(None)
         }
     }
@@ -72,18 +71,18 @@ fn answer_next<C: Counter, K: Clock>(
 
 /// Has the requests answered that are whole, a few at most, and tells where the connection stands then. Where memory is refused, those stand answered
 /// that were.
-pub(crate) fn answer_some<C: Counter, K: Clock>(
+pub(crate) fn answer_some<A: Responder, K: Clock>(
     alloc: Global,
     routes: &Routes,
     connection: &mut Connection,
-    counter: &mut C,
+    responder: &mut A,
     clock: &mut K,
 ) -> Result<Stage, Memory>
-    requires { connection.old.base ≡ (C.sight counter.old).setting.base }
-    ensures { AnswersOf C.gives K.tells connection.old connection.new (C.sight counter.old) clock.old (C.sight counter.new) clock.new }
+    requires { connection.old.base ≡ A.base_of (A.sight responder.old) }
+    ensures { AnswersOf A.base_of A.responds K.tells connection.old connection.new (A.sight responder.old) clock.old (A.sight responder.new) clock.new }
 {
     for _turn in 0..MOST_REQUESTS {
-        if let Some(stage) = answer_next(alloc, routes, connection, counter, clock)? {
+        if let Some(stage) = answer_next(alloc, routes, connection, responder, clock)? {
             return Ok(stage);
         }
     }

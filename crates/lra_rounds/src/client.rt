@@ -3,17 +3,16 @@
 ghost use Rattle.std.specs.Prelude.{◌≡◌, ◌⊎◌, ◌↔◌, ◌≤◌, [], length, None, option_map, IfOk, OnErr, IsSomeAnd, IsTrue};
 ghost use Rattle.std.specs.Io.KnownBytes.{Keeps};
 ghost use Rattle.lra_steps.specs.History.{begun, room_of, took};
-ghost use Rattle.lra_rounds.specs.Answered.{AnswersOf, Asks};
+ghost use Rattle.lra_rounds.specs.Answered.{AnswersOf};
 ghost use Rattle.lra_rounds.specs.Clients.{Reads, HandsOut};
 
 use crate::answering::{Stage, answer_some};
-use crate::coordinator::WhichCoordinator;
-use lra_commands::Counter;
+use crate::base::WhichBase;
 use lra_durable::{Disk, Noted, Progress, release};
 use lra_front::{Clock, Routes};
 use lra_ids::{Address, Instance};
 use lra_model::Memory;
-use lra_steps::Connection;
+use lra_steps::{Connection, Responder};
 use std::alloc::{AllocError, Global};
 use std::io::{ErrorKind, Read, Write};
 use std::marker::PhantomData;
@@ -65,21 +64,21 @@ pub enum Handing {
     Done,
 }
 
-/// A client of a coordinator, whose requests are given to a counter.
+/// A client, whose requests a responder answers.
 #[derive(Drop)]
-pub struct Client<S, D: Disk, P: WhichCoordinator, C> {
+pub struct Client<S, D: Disk, P: WhichBase, A> {
     stream: S,
     connection: Connection,
-    /// What has to be kept before what may be handed out leaves: what the disk had taken when the counter had given all its answers.
-    noted: Option<Noted<D, C>>,
+    /// What has to be kept before what may be handed out leaves: what the disk had taken when the responder had given all answers.
+    noted: Option<Noted<D, A>>,
     of: PhantomData<P>,
-    ghost here: { (connection.instance ≡ P.instance) × (connection.base ≡ P.base) },
+    ghost here: { connection.base ≡ P.base },
 }
 
-impl<S, D: Disk, P: WhichCoordinator, C: Counter> Client<S, D, P, C> {
+impl<S, D: Disk, P: WhichBase, A: Responder> Client<S, D, P, A> {
     /// One that has just come in.
-    pub fn new(alloc: Global, stream: S, instance: Instance, base: &Address) -> Client<S, D, P, C>
-        requires { (instance ≡ P.instance) × (base.now ≡ P.base) }
+    pub fn new(alloc: Global, stream: S, instance: Instance, base: &Address) -> Client<S, D, P, A>
+        requires { base.now ≡ P.base }
         ensures stream { result.stream ≡ stream }
         ensures connection { result.connection ≡ begun instance base.now }
         ensures due { result.noted ≡ None }
@@ -100,24 +99,24 @@ impl<S, D: Disk, P: WhichCoordinator, C: Counter> Client<S, D, P, C> {
     }
 
     /// Has the requests answered that are whole, a few at most and none while many replies wait, and notes that the replies wait for what the disk
-    /// has taken once the counter has given all answers. Where memory is refused, those stand answered that were.
+    /// has taken once the responder has given all answers. Where memory is refused, those stand answered that were.
     pub fn answer<R: Wait, K: Clock>(
         &mut self,
         rt: &R,
         alloc: Global,
         routes: &Routes,
         progress: &Progress<D>,
-        counter: &mut C,
+        responder: &mut A,
         clock: &mut K,
     ) -> Result<Stage, Memory>
-        requires { Asks P.instance P.base (C.sight counter.old) }
-        ensures answered { AnswersOf C.gives K.tells self.old.connection self.new.connection (C.sight counter.old) clock.old (C.sight counter.new) clock.new }
-        ensures due { (self.new.connection.out ≡ []) ⊎ IsSomeAnd self.new.noted (λ n. IsTrue (D.took n.due) × (n.of.value ≡ counter.new)) }
+        requires { A.base_of (A.sight responder.old) ≡ P.base }
+        ensures answered { AnswersOf A.base_of A.responds K.tells self.old.connection self.new.connection (A.sight responder.old) clock.old (A.sight responder.new) clock.new }
+        ensures due { (self.new.connection.out ≡ []) ⊎ IsSomeAnd self.new.noted (λ n. IsTrue (D.took n.due) × (n.of.value ≡ responder.new)) }
         ensures stream { self.new.stream ≡ self.old.stream }
     {
-        let stage = answer_some(alloc, routes, &mut self.connection, counter, clock);
+        let stage = answer_some(alloc, routes, &mut self.connection, responder, clock);
         if !self.connection.out().is_empty() {
-            self.noted = Some(progress.note(rt, counter));
+            self.noted = Some(progress.note(rt, responder));
         }
         stage
     }
@@ -134,7 +133,7 @@ impl<S, D: Disk, P: WhichCoordinator, C: Counter> Client<S, D, P, C> {
 fn take_in(connection: &mut Connection, bytes: &[u8]) -> Result<Reading, ClientFault>
     requires { length bytes.now ≤ room_of connection.old }
     ensures taken { IfOk result (λ reading. (reading ≡ Reading.Came) × (connection.new ≡ took connection.old bytes.now)) }
-    ensures here { (connection.new.instance ≡ connection.old.instance) × (connection.new.base ≡ connection.old.base) }
+    ensures here { connection.new.base ≡ connection.old.base }
 {
     if !connection.take(bytes)? {
         unreachable!();
@@ -142,7 +141,7 @@ fn take_in(connection: &mut Connection, bytes: &[u8]) -> Result<Reading, ClientF
     Ok(Reading::Came)
 }
 
-impl<S: Read, D: Disk, P: WhichCoordinator, C: Counter> Client<S, D, P, C> {
+impl<S: Read, D: Disk, P: WhichBase, A: Responder> Client<S, D, P, A> {
     /// Reads once, what came and there is room for.
     pub fn read(&mut self, buffer: &mut [u8]) -> Result<Reading, ClientFault>
         ensures read { IfOk result (Reads (S.remaining self.old.stream) (S.remaining self.new.stream) self.old.connection self.new.connection) }
@@ -164,7 +163,7 @@ impl<S: Read, D: Disk, P: WhichCoordinator, C: Counter> Client<S, D, P, C> {
     }
 }
 
-impl<S: Write, D: Disk, P: WhichCoordinator, C: Counter> Client<S, D, P, C> {
+impl<S: Write, D: Disk, P: WhichBase, A: Responder> Client<S, D, P, A> {
     /// Hands out once what may be, where all that is due is kept.
     pub fn hand_out<R: Wait>(
         &mut self,

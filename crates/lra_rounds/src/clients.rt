@@ -1,17 +1,17 @@
 //! The clients of a thread.
 
 ghost use Rattle.std.specs.Prelude.{◌≡◌};
-ghost use Rattle.lra_rounds.specs.Answered.{AnsweredSome, Asks};
+ghost use Rattle.lra_rounds.specs.Answered.{AnsweredSome};
 
+use crate::base::WhichBase;
 use crate::client::Client;
-use crate::coordinator::WhichCoordinator;
 use crate::means::Means;
 use crate::seat::{Need, Seat, Turn};
 use crate::times::Times;
-use lra_commands::Counter;
 use lra_durable::{Disk, Progress};
 use lra_front::Clock;
 use lra_ids::{Address, Instance};
+use lra_steps::Responder;
 use lra_timers::Agenda;
 use mio::net::TcpStream;
 use mio::{Interest, Registry, Token};
@@ -26,10 +26,10 @@ const MOST_AGAIN: u64 = 16;
 
 /// The clients of a thread, each under a key, and what is to be done for whom.
 #[derive(Drop)]
-pub(crate) struct Clients<D: Disk, P: WhichCoordinator, C: Counter> {
+pub(crate) struct Clients<D: Disk, P: WhichBase, A: Responder> {
     alloc: Global,
     times: Times,
-    seats: Slab<Seat<D, P, C>>,
+    seats: Slab<Seat<D, P, A>>,
     /// Until when those that are idle have to begin a request, as limits; and the others to go on with theirs, or with a reply, as retries. What stands
     /// here may come too soon: then it is put right (see `settle`).
     agenda: Agenda,
@@ -41,9 +41,9 @@ pub(crate) struct Clients<D: Disk, P: WhichCoordinator, C: Counter> {
     waiting: Vec<usize>,
 }
 
-impl<D: Disk, P: WhichCoordinator, C: Counter> Clients<D, P, C> {
+impl<D: Disk, P: WhichBase, A: Responder> Clients<D, P, A> {
     /// None yet, each of whom will have these times.
-    pub(crate) fn new(alloc: Global, times: Times) -> Clients<D, P, C> {
+    pub(crate) fn new(alloc: Global, times: Times) -> Clients<D, P, A> {
         Clients {
             alloc,
             times,
@@ -139,7 +139,7 @@ impl<D: Disk, P: WhichCoordinator, C: Counter> Clients<D, P, C> {
         most: usize,
         now: u64,
     )
-        requires { (instance ≡ P.instance) × (base.now ≡ P.base) }
+        requires { base.now ≡ P.base }
     {
         let mut stream = stream;
         if !self.make_room(most) || self.seats.reserve(1).is_err() {
@@ -205,17 +205,17 @@ impl<D: Disk, P: WhichCoordinator, C: Counter> Clients<D, P, C> {
         means: &Means<'_, R, D>,
         buffer: &mut [u8],
         key: usize,
-        counter: &mut C,
+        responder: &mut A,
         clock: &mut K,
         now: u64,
     )
-        requires { Asks P.instance P.base (C.sight counter.old) }
-        ensures { AnsweredSome C.gives K.tells (C.sight counter.old) clock.old (C.sight counter.new) clock.new }
+        requires { A.base_of (A.sight responder.old) ≡ P.base }
+        ensures { AnsweredSome A.base_of A.responds K.tells (A.sight responder.old) clock.old (A.sight responder.new) clock.new }
     {
         let Some(seat) = self.seats.get_mut(key) else {
             return;
         };
-        match seat.serve(means, buffer, counter, clock) {
+        match seat.serve(means, buffer, responder, clock) {
             Ok(()) => self.place(key, now),
             Err(_) => self.end(key),
         }
@@ -227,22 +227,22 @@ impl<D: Disk, P: WhichCoordinator, C: Counter> Clients<D, P, C> {
         &mut self,
         means: &Means<'_, R, D>,
         buffer: &mut [u8],
-        counter: &mut C,
+        responder: &mut A,
         clock: &mut K,
         now: u64,
     )
-        requires { Asks P.instance P.base (C.sight counter.old) }
-        ensures { AnsweredSome C.gives K.tells (C.sight counter.old) clock.old (C.sight counter.new) clock.new }
+        requires { A.base_of (A.sight responder.old) ≡ P.base }
+        ensures { AnsweredSome A.base_of A.responds K.tells (A.sight responder.old) clock.old (A.sight responder.new) clock.new }
     {
         let keys = mem::replace(&mut self.ready, Vec::new(self.alloc));
         for key in keys {
-            self.serve_one(means, buffer, key, counter, clock, now);
+            self.serve_one(means, buffer, key, responder, clock, now);
         }
         for _visit in 0..MOST_AGAIN {
             let Some(key) = self.again.pop_front() else {
                 return;
             };
-            self.serve_one(means, buffer, key, counter, clock, now);
+            self.serve_one(means, buffer, key, responder, clock, now);
         }
     }
 

@@ -4,9 +4,9 @@
 
 mod answering;
 mod arrivals;
+mod base;
 mod client;
 mod clients;
-mod coordinator;
 mod means;
 mod moments;
 mod rounds;
@@ -15,7 +15,7 @@ mod times;
 
 pub use answering::Stage;
 pub use arrivals::Arrivals;
+pub use base::WhichBase;
 pub use client::{Client, ClientFault, Handing, Reading};
-pub use coordinator::WhichCoordinator;
 pub use rounds::{Rounds, RoundsEnd};
 pub use times::Times;

@@ -1,19 +1,19 @@
 //! The rounds of a thread.
 
 ghost use Rattle.std.specs.Prelude.{◌≡◌, Some, IsTrue};
-ghost use Rattle.lra_rounds.specs.Answered.{AnsweredSome, Asks};
+ghost use Rattle.lra_rounds.specs.Answered.{AnsweredSome};
 
 use crate::arrivals::{Arrivals, Door};
+use crate::base::WhichBase;
 use crate::clients::Clients;
-use crate::coordinator::WhichCoordinator;
 use crate::means::Means;
 use crate::moments::Moments;
 use crate::times::Times;
-use lra_commands::Counter;
 use lra_durable::{Disk, Due, Progress};
 use lra_front::{Clock, Routes};
 use lra_ids::{Address, Instance};
 use lra_model::Memory;
+use lra_steps::Responder;
 use mio::{Events, Poll, Waker};
 use std::alloc::Global;
 use std::marker::Brand;
@@ -135,11 +135,7 @@ impl<'a, R: Wait + time::Clock, D: Disk> Rounds<'a, R, D> {
     }
 
     /// How long the next wait for streams may last.
-    fn wait<P: WhichCoordinator, C: Counter>(
-        &self,
-        clients: &Clients<D, P, C>,
-        now: u64,
-    ) -> Duration {
+    fn wait<P: WhichBase, A: Responder>(&self, clients: &Clients<D, P, A>, now: u64) -> Duration {
         if clients.has_ready() || clients.has_waiting() {
             return Duration::ZERO;
         }
@@ -151,15 +147,15 @@ impl<'a, R: Wait + time::Clock, D: Disk> Rounds<'a, R, D> {
     }
 
     /// Notes whose streams may be ready, and takes in those who have come.
-    fn take_in<P: WhichCoordinator, C: Counter>(
+    fn take_in<P: WhichBase, A: Responder>(
         &self,
         watch: &Watch<'a, R>,
-        clients: &mut Clients<D, P, C>,
+        clients: &mut Clients<D, P, A>,
         instance: Instance,
         base: &Address,
         now: u64,
     )
-        requires { (instance ≡ P.instance) × (base.now ≡ P.base) }
+        requires { base.now ≡ P.base }
     {
         for event in watch.events.iter() {
             clients.call(usize::from(event.token()), event.is_read_closed());
@@ -175,10 +171,10 @@ impl<'a, R: Wait + time::Clock, D: Disk> Rounds<'a, R, D> {
     }
 
     /// Hands out what may leave. Once nothing else is to be done, or replies have waited for some rounds, the disk keeps first what it took.
-    fn hand_out<P: WhichCoordinator, C: Counter>(
+    fn hand_out<P: WhichBase, A: Responder>(
         &self,
         rounds: &mut u32,
-        clients: &mut Clients<D, P, C>,
+        clients: &mut Clients<D, P, A>,
         is_quiet: bool,
         now: u64,
     ) {
@@ -197,10 +193,10 @@ impl<'a, R: Wait + time::Clock, D: Disk> Rounds<'a, R, D> {
     }
 
     /// A round in which nothing is read any more: replies that wait leave. Tells whether there need be no other.
-    fn part<P: WhichCoordinator, C: Counter>(
+    fn part<P: WhichBase, A: Responder>(
         &self,
         watch: &mut Watch<'a, R>,
-        clients: &mut Clients<D, P, C>,
+        clients: &mut Clients<D, P, A>,
         now: u64,
     ) -> bool {
         for event in watch.events.iter() {
@@ -215,38 +211,38 @@ impl<'a, R: Wait + time::Clock, D: Disk> Rounds<'a, R, D> {
     }
 
     /// Reads what came, has the requests answered that are whole, and hands out what may leave.
-    fn serve<C: Counter, K: Clock, P: WhichCoordinator>(
+    fn serve<A: Responder, K: Clock, P: WhichBase>(
         &self,
         means: &Means<'_, R, D>,
         watch: &mut Watch<'a, R>,
-        clients: &mut Clients<D, P, C>,
-        counter: &mut C,
+        clients: &mut Clients<D, P, A>,
+        responder: &mut A,
         clock: &mut K,
         now: u64,
     )
-        requires { Asks P.instance P.base (C.sight counter.old) }
-        ensures { AnsweredSome C.gives K.tells (C.sight counter.old) clock.old (C.sight counter.new) clock.new }
+        requires { A.base_of (A.sight responder.old) ≡ P.base }
+        ensures { AnsweredSome A.base_of A.responds K.tells (A.sight responder.old) clock.old (A.sight responder.new) clock.new }
     {
-        self.take_in(watch, clients, counter.instance(), counter.base(), now);
+        self.take_in(watch, clients, responder.instance(), responder.base(), now);
         let is_quiet = watch.events.is_empty() && !clients.has_ready();
         let before = self.progress.due(self.rt);
-        clients.serve(means, watch.buffer.as_mut_slice(), counter, clock, now);
+        clients.serve(means, watch.buffer.as_mut_slice(), responder, clock, now);
         self.ring(&before, &mut watch.turn);
         self.hand_out(&mut watch.rounds, clients, is_quiet, now);
         clients.end_late(now);
     }
 
     /// One round. Tells why there is no other, if there is none.
-    fn go_round<C: Counter, K: Clock, P: WhichCoordinator>(
+    fn go_round<A: Responder, K: Clock, P: WhichBase>(
         &self,
         means: &Means<'_, R, D>,
         watch: &mut Watch<'a, R>,
-        clients: &mut Clients<D, P, C>,
-        counter: &mut C,
+        clients: &mut Clients<D, P, A>,
+        responder: &mut A,
         clock: &mut K,
     ) -> Option<RoundsEnd>
-        requires { Asks P.instance P.base (C.sight counter.old) }
-        ensures answered { AnsweredSome C.gives K.tells (C.sight counter.old) clock.old (C.sight counter.new) clock.new }
+        requires { A.base_of (A.sight responder.old) ≡ P.base }
+        ensures answered { AnsweredSome A.base_of A.responds K.tells (A.sight responder.old) clock.old (A.sight responder.new) clock.new }
         ensures failed { result ≡ Some RoundsEnd.Unkept → IsTrue D.failed }
     {
         let wait = self.wait(clients, watch.moments.now());
@@ -261,41 +257,41 @@ impl<'a, R: Wait + time::Clock, D: Disk> Rounds<'a, R, D> {
             Door::Closed => Some(RoundsEnd::Closed),
             Door::Closing => self.part(watch, clients, now).then_some(RoundsEnd::Closed),
             Door::Open => {
-                self.serve(means, watch, clients, counter, clock, now);
+                self.serve(means, watch, clients, responder, clock, now);
                 None
             }
         }
     }
 
     /// One round after another.
-    fn go_on<C: Counter, K: Clock, P: WhichCoordinator>(
+    fn go_on<A: Responder, K: Clock, P: WhichBase>(
         &self,
         means: &Means<'_, R, D>,
         watch: &mut Watch<'a, R>,
-        clients: &mut Clients<D, P, C>,
-        counter: &mut C,
+        clients: &mut Clients<D, P, A>,
+        responder: &mut A,
         clock: &mut K,
     ) -> RoundsEnd
-        requires { Asks P.instance P.base (C.sight counter.old) }
-        ensures answered { AnsweredSome C.gives K.tells (C.sight counter.old) clock.old (C.sight counter.new) clock.new }
+        requires { A.base_of (A.sight responder.old) ≡ P.base }
+        ensures answered { AnsweredSome A.base_of A.responds K.tells (A.sight responder.old) clock.old (A.sight responder.new) clock.new }
         ensures failed { result ≡ RoundsEnd.Unkept → IsTrue D.failed }
     {
         for _round in self.rt.forever() {
-            if let Some(end) = self.go_round(means, watch, clients, counter, clock) {
+            if let Some(end) = self.go_round(means, watch, clients, responder, clock) {
                 return end;
             }
         }
         unreachable!()
     }
 
-    /// The same, at the coordinator of that type.
-    fn run_at<C: Counter, K: Clock, P: WhichCoordinator>(
+    /// The same, where the URIs begin as that type says.
+    fn run_at<A: Responder, K: Clock, P: WhichBase>(
         &self,
-        counter: &mut C,
+        responder: &mut A,
         clock: &mut K,
     ) -> RoundsEnd
-        requires { Asks P.instance P.base (C.sight counter.old) }
-        ensures answered { AnsweredSome C.gives K.tells (C.sight counter.old) clock.old (C.sight counter.new) clock.new }
+        requires { A.base_of (A.sight responder.old) ≡ P.base }
+        ensures answered { AnsweredSome A.base_of A.responds K.tells (A.sight responder.old) clock.old (A.sight responder.new) clock.new }
         ensures failed { result ≡ RoundsEnd.Unkept → IsTrue D.failed }
     {
         let Some(poll) = self.arrivals.take_poll(self.rt) else {
@@ -314,20 +310,20 @@ impl<'a, R: Wait + time::Clock, D: Disk> Rounds<'a, R, D> {
             routes,
             progress: self.progress,
         };
-        let mut clients: Clients<D, P, C> = Clients::new(self.alloc, self.times);
-        let end = self.go_on(&means, &mut watch, &mut clients, counter, clock);
+        let mut clients: Clients<D, P, A> = Clients::new(self.alloc, self.times);
+        let end = self.go_on(&means, &mut watch, &mut clients, responder, clock);
         drop(clients);
         drop(watch);
         drop(means);
         end
     }
 
-    /// Answers the connections that come in, by one counter and one clock, until the disk has failed or no more connections come. Whatever
+    /// Answers the connections that come in, by one responder and one clock, until the disk has failed or no more connections come. Whatever
     /// happens to one connection, the others are answered.
-    pub fn run<C: Counter, K: Clock>(&self, counter: &mut C, clock: &mut K) -> RoundsEnd
-        ensures answered { AnsweredSome C.gives K.tells (C.sight counter.old) clock.old (C.sight counter.new) clock.new }
+    pub fn run<A: Responder, K: Clock>(&self, responder: &mut A, clock: &mut K) -> RoundsEnd
+        ensures answered { AnsweredSome A.base_of A.responds K.tells (A.sight responder.old) clock.old (A.sight responder.new) clock.new }
         ensures failed { result ≡ RoundsEnd.Unkept → IsTrue D.failed }
     {
-        self.run_at::<C, K, Brand>(counter, clock)
+        self.run_at::<A, K, Brand>(responder, clock)
     }
 }

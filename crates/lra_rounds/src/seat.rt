@@ -1,15 +1,16 @@
 //! A client among those of a thread.
 
-ghost use Rattle.lra_rounds.specs.Answered.{AnsweredSome, Asks};
+ghost use Rattle.std.specs.Prelude.{◌≡◌};
+ghost use Rattle.lra_rounds.specs.Answered.{AnsweredSome};
 
 use crate::answering::Stage;
+use crate::base::WhichBase;
 use crate::client::{Client, ClientFault, Handing, Reading};
-use crate::coordinator::WhichCoordinator;
 use crate::means::Means;
 use crate::times::Times;
-use lra_commands::Counter;
 use lra_durable::{Disk, Progress};
 use lra_front::Clock;
+use lra_steps::Responder;
 use mio::net::TcpStream;
 use std::mem;
 use std::sync::Wait;
@@ -45,8 +46,8 @@ pub(crate) enum Need {
 
 /// A client, and what is known of its stream and of its time.
 #[derive(Drop)]
-pub(crate) struct Seat<D: Disk, P: WhichCoordinator, C: Counter> {
-    client: Client<TcpStream, D, P, C>,
+pub(crate) struct Seat<D: Disk, P: WhichBase, A: Responder> {
+    client: Client<TcpStream, D, P, A>,
     turn: Turn,
     /// The turn whose end is noted, which may have passed into others that last longer; none is, where it says that the disk's is.
     noted: Turn,
@@ -68,9 +69,9 @@ pub(crate) struct Seat<D: Disk, P: WhichCoordinator, C: Counter> {
     is_waiting: bool,
 }
 
-impl<D: Disk, P: WhichCoordinator, C: Counter> Seat<D, P, C> {
+impl<D: Disk, P: WhichBase, A: Responder> Seat<D, P, A> {
     /// One that has just come in.
-    pub(crate) fn new(client: Client<TcpStream, D, P, C>) -> Seat<D, P, C> {
+    pub(crate) fn new(client: Client<TcpStream, D, P, A>) -> Seat<D, P, A> {
         let whole = client.room();
         Seat {
             client,
@@ -146,11 +147,11 @@ impl<D: Disk, P: WhichCoordinator, C: Counter> Seat<D, P, C> {
         &mut self,
         means: &Means<'_, R, D>,
         buffer: &mut [u8],
-        counter: &mut C,
+        responder: &mut A,
         clock: &mut K,
     ) -> Result<(), ClientFault>
-        requires { Asks P.instance P.base (C.sight counter.old) }
-        ensures { AnsweredSome C.gives K.tells (C.sight counter.old) clock.old (C.sight counter.new) clock.new }
+        requires { A.base_of (A.sight responder.old) ≡ P.base }
+        ensures { AnsweredSome A.base_of A.responds K.tells (A.sight responder.old) clock.old (A.sight responder.new) clock.new }
     {
         self.is_listed = false;
         if !self.client.is_done() {
@@ -164,7 +165,7 @@ impl<D: Disk, P: WhichCoordinator, C: Counter> Seat<D, P, C> {
             means.alloc,
             &means.routes,
             means.progress,
-            counter,
+            responder,
             clock,
         )?;
         self.goes = stage == Stage::Goes;

@@ -1,5 +1,5 @@
 -- What keeps a history served.
-use Rattle.std.proofs.Common.{◌≡◌, ℕ, ◌+◌, ◌-◌, ◌<◌, ◌≤◌, Bool, true, false, cond, ◌||◌, ◌==◌, List, [], ◌∷◌, ◌++◌, length, take, drop, flat_map, refl, ap, sym, ◌∙◌, subst, arith, append_assoc, append-nil, length-append, length-drop, Option, Some, None, inl, inr}
+use Rattle.std.proofs.Common.{◌≡◌, ℕ, ◌+◌, ◌-◌, ◌<◌, ◌≤◌, Bool, true, false, cond, ◌||◌, ◌==◌, List, [], ◌∷◌, ◌++◌, map, length, take, drop, flat_map, refl, ap, sym, ◌∙◌, subst, arith, append_assoc, append-nil, length-append, length-drop, Option, Some, None, inl, inr}
 use Rattle.std.specs.declared.alloc.AllocError.{AllocError}
 use Rattle.std.specs.Prelude.{Result, Ok, Err, is_ok, OnOk, OnErr, ◌⊎◌, nat_le, is_some, IsTrue}
 use Rattle.std.proofs.lemmas.Bool.Decides.{nat_tests}
@@ -10,13 +10,12 @@ use Rattle.lra_wire.specs.declared.fault.WireFault.TheVariants.{BadHead, Chunked
 use Rattle.lra_wire.specs.Fronts.{RefusesFront}
 use Rattle.lra_wire.specs.declared.request.RequestRead.{RequestRead}
 use Rattle.lra_wire.specs.Request.{Request, IsRequest, RefusesRequest, request_of}
-use Rattle.lra_commands.specs.Counters.{Setting}
 use Rattle.lra_front.specs.declared.stream.StreamEnd.{StreamEnd}
 use Rattle.lra_front.specs.declared.stream.StreamEnd.TheVariants.{Done, Refused, WriteFault}
 use Rattle.lra_front.specs.Replies.{reply_bytes}
 use Rattle.lra_front.specs.Streams.{is_head, closes_after}
-use Rattle.lra_front.specs.Transcripts.{Turn, Spells, turn_text, replies, IsFront, EndsAfter}
-use Rattle.lra_steps.specs.History.{History, IsServed, IsLasting, IsOpenSo, Replies, StandsAt, setting_of, room_of, is_last, turn_reply, end_reply, took, finished, ordered, answered, lost, ended_by, went}
+use Rattle.lra_front.specs.Transcripts.{Spells, IsFront}
+use Rattle.lra_steps.specs.History.{History, IsServed, IsLasting, IsOpenSo, Replies, StandsAt, Turn, plain, replies, room_of, is_last, turn_reply, fault_reply, end_reply, took, finished, ordered, answered, lost, ended_by, went}
 use Rattle.lra_steps.specs.Steps.{IsFree, Ends}
 use Rattle.lra_steps.specs.inner.Ends.{EndsWithout}
 use Rattle.lra_steps.proofs.TurnLemmas.{Spells-more, StandsAt-more, Spells-next, replies-push, stays-push, closes-push, before-push, reply_some}
@@ -33,9 +32,9 @@ open_took : (o : Option StreamEnd) (h : History) (more : List ℕ) → o ≡ Non
 open_took None h more e s = s
 open_took (Some end) h more e s = absurd cc
 
-replied_took : (c : Setting) (o : Option StreamEnd) (h : History) (more : List ℕ) → o ≡ None → Replies c o h → Replies c o (took h more)
-replied_took c None h more e r = r
-replied_took c (Some end) h more e r = absurd cc
+replied_took : (o : Option StreamEnd) (h : History) (more : List ℕ) → o ≡ None → Replies o h → Replies o (took h more)
+replied_took None h more e r = r
+replied_took (Some end) h more e r = absurd cc
 
 pub served_took : (h : History) (more : List ℕ) → IsServed h → length more ≤ room_of h → IsServed (took h more)
 served_took h [] s fits = subst IsServed (λ i. record h { taken = sym (append-nil h.taken) i; kept = sym (append-nil h.kept) i }) s
@@ -43,10 +42,10 @@ served_took h (b ∷ more) s fits =
     let room = room_open h.closed h.ended (length h.kept) (length (b ∷ more)) (omega arith) fits in
     record {
       behind = s.behind ++ b ∷ more;
-      spelled = Spells-more h.taken h.turns s.behind (b ∷ more) s.spelled;
+      spelled = Spells-more h.taken (map plain h.turns) s.behind (b ∷ more) s.spelled;
       standing = StandsAt-more h.stands s.behind h.kept (b ∷ more) s.standing;
       open_so = open_took h.ended h (b ∷ more) room.0 s.open_so;
-      replied = λ version limits. replied_took (setting_of h version limits) h.ended h (b ∷ more) room.0 (s.replied version limits);
+      replied = replied_took h.ended h (b ∷ more) room.0 s.replied;
       bound = omega (arith, room.1, length-append h.kept (b ∷ more));
     }
 
@@ -56,11 +55,11 @@ open_finished : (o : Option StreamEnd) (h : History) → IsOpenSo o h → IsOpen
 open_finished None h s = s
 open_finished (Some end) h s = (s.0, inr refl)
 
-replied_finished : (c : Setting) (o : Option StreamEnd) (h : History) → Replies c o h → Replies c o (finished h)
-replied_finished c None h r = r
-replied_finished c (Some Done) h r = r
-replied_finished c (Some (Refused fault)) h r = r
-replied_finished c (Some WriteFault) h r = r
+replied_finished : (o : Option StreamEnd) (h : History) → Replies o h → Replies o (finished h)
+replied_finished None h r = r
+replied_finished (Some Done) h r = r
+replied_finished (Some (Refused fault)) h r = r
+replied_finished (Some WriteFault) h r = r
 
 pub served_finished : (h : History) → IsServed h → IsServed (finished h)
 served_finished h s = record {
@@ -68,7 +67,7 @@ served_finished h s = record {
   spelled = s.spelled;
   standing = s.standing;
   open_so = open_finished h.ended h s.open_so;
-  replied = λ version limits. replied_finished (setting_of h version limits) h.ended h (s.replied version limits);
+  replied = replied_finished h.ended h s.replied;
   bound = s.bound;
 }
 
@@ -78,13 +77,13 @@ open_ordered : (o : Option StreamEnd) (h : History) (request : Request) (rest : 
 open_ordered None h request rest e s = s
 open_ordered (Some end) h request rest e s = absurd cc
 
-replied_ordered : (c : Setting) (o : Option StreamEnd) (h : History) (request : Request) (rest : List ℕ) → o ≡ None → Replies c o h → Replies c o (ordered h request rest)
-replied_ordered c None h request rest e r = r
-replied_ordered c (Some end) h request rest e r = absurd cc
+replied_ordered : (o : Option StreamEnd) (h : History) (request : Request) (rest : List ℕ) → o ≡ None → Replies o h → Replies o (ordered h request rest)
+replied_ordered None h request rest e r = r
+replied_ordered (Some end) h request rest e r = absurd cc
 
 -- where none stands, the requests that were answered are all that was read
-pub all_read : (h : History) → IsServed h → h.stands ≡ None → Spells h.taken h.turns h.kept
-all_read h s none = let here : s.behind ≡ h.kept = subst (λ (o : Option Request). StandsAt o s.behind h.kept) none s.standing in subst (Spells h.taken h.turns) here s.spelled
+pub all_read : (h : History) → IsServed h → h.stands ≡ None → Spells h.taken (map plain h.turns) h.kept
+all_read h s none = let here : s.behind ≡ h.kept = subst (λ (o : Option Request). StandsAt o s.behind h.kept) none s.standing in subst (Spells h.taken (map plain h.turns)) here s.spelled
 
 pub served_ordered : (h : History) (request : Request) (n : ℕ) → IsServed h → IsFree h → IsRequest h.kept request (drop n h.kept) → IsServed (ordered h request (drop n h.kept))
 served_ordered h request n s free is = record {
@@ -92,7 +91,7 @@ served_ordered h request n s free is = record {
   spelled = all_read h s free.1;
   standing = is;
   open_so = open_ordered h.ended h request (drop n h.kept) free.0 s.open_so;
-  replied = λ version limits. replied_ordered (setting_of h version limits) h.ended h request (drop n h.kept) free.0 (s.replied version limits);
+  replied = replied_ordered h.ended h request (drop n h.kept) free.0 s.replied;
   bound = omega (arith, s.bound, length-drop n h.kept);
 }
 
@@ -107,21 +106,17 @@ open_answered : (b : Bool) (h : History) (turn : Turn) → closes_after (is_last
 open_answered true h turn e s = (refl, inl (closes-push 999 h.turns turn s e))
 open_answered false h turn e s = stays-push 999 h.turns turn s e
 
-replied_answered : (c : Setting) (b : Bool) (h : History) (turn : Turn) → c.instance ≡ h.instance → c.base ≡ h.base → closes_after (is_last h) turn.request ≡ b → IsOpenSo None h
-    → Replies c None h → Replies c (cond b (Some Done) None) (answered h turn)
-replied_answered c b h turn i p e s r = go b e
+replied_answered : (b : Bool) (h : History) (turn : Turn) → closes_after (is_last h) turn.request ≡ b → IsOpenSo None h
+    → Replies None h → Replies (cond b (Some Done) None) (answered h turn)
+replied_answered b h turn e s r = go b e
   where
     text : List ℕ
-    text = turn_reply h.instance h.base (is_last h) turn
+    text = turn_reply h.base (is_last h) turn
 
-    whole : h.sent ++ (h.out ++ text) ≡ replies c 999 (h.turns ++ turn ∷ [])
-    whole =
-        sym (append_assoc h.sent h.out text) ∙ ap (λ xs. xs ++ text) r
-        ∙ ap (λ j. replies c 999 h.turns ++ turn_reply j h.base (is_last h) turn) (sym i)
-        ∙ ap (λ q. replies c 999 h.turns ++ turn_reply c.instance q (is_last h) turn) (sym p)
-        ∙ sym (replies-push c 999 h.turns turn)
+    whole : h.sent ++ (h.out ++ text) ≡ replies h.base 999 (h.turns ++ turn ∷ [])
+    whole = sym (append_assoc h.sent h.out text) ∙ ap (λ xs. xs ++ text) r ∙ sym (replies-push h.base 999 h.turns turn)
 
-    go : (b : Bool) → closes_after (is_last h) turn.request ≡ b → Replies c (cond b (Some Done) None) (answered h turn)
+    go : (b : Bool) → closes_after (is_last h) turn.request ≡ b → Replies (cond b (Some Done) None) (answered h turn)
     go true e = (whole, inr (closes-push 999 h.turns turn s e))
     go false e = whole
 
@@ -134,17 +129,19 @@ served_answered h turn s stands =
       spelled = Spells-next h.taken h.turns s.behind turn h.kept s.spelled (subst (λ (o : Option Request). StandsAt o s.behind h.kept) stands s.standing);
       standing = refl;
       open_so = open_answered (closes_after (is_last h) turn.request) h turn refl so;
-      replied = λ version limits.
-          let c = setting_of h version limits in
-          replied_answered c (closes_after (is_last h) turn.request) h turn refl refl refl so (subst (λ (o : Option StreamEnd). Replies c o h) none (s.replied version limits));
+      replied = replied_answered (closes_after (is_last h) turn.request) h turn refl so (subst (λ (o : Option StreamEnd). Replies o h) none s.replied);
       bound = s.bound;
     }
 
 -- or its reply is lost
-lost_front : (c : Setting) (h : History) (turn : Turn) → IsOpenSo None h → Replies c None h → Replies c (Some WriteFault) (lost h turn)
-lost_front c h turn s r =
-    let text : List ℕ = turn_text c (is_last h) turn in (
-      (text, replies-push c 999 h.turns turn ∙ ap (λ xs. xs ++ text) (sym r), reply_some c.instance c.base turn.answer (is_head turn.request) (closes_after (is_last h) turn.request)),
+lost_front : (h : History) (turn : Turn) → IsOpenSo None h → Replies None h → Replies (Some WriteFault) (lost h turn)
+lost_front h turn s r =
+    let text : List ℕ = turn_reply h.base (is_last h) turn in (
+      (
+        text,
+        replies-push h.base 999 h.turns turn ∙ ap (λ xs. xs ++ text) (sym r),
+        reply_some turn.answered.instance h.base turn.answered.answer (is_head turn.request) (closes_after (is_last h) turn.request),
+      ),
       before-push 999 h.turns turn s,
     )
 
@@ -157,9 +154,7 @@ served_lost h turn s stands =
       spelled = Spells-next h.taken h.turns s.behind turn h.kept s.spelled (subst (λ (o : Option Request). StandsAt o s.behind h.kept) stands s.standing);
       standing = refl;
       open_so = (refl, inl tt);
-      replied = λ version limits.
-          let c = setting_of h version limits in
-          lost_front c h turn so (subst (λ (o : Option StreamEnd). Replies c o h) none (s.replied version limits));
+      replied = lost_front h turn so (subst (λ (o : Option StreamEnd). Replies o h) none s.replied);
       bound = s.bound;
     }
 
@@ -174,12 +169,10 @@ refuses bytes Memory h = h
 refuses bytes Cut h = absurd h
 refuses bytes Io h = absurd h
 
-ends_after : (c : Setting) (end : StreamEnd) (h : History) → c.instance ≡ h.instance → c.base ≡ h.base → IsOpenSo None h → h.sent ++ h.out ≡ replies c 999 h.turns → Ends end h
-    → Replies c (Some end) (ended_by h end)
-ends_after c Done h i p s r e = (ap (λ xs. h.sent ++ xs) (append-nil h.out) ∙ r, inl (e.1, s))
-ends_after c (Refused fault) h i p s r e = (
-  sym (append_assoc h.sent h.out (end_reply h.instance h.base (Refused fault))) ∙ ap (λ xs. xs ++ end_reply h.instance h.base (Refused fault)) r
-      ∙ ap (λ j. replies c 999 h.turns ++ end_reply j h.base (Refused fault)) (sym i) ∙ ap (λ q. replies c 999 h.turns ++ end_reply c.instance q (Refused fault)) (sym p),
+ends_after : (end : StreamEnd) (h : History) → IsOpenSo None h → h.sent ++ h.out ≡ replies h.base 999 h.turns → Ends end h → Replies (Some end) (ended_by h end)
+ends_after Done h s r e = (ap (λ xs. h.sent ++ xs) (append-nil h.out) ∙ r, inl (e.1, s))
+ends_after (Refused fault) h s r e = (
+  sym (append_assoc h.sent h.out (fault_reply h.instance h.base fault)) ∙ ap (λ xs. xs ++ fault_reply h.instance h.base fault) r,
   why e,
   s,
 )
@@ -187,7 +180,7 @@ ends_after c (Refused fault) h i p s r e = (
     why : Ends (Refused fault) h → RefusesRequest h.kept fault
     why (inl f) = refuses h.kept fault f.1
     why (inr f) = subst (λ (f : WireFault). RefusesRequest h.kept f) (sym f.1) f.2
-ends_after c WriteFault h i p s r e = absurd e
+ends_after WriteFault h s r e = absurd e
 
 lasting : (end : StreamEnd) (h : History) → Ends end h → IsLasting end h.turns h.kept ⊎ IsTrue h.closed
 lasting Done h e = inr e.0
@@ -203,9 +196,7 @@ served_ended h end s free e =
       spelled = s.spelled;
       standing = s.standing;
       open_so = (free.1, lasting end h e);
-      replied = λ version limits.
-          let c = setting_of h version limits in
-          ends_after c end h refl refl so (subst (λ (o : Option StreamEnd). Replies c o h) free.0 (s.replied version limits)) e;
+      replied = ends_after end h so (subst (λ (o : Option StreamEnd). Replies o h) free.0 s.replied) e;
       bound = s.bound;
     }
 
@@ -218,11 +209,11 @@ open_went (Some end) h n s = s
 all_out : (h : History) (n : ℕ) → h.sent ++ h.out ≡ (h.sent ++ take n h.out) ++ drop n h.out
 all_out h n = ap (λ xs. h.sent ++ xs) (sym (take-append-drop n h.out)) ∙ sym (append_assoc h.sent (take n h.out) (drop n h.out))
 
-replied_went : (c : Setting) (o : Option StreamEnd) (h : History) (n : ℕ) → Replies c o h → Replies c o (went h n)
-replied_went c None h n r = sym (all_out h n) ∙ r
-replied_went c (Some Done) h n r = subst (λ (xs : List ℕ). EndsAfter c 999 h.turns h.kept xs Done) (all_out h n) r
-replied_went c (Some (Refused fault)) h n r = subst (λ (xs : List ℕ). EndsAfter c 999 h.turns h.kept xs (Refused fault)) (all_out h n) r
-replied_went c (Some WriteFault) h n r = (subst (λ (xs : List ℕ). IsFront xs (replies c 999 h.turns)) (all_out h n) r.0, r.1)
+replied_went : (o : Option StreamEnd) (h : History) (n : ℕ) → Replies o h → Replies o (went h n)
+replied_went None h n r = sym (all_out h n) ∙ r
+replied_went (Some Done) h n r = (sym (all_out h n) ∙ r.0, r.1)
+replied_went (Some (Refused fault)) h n r = (sym (all_out h n) ∙ r.0, r.1, r.2)
+replied_went (Some WriteFault) h n r = (subst (λ (xs : List ℕ). IsFront xs (replies h.base 999 h.turns)) (all_out h n) r.0, r.1)
 
 pub served_went : (h : History) (n : ℕ) → IsServed h → IsServed (went h n)
 served_went h n s = record {
@@ -230,7 +221,7 @@ served_went h n s = record {
   spelled = s.spelled;
   standing = s.standing;
   open_so = open_went h.ended h n s.open_so;
-  replied = λ version limits. replied_went (setting_of h version limits) h.ended h n (s.replied version limits);
+  replied = replied_went h.ended h n s.replied;
   bound = s.bound;
 }
 
@@ -288,10 +279,12 @@ last_is left n e = grind (arith, nat_tests)
 
 -- the reply to a turn, by what its request says
 pub reply_is : (h : History) (turn : Turn) (base : List ℕ) (left : ℕ) (head close : Bool) → base ≡ h.base → left ≡ 999 - length h.turns → head ≡ is_head turn.request
-    → close ≡ closes_after (left == 0) turn.request → reply_bytes h.instance base turn.answer head close ≡ turn_reply h.instance h.base (is_last h) turn
+    → close ≡ closes_after (left == 0) turn.request → reply_bytes turn.answered.instance base turn.answered.answer head close ≡ turn_reply h.base (is_last h) turn
 reply_is h turn base left head close b l d c =
-    ap (λ p. reply_bytes h.instance p turn.answer head close) b ∙ ap (λ x. reply_bytes h.instance h.base turn.answer x close) d
-    ∙ ap (λ x. reply_bytes h.instance h.base turn.answer (is_head turn.request) x) (c ∙ ap (λ x. closes_after x turn.request) (last_is left (length h.turns) l))
+    let instance = turn.answered.instance in
+    let a = turn.answered.answer in
+    ap (λ p. reply_bytes instance p a head close) b ∙ ap (λ x. reply_bytes instance h.base a x close) d
+    ∙ ap (λ x. reply_bytes instance h.base a (is_head turn.request) x) (c ∙ ap (λ x. closes_after x turn.request) (last_is left (length h.turns) l))
 
 closing : (h : History) (turn : Turn) (left : ℕ) (close : Bool) → left ≡ 999 - length h.turns → close ≡ closes_after (left == 0) turn.request
     → cond close (Some Done) None ≡ cond (closes_after (is_last h) turn.request) (Some Done) None
@@ -301,7 +294,7 @@ closing h turn left close l c = ap (λ x. cond x (Some Done) None) (c ∙ ap (λ
 pub served_told : (h : History) (turn : Turn) (base : List ℕ) (left : ℕ) (head close : Bool) (replied : Result (Unit {0}) AllocError) (turns : List Turn) (ended : Option StreamEnd) (out : List ℕ)
     → IsServed h → h.stands ≡ Some turn.request → base ≡ h.base → left ≡ 999 - length h.turns → head ≡ is_head turn.request → close ≡ closes_after (left == 0) turn.request
     → turns ≡ h.turns ++ turn ∷ [] → ended ≡ cond (is_ok replied) (cond close (Some Done) None) (Some WriteFault)
-    → OnOk replied (out ≡ h.out ++ reply_bytes h.instance base turn.answer head close) → OnErr replied (out ≡ h.out)
+    → OnOk replied (out ≡ h.out ++ reply_bytes turn.answered.instance base turn.answered.answer head close) → OnErr replied (out ≡ h.out)
     → IsServed (record h { turns = turns; stands = None; ended = ended; out = out })
 served_told h turn base left head close (Ok u) turns ended out s stands b l d c t e ok err =
     let so = e ∙ closing h turn left close l c in

@@ -1,7 +1,7 @@
 -- Requests answered one after another, of bytes that come in pieces.
-use Rattle.std.proofs.Common.{◌≡◌, ℕ, ◌+◌, ◌-◌, ◌<◌, List, [], ◌∷◌, ◌++◌, length, take, drop, get_or, flat_map, Option, Some, None, Result, Ok, Err, inl, inr, refl, sym, ap, ◌∙◌, subst, arith, append_assoc}
+use Rattle.std.proofs.Common.{◌≡◌, ℕ, ◌+◌, ◌-◌, ◌<◌, List, [], ◌∷◌, ◌++◌, map, length, take, drop, get_or, flat_map, Option, Some, None, Result, Ok, Err, inl, inr, refl, sym, ap, ◌∙◌, subst, arith, append_assoc}
 use Rattle.std.specs.declared.alloc.AllocError.{AllocError}
-use Rattle.std.specs.Prelude.{◌⊎◌, IfSome, IsTrue, IsFalse}
+use Rattle.std.specs.Prelude.{◌⊎◌, IfOk, IfSome, IsTrue, IsFalse}
 use Rattle.std.proofs.lemmas.Bool.{both_ways}
 use Rattle.std.proofs.lemmas.List.{take-append-drop, take-take, drop-take, take_more, append-nil}
 use Rattle.std.proofs.lemmas.List.Concat.{flat_map-append}
@@ -13,15 +13,15 @@ use Rattle.lra_commands.specs.declared.counter.CounterFault.{CounterFault}
 use Rattle.lra_commands.specs.Counters.{Setting, Sight, KeepsHistory}
 use Rattle.lra_front.specs.declared.stream.StreamEnd.{StreamEnd}
 use Rattle.lra_front.specs.declared.stream.StreamEnd.TheVariants.{Done, Refused, WriteFault}
-use Rattle.lra_front.specs.Serving.{Responds}
-use Rattle.lra_front.specs.Transcripts.{Turn, Chain, Spells, EndsAfter}
-use Rattle.lra_front.proofs.Transcribed.{same_setting}
+use Rattle.lra_front.specs.Transcripts.{Chain as FrontChain, EndsAfter as FrontEnds, Spells, IsFront}
 use Rattle.lra_steps.specs.declared.connection.Step.TheVariants.{Stands, Ended}
-use Rattle.lra_steps.specs.History.{History, IsServed, IsLasting, IsOpenSo, Replies, setting_of, ordered, took, finished, went}
+use Rattle.lra_steps.specs.declared.responder.Answered.{Answered}
+use Rattle.lra_steps.specs.History.{History, IsServed, IsLasting, IsOpenSo, Replies, EndsAfter, Turn, plain, fault_reply, ordered, took, finished, went}
 use Rattle.lra_steps.specs.Steps.{StepsTo, Tells}
-use Rattle.lra_steps.specs.Pieces.{Answers, ServesBytes}
-use Rattle.lra_steps.specs.inner.Feeding.{Follows}
-use Rattle.lra_steps.proofs.TurnLemmas.{Spells-more}
+use Rattle.lra_steps.specs.Pieces.{Answers, AnswersAlone, Chain, Serves, ServesBytes}
+use Rattle.lra_steps.specs.inner.Alone.{setting_stays}
+use Rattle.lra_steps.specs.inner.Feeding.{Follows, IsFresh}
+use Rattle.lra_steps.proofs.TurnLemmas.{AreOf, Spells-more, replies_plain}
 use Rattle.lra_steps.proofs.HistoryLemmas.{all_read, refuses}
 
 -- ---- pieces
@@ -69,17 +69,17 @@ none_left (x ∷ xs) = none_left xs
 -- ---- the end
 
 -- it is that of all bytes, where more follow
-ends_more : (c : Setting) (end : StreamEnd) (h : History) (back : List ℕ) → IsLasting end h.turns h.kept ⊎ IsTrue h.closed → IsFalse h.closed ⊎ (back ≡ []) → Replies c (Some end) h
-    → EndsAfter c 999 h.turns (h.kept ++ back) (h.sent ++ h.out) end
-ends_more c WriteFault h back why over r = inl r
-ends_more c Done h back why (inr none) r =
-    subst (λ (xs : List ℕ). EndsAfter c 999 h.turns xs (h.sent ++ h.out) Done) (sym (ap (λ xs. h.kept ++ xs) none ∙ append-nil h.kept)) r
-ends_more c (Refused fault) h back why (inr none) r =
-    subst (λ (xs : List ℕ). EndsAfter c 999 h.turns xs (h.sent ++ h.out) (Refused fault)) (sym (ap (λ xs. h.kept ++ xs) none ∙ append-nil h.kept)) r
-ends_more c Done h back (inr shut) (inl goes) r = absurd (both_ways h.closed goes shut)
-ends_more c (Refused fault) h back (inr shut) (inl goes) r = absurd (both_ways h.closed goes shut)
-ends_more c Done h back (inl stays) (inl goes) r = (r.0, inr stays)
-ends_more c (Refused fault) h back (inl stays) (inl goes) r = (r.0, refuses (h.kept ++ back) fault (refused_more h.kept back fault stays), r.2)
+ends_more : (end : StreamEnd) (h : History) (back : List ℕ) → IsLasting end h.turns h.kept ⊎ IsTrue h.closed → IsFalse h.closed ⊎ (back ≡ []) → Replies (Some end) h
+    → EndsAfter h.instance h.base h.turns (h.kept ++ back) (h.sent ++ h.out) end
+ends_more WriteFault h back why over r = r
+ends_more Done h back why (inr none) r =
+    subst (λ (xs : List ℕ). EndsAfter h.instance h.base h.turns xs (h.sent ++ h.out) Done) (sym (ap (λ xs. h.kept ++ xs) none ∙ append-nil h.kept)) r
+ends_more (Refused fault) h back why (inr none) r =
+    subst (λ (xs : List ℕ). EndsAfter h.instance h.base h.turns xs (h.sent ++ h.out) (Refused fault)) (sym (ap (λ xs. h.kept ++ xs) none ∙ append-nil h.kept)) r
+ends_more Done h back (inr shut) (inl goes) r = absurd (both_ways h.closed goes shut)
+ends_more (Refused fault) h back (inr shut) (inl goes) r = absurd (both_ways h.closed goes shut)
+ends_more Done h back (inl stays) (inl goes) r = (r.0, inr stays)
+ends_more (Refused fault) h back (inl stays) (inl goes) r = (r.0, refuses (h.kept ++ back) fault (refused_more h.kept back fault stays), r.2)
 
 -- a turn more, and what stays as it was
 record Turned (h new : History) (turn : Turn) : Type 0 where
@@ -98,44 +98,44 @@ turned h new turn (Err f) e = subst (λ (g : History). Turned h g turn) (sym e) 
 
 -- ---- answers
 
-module _ (K : Type 0) (gives : Sight → ℕ → Order → Result Told CounterFault → Sight → Type 0) (tells : K → ℕ → K → Type 0) where
+module _ (S K : Type 0) (base_of : S → List ℕ) (responds : S → ℕ → Request → Answered → S → Type 0) (tells : K → ℕ → K → Type 0) where
   -- a turn more
-  chain-push : (v w x : Sight) (k l m : K) (turns : List Turn) (turn : Turn) → Chain gives tells v k turns w l → tells l turn.moment m
-      → Responds gives w turn.moment turn.request x turn.answer → Chain gives tells v k (turns ++ turn ∷ []) x m
+  chain-push : (v w x : S) (k l m : K) (turns : List Turn) (turn : Turn) → Chain responds tells v k turns w l → tells l turn.moment m
+      → responds w turn.moment turn.request turn.answered x → Chain responds tells v k (turns ++ turn ∷ []) x m
   chain-push v w x k l m [] turn c t r =
-      (x, m, subst (λ (j : K). tells j turn.moment m) c.1 t, subst (λ (u : Sight). Responds gives u turn.moment turn.request x turn.answer) c.0 r, (refl, refl))
+      (x, m, subst (λ (j : K). tells j turn.moment m) c.1 t, subst (λ (u : S). responds u turn.moment turn.request turn.answered x) c.0 r, (refl, refl))
   chain-push v w x k l m (first ∷ turns) turn c t r = (c.0, c.1, c.2, c.3, chain-push c.0 w x c.1 l m turns turn c.4 t r)
 
-  module _ (keeps : (before after : Sight) (moment : ℕ) (o : Order) (reply : Result Told CounterFault) → gives before moment o reply after → KeepsHistory before moment o reply after) where
+  module _ (stays : (before after : S) (moment : ℕ) (request : Request) (answered : Answered) → responds before moment request answered after → base_of after ≡ base_of before) where
     -- a request was read and answered, and what stays as it was
-    pub record Passes (h new : History) (w x : Sight) (l m : K) : Type 0 where
-      pub follows : (v : Sight) (k : K) → Follows gives tells v k h w l → Follows gives tells v k new x m
-      pub setting : x.setting ≡ w.setting
+    pub record Passes (h new : History) (w x : S) (l m : K) : Type 0 where
+      pub follows : (v : S) (k : K) → Follows base_of responds tells v k h w l → Follows base_of responds tells v k new x m
+      pub same : base_of x ≡ base_of w
       pub none : new.stands ≡ None
+      pub instance : new.instance ≡ h.instance
       pub base : new.base ≡ h.base
       pub taken : new.taken ≡ h.taken
       pub sent : new.sent ≡ h.sent
       pub closed : new.closed ≡ h.closed
       pub shorter : length new.kept < length h.kept
 
-    pub passes : (h mid new : History) (w x : Sight) (l m : K) (result : Result (Unit {0}) AllocError) → StepsTo Stands h mid
-        → IfSome mid.stands (λ request. Answers gives tells request w x l m mid new result) → Passes h new w x l m
+    pub passes : (h mid new : History) (w x : S) (l m : K) (result : Result (Unit {0}) AllocError) → StepsTo Stands h mid
+        → IfSome mid.stands (λ request. Answers responds tells request w x l m mid new result) → Passes h new w x l m
     passes h mid new w x l m result s all =
         let request : Request = s.0 in
-        let a : Answers gives tells request w x l m (ordered h request s.1) new result = subst (λ (g : History). IfSome g.stands (λ request. Answers gives tells request w x l m g new result)) s.4 all in
-        let turn : Turn = record { request = request; moment = a.moment; answer = a.answer } in
+        let a : Answers responds tells request w x l m (ordered h request s.1) new result = subst (λ (g : History). IfSome g.stands (λ request. Answers responds tells request w x l m g new result)) s.4 all in
+        let turn : Turn = record { request = request; moment = a.moment; answered = a.answered } in
         let t : Turned (ordered h request s.1) new turn = turned (ordered h request s.1) new turn result a.told in
-        let same = same_setting K gives tells keeps w x a.moment request a.answer a.responds in
+        let same = stays w x a.moment request a.answered a.given in
         record {
           follows = λ v k f. record {
-            chain = subst (λ (ts : List Turn). Chain gives tells v k ts x m) (sym t.turns) (chain-push v w x k l m h.turns turn f.chain a.clocked a.responds);
-            setting = same ∙ f.setting;
-            instance = t.instance ∙ f.instance;
-            base = t.base ∙ f.base;
+            chain = subst (λ (ts : List Turn). Chain responds tells v k ts x m) (sym t.turns) (chain-push v w x k l m h.turns turn f.chain a.clocked a.given);
+            base = t.base ∙ f.base ∙ sym same;
             none = t.none;
           };
-          setting = same;
+          same = same;
           none = t.none;
+          instance = t.instance;
           base = t.base;
           taken = t.taken;
           sent = t.sent;
@@ -144,52 +144,104 @@ module _ (K : Type 0) (gives : Sight → ℕ → Order → Result Told CounterFa
         }
 
   -- bytes came, or went
-  pub follows_took : (v w : Sight) (k l : K) (h : History) (more : List ℕ) (new : History) → new ≡ took h more → Follows gives tells v k h w l → Follows gives tells v k new w l
-  follows_took v w k l h more new e f =
-      subst (λ (g : History). Follows gives tells v k g w l) (sym e) (record { chain = f.chain; setting = f.setting; instance = f.instance; base = f.base; none = f.none })
+  pub follows_took : (v w : S) (k l : K) (h : History) (more : List ℕ) (new : History) → new ≡ took h more → Follows base_of responds tells v k h w l → Follows base_of responds tells v k new w l
+  follows_took v w k l h more new e f = subst (λ (g : History). Follows base_of responds tells v k g w l) (sym e) (record { chain = f.chain; base = f.base; none = f.none })
 
-  pub follows_went : (v w : Sight) (k l : K) (h : History) (count : ℕ) (new : History) → new ≡ went h count → Follows gives tells v k h w l → Follows gives tells v k new w l
-  follows_went v w k l h count new e f =
-      subst (λ (g : History). Follows gives tells v k g w l) (sym e) (record { chain = f.chain; setting = f.setting; instance = f.instance; base = f.base; none = f.none })
+  pub follows_went : (v w : S) (k l : K) (h : History) (count : ℕ) (new : History) → new ≡ went h count → Follows base_of responds tells v k h w l → Follows base_of responds tells v k new w l
+  follows_went v w k l h count new e f = subst (λ (g : History). Follows base_of responds tells v k g w l) (sym e) (record { chain = f.chain; base = f.base; none = f.none })
 
-  pub follows_finished : (v w : Sight) (k l : K) (h new : History) → new ≡ finished h → Follows gives tells v k h w l → Follows gives tells v k new w l
-  follows_finished v w k l h new e f =
-      subst (λ (g : History). Follows gives tells v k g w l) (sym e) (record { chain = f.chain; setting = f.setting; instance = f.instance; base = f.base; none = f.none })
+  pub follows_finished : (v w : S) (k l : K) (h new : History) → new ≡ finished h → Follows base_of responds tells v k h w l → Follows base_of responds tells v k new w l
+  follows_finished v w k l h new e f = subst (λ (g : History). Follows base_of responds tells v k g w l) (sym e) (record { chain = f.chain; base = f.base; none = f.none })
 
   -- how it ended, and what stays as it was
-  pub record Finishes (end : StreamEnd) (h new : History) (w : Sight) (l : K) : Type 0 where
-    pub follows : (v : Sight) (k : K) → Follows gives tells v k h w l → Follows gives tells v k new w l
+  pub record Finishes (end : StreamEnd) (h new : History) (w : S) (l : K) : Type 0 where
+    pub follows : (v : S) (k : K) → Follows base_of responds tells v k h w l → Follows base_of responds tells v k new w l
     pub ended : new.ended ≡ Some end
+    pub instance : new.instance ≡ h.instance
+    pub base : new.base ≡ h.base
     pub taken : new.taken ≡ h.taken
     pub sent : new.sent ≡ h.sent
     pub closed : new.closed ≡ h.closed
 
-  pub finishes : (end : StreamEnd) (h new : History) (w : Sight) (l : K) → StepsTo (Ended end) h new → Finishes end h new w l
-  finishes end h new w l (inl s) = subst (λ (g : History). Finishes end h g w l) (sym s.1) (record { follows = λ v k f. f; ended = s.0; taken = refl; sent = refl; closed = refl })
+  pub finishes : (end : StreamEnd) (h new : History) (w : S) (l : K) → StepsTo (Ended end) h new → Finishes end h new w l
+  finishes end h new w l (inl s) = subst (λ (g : History). Finishes end h g w l) (sym s.1) (record { follows = λ v k f. f; ended = s.0; instance = refl; base = refl; taken = refl; sent = refl; closed = refl })
   finishes end h new w l (inr s) = subst (λ (g : History). Finishes end h g w l) (sym s.2) (record {
-    follows = λ v k f. record { chain = f.chain; setting = f.setting; instance = f.instance; base = f.base; none = f.none };
+    follows = λ v k f. record { chain = f.chain; base = f.base; none = f.none };
     ended = refl;
+    instance = refl;
+    base = refl;
     taken = refl;
     sent = refl;
     closed = refl;
   })
 
-  -- All that was answered and handed out is what a stream of all bytes does.
-  pub serves : (v w : Sight) (k l : K) (h : History) (end : StreamEnd) (all back before out : List ℕ) → IsServed h → Follows gives tells v k h w l → h.ended ≡ Some end → h.out ≡ []
-      → IsFalse h.closed ⊎ (back ≡ []) → h.taken ++ back ≡ all → out ≡ before ++ h.sent → ServesBytes gives tells all before v k end out w l
-  serves v w k l h end all back before out s f ended none over whole written =
-      let c : Setting = setting_of h v.setting.version v.setting.limits in
-      let here : c ≡ v.setting = λ i. record { version = v.setting.version; instance = f.instance i; base = f.base i; limits = v.setting.limits } in
-      let r : Replies c (Some end) h = subst (λ (o : Option StreamEnd). Replies c o h) ended (s.replied v.setting.version v.setting.limits) in
+  -- nothing has come yet
+  pub follows_fresh : (v : S) (k : K) (h : History) → IsFresh (base_of v) h → Follows base_of responds tells v k h v k
+  follows_fresh v k h f = record { chain = subst (λ (ts : List Turn). Chain responds tells v k ts v k) (sym f.turns) (refl, refl); base = f.base; none = f.none }
+
+  -- All that was answered and handed out is what all bytes come to.
+  pub serves : (instance : ℕ) (base : List ℕ) (v w : S) (k l : K) (h : History) (end : StreamEnd) (all back before out : List ℕ) → IsServed h → Follows base_of responds tells v k h w l
+      → h.instance ≡ instance → h.base ≡ base → h.ended ≡ Some end → h.out ≡ [] → IsFalse h.closed ⊎ (back ≡ []) → h.taken ++ back ≡ all → out ≡ before ++ h.sent
+      → Serves responds tells instance base all before v k end out w l
+  serves instance base v w k l h end all back before out s f i b ended none over whole written =
+      let r : Replies (Some end) h = subst (λ (o : Option StreamEnd). Replies o h) ended s.replied in
       let so : IsOpenSo (Some end) h = subst (λ (o : Option StreamEnd). IsOpenSo o h) ended s.open_so in
-      let q : EndsAfter c 999 h.turns (h.kept ++ back) h.sent end =
-      subst (λ (xs : List ℕ). EndsAfter c 999 h.turns (h.kept ++ back) xs end) (ap (λ xs. h.sent ++ xs) none ∙ append-nil h.sent) (ends_more c end h back so.1 over r) in
+      let rest = h.kept ++ back in
+      let mine : EndsAfter h.instance h.base h.turns rest h.sent end =
+      subst (λ (xs : List ℕ). EndsAfter h.instance h.base h.turns rest xs end) (ap (λ xs. h.sent ++ xs) none ∙ append-nil h.sent) (ends_more end h back so.1 over r) in
       record {
         turns = h.turns;
-        rest = h.kept ++ back;
+        rest = rest;
         out = h.sent;
-        spelled = subst (λ (xs : List ℕ). Spells xs h.turns (h.kept ++ back)) whole (Spells-more h.taken h.turns h.kept back (all_read h s f.none));
+        spelled = subst (λ (xs : List ℕ). Spells xs (map plain h.turns) rest) whole (Spells-more h.taken (map plain h.turns) h.kept back (all_read h s f.none));
         chain = f.chain;
-        written = ap Some written;
-        ends = subst (λ (z : Setting). EndsAfter z 999 h.turns (h.kept ++ back) h.sent end) here q;
+        written = written;
+        ends = subst (λ (q : List ℕ). EndsAfter instance q h.turns rest h.sent end) b (subst (λ (j : ℕ). EndsAfter j h.base h.turns rest h.sent end) i mine);
       }
+
+-- ---- a counter that answers by itself
+
+-- how it ends, as of the front
+ends_plain : (c : Setting) (end : StreamEnd) (turns : List Turn) (rest out : List ℕ) → AreOf c.instance turns → EndsAfter c.instance c.base turns rest out end
+    → FrontEnds c 999 (map plain turns) rest out end
+ends_plain c Done turns rest out of r = (r.0 ∙ replies_plain c 999 turns of, r.1)
+ends_plain c (Refused fault) turns rest out of r = (r.0 ∙ ap (λ xs. xs ++ fault_reply c.instance c.base fault) (replies_plain c 999 turns of), r.1, r.2)
+ends_plain c WriteFault turns rest out of r = inl (subst (IsFront out) (replies_plain c 999 turns of) r.0, r.1)
+
+module _ (K : Type 0) (gives : Sight → ℕ → Order → Result Told CounterFault → Sight → Type 0) (tells : K → ℕ → K → Type 0)
+    (keeps : (before after : Sight) (moment : ℕ) (o : Order) (reply : Result Told CounterFault) → gives before moment o reply after → KeepsHistory before moment o reply after) where
+  -- its turns are those of the front, and all of one coordinator
+  record Alone (v w : Sight) (k l : K) (turns : List Turn) : Type 0 where
+    of : AreOf v.setting.instance turns
+    chain : FrontChain gives tells v k (map plain turns) w l
+
+  alone : (v w : Sight) (k l : K) (turns : List Turn) → Chain (AnswersAlone gives) tells v k turns w l → Alone v w k l turns
+  alone v w k l [] c = record { of = tt; chain = c }
+  alone v w k l (turn ∷ turns) c =
+      let same = setting_stays gives keeps v c.0 turn.moment turn.request turn.answered.answer c.3.1 in
+      let more = alone c.0 w c.1 l turns c.4 in
+      record {
+        of = (c.3.0, subst (λ (z : Setting). AreOf z.instance turns) same more.of);
+        chain = (c.0, c.1, c.2, c.3.1, more.chain);
+      }
+
+  -- What bytes come to at such a counter is what a stream of them does.
+  serves_bytes : (bytes old : List ℕ) (v w : Sight) (k l : K) (end : StreamEnd) (new : List ℕ)
+      → Serves (AnswersAlone gives) tells v.setting.instance v.setting.base bytes old v k end new w l → ServesBytes gives tells bytes old v k end new w l
+  serves_bytes bytes old v w k l end new s =
+      let a = alone v w k l s.turns s.chain in
+      record {
+        turns = map plain s.turns;
+        rest = s.rest;
+        out = s.out;
+        spelled = s.spelled;
+        chain = a.chain;
+        written = ap Some s.written;
+        ends = ends_plain v.setting end s.turns s.rest s.out a.of s.ends;
+      }
+
+  pub serves_alone : (instance : ℕ) (bytes old : List ℕ) (v w : Sight) (k l : K) (r : Result StreamEnd AllocError) (new : List ℕ) → instance ≡ v.setting.instance
+      → IfOk r (λ end. Serves (AnswersAlone gives) tells instance v.setting.base bytes old v k end new w l) → IfOk r (λ end. ServesBytes gives tells bytes old v k end new w l)
+  serves_alone instance bytes old v w k l (Ok end) new e s =
+      serves_bytes bytes old v w k l end new (subst (λ (i : ℕ). Serves (AnswersAlone gives) tells i v.setting.base bytes old v k end new w l) e s)
+  serves_alone instance bytes old v w k l (Err f) new e s = tt

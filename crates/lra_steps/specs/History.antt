@@ -1,21 +1,29 @@
 -- What a connection has done, and what is true of it.
-use Rattle.std.specs.Prelude.{◌≡◌, ◌⊎◌, ℕ, ◌-◌, ◌≤◌, Bool, true, false, ◌||◌, nat_le, List, [], ◌∷◌, ◌++◌, length, take, drop, Option, Some, None, is_some, IsTrue, ⊤, if◌then◌else◌}
+use Rattle.std.specs.Prelude.{◌≡◌, ◌⊎◌, ℕ, zero, suc, ◌-◌, ◌≤◌, Bool, true, false, ◌||◌, nat_le, List, [], ◌∷◌, ◌++◌, map, length, take, drop, Option, Some, None, is_some, IsTrue, ⊤, if◌then◌else◌}
 use Rattle.std.specs.Option.{option_map_or}
-use Rattle.lra_model.specs.declared.version.Version.{Version}
 use Rattle.lra_wire.specs.declared.fault.WireFault.{WireFault}
 use Rattle.lra_wire.specs.Fronts.{RefusesFront}
-use Rattle.lra_wire.specs.Request.{Request, IsRequest}
-use Rattle.lra_commands.specs.declared.limits.Limits.{Limits}
-use Rattle.lra_commands.specs.Counters.{Setting}
+use Rattle.lra_wire.specs.Request.{Request, IsRequest, RefusesRequest}
 use Rattle.lra_front.specs.declared.stream.StreamEnd.{StreamEnd}
 use Rattle.lra_front.specs.declared.stream.StreamEnd.TheVariants.{Done, Refused, WriteFault}
 use Rattle.lra_front.specs.Replies.{reply_bytes}
 use Rattle.lra_front.specs.Streams.{fault_answer, is_head, closes_after}
-use Rattle.lra_front.specs.Transcripts.{Turn, Spells, replies, StaysOpen, StaysOpenBefore, ClosesLast, IsFront, EndsAfter}
+use Rattle.lra_front.specs.Transcripts.{Turn as FrontTurn, Spells, StaysOpen, StaysOpenBefore, ClosesLast, IsFront}
+use Rattle.lra_steps.specs.declared.responder.Answered.{Answered}
+
+-- a request, the moment at which it was answered, its answer and whose that is
+pub record Turn : Type 0 where
+  pub request : Request
+  pub moment : ℕ
+  pub answered : Answered
+
+-- the same where there is one coordinator
+abbrev pub plain : Turn → FrontTurn
+plain turn = record { request = turn.request; moment = turn.moment; answer = turn.answered.answer }
 
 -- all that a connection has done
 pub record History : Type 0 where
-  -- the coordinator whose answers are replied
+  -- whose identifiers the reply to a fault of reading names, and what all URIs begin with
   pub instance : ℕ
   pub base : List ℕ
   -- all bytes that were taken, those of them that belong to no request yet, and whether no more come
@@ -31,9 +39,19 @@ pub record History : Type 0 where
   pub sent : List ℕ
   pub out : List ℕ
 
--- the coordinator that replies, whatever its version and its limits are
-abbrev pub setting_of : History → Version → Limits → Setting
-setting_of h version limits = record { version = version; instance = h.instance; base = h.base; limits = limits }
+-- the reply to a turn, the last that is taken or not: it names the identifiers of the coordinator whose answer it is
+abbrev pub turn_reply : List ℕ → Bool → Turn → List ℕ
+turn_reply base last turn = reply_bytes turn.answered.instance base turn.answered.answer (is_head turn.request) (closes_after last turn.request)
+
+-- the replies to turns, one after another, of which so many are taken and one more
+abbrev pub replies : List ℕ → ℕ → List Turn → List ℕ
+replies base n [] = []
+replies base zero (turn ∷ turns) = turn_reply base true turn ++ replies base zero turns
+replies base (suc n) (turn ∷ turns) = turn_reply base false turn ++ replies base n turns
+
+-- the reply to a fault of reading
+abbrev pub fault_reply : ℕ → List ℕ → WireFault → List ℕ
+fault_reply instance base fault = option_map_or (λ a. reply_bytes instance base a false true) (fault_answer fault) []
 
 -- The bytes are those kept, or the request that stands and then those kept.
 abbrev pub StandsAt : Option Request → List ℕ → List ℕ → Type 0
@@ -42,31 +60,36 @@ StandsAt (Some request) bytes kept = IsRequest bytes request kept
 
 -- The end stays whatever bytes follow: the stream is closed after the last request, or what is kept can't become one, or a reply was lost.
 abbrev pub IsLasting : StreamEnd → List Turn → List ℕ → Type 0
-IsLasting Done turns kept = ClosesLast 999 turns
+IsLasting Done turns kept = ClosesLast 999 (map plain turns)
 IsLasting (Refused fault) turns kept = RefusesFront kept fault
 IsLasting WriteFault turns kept = ⊤
 
 -- The stream stays open after each request so far. At its end no request stands, and that end stays, or no more bytes come.
 abbrev pub IsOpenSo : Option StreamEnd → History → Type 0
-IsOpenSo None h = StaysOpen 999 h.turns
+IsOpenSo None h = StaysOpen 999 (map plain h.turns)
 IsOpenSo (Some end) h = (h.stands ≡ None) × (IsLasting end h.turns h.kept ⊎ IsTrue h.closed)
 
--- What went out and what may is the replies to the requests that were answered, in order, and at the end what that comes to, as of a stream that is
--- served whole; where the last reply was lost, a proper front of them.
-abbrev pub Replies : Setting → Option StreamEnd → History → Type 0
-Replies c None h = h.sent ++ h.out ≡ replies c 999 h.turns
-Replies c (Some Done) h = EndsAfter c 999 h.turns h.kept (h.sent ++ h.out) Done
-Replies c (Some (Refused fault)) h = EndsAfter c 999 h.turns h.kept (h.sent ++ h.out) (Refused fault)
-Replies c (Some WriteFault) h = IsFront (h.sent ++ h.out) (replies c 999 h.turns) × StaysOpenBefore 999 h.turns
+-- Why a stream has ended after these turns, where the rest was still to be read, and what went out by then: the replies to the requests that were
+-- answered, in order, and to a fault of reading; where the last reply was lost, a proper front of them.
+abbrev pub EndsAfter : ℕ → List ℕ → List Turn → List ℕ → List ℕ → StreamEnd → Type 0
+EndsAfter instance base turns rest out Done = (out ≡ replies base 999 turns) × (((rest ≡ []) × StaysOpen 999 (map plain turns)) ⊎ ClosesLast 999 (map plain turns))
+EndsAfter instance base turns rest out (Refused fault) =
+    (out ≡ replies base 999 turns ++ fault_reply instance base fault) × RefusesRequest rest fault × StaysOpen 999 (map plain turns)
+EndsAfter instance base turns rest out WriteFault = IsFront out (replies base 999 turns) × StaysOpenBefore 999 (map plain turns)
+
+-- What went out and what may is the replies to the requests that were answered, in order, and at the end what that comes to.
+abbrev pub Replies : Option StreamEnd → History → Type 0
+Replies None h = h.sent ++ h.out ≡ replies h.base 999 h.turns
+Replies (Some end) h = EndsAfter h.instance h.base h.turns h.kept (h.sent ++ h.out) end
 
 -- True of every connection, after any calls.
 pub record IsServed (h : History) : Type 0 where
   -- the bytes taken are the requests that were answered, in order, then the one that stands, and then what is kept
   pub behind : List ℕ
-  pub spelled : Spells h.taken h.turns behind
+  pub spelled : Spells h.taken (map plain h.turns) behind
   pub standing : StandsAt h.stands behind h.kept
   pub open_so : IsOpenSo h.ended h
-  pub replied : (version : Version) (limits : Limits) → Replies (setting_of h version limits) h.ended h
+  pub replied : Replies h.ended h
   pub bound : length h.kept ≤ 73728
 
 abbrev pub begun : ℕ → List ℕ → History
@@ -103,26 +126,18 @@ ordered h request rest = record h { kept = rest; stands = Some request }
 abbrev pub is_last : History → Bool
 is_last h = nat_le 999 (length h.turns)
 
--- the reply of the coordinator to a turn
-abbrev pub turn_reply : ℕ → List ℕ → Bool → Turn → List ℕ
-turn_reply instance base last turn = reply_bytes instance base turn.answer (is_head turn.request) (closes_after last turn.request)
-
 -- the request was answered, and the connection ends where it is closed after it
 abbrev pub answered : History → Turn → History
 answered h turn = record h {
   turns = h.turns ++ turn ∷ [];
   stands = None;
   ended = if closes_after (is_last h) turn.request then Some Done else None;
-  out = h.out ++ turn_reply h.instance h.base (is_last h) turn;
+  out = h.out ++ turn_reply h.base (is_last h) turn;
 }
 
 -- the request was answered, and memory for its reply was refused: the connection ends without it
 abbrev pub lost : History → Turn → History
 lost h turn = record h { turns = h.turns ++ turn ∷ []; stands = None; ended = Some WriteFault }
-
--- the reply of the coordinator to a fault of reading
-abbrev pub fault_reply : ℕ → List ℕ → WireFault → List ℕ
-fault_reply instance base fault = option_map_or (λ a. reply_bytes instance base a false true) (fault_answer fault) []
 
 -- what is replied at the end: something to a fault alone
 abbrev pub end_reply : ℕ → List ℕ → StreamEnd → List ℕ

@@ -1,28 +1,50 @@
--- Connections whose requests are answered at a counter, and streams that come in pieces.
-use Rattle.std.specs.Prelude.{ℕ, List, Some, None, Result}
+-- Connections whose requests are answered by whoever answers, and streams that come in pieces to a counter.
+use Rattle.std.specs.Prelude.{◌≡◌, ℕ, List, [], ◌∷◌, ◌++◌, map, Some, None, Result}
 use Rattle.std.specs.declared.alloc.AllocError.{AllocError}
 use Rattle.lra_wire.specs.Request.{Request}
 use Rattle.lra_commands.specs.declared.command.Told.{Told}
 use Rattle.lra_commands.specs.declared.counter.Order.{Order}
 use Rattle.lra_commands.specs.declared.counter.CounterFault.{CounterFault}
 use Rattle.lra_commands.specs.Counters.{Sight}
-use Rattle.lra_front.specs.declared.answer.Answer.{Answer}
 use Rattle.lra_front.specs.declared.stream.StreamEnd.{StreamEnd}
 use Rattle.lra_front.specs.Serving.{Responds}
 use Rattle.lra_front.specs.Streams.{standing}
-use Rattle.lra_front.specs.Transcripts.{Transcript}
-use Rattle.lra_steps.specs.History.{History}
+use Rattle.lra_front.specs.Transcripts.{Spells, Transcript}
+use Rattle.lra_steps.specs.declared.responder.Answered.{Answered}
+use Rattle.lra_steps.specs.History.{History, Turn, EndsAfter, plain}
 use Rattle.lra_steps.specs.Steps.{Tells}
 
-module _ {K : Type 0} (gives : Sight → ℕ → Order → Result Told CounterFault → Sight → Type 0) (tells : K → ℕ → K → Type 0) where
-  -- a request is answered at a moment that the clock tells, and one order at most is given
-  pub record Answers (request : Request) (v w : Sight) (k l : K) (old new : History) (result : Result (Unit {0}) AllocError) : Type 0 where
-    pub moment : ℕ
-    pub answer : Answer
-    pub clocked : tells k moment l
-    pub responds : Responds gives v moment request w answer
-    pub told : Tells result old new (record { request = request; moment = moment; answer = answer })
+-- a counter that answers by itself: what the front does over it, and the answer names its identifiers
+abbrev pub AnswersAlone : (Sight → ℕ → Order → Result Told CounterFault → Sight → Type 0) → Sight → ℕ → Request → Answered → Sight → Type 0
+AnswersAlone gives before moment request answered after = (answered.instance ≡ before.setting.instance) × Responds gives before moment request after answered.answer
 
+module _ {S K : Type 0} (responds : S → ℕ → Request → Answered → S → Type 0) (tells : K → ℕ → K → Type 0) where
+  -- one turn after another: the clock tells its moment, and its request is answered at that moment
+  abbrev pub Chain : S → K → List Turn → S → K → Type 0
+  Chain v k [] w l = (w ≡ v) × (l ≡ k)
+  Chain v k (turn ∷ turns) w l =
+      (u : S) × (j : K) × tells k turn.moment j × responds v turn.moment turn.request turn.answered u × Chain u j turns w l
+
+  -- a request is answered at a moment that the clock tells
+  pub record Answers (request : Request) (v w : S) (k l : K) (old new : History) (result : Result (Unit {0}) AllocError) : Type 0 where
+    pub moment : ℕ
+    pub answered : Answered
+    pub clocked : tells k moment l
+    pub given : responds v moment request answered w
+    pub told : Tells result old new (record { request = request; moment = moment; answered = answered })
+
+  -- What bytes come to: the requests that they spell are answered one after another, and replied in their order, each by whose answer it is. The
+  -- instance is that of replies to faults of reading.
+  pub record Serves (instance : ℕ) (base bytes old : List ℕ) (v : S) (k : K) (end : StreamEnd) (new : List ℕ) (w : S) (l : K) : Type 0 where
+    pub turns : List Turn
+    pub rest : List ℕ
+    pub out : List ℕ
+    pub spelled : Spells bytes (map plain turns) rest
+    pub chain : Chain v k turns w l
+    pub written : new ≡ old ++ out
+    pub ends : EndsAfter instance base turns rest out end
+
+module _ {K : Type 0} (gives : Sight → ℕ → Order → Result Told CounterFault → Sight → Type 0) (tells : K → ℕ → K → Type 0) where
   -- what these bytes come to is what a stream of them does (`AreTranscripts`), where its end and what went out are known
   abbrev pub ServesBytes : List ℕ → List ℕ → Sight → K → StreamEnd → List ℕ → Sight → K → Type 0
   ServesBytes bytes old v k end new w l = Transcript gives tells 999 bytes old (standing (Some bytes) v k (Some old)) end (standing None w l (Some new))

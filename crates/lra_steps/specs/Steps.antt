@@ -6,10 +6,9 @@ use Rattle.lra_wire.specs.Fronts.{RefusesFront}
 use Rattle.lra_wire.specs.Request.{Request, IsRequest, RefusesRequest, AwaitsRequest}
 use Rattle.lra_front.specs.declared.stream.StreamEnd.{StreamEnd}
 use Rattle.lra_front.specs.declared.stream.StreamEnd.TheVariants.{Done, Refused, WriteFault}
-use Rattle.lra_front.specs.Transcripts.{Turn}
 use Rattle.lra_steps.specs.declared.connection.Step.{Step}
 use Rattle.lra_steps.specs.declared.connection.Step.TheVariants.{Wants, Stands, Waits, Ended}
-use Rattle.lra_steps.specs.History.{History, room_of, took, ordered, answered, lost, ended_by}
+use Rattle.lra_steps.specs.History.{History, Turn, room_of, took, ordered, answered, lost, ended_by}
 
 -- the connection goes on, and no request stands
 abbrev pub IsFree : History → Type 0

@@ -2,3 +2,4 @@
 pub mod Ends
 pub mod Fields
 pub mod Feeding
+pub mod Alone

@@ -14,8 +14,9 @@ ghost use Rattle.lra_steps.specs.inner.Fields.{backs, fronts, turn_of};
 
 use crate::queue::Queue;
 use crate::reply::{push_fault, push_reply};
+use crate::responder::Answered;
 use http::Method;
-use lra_front::{Answer, StreamEnd};
+use lra_front::StreamEnd;
 use lra_ids::{Address, Instance};
 use lra_log::Log;
 use lra_model::Memory;
@@ -47,13 +48,14 @@ pub enum Step {
 #[derive(Clone, Copy)]
 struct Reply {
     moment: u64,
-    answer: Answer,
+    answered: Answered,
 }
 
 /// A connection of HTTP/1.1, as steps. A contract sees its history.
 #[derive(Drop)]
 pub struct Connection {
     alloc: Global,
+    /// Whose identifiers the reply to a fault of reading names.
     instance: Instance,
     kept: Queue,
     out: Queue,
@@ -167,7 +169,7 @@ fn end_after(replied: bool, close: bool) -> Option<StreamEnd>
 }
 
 impl Connection {
-    /// A connection to the coordinator of that instance and base.
+    /// A connection at which all URIs begin with that base, and replies to faults of reading name identifiers of that instance.
     pub fn new(alloc: Global, instance: Instance, base: &Address) -> Connection
         ensures { result ≡ begun instance base.now }
     {
@@ -278,15 +280,15 @@ impl Connection {
         }
     }
 
-    /// The answer to the request that stands, and the moment at which it was given. Where memory for its reply is refused, the
-    /// reply is lost and the connection ends: the request doesn't stand any more in any case.
-    pub fn told(&mut self, base: &Address, moment: u64, answer: Answer) -> Result<(), Memory>
+    /// The answer to the request that stands, and the moment at which it was given: the reply names identifiers of the instance whose answer it is.
+    /// Where memory for it is refused, the reply is lost and the connection ends: the request doesn't stand any more in any case.
+    pub fn told(&mut self, base: &Address, moment: u64, answered: Answered) -> Result<(), Memory>
         requires stands { IsSome self.old.stands }
-        requires numbers { HasIdentifiers answer }
+        requires numbers { HasIdentifiers answered.answer }
         requires value { base.now ≡ self.old.base }
         requires base { IsTrue (is_base base.now) }
         ensures { IfSome self.old.stands (λ request.
-            Tells result self.old self.new (record { request = request; moment = moment; answer = answer })) }
+            Tells result self.old self.new (record { request = request; moment = moment; answered = answered })) }
     {
         let Some(request) = &self.stands else {
             unreachable!();
@@ -296,13 +298,13 @@ impl Connection {
         let replied = push_reply(
             self.alloc,
             &mut self.out,
-            self.instance,
+            answered.instance,
             base,
-            answer,
+            answered.answer,
             head,
             close,
         );
-        note_turn(&mut self.turns, request, &Reply { moment, answer });
+        note_turn(&mut self.turns, request, &Reply { moment, answered });
         self.left = self.left.saturating_sub(1);
         self.stands = None;
         self.ended = end_after(replied.is_ok(), close);

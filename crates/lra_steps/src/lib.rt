@@ -5,7 +5,9 @@
 mod connection;
 mod queue;
 mod reply;
+mod responder;
 mod serve;
 
 pub use connection::{Connection, Step};
-pub use serve::{answer_request, serve_pieces};
+pub use responder::{Answered, Responder};
+pub use serve::{answer_pieces, answer_request, serve_pieces};

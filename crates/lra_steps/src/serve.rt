@@ -1,57 +1,58 @@
-//! Callers of connections: one that has a request answered at a counter, and one that has pieces in place of a socket.
-ghost use Rattle.std.specs.Prelude.{◌≡◌, ◌++◌, flat_map, length, None, IfOk, IfSome, IsSome, OnOk};
-ghost use Rattle.lra_commands.specs.Counters.{Sight};
-ghost use Rattle.lra_steps.specs.History.{begun, went};
-ghost use Rattle.lra_steps.specs.Pieces.{Answers, ServesBytes};
-ghost use Rattle.lra_steps.specs.inner.Feeding.{Follows, Fed};
+//! Callers of connections: one that has a request answered, and one that has pieces in place of a socket.
+ghost use Rattle.std.specs.Prelude.{◌≡◌, ℕ, ◌++◌, flat_map, length, None, IfOk, IfSome, IsSome, OnOk};
+ghost use Rattle.lra_steps.specs.History.{went};
+ghost use Rattle.lra_steps.specs.Pieces.{Answers, Serves, ServesBytes};
+ghost use Rattle.lra_steps.specs.inner.Feeding.{Follows, Fed, IsFresh};
 
 use crate::connection::{Connection, Step};
+use crate::responder::Responder;
 use lra_commands::Counter;
 use lra_front::{Clock, Routes, StreamEnd};
+use lra_ids::Instance;
 use lra_model::Memory;
 use std::alloc::Global;
 
-/// Has the request that stands answered: the clock tells the moment, and one order at most is given to the counter. Where memory
-/// for the reply is refused, what was asked for stands all the same, and the connection ends.
-pub fn answer_request<C: Counter, K: Clock>(
+/// Has the request that stands answered, at the moment that the clock tells. Where memory for the reply is refused, what was asked for
+/// stands all the same, and the connection ends.
+pub fn answer_request<A: Responder, K: Clock>(
     alloc: Global,
     routes: &Routes,
     connection: &mut Connection,
-    counter: &mut C,
+    responder: &mut A,
     clock: &mut K,
 ) -> Result<(), Memory>
     requires stands { IsSome connection.old.stands }
-    requires base { connection.old.base ≡ (C.sight counter.old).setting.base }
-    ensures { IfSome connection.old.stands (λ request. Answers C.gives K.tells request
-        (C.sight counter.old) (C.sight counter.new) clock.old clock.new connection.old connection.new result) }
+    requires base { connection.old.base ≡ A.base_of (A.sight responder.old) }
+    ensures { IfSome connection.old.stands (λ request. Answers A.responds K.tells request
+        (A.sight responder.old) (A.sight responder.new) clock.old clock.new connection.old connection.new result) }
 {
     let moment = clock.now();
     let Some(request) = connection.request() else {
         unreachable!();
     };
-    let answer = routes.respond(alloc, counter, moment, request);
-    connection.told(counter.base(), moment, answer)
+    let answered = responder.respond(alloc, routes, moment, request);
+    connection.told(responder.base(), moment, answered)
 }
 
 /// Takes a piece of any length, and has all requests answered that are whole. Tells how the connection ended, if it did.
-fn feed<C: Counter, K: Clock>(
+fn feed<A: Responder, K: Clock>(
     alloc: Global,
     routes: &Routes,
     connection: &mut Connection,
     piece: &[u8],
-    counter: &mut C,
+    responder: &mut A,
     clock: &mut K,
 ) -> Result<Option<StreamEnd>, Memory>
     requires none { connection.old.stands ≡ None }
-    requires base { connection.old.base ≡ (C.sight counter.old).setting.base }
-    ensures { IfOk result (λ end. (v : Sight) (k : K) → Follows C.gives K.tells v k connection.old (C.sight counter.old) clock.old
-        → Fed C.gives K.tells end piece.now v k connection.old connection.new (C.sight counter.new) clock.new) }
+    requires base { connection.old.base ≡ A.base_of (A.sight responder.old) }
+    ensures { IfOk result (λ end. (v : A.State) (k : K) → Follows A.base_of A.responds K.tells v k connection.old (A.sight responder.old) clock.old
+        → Fed A.base_of A.responds K.tells end piece.now v k connection.old connection.new (A.sight responder.new) clock.new) }
 {
     let mut at = 0;
     loop {
-        match connection.next(counter.base())? {
+        match connection.next(responder.base())? {
             // Where its reply is lost, the next step says so.
-            Step::Stands => drop(answer_request(alloc, routes, connection, counter, clock)),
+            Step::Stands => drop(answer_request(alloc, routes, connection, responder, clock)),
             Step::Waits => unreachable!(),
             Step::Ended(end) => return Ok(Some(end)),
             Step::Wants => {
@@ -81,21 +82,28 @@ fn flush(connection: &mut Connection, sent: &mut Vec<u8>) -> Result<(), Memory>
 }
 
 /// Answers the pieces and then the end of their stream, and hands out all replies.
-fn serve_through<C: Counter, K: Clock>(
+fn serve_through<A: Responder, K: Clock>(
     alloc: Global,
     routes: &Routes,
     connection: &mut Connection,
     pieces: &[Vec<u8>],
     sent: &mut Vec<u8>,
-    counter: &mut C,
+    responder: &mut A,
     clock: &mut K,
 ) -> Result<StreamEnd, Memory>
-    requires { connection.old ≡ begun (C.sight counter.old).setting.instance (C.sight counter.old).setting.base }
-    ensures { IfOk result (λ end. ServesBytes C.gives K.tells (flat_map (λ piece. piece.items) pieces.now) sent.old.items
-        (C.sight counter.old) clock.old end sent.new.items (C.sight counter.new) clock.new) }
+    requires { IsFresh (A.base_of (A.sight responder.old)) connection.old }
+    ensures { IfOk result (λ end. Serves A.responds K.tells connection.old.instance (A.base_of (A.sight responder.old))
+        (flat_map (λ piece. piece.items) pieces.now) sent.old.items (A.sight responder.old) clock.old end sent.new.items (A.sight responder.new) clock.new) }
 {
     for piece in pieces {
-        let end = feed(alloc, routes, connection, piece.as_slice(), counter, clock)?;
+        let end = feed(
+            alloc,
+            routes,
+            connection,
+            piece.as_slice(),
+            responder,
+            clock,
+        )?;
         flush(connection, sent)?;
         if let Some(end) = end {
             connection.served();
@@ -103,13 +111,57 @@ fn serve_through<C: Counter, K: Clock>(
         }
     }
     connection.finish();
-    let end = feed(alloc, routes, connection, b"", counter, clock)?;
+    let end = feed(alloc, routes, connection, b"", responder, clock)?;
     flush(connection, sent)?;
     connection.served();
     match end {
         Some(end) => Ok(end),
         None => unreachable!(),
     }
+}
+
+/// The same over a new connection, at which replies to faults of reading name identifiers of that instance.
+fn serve_new<A: Responder, K: Clock>(
+    alloc: Global,
+    instance: Instance,
+    pieces: &[Vec<u8>],
+    sent: &mut Vec<u8>,
+    responder: &mut A,
+    clock: &mut K,
+) -> Result<StreamEnd, Memory>
+    ensures { IfOk result (λ end. Serves A.responds K.tells instance (A.base_of (A.sight responder.old))
+        (flat_map (λ piece. piece.items) pieces.now) sent.old.items (A.sight responder.old) clock.old end sent.new.items (A.sight responder.new) clock.new) }
+{
+    let routes = Routes::new(alloc)?;
+    let mut connection = Connection::new(alloc, instance, responder.base());
+    let end = serve_through(
+        alloc,
+        &routes,
+        &mut connection,
+        pieces,
+        sent,
+        responder,
+        clock,
+    );
+    drop(connection);
+    drop(routes);
+    end
+}
+
+/// Answers a stream that comes in these pieces by whoever answers, and appends the replies: each request of it once and in order, at a moment that the clock
+/// tells, however the bytes are cut. Where memory is refused otherwise than for a reply, that is told.
+pub fn answer_pieces<A: Responder, K: Clock>(
+    alloc: Global,
+    pieces: &[Vec<u8>],
+    sent: &mut Vec<u8>,
+    responder: &mut A,
+    clock: &mut K,
+) -> Result<StreamEnd, Memory>
+    ensures { IfOk result (λ end. (instance : ℕ) × Serves A.responds K.tells instance (A.base_of (A.sight responder.old))
+        (flat_map (λ piece. piece.items) pieces.now) sent.old.items (A.sight responder.old) clock.old end sent.new.items (A.sight responder.new) clock.new) }
+{
+    let instance = responder.instance();
+    serve_new(alloc, instance, pieces, sent, responder, clock)
 }
 
 /// Answers a stream that comes in these pieces, and appends the replies. What is done and replied is what `serve_stream` does and
@@ -124,18 +176,6 @@ pub fn serve_pieces<C: Counter, K: Clock>(
     ensures { IfOk result (λ end. ServesBytes C.gives K.tells (flat_map (λ piece. piece.items) pieces.now) sent.old.items
         (C.sight counter.old) clock.old end sent.new.items (C.sight counter.new) clock.new) }
 {
-    let routes = Routes::new(alloc)?;
-    let mut connection = Connection::new(alloc, counter.instance(), counter.base());
-    let end = serve_through(
-        alloc,
-        &routes,
-        &mut connection,
-        pieces,
-        sent,
-        counter,
-        clock,
-    );
-    drop(connection);
-    drop(routes);
-    end
+    let instance = counter.instance();
+    serve_new(alloc, instance, pieces, sent, counter, clock)
 }

@@ -1,12 +1,10 @@
--- What a piece of bytes comes to at a counter.
-use Rattle.std.specs.Prelude.{◌≡◌, ℕ, List, ◌++◌, take, Option, Some, None, Result, IsFalse}
-use Rattle.lra_commands.specs.declared.command.Told.{Told}
-use Rattle.lra_commands.specs.declared.counter.Order.{Order}
-use Rattle.lra_commands.specs.declared.counter.CounterFault.{CounterFault}
-use Rattle.lra_commands.specs.Counters.{Sight}
+-- What a piece of bytes comes to where requests are answered.
+use Rattle.std.specs.Prelude.{◌≡◌, ℕ, List, [], ◌++◌, take, Option, Some, None, IsFalse}
+use Rattle.lra_wire.specs.Request.{Request}
 use Rattle.lra_front.specs.declared.stream.StreamEnd.{StreamEnd}
-use Rattle.lra_front.specs.Transcripts.{Chain}
+use Rattle.lra_steps.specs.declared.responder.Answered.{Answered}
 use Rattle.lra_steps.specs.History.{History}
+use Rattle.lra_steps.specs.Pieces.{Chain}
 
 -- the piece was taken, or a front of it up to where the connection ended
 abbrev pub TakesPiece : Option StreamEnd → List ℕ → List ℕ → List ℕ → Type 0
@@ -18,18 +16,27 @@ abbrev pub Comes : Option StreamEnd → History → Type 0
 Comes None h = IsFalse h.closed
 Comes (Some end) h = h.ended ≡ Some end
 
-module _ {K : Type 0} (gives : Sight → ℕ → Order → Result Told CounterFault → Sight → Type 0) (tells : K → ℕ → K → Type 0) where
-  -- All requests of the connection that were answered were so at that counter, one after another, and none stands.
-  pub record Follows (v : Sight) (k : K) (h : History) (w : Sight) (l : K) : Type 0 where
-    pub chain : Chain gives tells v k h.turns w l
-    pub setting : w.setting ≡ v.setting
-    pub instance : h.instance ≡ v.setting.instance
-    pub base : h.base ≡ v.setting.base
+-- nothing has come yet
+pub record IsFresh (own : List ℕ) (h : History) : Type 0 where
+  pub turns : h.turns ≡ []
+  pub none : h.stands ≡ None
+  pub closed : IsFalse h.closed
+  pub taken : h.taken ≡ []
+  pub sent : h.sent ≡ []
+  pub base : h.base ≡ own
+
+module _ {S K : Type 0} (base_of : S → List ℕ) (responds : S → ℕ → Request → Answered → S → Type 0) (tells : K → ℕ → K → Type 0) where
+  -- All requests of the connection that were answered were so, one after another, and none stands.
+  pub record Follows (v : S) (k : K) (h : History) (w : S) (l : K) : Type 0 where
+    pub chain : Chain responds tells v k h.turns w l
+    pub base : h.base ≡ base_of w
     pub none : h.stands ≡ None
 
   -- a piece was taken, and what stood was answered
-  pub record Fed (end : Option StreamEnd) (piece : List ℕ) (v : Sight) (k : K) (old new : History) (w : Sight) (l : K) : Type 0 where
+  pub record Fed (end : Option StreamEnd) (piece : List ℕ) (v : S) (k : K) (old new : History) (w : S) (l : K) : Type 0 where
     pub follows : Follows v k new w l
+    pub instance : new.instance ≡ old.instance
+    pub base : new.base ≡ old.base
     pub sent : new.sent ≡ old.sent
     pub closed : new.closed ≡ old.closed
     pub taken : TakesPiece end old.taken new.taken piece

@@ -4,10 +4,9 @@ use Rattle.std.specs.Option.{option_map}
 use Rattle.lra_wire.specs.declared.request.RequestRead.{RequestRead}
 use Rattle.lra_wire.specs.Fronts.{Sees}
 use Rattle.lra_wire.specs.Request.{request_of}
-use Rattle.lra_front.specs.Transcripts.{Turn}
 use Rattle.lra_steps.specs.declared.connection.Connection.TheInside.{Inside}
 use Rattle.lra_steps.specs.declared.connection.Reply.{Reply}
-use Rattle.lra_steps.specs.History.{History, IsServed}
+use Rattle.lra_steps.specs.History.{History, Turn, IsServed}
 
 -- what stood behind each place, and before it
 abbrev pub backs : List (List ℕ × ℕ) → List (List ℕ)
@@ -16,9 +15,9 @@ backs marks = map (λ m. drop m.1 m.0) marks
 abbrev pub fronts : List (List ℕ × ℕ) → List (List ℕ)
 fronts marks = map (λ m. take m.1 m.0) marks
 
--- a request and what it was replied
+-- a request and what it was answered
 abbrev pub turn_of : RequestRead × Reply → Turn
-turn_of pair = record { request = request_of pair.0; moment = pair.1.moment; answer = pair.1.answer }
+turn_of pair = record { request = request_of pair.0; moment = pair.1.moment; answered = pair.1.answered }
 
 abbrev pub history_of : Inside → History
 history_of c = record {

@@ -7,10 +7,11 @@ use Rattle.lra_rounds.proofs.answering.answer_next.Goals as goal
 
 pub returns-in-Stands : goal.returns-in-Stands
 returns-in-Stands g c =
-    let gives = g.C.Counter.gives in
+    let base_of = g.A.Responder.base_of in
+    let responds = g.A.Responder.responds in
     let tells = g.K.Clock.tells in
-    let v = g.C.Counter.sight c.args.counter.now in
+    let v = g.A.Responder.sight c.args.responder.now in
     let k = c.args.clock.now in
     let step = subst (λ (step : Step). StepsTo step c.args.connection.now c.next.new.self) c.in-Stands.is c.in_ok-next.ensures in
-    answers_on gives tells c.args.connection.now c.next.new.self c.answer_standing.new.connection v v (g.C.Counter.sight c.answer_standing.new.counter) k k c.answer_standing.new.clock
-    (answers_step gives tells Stands c.args.connection.now c.next.new.self v k step) c.answer_standing.ensures
+    answers_on base_of responds tells c.args.connection.now c.next.new.self c.answer_standing.new.connection v v (g.A.Responder.sight c.answer_standing.new.responder) k k c.answer_standing.new.clock
+    (answers_step base_of responds tells Stands c.args.connection.now c.next.new.self v k step) c.answer_standing.ensures

@@ -1,24 +1,23 @@
-use Rattle.std.proofs.Common.{ap, sym, ◌∙◌}
-use Rattle.lra_commands.specs.Counters.{Setting}
+use Rattle.std.proofs.Common.{sym, ◌∙◌}
 use Rattle.lra_rounds.proofs.Answers.{answers_on}
 use Rattle.lra_rounds.proofs.answering.answer_some.Goals as goal
 
 pub answer_next-requires : goal.answer_next-requires
 answer_next-requires g c =
     let before = c.loop-turn.invariant in
-    before.base ∙ c.requires ∙ sym (ap (λ (s : Setting). s.base) before.setting)
+    before.base ∙ c.requires ∙ sym before.same
 
 pub returns-in_err-stage : goal.returns-in_err-stage
 returns-in_err-stage g c =
-    answers_on g.C.Counter.gives g.K.Clock.tells c.args.connection.now c.loop-turn.connection c.answer_next.new.connection (g.C.Counter.sight c.args.counter.now) (g.C.Counter.sight c.loop-turn.counter)
-    (g.C.Counter.sight c.answer_next.new.counter) c.args.clock.now c.loop-turn.clock c.answer_next.new.clock c.loop-turn.invariant c.answer_next.ensures
+    answers_on g.A.Responder.base_of g.A.Responder.responds g.K.Clock.tells c.args.connection.now c.loop-turn.connection c.answer_next.new.connection (g.A.Responder.sight c.args.responder.now) (g.A.Responder.sight c.loop-turn.responder)
+    (g.A.Responder.sight c.answer_next.new.responder) c.args.clock.now c.loop-turn.clock c.answer_next.new.clock c.loop-turn.invariant c.answer_next.ensures
 
 pub returns-in-Some : goal.returns-in-Some
 returns-in-Some g c =
-    answers_on g.C.Counter.gives g.K.Clock.tells c.args.connection.now c.loop-turn.connection c.answer_next.new.connection (g.C.Counter.sight c.args.counter.now) (g.C.Counter.sight c.loop-turn.counter)
-    (g.C.Counter.sight c.answer_next.new.counter) c.args.clock.now c.loop-turn.clock c.answer_next.new.clock c.loop-turn.invariant c.answer_next.ensures
+    answers_on g.A.Responder.base_of g.A.Responder.responds g.K.Clock.tells c.args.connection.now c.loop-turn.connection c.answer_next.new.connection (g.A.Responder.sight c.args.responder.now) (g.A.Responder.sight c.loop-turn.responder)
+    (g.A.Responder.sight c.answer_next.new.responder) c.args.clock.now c.loop-turn.clock c.answer_next.new.clock c.loop-turn.invariant c.answer_next.ensures
 
 pub loop-turn-preserved : goal.loop-turn-preserved
 loop-turn-preserved g c =
-    answers_on g.C.Counter.gives g.K.Clock.tells c.args.connection.now c.loop-turn.connection c.answer_next.new.connection (g.C.Counter.sight c.args.counter.now) (g.C.Counter.sight c.loop-turn.counter)
-    (g.C.Counter.sight c.answer_next.new.counter) c.args.clock.now c.loop-turn.clock c.answer_next.new.clock c.loop-turn.invariant c.answer_next.ensures
+    answers_on g.A.Responder.base_of g.A.Responder.responds g.K.Clock.tells c.args.connection.now c.loop-turn.connection c.answer_next.new.connection (g.A.Responder.sight c.args.responder.now) (g.A.Responder.sight c.loop-turn.responder)
+    (g.A.Responder.sight c.answer_next.new.responder) c.args.clock.now c.loop-turn.clock c.answer_next.new.clock c.loop-turn.invariant c.answer_next.ensures

@@ -1,5 +1,4 @@
 use Rattle.std.proofs.Common.{◌≡◌, ℕ, ◌+◌, ◌-◌, List, take, drop, ap, sym, ◌∙◌, subst, arith, Ok}
-use Rattle.lra_commands.specs.Counters.{Setting}
 use Rattle.lra_steps.specs.declared.connection.Step.{Step}
 use Rattle.lra_steps.specs.History.{History, took}
 use Rattle.lra_steps.specs.Steps.{StepsTo, Takes}
@@ -9,21 +8,23 @@ use Rattle.lra_steps.proofs.serve.feed.Goals as goal
 pub loop-alloc-smaller-in-Stands : goal.loop-alloc-smaller-in-Stands
 loop-alloc-smaller-in-Stands g c =
     let s = subst (λ (step : Step). StepsTo step c.loop-alloc.connection c.next.new.self) c.in-Stands.is c.in_ok-next.ensures in
-    let p = passes g.row.K.Denot g.C.Counter.gives g.K.Clock.tells g.met.C.Counter.keeps c.loop-alloc.connection c.next.new.self c.answer_request.new.connection
-    (g.C.Counter.sight c.loop-alloc.counter) (g.C.Counter.sight c.answer_request.new.counter) c.loop-alloc.clock c.answer_request.new.clock c.answer_request.result s c.answer_request.ensures in
+    let p = passes g.A.Responder.State g.row.K.Denot g.A.Responder.base_of g.A.Responder.responds g.K.Clock.tells g.met.A.Responder.stays c.loop-alloc.connection c.next.new.self c.answer_request.new.connection
+    (g.A.Responder.sight c.loop-alloc.responder) (g.A.Responder.sight c.answer_request.new.responder) c.loop-alloc.clock c.answer_request.new.clock c.answer_request.result s c.answer_request.ensures in
     omega (arith, p.shorter)
 
 pub loop-alloc-preserved-in-Stands : goal.loop-alloc-preserved-in-Stands
 loop-alloc-preserved-in-Stands g c =
     let s = subst (λ (step : Step). StepsTo step c.loop-alloc.connection c.next.new.self) c.in-Stands.is c.in_ok-next.ensures in
-    let p = passes g.row.K.Denot g.C.Counter.gives g.K.Clock.tells g.met.C.Counter.keeps c.loop-alloc.connection c.next.new.self c.answer_request.new.connection
-    (g.C.Counter.sight c.loop-alloc.counter) (g.C.Counter.sight c.answer_request.new.counter) c.loop-alloc.clock c.answer_request.new.clock c.answer_request.result s c.answer_request.ensures in
+    let p = passes g.A.Responder.State g.row.K.Denot g.A.Responder.base_of g.A.Responder.responds g.K.Clock.tells g.met.A.Responder.stays c.loop-alloc.connection c.next.new.self c.answer_request.new.connection
+    (g.A.Responder.sight c.loop-alloc.responder) (g.A.Responder.sight c.answer_request.new.responder) c.loop-alloc.clock c.answer_request.new.clock c.answer_request.result s c.answer_request.ensures in
     let before = c.loop-alloc.invariant in
     record {
       within = before.within;
       none = p.none;
-      base = p.base ∙ before.base ∙ sym (ap (λ (s : Setting). s.base) p.setting);
+      base = p.base ∙ before.base ∙ sym p.same;
+      own = p.base ∙ before.own;
       follows = λ v k f. p.follows v k (before.follows v k f);
+      instance = p.instance ∙ before.instance;
       sent = p.sent ∙ before.sent;
       closed = p.closed ∙ before.closed;
       taken = p.taken ∙ before.taken;
@@ -32,10 +33,12 @@ loop-alloc-preserved-in-Stands g c =
 pub returns-in-Ended : goal.returns-in-Ended
 returns-in-Ended g c = λ v k f.
     let s = subst (λ (step : Step). StepsTo step c.loop-alloc.connection c.next.new.self) c.in-Ended.is c.in_ok-next.ensures in
-    let p = finishes g.row.K.Denot g.C.Counter.gives g.K.Clock.tells c.in-Ended.end c.loop-alloc.connection c.next.new.self (g.C.Counter.sight c.loop-alloc.counter) c.loop-alloc.clock s in
+    let p = finishes g.A.Responder.State g.row.K.Denot g.A.Responder.base_of g.A.Responder.responds g.K.Clock.tells c.in-Ended.end c.loop-alloc.connection c.next.new.self (g.A.Responder.sight c.loop-alloc.responder) c.loop-alloc.clock s in
     let before = c.loop-alloc.invariant in
     record {
       follows = p.follows v k (before.follows v k f);
+      instance = p.instance ∙ before.instance;
+      base = p.base ∙ before.own;
       sent = p.sent ∙ before.sent;
       closed = p.closed ∙ before.closed;
       taken = (c.loop-alloc.at, p.taken ∙ before.taken);
@@ -58,7 +61,9 @@ loop-alloc-preserved g c =
       within = omega arith;
       none = ap (λ (g : History). g.stands) e ∙ before.none;
       base = ap (λ (g : History). g.base) e ∙ before.base;
-      follows = λ v k f. follows_took g.row.K.Denot g.C.Counter.gives g.K.Clock.tells v (g.C.Counter.sight c.loop-alloc.counter) k c.loop-alloc.clock h bytes new e (before.follows v k f);
+      own = ap (λ (g : History). g.base) e ∙ before.own;
+      follows = λ v k f. follows_took g.A.Responder.State g.row.K.Denot g.A.Responder.base_of g.A.Responder.responds g.K.Clock.tells v (g.A.Responder.sight c.loop-alloc.responder) k c.loop-alloc.clock h bytes new e (before.follows v k f);
+      instance = ap (λ (g : History). g.instance) e ∙ before.instance;
       sent = ap (λ (g : History). g.sent) e ∙ before.sent;
       closed = ap (λ (g : History). g.closed) e ∙ before.closed;
       taken = taken_more c.args.connection.now.taken h.taken new.taken piece at count before.taken (ap (λ (g : History). g.taken) e);

@@ -2,8 +2,7 @@ use Rattle.std.proofs.Common.{map, sym, ap, ◌∙◌, cond, Some, None}
 use Rattle.std.specs.Option.{option_map}
 use Rattle.lra_wire.specs.Request.{request_of}
 use Rattle.lra_front.specs.declared.stream.StreamEnd.TheVariants.{Done, WriteFault}
-use Rattle.lra_front.specs.Transcripts.{Turn}
-use Rattle.lra_steps.specs.History.{History}
+use Rattle.lra_steps.specs.History.{History, Turn}
 use Rattle.lra_steps.specs.inner.Fields.{history_of, turn_of}
 use Rattle.lra_steps.proofs.HistoryLemmas.{served_told, left_one}
 use Rattle.lra_steps.proofs.connection.Connection.told.Goals as goal
@@ -11,7 +10,7 @@ use Rattle.lra_steps.proofs.connection.Connection.told.Goals as goal
 pub invariant_of-self : goal.invariant_of-self
 invariant_of-self c =
     let h = history_of c.self.inside in
-    let turn : Turn = record { request = request_of c.in-Some.request; moment = c.args.moment; answer = c.args.answer } in
+    let turn : Turn = record { request = request_of c.in-Some.request; moment = c.args.moment; answered = c.args.answered } in
     let left = c.self.invariant.left in
     let base = c.requires.value ∙ ap (λ (h : History). h.base) (sym c.self.view_is) in
     let turns = map turn_of c.note_turn.new.log.items in

@@ -1,0 +1,156 @@
+-- Members that join and leave, and what their URIs begin with.
+use Rattle.std.proofs.Common.{◌≡◌, ◌==◌, ℕ, Bool, true, false, List, [], ◌∷◌, ◌++◌, map, Option, Some, None, Result, refl, sym, ap, ◌∙◌, subst}
+use Rattle.std.specs.Prelude.{◌⊎◌, IfNone, IfSome, MatchOption, if◌then◌else◌}
+use Rattle.lra_commands.specs.declared.command.Told.{Told}
+use Rattle.lra_commands.specs.declared.counter.Order.{Order}
+use Rattle.lra_commands.specs.declared.counter.CounterFault.{CounterFault}
+use Rattle.lra_commands.specs.Counters.{Sight, Setting, KeepsHistory}
+use Rattle.lra_family.specs.Counted.{name}
+use Rattle.lra_family.specs.Families.{IsFamily, member, newest, put, without, Joins, Leaves}
+use Rattle.lra_family.specs.Runs.{Event, Run}
+use Rattle.lra_family.specs.Runs.Event.{Turn as OneTurn, Join, Leave}
+use Rattle.lra_family_front.specs.Serving.{Turn, names, Does, Lacks, Serves}
+use Rattle.lra_family_front.specs.inner.Stays.{responds_stays}
+use Rattle.lra_family_front.specs.Households.{HaveBase, HouseholdsRun, KeepsBase, Moved, Moves, base_of, turn_of, turns_of}
+
+-- ---- joins and leaves
+
+pub moved_none : (ss : List Sight) → Moved ss ss
+moved_none ss = ([], refl)
+
+moves_on : (ss us ts : List Sight) (xs ys : List (Event Sight Turn)) → Moves ss xs us → Moves us ys ts → Moves ss (xs ++ ys) ts
+moves_on ss us ts [] ys h k = subst (λ (vs : List Sight). Moves vs ys ts) h k
+moves_on ss us ts (OneTurn turn ∷ xs) ys h k = absurd h
+moves_on ss us ts (Join s ∷ xs) ys h k = (h.0, h.1, moves_on h.0 us ts xs ys h.2 k)
+moves_on ss us ts (Leave s ∷ xs) ys h k = (h.0, h.1, moves_on h.0 us ts xs ys h.2 k)
+
+pub moved_on : (ss us ts : List Sight) → Moved ss us → Moved us ts → Moved ss ts
+moved_on ss us ts h k = (h.0 ++ k.0, moves_on ss us ts h.0 k.0 h.1 k.1)
+
+pub moved_same : (ss ts : List Sight) → ts ≡ ss → Moved ss ts
+moved_same ss ts e = ([], e)
+
+pub moved_join : (ss ts : List Sight) (s : Sight) → Joins name ss s ts → Moved ss ts
+moved_join ss ts s h = (Join s ∷ [], (ts, h, refl))
+
+pub moved_leave : (ss ts : List Sight) (s : Sight) → Leaves name ss s ts → Moved ss ts
+moved_leave ss ts s h = (Leave s ∷ [], (ts, h, refl))
+
+-- ---- what URIs begin with
+
+pub keeps_none : (ss : List Sight) → KeepsBase ss ss
+keeps_none ss base h = h
+
+pub keeps_on : (ss us ts : List Sight) → KeepsBase ss us → KeepsBase us ts → KeepsBase ss ts
+keeps_on ss us ts h k base b = k base (h base b)
+
+pub keeps_same : (ss ts : List Sight) → ts ≡ ss → KeepsBase ss ts
+keeps_same ss ts e base h = subst (HaveBase base) (sym e) h
+
+have_more : (base : List ℕ) (ss : List Sight) (s : Sight) → HaveBase base ss → s.setting.base ≡ base → HaveBase base (ss ++ s ∷ [])
+have_more base [] s h e = (e, tt)
+have_more base (m ∷ ms) s h e = (h.0, have_more base ms s h.1 e)
+
+pub keeps_join : (ss ts : List Sight) (s : Sight) → Joins name ss s ts → ((base : List ℕ) → HaveBase base ss → s.setting.base ≡ base) → KeepsBase ss ts
+keeps_join ss ts s h kin base b = subst (HaveBase base) (sym h.joined) (have_more base ss s b (kin base b))
+
+have_less : (base : List ℕ) (i : ℕ) (ss : List Sight) → HaveBase base ss → HaveBase base (without name i ss)
+have_less base i [] h = tt
+have_less base i (s ∷ ss) h = by (name s == i) (have_less base i ss h.1) where
+  by : (b : Bool) → HaveBase base (without name i ss) → HaveBase base (if b then ss else s ∷ without name i ss)
+  by true rest = h.1
+  by false rest = (h.0, rest)
+
+pub keeps_leave : (ss ts : List Sight) (s : Sight) → Leaves name ss s ts → KeepsBase ss ts
+keeps_leave ss ts s h base b = subst (HaveBase base) (sym h.left) (have_less base (name s) ss b)
+
+some_same : (x y : Sight) → Some x ≡ Some y → x ≡ y
+some_same x y e = cc
+
+-- a member has that base
+pub member_base : (base : List ℕ) (i : ℕ) (ss : List Sight) (s : Sight) → HaveBase base ss → member name i ss ≡ Some s → s.setting.base ≡ base
+member_base base i [] s h e = absurd cc
+member_base base i (m ∷ ms) s h e = by (name m == i) (member_base base i ms s h.1) e where
+  by : (b : Bool) → (member name i ms ≡ Some s → s.setting.base ≡ base) → (if b then Some m else member name i ms) ≡ Some s → s.setting.base ≡ base
+  by true more e = ap (λ (u : Sight). u.setting.base) (sym (some_same m s e)) ∙ h.0
+  by false more e = more e
+
+-- ---- what is taken out
+
+-- it leaves, or all stay
+pub retired_moved : {T : Type 0} (sight : T → Sight) (i : ℕ) (r : Option T) (ss ts : List Sight) → IfSome r (λ c. (name (sight c) ≡ i) × Leaves name ss (sight c) ts)
+    → IfNone r (((member name i ss ≡ None) ⊎ (i ≡ newest name ss)) × (ts ≡ ss)) → Moved ss ts × KeepsBase ss ts
+retired_moved sight i None ss ts some none = (moved_same ss ts none.1, keeps_same ss ts none.1)
+retired_moved sight i (Some c) ss ts some none = (moved_leave ss ts (sight c) some.1, keeps_leave ss ts (sight c) some.1)
+
+-- ---- a turn
+
+-- what a family's URIs begin with, of which there are some
+abbrev Begin : List ℕ → List Sight → Type 0
+Begin base ss = HaveBase base ss × (base_of ss ≡ base)
+
+begin_family : (base : List ℕ) (ss : List Sight) → IsFamily (map name ss) → HaveBase base ss → Begin base ss
+begin_family base [] f h = absurd f
+begin_family base (s ∷ ss) f h = (h, h.0)
+
+have_put : (base : List ℕ) (i : ℕ) (t : Sight) (ss : List Sight) → t.setting.base ≡ base → HaveBase base ss → HaveBase base (put name i t ss)
+have_put base i t [] e h = tt
+have_put base i t (s ∷ ss) e h = by (name s == i) (have_put base i t ss e h.1) where
+  by : (b : Bool) → HaveBase base (put name i t ss) → HaveBase base (if b then t ∷ ss else s ∷ put name i t ss)
+  by true rest = (e, h.1)
+  by false rest = (h.0, rest)
+
+begin_put : (base : List ℕ) (i : ℕ) (t : Sight) (ss : List Sight) → t.setting.base ≡ base → Begin base ss → Begin base (put name i t ss)
+begin_put base i t [] e h = h
+begin_put base i t (s ∷ ss) e h = (have_put base i t (s ∷ ss) e h.0, by (name s == i)) where
+  by : (b : Bool) → base_of (if b then t ∷ ss else s ∷ put name i t ss) ≡ base
+  by true = e
+  by false = h.1
+
+module _ (gives : Sight → ℕ → Order → Result Told CounterFault → Sight → Type 0)
+    (keeps : (before after : Sight) (moment : ℕ) (o : Order) (reply : Result Told CounterFault) → gives before moment o reply after → KeepsHistory before moment o reply after) where
+  -- the URIs go on to begin so
+  pub serves_base : (base : List ℕ) (before after : List Sight) (turn : Turn) → IsFamily (map name before) → HaveBase base before → Serves gives before turn after
+      → HaveBase base after × (base_of after ≡ base)
+  serves_base base before after turn f h serves = by (member name i before) refl serves where
+    i : ℕ
+    i = names (newest name before) turn
+
+    begun : Begin base before
+    begun = begin_family base before f h
+
+    by : (o : Option Sight) → member name i before ≡ o
+        → MatchOption o (Lacks turn × (after ≡ before)) (λ s. (t : Sight) × Does gives s turn t × (after ≡ put name i t before)) → Begin base after
+    by None is k = subst (Begin base) (sym k.1) begun
+    by (Some s) is k =
+        subst (Begin base) (sym k.2)
+        (begin_put base i k.0 before
+        (ap (λ (c : Setting). c.base) (responds_stays gives keeps s k.0 turn.moment turn.request turn.answer k.1) ∙ member_base base i before s h is) begun)
+
+-- ---- a run
+
+-- joins and leaves have no turns
+moves_turns : (ss us : List Sight) (xs ys : List (Event Sight Turn)) → Moves ss xs us → turns_of (xs ++ ys) ≡ turns_of ys
+moves_turns ss us [] ys h = refl
+moves_turns ss us (OneTurn turn ∷ xs) ys h = absurd h
+moves_turns ss us (Join s ∷ xs) ys h = moves_turns h.0 us xs ys h.2
+moves_turns ss us (Leave s ∷ xs) ys h = moves_turns h.0 us xs ys h.2
+
+module _ {K : Type 0} (gives : Sight → ℕ → Order → Result Told CounterFault → Sight → Type 0) (tells : K → ℕ → K → Type 0) where
+  -- joins and leaves, and what happens then
+  moves_then : (ss us ts : List Sight) (xs ys : List (Event Sight Turn)) → Moves ss xs us → Run name names (Does gives) Lacks us ys ts → Run name names (Does gives) Lacks ss (xs ++ ys) ts
+  moves_then ss us ts [] ys h r = subst (λ (vs : List Sight). Run name names (Does gives) Lacks vs ys ts) h r
+  moves_then ss us ts (OneTurn turn ∷ xs) ys h r = absurd h
+  moves_then ss us ts (Join s ∷ xs) ys h r = (h.0, h.1, moves_then h.0 us ts xs ys h.2 r)
+  moves_then ss us ts (Leave s ∷ xs) ys h r = (h.0, h.1, moves_then h.0 us ts xs ys h.2 r)
+
+  pub households_run : HouseholdsRun gives tells
+  households_run ss ts k l [] c = ([], c.0, refl)
+  households_run ss ts k l (turn ∷ turns) c =
+      let r = c.3 in
+      let more = households_run c.0 ts c.1 l turns c.4 in
+      let ys : List (Event Sight Turn) = OneTurn (turn_of turn) ∷ more.0 in (
+        r.moved.0 ++ ys,
+        moves_then ss r.met ts r.moved.0 ys r.moved.1 (c.0, r.serves, more.1),
+        moves_turns ss r.met r.moved.0 ys r.moved.1 ∙ ap (λ xs. turn_of turn ∷ xs) more.2,
+      )

@@ -1,0 +1,9 @@
+use Rattle.std.proofs.Common.{sym, ◌∙◌}
+use Rattle.std.proofs.lemmas.Bool.Decides.{Decides-eqb}
+use Rattle.std.proofs.lemmas.Slice.Eq.{slice_eq-Decides}
+use Rattle.lra_family_front.proofs.household.is_kin.Goals as goal
+
+pub returns : goal.returns
+returns g c = λ same base h.
+    let texts = (slice_eq-Decides Decides-eqb c.as_str.result.now c.as_str-2.result.now c.eq.result c.eq.ensures).0 same in
+    sym c.base-2.ensures.value ∙ sym c.as_str-2.ensures.value ∙ sym texts ∙ c.as_str.ensures.value ∙ c.base.ensures.value ∙ c.newest.ensures base h

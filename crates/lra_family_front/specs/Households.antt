@@ -1,0 +1,69 @@
+-- A family whose members join and leave between its turns, as one that answers.
+use Rattle.std.specs.Prelude.{◌≡◌, ◌≢◌, ℕ, List, [], ◌∷◌, map, unwrap_or, Result}
+use Rattle.std.specs.List.{AllByRecursion}
+use Rattle.lra_wire.specs.Request.{Request}
+use Rattle.lra_commands.specs.declared.command.Told.{Told}
+use Rattle.lra_commands.specs.declared.counter.Order.{Order}
+use Rattle.lra_commands.specs.declared.counter.CounterFault.{CounterFault}
+use Rattle.lra_commands.specs.declared.refusal.Refusal.TheVariants as refusal
+use Rattle.lra_commands.specs.Counters.{Sight}
+use Rattle.lra_front.specs.declared.denial.Denial.TheVariants as denial
+use Rattle.lra_front.specs.declared.answer.Answer.TheVariants as answer
+use Rattle.lra_steps.specs.declared.responder.Answered.{Answered}
+use Rattle.lra_steps.specs.History.{Turn as ConnectionTurn}
+use Rattle.lra_steps.specs.Pieces.{Chain}
+use Rattle.lra_family.specs.Counted.{name}
+use Rattle.lra_family.specs.Families.{newest, Joins, Leaves}
+use Rattle.lra_family.specs.Runs.{Event, Run}
+use Rattle.lra_family.specs.Runs.Event.{Turn as OneTurn, Join, Leave}
+use Rattle.lra_family_front.specs.Naming.{instance_of}
+use Rattle.lra_family_front.specs.Serving.{Turn, names, Does, Lacks, Serves}
+
+-- the URIs of each member begin so
+abbrev pub HaveBase : List ℕ → List Sight → Type 0
+HaveBase base ss = AllByRecursion (λ s. s.setting.base ≡ base) ss
+
+-- what the URIs of the oldest member begin with
+abbrev pub base_of : List Sight → List ℕ
+base_of [] = []
+base_of (s ∷ ss) = s.setting.base
+
+-- members join and leave, one after another, and none has a turn
+abbrev pub Moves : List Sight → List (Event Sight Turn) → List Sight → Type 0
+Moves ss [] ts = ts ≡ ss
+Moves ss (OneTurn turn ∷ xs) ts = ⊥
+Moves ss (Join s ∷ xs) ts = (us : List Sight) × Joins name ss s us × Moves us xs ts
+Moves ss (Leave s ∷ xs) ts = (us : List Sight) × Leaves name ss s us × Moves us xs ts
+
+-- some members did
+abbrev pub Moved : List Sight → List Sight → Type 0
+Moved before after = (xs : List (Event Sight Turn)) × Moves before xs after
+
+-- all URIs go on to begin as they did
+abbrev pub KeepsBase : List Sight → List Sight → Type 0
+KeepsBase before after = (base : List ℕ) → HaveBase base before → HaveBase base after
+
+-- what a request at a moment does: members join and leave, and then it is answered at the one that it names, as in a family that stays
+pub record Responds (gives : Sight → ℕ → Order → Result Told CounterFault → Sight → Type 0) (before : List Sight) (moment : ℕ) (request : Request) (answered : Answered) (after : List Sight) : Type 0 where
+  pub met : List Sight
+  pub moved : Moved before met
+  pub serves : Serves gives met (record { moment = moment; request = request; answer = answered.answer }) after
+  -- it tells whose the answer is, unless memory was refused
+  pub whose : answered.answer ≢ answer.Denied (denial.Refused refusal.Memory) → answered.instance ≡ unwrap_or (instance_of request) (newest name met)
+  pub base : base_of after ≡ base_of before
+
+-- the turns among what happened, in order
+abbrev pub turns_of : List (Event Sight Turn) → List Turn
+turns_of [] = []
+turns_of (OneTurn turn ∷ xs) = turn ∷ turns_of xs
+turns_of (Join s ∷ xs) = turns_of xs
+turns_of (Leave s ∷ xs) = turns_of xs
+
+-- a turn of a connection, without whose its answer is
+abbrev pub turn_of : ConnectionTurn → Turn
+turn_of turn = record { moment = turn.moment; request = turn.request; answer = turn.answered.answer }
+
+-- Requests that a household answers one after another are a run of its family: its turns are these, in order, and members join and leave between them.
+abbrev pub HouseholdsRun : {K : Type 0} → (Sight → ℕ → Order → Result Told CounterFault → Sight → Type 0) → (K → ℕ → K → Type 0) → Type 0
+HouseholdsRun {K} gives tells = (ss ts : List Sight) (k l : K) (turns : List ConnectionTurn) → Chain (Responds gives) tells ss k turns ts l
+    → (xs : List (Event Sight Turn)) × Run name names (Does gives) Lacks ss xs ts × (turns_of xs ≡ map turn_of turns)

@@ -1,0 +1,140 @@
+//! Streams over a household: requests by turns on one connection, and a member that joins in its middle.
+
+ghost use Rattle.lra_family_front.specs.Households.{KeepsBase, Moved};
+
+use crate::counter::{Counting, NEWER, OLDER, alone, newcomer, orders_of};
+use lra_clocks::Clock;
+use lra_family::Family;
+use lra_family_front::{Household, Kinship, admit};
+use lra_steps::answer_pieces;
+use std::alloc::Global;
+
+/// Has a newer counter join at the third look.
+#[derive(Drop)]
+struct Late {
+    looks: u64,
+    newer: Option<Counting>,
+}
+
+/// The newer counter joins, where it is there still and memory isn't refused.
+fn join(family: &mut Family<Counting>, newer: &mut Option<Counting>)
+    ensures moved { Moved family.old family.new }
+    ensures base { KeepsBase family.old family.new }
+{
+    let Some(counter) = newer.take() else {
+        return;
+    };
+    *newer = admit(family, counter).err();
+}
+
+impl Kinship<Counting> for Late {
+    fn look(&mut self, family: &mut Family<Counting>) {
+        self.looks = self.looks.saturating_add(1);
+        if self.looks != 3 {
+            return;
+        }
+        join(family, &mut self.newer);
+    }
+}
+
+/// A clock that stands still.
+#[derive(Drop)]
+struct Still {
+    moment: u64,
+}
+
+impl Clock for Still {
+    ghost use Rattle.std.specs.Prelude.{◌≡◌};
+
+    ghost tells = { λ before moment after. moment ≡ before.moment };
+
+    fn now(&mut self) -> u64 {
+        self.moment
+    }
+}
+
+/// The requests of one connection.
+const STREAM: &str = "\
+GET /lra-coordinator/00000000-0000-8007-8000-000000000001 HTTP/1.1\r\nHost: h.test\r\n\r\n\
+GET /lra-coordinator/00000000-0001-8007-8000-000000000001 HTTP/1.1\r\nHost: h.test\r\n\r\n\
+GET /lra-coordinator/00000000-0001-8007-8000-000000000001 HTTP/1.1\r\nHost: h.test\r\n\r\n\
+GET /lra-coordinator/00000000-0001-8008-8000-000000000001 HTTP/1.1\r\nHost: h.test\r\n\r\n\
+POST /lra-coordinator HTTP/1.1\r\nHost: h.test\r\n\r\n\
+GET /lra-coordinator/00000000-0000-8007-8000-000000000001 HTTP/1.1\r\nHost: h.test\r\n\r\n";
+
+/// The status of each reply: 503 where a member is given the order, and 404 where none is there.
+const STATUSES: &str = "503 404 503 404 503 503 ";
+
+/// The stream in pieces of this size.
+fn cut(alloc: Global, size: usize) -> Option<Vec<Vec<u8>>> {
+    let mut pieces = Vec::new(alloc);
+    for piece in STREAM.as_bytes().chunks(size.max(1)) {
+        let piece = Vec::from_slice(alloc, piece).ok()?;
+        pieces.push(piece).ok()?;
+    }
+    Some(pieces)
+}
+
+/// The statuses of replies.
+fn statuses(alloc: Global, replies: &str) -> Option<String> {
+    let mut told = String::new(alloc);
+    let mut rest = replies;
+    for _reply in 0..16 {
+        let Some((_, more)) = rest.split_once("HTTP/1.1 ") else {
+            break;
+        };
+        told.push_str(more.get(..4)?).ok()?;
+        rest = more;
+    }
+    Some(told)
+}
+
+/// Whether these are the replies.
+fn are_so(alloc: Global, sent: &[u8]) -> bool {
+    let Ok(replies) = str::from_utf8(sent) else {
+        return false;
+    };
+    match statuses(alloc, replies) {
+        Some(told) => told.as_str() == STATUSES,
+        None => false,
+    }
+}
+
+/// The household of the older member, whom the newer will join.
+fn household(alloc: Global) -> Option<Household<Counting, Late>> {
+    let newer = newcomer(alloc);
+    let family = alone(alloc)?;
+    Some(Household::new(family, Late { looks: 0, newer }))
+}
+
+/// Whether the stream is replied so at a household.
+fn is_replied(
+    alloc: Global,
+    household: &mut Household<Counting, Late>,
+    size: usize,
+) -> Option<bool> {
+    let pieces = cut(alloc, size)?;
+    let mut sent = Vec::new(alloc);
+    let mut clock = Still { moment: 5 };
+    let end = answer_pieces(alloc, pieces.as_slice(), &mut sent, household, &mut clock);
+    let replied = end.is_ok() && are_so(alloc, sent.as_slice());
+    drop(pieces);
+    Some(replied)
+}
+
+/// Whether the stream is replied so, and each member is given two orders.
+fn comes_to(alloc: Global, size: usize) -> Option<bool> {
+    let mut household = household(alloc)?;
+    let replied = is_replied(alloc, &mut household, size);
+    let (family, kinship) = household.into_parts();
+    drop(kinship);
+    let given = orders_of(&family, OLDER) == Some(2) && orders_of(&family, NEWER) == Some(2);
+    drop(family);
+    Some(replied? && given)
+}
+
+#[test]
+fn a_connection_asks_members_by_turns(rt: HostRuntime) {
+    assert!(rt; comes_to(rt.alloc(), 1) == Some(true));
+    assert!(rt; comes_to(rt.alloc(), 4096) == Some(true));
+}

@@ -1,0 +1,103 @@
+//! Who answers requests.
+
+ghost use Rattle.std.specs.Prelude.{◌≡◌, IsTrue};
+ghost use Rattle.lra_ids.specs.Addresses.{is_base};
+ghost use Rattle.lra_wire.specs.Request.{request_of};
+ghost use Rattle.lra_front.specs.Replies.{HasIdentifiers};
+
+use lra_commands::Counter;
+use lra_front::{Answer, Routes};
+use lra_ids::{Address, Instance};
+use lra_wire::RequestRead;
+use std::alloc::Global;
+
+/// What a request is answered, and the instance whose identifiers the answer names.
+#[derive(Clone, Copy, Debug, PartialEq, Eq)]
+pub struct Answered {
+    pub instance: Instance,
+    pub answer: Answer,
+}
+
+/// Who answers requests: a counter, or several of which each request names one.
+///
+/// Callers know of it what all its URIs begin with. What an answer does is a relation that is fixed by the type; whatever that
+/// is, it is a law that those URIs go on to begin so.
+pub trait Responder {
+    ghost use Rattle.std.specs.Prelude.{◌≡◌, ℕ, List};
+    ghost use Rattle.lra_wire.specs.Request.{Request};
+    ghost use Rattle.lra_steps.specs.declared.responder.Answered.{Answered};
+
+    // What there is to know of it.
+    ghost State: { Type 0 };
+
+    // What callers know of it.
+    ghost sight: { Self → State };
+
+    // What its URIs begin with, where that is known.
+    ghost base_of: { State → List ℕ };
+
+    // What a request at a moment does: what is known before it, its answer, and what is known after it.
+    ghost responds: { State → ℕ → Request → Answered → State → Type 0 };
+
+    /// What all its URIs begin with. This takes no memory.
+    fn base(&self) -> &Address
+        ensures value { result.now ≡ base_of (sight self.now) }
+        ensures base { IsTrue (is_base result.now) };
+
+    /// Whose identifiers a reply may name that answers no request: one to a fault of reading. This takes no memory.
+    fn instance(&self) -> Instance;
+
+    /// Answers a request at a moment, in milliseconds.
+    fn respond(
+        &mut self,
+        alloc: Global,
+        routes: &Routes,
+        moment: u64,
+        request: &RequestRead,
+    ) -> Answered
+        ensures responds { responds (sight self.old) moment (request_of request.now) result (sight self.new) }
+        // Its numbers are those that identifiers can have.
+        ensures identifiers { HasIdentifiers result.answer };
+
+    // Whatever an answer does, the URIs go on to begin so.
+    ghost stays: { (before after : State) (moment : ℕ) (request : Request) (answered : Answered)
+        → responds before moment request answered after → base_of after ≡ base_of before };
+}
+
+/// A counter answers all requests by itself, as the front does over it.
+impl<C: Counter> Responder for C {
+    ghost use Rattle.std.specs.Prelude.{◌≡◌};
+    ghost use Rattle.lra_commands.specs.Counters.{Sight};
+    ghost use Rattle.lra_steps.specs.Pieces.{AnswersAlone};
+    ghost use Rattle.lra_steps.specs.inner.Alone.{base_stays};
+
+    ghost State = { Sight };
+
+    ghost sight = { C.sight };
+
+    ghost base_of = { λ s. s.setting.base };
+
+    ghost responds = { AnswersAlone C.gives };
+
+    fn base(&self) -> &Address {
+        Counter::base(self)
+    }
+
+    fn instance(&self) -> Instance {
+        Counter::instance(self)
+    }
+
+    fn respond(
+        &mut self,
+        alloc: Global,
+        routes: &Routes,
+        moment: u64,
+        request: &RequestRead,
+    ) -> Answered {
+        let instance = Counter::instance(self);
+        let answer = routes.respond(alloc, self, moment, request);
+        Answered { instance, answer }
+    }
+
+    ghost stays = { λ before after moment request answered h. base_stays C.gives C.keeps before after moment request answered h };
+}
