@@ -16,5 +16,5 @@ pub use fault::{ServeFault, enrol_fault, fault_line};
 pub use feeding::{is_new, read_opening};
 pub use file::NamedFile;
 pub use herald::{Aloud, Herald, Silence, Watched};
-pub use opening::open_office;
+pub use opening::{begin_office, open_office};
 pub use place::{Found, Place, find_journal, ready_file};

@@ -51,6 +51,37 @@ fn instance_at(moment: u64) -> Result<Instance, ServeFault>
     }
 }
 
+/// An office with a new journal of an instance, and its first clerk.
+pub fn begin_office<W: Write + Drop, R: Wait>(
+    rt: &R,
+    alloc: Global,
+    instance: Instance,
+    base: Address,
+    limits: Limits,
+    writer: W,
+    moment: u64,
+) -> Result<(Office<W>, Clerk<Desk<W>>), ServeFault>
+    requires base { is_base base ≡ true }
+    requires limits { AreKeepable limits }
+    ensures opened { IfOk result (λ opened. IsBegun (new_origin instance base limits (W.contents writer)) moment opened.0 opened.1) }
+    ensures fault { IfErr result IsOfNoScript }
+{
+    match Office::create(alloc, instance, base, limits, writer) {
+        Ok((office, pass)) => match office.clerk(rt, pass, moment) {
+            Ok(clerk) => Ok((office, clerk)),
+            Err((pass, refusal)) => {
+                drop(pass);
+                drop(office);
+                Err(enrol_fault(refusal))
+            }
+        },
+        Err((fault, writer)) => {
+            drop(writer);
+            Err(start_fault(fault))
+        }
+    }
+}
+
 /// An office with a new journal, whose instance is the moment.
 fn begin<W: Write + Drop, R: Wait>(
     rt: &R,
@@ -65,19 +96,12 @@ fn begin<W: Write + Drop, R: Wait>(
     ensures opened { IfOk result (λ opened. IsBegun (new_origin moment base limits (W.contents writer)) moment opened.0 opened.1) }
     ensures fault { IfErr result IsOfNoScript }
 {
-    let instance = instance_at(moment)?;
-    match Office::create(alloc, instance, base, limits, writer) {
-        Ok((office, pass)) => match office.clerk(rt, pass, moment) {
-            Ok(clerk) => Ok((office, clerk)),
-            Err((pass, refusal)) => {
-                drop(pass);
-                drop(office);
-                Err(enrol_fault(refusal))
-            }
-        },
-        Err((fault, writer)) => {
+    match instance_at(moment) {
+        Ok(instance) => begin_office(rt, alloc, instance, base, limits, writer, moment),
+        Err(fault) => {
+            drop(base);
             drop(writer);
-            Err(start_fault(fault))
+            Err(fault)
         }
     }
 }

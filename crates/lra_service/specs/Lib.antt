@@ -1,2 +1,3 @@
+pub mod Limited
 pub mod Outcomes
 pub mod inner

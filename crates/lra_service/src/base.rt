@@ -13,7 +13,7 @@ use std::alloc::Global;
 use std::net::{Net, TcpListener};
 
 /// The base of the identifiers that are served at an address, or why there is none.
-pub(crate) fn base_at(alloc: Global, to: &str) -> Result<Address, ServeFault>
+pub fn base_at(alloc: Global, to: &str) -> Result<Address, ServeFault>
     ensures text { IfOk result (λ base. base ≡ base_text to.now) }
     ensures base { IfOk result (λ base. is_base base ≡ true) }
     ensures fault { IfErr result IsOfAddress }
@@ -27,7 +27,7 @@ pub(crate) fn base_at(alloc: Global, to: &str) -> Result<Address, ServeFault>
 }
 
 /// A listener at a base's host and port.
-pub(crate) fn bind<R: Net>(alloc: Global, rt: &R, base: &Address) -> Result<R::Listener, ServeFault>
+pub fn bind<R: Net>(alloc: Global, rt: &R, base: &Address) -> Result<R::Listener, ServeFault>
     ensures { IfErr result IsOfAddress }
 {
     let Ok(socket) = socket_text(alloc, base) else {

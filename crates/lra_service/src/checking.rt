@@ -14,7 +14,7 @@ use std::alloc::Global;
 use std::io::Write;
 
 /// Writes a line of a word and a number.
-fn put_number<W: Write>(
+pub fn put_number<W: Write>(
     alloc: Global,
     word: &str,
     number: u64,
@@ -25,7 +25,7 @@ fn put_number<W: Write>(
 }
 
 /// Writes a line of a word and a text.
-fn put_text<W: Write>(
+pub fn put_text<W: Write>(
     alloc: Global,
     word: &str,
     text: &str,
@@ -36,7 +36,7 @@ fn put_text<W: Write>(
 }
 
 /// Writes a line for each setting.
-fn put_settings<W: Write>(
+pub fn put_settings<W: Write>(
     alloc: Global,
     settings: &Settings,
     writer: &mut W,
@@ -53,7 +53,7 @@ fn put_settings<W: Write>(
 }
 
 /// Writes what a sound journal has.
-fn put_journal<W: Write>(
+pub fn put_journal<W: Write>(
     alloc: Global,
     opening: &Opening,
     writer: &mut W,

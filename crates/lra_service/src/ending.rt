@@ -1,15 +1,20 @@
 //! How a service comes to its end.
 
-ghost use Rattle.std.specs.Prelude.{IfErr};
+ghost use Rattle.std.specs.Prelude.{◌≡◌, ◌⊎◌, IfOk, IfErr, OnOk};
+ghost use Rattle.std.specs.Io.KnownBytes.{Appends};
+ghost use Rattle.lra_opening.specs.Ends.{serving_line, IsSaid};
 ghost use Rattle.lra_opening.specs.Faults.{IsOfNoScript};
 
+use crate::running::Served;
+use lra_durable::{Disk, Progress};
 use lra_opening::ServeFault;
 use lra_reports::RunFault;
 use mio::Waker;
-use std::io::{ErrorKind, Read};
+use std::alloc::Global;
+use std::io::{ErrorKind, Read, Write};
 use std::marker::Send;
-use std::sync::Arc;
 use std::sync::atomic::{AtomicBool, Ordering};
+use std::sync::{Arc, Wait};
 use std::thread::{Builder, Threads};
 
 /// How many bytes of what nobody needs are read at once.
@@ -17,7 +22,7 @@ const PIECE: usize = 256;
 
 /// Whether a service is to end, or no one answers any more, and what wakes who waits for connections then.
 #[derive(Drop)]
-pub(crate) struct Ending {
+pub struct Ending {
     /// It is to end gently.
     is_asked: AtomicBool,
     /// No one answers any more.
@@ -27,7 +32,7 @@ pub(crate) struct Ending {
 
 impl Ending {
     /// It is to go on.
-    pub(crate) fn new(bell: Waker) -> Ending {
+    pub fn new(bell: Waker) -> Ending {
         Ending {
             is_asked: AtomicBool::new(false),
             is_over: AtomicBool::new(false),
@@ -41,17 +46,19 @@ impl Ending {
         let _ = self.bell.wake();
     }
 
-    pub(crate) fn is_asked(&self) -> bool {
+    /// Whether it is to end gently.
+    pub fn is_asked(&self) -> bool {
         self.is_asked.load(Ordering::SeqCst)
     }
 
     /// No one answers any more.
-    pub(crate) fn finish(&self) {
+    pub fn finish(&self) {
         self.is_over.store(true, Ordering::SeqCst);
         let _ = self.bell.wake();
     }
 
-    pub(crate) fn is_over(&self) -> bool {
+    /// Whether no one answers any more.
+    pub fn is_over(&self) -> bool {
         self.is_over.load(Ordering::SeqCst)
     }
 }
@@ -70,7 +77,7 @@ fn read_out<I: Read>(input: &mut I) {
 }
 
 /// Has a service end gently once an input has ended. A thread of its own waits for that. It is left to itself, so that it holds nobody up.
-pub(crate) fn watch<R: Threads, I: Read + Send + Drop + 'static>(
+pub fn watch<R: Threads, I: Read + Send + Drop + 'static>(
     rt: &R,
     ending: &Arc<Ending>,
     input: I,
@@ -92,5 +99,40 @@ pub(crate) fn watch<R: Threads, I: Read + Send + Drop + 'static>(
             Ok(())
         }
         Err(_) => Err(ServeFault::Run(RunFault::Memory)),
+    }
+}
+
+/// Says that an address is served.
+pub fn say<W: Write>(alloc: Global, address: &str, writer: &mut W) -> Result<(), ServeFault>
+    ensures said { OnOk result (Appends (W.contents writer.old) (W.contents writer.new) (serving_line address.now)) }
+    ensures fault { IfErr result (IsSaid address.now (W.contents writer.old) (W.contents writer.new)) }
+{
+    let Ok(line) = format!(in alloc; "serving {address}\n") else {
+        return Err(ServeFault::Run(RunFault::Memory));
+    };
+    if writer.write_all(line.as_bytes()).is_err() || writer.flush().is_err() {
+        return Err(ServeFault::Run(RunFault::Write));
+    }
+    Ok(())
+}
+
+/// How a service has ended that began: gently, where it was asked to, all that was written is synced, and the disk hasn't failed.
+pub fn end_of<R: Wait, D: Disk>(
+    rt: &R,
+    progress: &Progress<D>,
+    ending: &Arc<Ending>,
+) -> Result<Served, ServeFault>
+    ensures ended { IfOk result (λ served. served ≡ Served.Ended) }
+    ensures fault { IfErr result (λ fault. (fault ≡ ServeFault.File) ⊎ (fault ≡ ServeFault.Address)) }
+{
+    if progress.has_failed(rt) {
+        return Err(ServeFault::File);
+    }
+    if !ending.is_asked() {
+        return Err(ServeFault::Address);
+    }
+    match progress.keep(rt, &progress.due(rt)) {
+        Ok(_) => Ok(Served::Ended),
+        Err(_) => Err(ServeFault::File),
     }
 }

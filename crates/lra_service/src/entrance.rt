@@ -30,7 +30,7 @@ const BELL: Token = Token(1);
 
 /// A listener, and what is waited with for its connections.
 #[derive(Drop)]
-pub(crate) struct Line {
+pub struct Line {
     listener: TcpListener,
     poll: Poll,
     events: Events,
@@ -38,7 +38,7 @@ pub(crate) struct Line {
 
 impl Line {
     /// A listener's, and what ends a wait there.
-    pub(crate) fn new<R: Net>(
+    pub fn new<R: Net>(
         rt: &R,
         alloc: Global,
         listener: net::TcpListener,
@@ -73,7 +73,7 @@ enum Came {
 
 /// A listener, and the threads to which its connections are handed.
 #[derive(Drop)]
-pub(crate) struct Entrance<'a, R> {
+pub struct Entrance<'a, R> {
     rt: &'a R,
     /// Until who waits there takes it.
     line: Mutex<Option<Line>>,
@@ -82,7 +82,8 @@ pub(crate) struct Entrance<'a, R> {
 }
 
 impl<'a, R: Wait> Entrance<'a, R> {
-    pub(crate) fn new(
+    /// One whose connections go to the threads of these arrivals.
+    pub fn new(
         rt: &'a R,
         line: Line,
         ending: &'a Arc<Ending>,
@@ -99,7 +100,7 @@ impl<'a, R: Wait> Entrance<'a, R> {
     }
 
     /// Where connections come in to one of the threads.
-    pub(crate) fn arrivals(&self, place: u32) -> Option<&Arrivals> {
+    pub fn arrivals(&self, place: u32) -> Option<&Arrivals> {
         self.arrivals.get(place as usize)
     }
 
@@ -149,7 +150,7 @@ impl<'a, R: Wait> Entrance<'a, R> {
 
     /// Hands on the connections that come, until there are to be no others. Then those who answer end: at once, or once the replies that wait have left,
     /// where the service is to end gently. A connection that can't be accepted, as where too many files are open, is waited out.
-    pub(crate) fn open(&self) {
+    pub fn open(&self) {
         let line = self.line.lock(self.rt).take();
         if let Some(mut line) = line {
             self.wait_at(&mut line);
@@ -170,7 +171,7 @@ impl<'a, R: Wait> Entrance<'a, R> {
     }
 
     /// No thread answers any more.
-    pub(crate) fn close(&self) {
+    pub fn close(&self) {
         for arrivals in self.arrivals.as_slice() {
             arrivals.close(self.rt);
         }

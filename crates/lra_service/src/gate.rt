@@ -1,9 +1,8 @@
 //! What those who carry are let do.
 
-use crate::disk::JournalFile;
 use crate::ending::Ending;
 use lra_clocks::{seconds_on, time_until};
-use lra_durable::Progress;
+use lra_durable::{Disk, Progress};
 use lra_workers::{Gate, Go};
 use std::sync::atomic::{AtomicU64, Ordering};
 use std::sync::{Arc, Wait};
@@ -15,23 +14,24 @@ const PARTING: u64 = 10;
 /// Lets one who carries make turns as long as someone answers. Once the service is to end, nothing is begun in them any more, and they are made
 /// until nothing is under way, 10 s after at most, unless the disk has failed.
 #[derive(Drop)]
-pub(crate) struct CarrierGate<'a, R> {
+pub struct CarrierGate<'a, R, D: Disk> {
     rt: &'a R,
     ending: &'a Arc<Ending>,
-    progress: &'a Progress<JournalFile>,
+    progress: &'a Progress<D>,
     /// How many errands are under way.
     under_way: &'a AtomicU64,
     /// Until when turns are made, once the service is to end.
     until: Option<Instant>,
 }
 
-impl<'a, R> CarrierGate<'a, R> {
-    pub(crate) fn new(
+impl<'a, R, D: Disk> CarrierGate<'a, R, D> {
+    /// One of a carrier that tells there how many errands it has under way.
+    pub fn new(
         rt: &'a R,
         ending: &'a Arc<Ending>,
-        progress: &'a Progress<JournalFile>,
+        progress: &'a Progress<D>,
         under_way: &'a AtomicU64,
-    ) -> CarrierGate<'a, R> {
+    ) -> CarrierGate<'a, R, D> {
         CarrierGate {
             rt,
             ending,
@@ -42,7 +42,7 @@ impl<'a, R> CarrierGate<'a, R> {
     }
 }
 
-impl<R: Wait + Clock> CarrierGate<'_, R> {
+impl<R: Wait + Clock, D: Disk> CarrierGate<'_, R, D> {
     /// Whether what is under way has some time left. Where the clock can't be read it has none.
     fn has_time(&mut self) -> bool {
         if self.until.is_none() {
@@ -55,7 +55,7 @@ impl<R: Wait + Clock> CarrierGate<'_, R> {
     }
 }
 
-impl<R: Wait + Clock> Gate for CarrierGate<'_, R> {
+impl<R: Wait + Clock, D: Disk> Gate for CarrierGate<'_, R, D> {
     fn more(&mut self) -> bool {
         if !self.ending.is_asked() {
             return !self.ending.is_over();

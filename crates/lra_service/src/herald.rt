@@ -17,14 +17,14 @@ fn why_answered(end: RoundsEnd) -> Option<&'static str> {
 }
 
 /// Tells that a thread that answered has ended, and why.
-pub(crate) fn tell_answered<H: Herald>(herald: &H, end: RoundsEnd) {
+pub fn tell_answered<H: Herald>(herald: &H, end: RoundsEnd) {
     if let Some(line) = why_answered(end) {
         herald.tell(line);
     }
 }
 
 /// Tells that a thread that carried has ended, and why.
-pub(crate) fn tell_carried<H: Herald>(alloc: Global, herald: &H, end: WorkerEnd) {
+pub fn tell_carried<H: Herald>(alloc: Global, herald: &H, end: WorkerEnd) {
     let WorkerEnd::Refused(refusal) = end else {
         return;
     };

@@ -4,6 +4,7 @@
 mod base;
 mod checking;
 mod disk;
+mod doorway;
 mod ending;
 mod entrance;
 mod gate;
@@ -11,13 +12,22 @@ mod herald;
 mod polls;
 mod post;
 mod running;
+mod shares;
 mod shift;
 
-pub use checking::check_place;
+pub use base::{base_at, bind};
+pub use checking::{check_place, put_journal, put_number, put_settings, put_text};
 pub use disk::{FilePen, JournalFile};
+pub use doorway::{Doorway, make_doorway};
+pub use ending::{Ending, end_of, say, watch};
+pub use entrance::{Entrance, Line};
+pub use gate::CarrierGate;
+pub use herald::{tell_answered, tell_carried};
 pub use lra_clocks::SystemClock;
 pub use lra_opening::{
     Aloud, Found, Herald, Place, ServeFault, Silence, fault_line, find_journal, open_office,
     ready_file,
 };
+pub use polls::Stall;
 pub use running::{Served, serve, serve_from, serve_with};
+pub use shares::{limits_of, share_of, times_of};

@@ -14,11 +14,23 @@ use std::sync::atomic::AtomicU64;
 
 /// The place of one who carries.
 #[derive(Drop)]
-pub(crate) struct Stall {
+pub struct Stall {
     /// What it waits with, until it takes that.
-    pub(crate) poll: Mutex<Option<Poll>>,
+    pub poll: Mutex<Option<Poll>>,
     /// How many errands it has under way.
-    pub(crate) under_way: AtomicU64,
+    pub under_way: AtomicU64,
+}
+
+impl Stall {
+    /// One where nothing is under way, and what wakes who waits there, if they can be had.
+    pub fn new<R: Net>(rt: &R) -> Option<(Stall, Waker)> {
+        let (poll, bell) = bell(rt).ok()?;
+        let stall = Stall {
+            poll: Mutex::new(Some(poll)),
+            under_way: AtomicU64::new(0),
+        };
+        Some((stall, bell))
+    }
 }
 
 /// What the threads of a service wait with, by their places: those who answer for connections, and those who carry for what falls due.
@@ -45,11 +57,7 @@ impl Polls {
     /// One more who answers, and one more who carries. Tells whether they could be had.
     fn add<R: Net>(&mut self, rt: &R, alloc: Global) -> Option<()> {
         self.arrivals.push(Arrivals::new(rt, alloc).ok()?).ok()?;
-        let (poll, bell) = bell(rt).ok()?;
-        let stall = Stall {
-            poll: Mutex::new(Some(poll)),
-            under_way: AtomicU64::new(0),
-        };
+        let (stall, bell) = Stall::new(rt)?;
         self.stalls.push(stall).ok()?;
         self.bells.push(bell).ok()
     }

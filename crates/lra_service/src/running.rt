@@ -1,7 +1,6 @@
 //! The run of a service.
 
 ghost use Rattle.std.specs.Prelude.{◌≡◌, ℕ, List, true, None, option_map, ◌⊎◌, IsFalse, IfOk, IfErr, OnOk, IsErrAnd};
-ghost use Rattle.lra_commands.specs.Terms.{AreKeepable};
 ghost use Rattle.std.specs.Io.KnownBytes.{Appends};
 ghost use Rattle.lra_ids.specs.Addresses.{is_base};
 ghost use Rattle.lra_ids.specs.Bases.{base_text};
@@ -10,17 +9,18 @@ ghost use Rattle.lra_opening.specs.Ends.{serving_line, IsSaid, IsRefused, IsOfAd
 ghost use Rattle.lra_opening.specs.Faults.{IsOfNoScript};
 ghost use Rattle.lra_opening.specs.Places.{IsFound, IsRead};
 ghost use Rattle.lra_service.specs.Outcomes.{HasSaid};
-ghost use Rattle.lra_service.specs.inner.Opened.{limits_of, IsOpenAt};
+ghost use Rattle.lra_service.specs.Limited.{limits_of};
+ghost use Rattle.lra_service.specs.inner.Opened.{IsOpenAt};
 
 use crate::base::{base_at, bind};
 use crate::disk::{FilePen, JournalFile};
-use crate::ending::{Ending, watch};
-use crate::entrance::Line;
+use crate::doorway::{Doorway, make_doorway};
+use crate::ending::{end_of, say};
 use crate::polls::{Polls, polls_of};
 use crate::post::hire_all;
+use crate::shares::limits_of;
 use crate::shift::{Shift, work};
 use lra_clocks::milliseconds;
-use lra_commands::Limits;
 use lra_core::Opening;
 use lra_durable::{Keeper, Progress};
 use lra_ids::Address;
@@ -63,40 +63,6 @@ struct Service<'a, R, P, H> {
     settings: Settings,
 }
 
-/// Where connections come in, and how the service comes to its end.
-#[derive(Drop)]
-struct Doorway {
-    line: Line,
-    ending: Arc<Ending>,
-}
-
-/// Where connections come in to a listener.
-fn doorway_at<R: Net>(rt: &R, alloc: Global, listener: TcpListener) -> Result<Doorway, ServeFault>
-    ensures { IfErr result IsOfNoScript }
-{
-    let Ok((line, bell)) = Line::new(rt, alloc, listener) else {
-        return Err(ServeFault::Address);
-    };
-    match Arc::new(alloc, Ending::new(bell)) {
-        Ok(ending) => Ok(Doorway { line, ending }),
-        Err(_) => {
-            drop(line);
-            Err(ServeFault::Run(RunFault::Memory))
-        }
-    }
-}
-
-/// What a coordinator takes, and how it repeats its asks, by some settings.
-fn limits_of(settings: &Settings) -> Limits
-    ensures limits { result ≡ limits_of settings.now }
-    ensures keepable { AreKeepable result }
-{
-    let mut limits = Limits::usual();
-    limits.retry_base = settings.retry_first_ms;
-    limits.retry_cap = settings.retry_last_ms;
-    limits
-}
-
 /// A journal's file as a disk, what adds to it, what the threads wait with, and the moment from which their clocks go on.
 #[derive(Drop)]
 struct Stand {
@@ -132,27 +98,6 @@ fn stand_on(file: File, door: Doorway, polls: Polls, moment: u64) -> Result<Stan
     }
 }
 
-/// How a service has ended that began: gently, where it was asked to, all that was written is synced, and the disk hasn't failed.
-fn end_of<R: Wait>(
-    rt: &R,
-    progress: &Progress<JournalFile>,
-    ending: &Arc<Ending>,
-) -> Result<Served, ServeFault>
-    ensures ended { IfOk result (λ served. served ≡ Served.Ended) }
-    ensures fault { IfErr result (λ fault. (fault ≡ ServeFault.File) ⊎ (fault ≡ ServeFault.Address)) }
-{
-    if progress.has_failed(rt) {
-        return Err(ServeFault::File);
-    }
-    if !ending.is_asked() {
-        return Err(ServeFault::Address);
-    }
-    match progress.keep(rt, &progress.due(rt)) {
-        Ok(_) => Ok(Served::Ended),
-        Err(_) => Err(ServeFault::File),
-    }
-}
-
 impl<
     R: Threads + Wait + Clock + Net<Stream = TcpStream, Listener = TcpListener> + Sync,
     P: Place<File = File>,
@@ -178,28 +123,13 @@ impl<
             shift.moment,
             self.workers,
         )?;
-        match self.say(writer) {
+        match say(self.alloc, self.address, writer) {
             Ok(()) => Ok(work(shift, office, jobs)?),
             Err(fault) => {
                 drop(jobs);
                 Err(fault)
             }
         }
-    }
-
-    /// Says that it serves.
-    fn say<W: Write>(&self, writer: &mut W) -> Result<(), ServeFault>
-        ensures said { OnOk result (Appends (W.contents writer.old) (W.contents writer.new) (serving_line self.now.address.now)) }
-        ensures fault { IfErr result (IsSaid self.now.address.now (W.contents writer.old) (W.contents writer.new)) }
-    {
-        let address = self.address;
-        let Ok(line) = format!(in self.alloc; "serving {address}\n") else {
-            return Err(ServeFault::Run(RunFault::Memory));
-        };
-        if writer.write_all(line.as_bytes()).is_err() || writer.flush().is_err() {
-            return Err(ServeFault::Run(RunFault::Write));
-        }
-        Ok(())
     }
 
     /// The office of a journal, and its first clerk.
@@ -300,21 +230,6 @@ impl<
         stand_on(file, door, polls, now.max(latest))
     }
 
-    /// Where connections come in to a listener, until an input has ended, if there is one.
-    fn doorway<I: Read + Send + Drop + 'static>(
-        &self,
-        listener: TcpListener,
-        input: Option<I>,
-    ) -> Result<Doorway, ServeFault>
-        ensures { IfErr result IsOfNoScript }
-    {
-        let door = doorway_at(self.rt, self.alloc, listener)?;
-        if let Some(input) = input {
-            watch(self.rt, &door.ending, input)?;
-        }
-        Ok(door)
-    }
-
     /// Where connections come in to a base's host and port, and the disk of a journal that was found so.
     fn make_ready<I: Read + Send + Drop + 'static>(
         &self,
@@ -329,7 +244,7 @@ impl<
     {
         let listener = bind(self.alloc, self.rt, base)?;
         let file = ready_file(self.place, found, opening)?;
-        let door = self.doorway(listener, input)?;
+        let door = make_doorway(self.rt, self.alloc, listener, input)?;
         self.stand(file, door, opening.last_moment())
     }
 

@@ -11,7 +11,8 @@ use crate::gate::CarrierGate;
 use crate::herald::{tell_answered, tell_carried};
 use crate::polls::{Polls, Stall};
 use crate::post::Duty;
-use lra_callbacks::{Callbacks, Names, Patience, Share, ring};
+use crate::shares::{share_of, times_of};
+use lra_callbacks::{Callbacks, Names, Share, ring};
 use lra_clocks::SystemClock;
 use lra_durable::Progress;
 use lra_office::{Clerk, OfficeOf, Serving, WhichLock, Window};
@@ -54,34 +55,6 @@ pub(crate) struct Shift<'a, R, H> {
     names: Names,
     /// What each who carries has under way at most.
     share: Share,
-}
-
-/// So many seconds, in milliseconds.
-fn in_ms(seconds: u64) -> u64 {
-    seconds.saturating_mul(1_000)
-}
-
-/// How long a client has, by some settings.
-fn times_of(settings: &Settings) -> Times {
-    Times {
-        idle: in_ms(settings.idle_seconds),
-        request: in_ms(settings.request_seconds),
-        reply: in_ms(settings.reply_seconds),
-    }
-}
-
-/// What each of so many who carry has under way at most, by some settings.
-fn share_of(settings: &Settings, workers: usize) -> Share {
-    let patience = Patience {
-        connect: in_ms(settings.connect_seconds),
-        reply: in_ms(settings.callback_seconds),
-    };
-    Share::of(
-        u32::try_from(workers).unwrap_or(u32::MAX),
-        u32::try_from(settings.callbacks).unwrap_or(u32::MAX),
-        u32::try_from(settings.host_share).unwrap_or(u32::MAX),
-        patience,
-    )
 }
 
 impl<'a, R: Wait + Clock, H> Shift<'a, R, H> {
@@ -204,7 +177,7 @@ impl<R: Wait + Clock + Net<Stream = TcpStream, Listener = TcpListener>, H: Heral
     }
 
     /// What one who carries is let do.
-    fn gate<'b>(&'b self, stall: &'b Stall) -> CarrierGate<'b, R> {
+    fn gate<'b>(&'b self, stall: &'b Stall) -> CarrierGate<'b, R, JournalFile> {
         CarrierGate::new(self.rt, self.ending, self.progress, &stall.under_way)
     }
 

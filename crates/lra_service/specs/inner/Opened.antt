@@ -2,7 +2,6 @@
 use Rattle.std.specs.Prelude.{◌≡◌, ℕ, List, Option, IfSome}
 use Rattle.lra_ticket.specs.declared.kept.Kept.{Ghosts}
 use Rattle.lra_commands.specs.declared.limits.Limits.{Limits}
-use Rattle.lra_commands.specs.Terms.{usual}
 use Rattle.lra_commands.specs.Counters.{Setting}
 use Rattle.lra_office.specs.declared.clerk.Clerk.{Clerk}
 use Rattle.lra_office.specs.declared.office.OfficeOf.{OfficeOf}
@@ -10,16 +9,11 @@ use Rattle.lra_office.specs.Clerks.{clerk_view, IsClerkOf}
 use Rattle.lra_office.specs.Origins.{Origin}
 use Rattle.lra_office.specs.Windows.{IsOfficeOf}
 use Rattle.lra_opening.specs.Opened.{GoesOn}
-use Rattle.lra_settings.specs.declared.settings.Settings.{Settings}
 
 -- a clerk is one of an office, which keeps a copy of what its coordinator was made with
 pub record IsAt {X O : Type 0} {g : Ghosts X O} (setting : O → Setting) (office : OfficeOf X O) (clerk : Clerk X O g) : Type 0 where
   pub known : IsClerkOf office.lock clerk
   pub copies : IsOfficeOf (setting (clerk_view clerk).origin) office
-
--- how much a coordinator takes, which is usual, and how it repeats its asks, by some settings
-abbrev pub limits_of : Settings → Limits
-limits_of s = record usual { retry_base = s.retry_first_ms; retry_cap = s.retry_last_ms }
 
 -- an office goes on from the bytes that were found where a journal is kept, if they are known, with these limits; and its first clerk
 pub record IsOpenAt {X : Type 0} {g : Ghosts X Origin} (found : Option (List ℕ)) (base : List ℕ) (limits : Limits) (moment : ℕ) (office : OfficeOf X Origin) (clerk : Clerk X Origin g) : Type 0 where

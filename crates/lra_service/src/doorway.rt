@@ -1,0 +1,53 @@
+//! Where connections come in, until the service is to end.
+
+ghost use Rattle.std.specs.Prelude.{IfErr};
+ghost use Rattle.lra_opening.specs.Faults.{IsOfNoScript};
+
+use crate::ending::{Ending, watch};
+use crate::entrance::Line;
+use lra_opening::ServeFault;
+use lra_reports::RunFault;
+use std::alloc::Global;
+use std::io::Read;
+use std::marker::Send;
+use std::net::{Net, TcpListener, TcpStream};
+use std::sync::Arc;
+use std::thread::Threads;
+
+/// Where connections come in, and how the service comes to its end.
+#[derive(Drop)]
+pub struct Doorway {
+    pub line: Line,
+    /// How it comes to its end.
+    pub ending: Arc<Ending>,
+}
+
+/// Where connections come in to a listener.
+fn doorway_at<R: Net>(rt: &R, alloc: Global, listener: TcpListener) -> Result<Doorway, ServeFault>
+    ensures { IfErr result IsOfNoScript }
+{
+    let Ok((line, bell)) = Line::new(rt, alloc, listener) else {
+        return Err(ServeFault::Address);
+    };
+    match Arc::new(alloc, Ending::new(bell)) {
+        Ok(ending) => Ok(Doorway { line, ending }),
+        Err(_) => {
+            drop(line);
+            Err(ServeFault::Run(RunFault::Memory))
+        }
+    }
+}
+
+/// Where connections come in to a listener, until an input has ended, if there is one.
+pub fn make_doorway<
+    R: Threads + Net<Stream = TcpStream, Listener = TcpListener>,
+    I: Read + Send + Drop + 'static,
+>(rt: &R, alloc: Global, listener: TcpListener, input: Option<I>) -> Result<Doorway, ServeFault>
+    ensures { IfErr result IsOfNoScript }
+{
+    let door = doorway_at(rt, alloc, listener)?;
+    if let Some(input) = input {
+        watch(rt, &door.ending, input)?;
+    }
+    Ok(door)
+}
