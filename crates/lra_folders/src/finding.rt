@@ -8,6 +8,9 @@ use std::rt::Files;
 /// The folder in a folder whose journals count too.
 const ENDED: &str = "ended";
 
+/// The file in it that has the greatest instance.
+const NEWEST: &str = "newest";
+
 /// The names of what a folder has.
 #[derive(Debug, Drop)]
 pub(crate) struct Found {
@@ -25,12 +28,17 @@ pub(crate) fn is_folder<R: Files>(rt: &R, name: &str) -> bool {
     }
 }
 
+/// Whether a name is that of what a service keeps in its folder beside the journals: the greatest instance, and a journal that is being made ready.
+fn is_kept(name: &str) -> bool {
+    name == ENDED || name == NEWEST || name.ends_with(".next")
+}
+
 /// Puts a name where it belongs.
 fn put_name(alloc: Global, found: &mut Found, prefix: &str, name: &str) -> Result<(), AllocError> {
     let path = format!(in alloc; "{prefix}{name}")?;
     if name.ends_with(".journal") {
         Ok(found.journals.push(path)?)
-    } else if prefix.is_empty() && name == ENDED {
+    } else if prefix.is_empty() && is_kept(name) {
         Ok(())
     } else {
         Ok(found.others.push(path)?)

@@ -30,7 +30,7 @@ pub struct FolderAudit {
 }
 
 /// The path of a name in a folder.
-fn path_in(alloc: Global, folder: &str, name: &str) -> Result<String, Memory>
+pub(crate) fn path_in(alloc: Global, folder: &str, name: &str) -> Result<String, Memory>
     ensures { IfOk result (λ text. string_bytes text ≡ path_of folder.now name.now) }
 {
     format!(in alloc; "{folder}/{name}")
@@ -38,9 +38,9 @@ fn path_in(alloc: Global, folder: &str, name: &str) -> Result<String, Memory>
 
 /// What is printed of a journal, and its status: 0 where it is sound, else 1.
 #[derive(Drop)]
-struct Line {
-    status: u8,
-    text: Vec<u8>,
+pub(crate) struct Line {
+    pub(crate) status: u8,
+    pub(crate) text: Vec<u8>,
 }
 
 /// A name, a space, and the report on the journal of a path; or nothing where that can't be read.
@@ -68,7 +68,7 @@ fn line_on<S: Sources>(
 }
 
 /// Counts a journal that was read, by its status.
-fn count(tally: &mut Tally, status: u8)
+pub(crate) fn count(tally: &mut Tally, status: u8)
     requires { tally.old.sound + tally.old.unsound + tally.old.unread < 2 ^ 64 - 1 }
     ensures counted { (verdict : Verdict) → status ≡ report_status verdict → tally.new ≡ counted verdict tally.old }
     ensures more { tally.new.sound + tally.new.unsound + tally.new.unread ≡ tally.old.sound + tally.old.unsound + tally.old.unread + 1 }
@@ -116,7 +116,7 @@ fn verdicts_text(alloc: Global, tally: Tally) -> Result<String, Memory>
 }
 
 /// The last line.
-fn line_of_totals(alloc: Global, tally: Tally) -> Result<String, Memory>
+pub(crate) fn line_of_totals(alloc: Global, tally: Tally) -> Result<String, Memory>
     ensures { IfOk result (λ text. string_bytes text ≡ totals_line tally) }
 {
     let unread = tally.unread;
@@ -127,7 +127,7 @@ fn line_of_totals(alloc: Global, tally: Tally) -> Result<String, Memory>
 }
 
 /// The program's status by the counts.
-fn status_by(tally: Tally) -> u8
+pub(crate) fn status_by(tally: Tally) -> u8
     ensures { result ≡ status_of tally }
 {
     if tally.unread > 0 {

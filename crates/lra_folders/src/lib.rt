@@ -1,9 +1,11 @@
-//! Audits of all journals of a folder.
+//! Audits and listings of all journals of a folder.
 #![tactic(auto)]
 
 mod finding;
 mod journals;
+mod listings;
 mod program;
 
 pub use journals::{FolderAudit, audit_journals};
+pub use listings::list_journals;
 pub use program::answer_question;

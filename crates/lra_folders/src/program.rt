@@ -1,10 +1,18 @@
 //! What a program does on a system, where a folder may stand in a file's place.
 
 use crate::finding::{Found, find, is_folder};
-use crate::journals::audit_journals;
+use crate::journals::{FolderAudit, audit_journals};
+use crate::listings::list_journals;
 use lra_reports::{Invocation, Question, RunFault, System, settle};
 use std::io;
 use std::rt::Files;
+
+/// What is done with the journals of a folder.
+#[derive(Clone, Copy)]
+enum Deed {
+    Audit,
+    List,
+}
 
 /// Tells on standard error what was left alone in a folder.
 fn tell_others<R: Eprint>(rt: &R, folder: &str, others: &[String]) {
@@ -14,45 +22,61 @@ fn tell_others<R: Eprint>(rt: &R, folder: &str, others: &[String]) {
     }
 }
 
-/// Audits the journals that a folder has, and gives the program's status.
-fn audit_found<R: AllocGlobal + Files + Input + Print + Eprint>(
+/// Does this with the journals of these names, each read from the system.
+fn run_on<R: AllocGlobal + Files + Input + Print>(
     rt: &R,
+    deed: Deed,
+    folder: &str,
+    names: &[String],
+) -> Result<FolderAudit, RunFault> {
+    let alloc = rt.alloc();
+    let sources = System { rt };
+    let writer = &mut io::writer(rt);
+    match deed {
+        Deed::Audit => audit_journals(alloc, &sources, folder, names, writer),
+        Deed::List => list_journals(alloc, &sources, folder, names, writer),
+    }
+}
+
+/// Does this with the journals that a folder has, and gives the program's status.
+fn run_found<R: AllocGlobal + Files + Input + Print + Eprint>(
+    rt: &R,
+    deed: Deed,
     folder: &str,
     found: &Found,
 ) -> Result<u8, RunFault> {
     tell_others(rt, folder, &found.others);
-    let sources = System { rt };
-    let audit = audit_journals(
-        rt.alloc(),
-        &sources,
-        folder,
-        &found.journals,
-        &mut io::writer(rt),
-    )?;
-    let told = audit.told.as_str();
+    let done = run_on(rt, deed, folder, &found.journals)?;
+    let told = done.told.as_str();
     let _ = eprint!(rt; "{told}");
-    Ok(audit.status)
+    Ok(done.status)
 }
 
-/// Audits a folder, and gives the program's status.
+/// Does this with a folder, and gives the program's status.
 fn answer_folder<R: AllocGlobal + Files + Input + Print + Eprint + Clone + Drop>(
     rt: &R,
+    deed: Deed,
     folder: &str,
 ) -> u8 {
     let outcome = match find(rt, folder) {
-        Ok(found) => audit_found(rt, folder, &found),
+        Ok(found) => run_found(rt, deed, folder, &found),
         Err(fault) => Err(fault),
     };
     settle(rt, outcome, folder)
 }
 
-/// Answers a question on standard output, and gives the program's status. An audit may be of a folder.
+/// Answers a question on standard output, and gives the program's status. An audit or a listing may be of a folder.
 pub fn answer_question<R: AllocGlobal + Files + Input + Print + Eprint + Clone + Drop>(
     rt: &R,
     question: Question<'_>,
 ) -> u8 {
     match question {
-        Question::Run(Invocation::Audit { file }) if is_folder(rt, file) => answer_folder(rt, file),
+        Question::Run(Invocation::Audit { file }) if is_folder(rt, file) => {
+            answer_folder(rt, Deed::Audit, file)
+        }
+        Question::Run(Invocation::Show { file }) if is_folder(rt, file) => {
+            answer_folder(rt, Deed::List, file)
+        }
         _ => lra_reports::answer_question(rt, question),
     }
 }
