@@ -1,13 +1,18 @@
-//! `lra`: audits a journal of long running actions or a folder of them, lists its actions and members, upgrades it, and salvages what is sound
-//! of it; plays scripts of commands; and serves a coordinator.
+//! `lra`: audits a journal of long running actions or a folder of them, lists its actions and members, tells what happened to one, follows it as it grows, upgrades it, and
+//! salvages what is sound of it; plays scripts of commands; and serves a coordinator.
 #![tactic(auto)]
 
+mod asking;
 mod serving;
+mod telling;
+mod texts;
 
+use crate::asking::read_asking;
 use crate::serving::{answer_options, answer_serve, have_options};
+use crate::telling::{answer_asking, answer_help};
 use lra_folders::answer_question;
 use lra_opening::{Herald, Watched};
-use lra_reports::{System, settle, tell_usage, words_of};
+use lra_reports::{Question, System, settle, tell_usage, words_of};
 use lra_runs::{Task, play_file, read_task};
 use std::fs::File;
 use std::io;
@@ -47,6 +52,7 @@ where
     R::Reader: AsFd,
 {
     match read_task(words) {
+        Ok(Task::Question(Question::Help)) => answer_help(rt),
         Ok(Task::Question(question)) => answer_question(rt, question),
         Ok(Task::Play { script }) => answer_play(rt, script),
         Ok(
@@ -57,7 +63,10 @@ where
             },
         ) => answer_serve(rt, address, file, workers, watcher),
         Err(_) if have_options(words) => answer_options(rt, words, watcher),
-        Err(_) => tell_usage(rt),
+        Err(_) => match read_asking(words) {
+            Some(asking) => answer_asking(rt, asking),
+            None => tell_usage(rt),
+        },
     }
 }
 

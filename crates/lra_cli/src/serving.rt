@@ -42,7 +42,7 @@ pub(crate) fn have_options(words: &[String]) -> bool {
 }
 
 /// Standard input, to be read by a thread of its own. What reads a child's output reads any descriptor.
-fn standard_input<R: Input>(rt: &R) -> io::Result<ChildStdout>
+pub(crate) fn standard_input<R: Input>(rt: &R) -> io::Result<ChildStdout>
 where
     R::Reader: AsFd,
 {

@@ -13,15 +13,15 @@ const NEWEST: &str = "newest";
 
 /// The names of what a folder has.
 #[derive(Debug, Drop)]
-pub(crate) struct Found {
+pub struct Found {
     /// The journals, in the order of their names.
-    pub(crate) journals: Vec<String>,
+    pub journals: Vec<String>,
     /// What is no journal.
-    pub(crate) others: Vec<String>,
+    pub others: Vec<String>,
 }
 
 /// Whether a name is that of a folder.
-pub(crate) fn is_folder<R: Files>(rt: &R, name: &str) -> bool {
+pub fn is_folder<R: Files>(rt: &R, name: &str) -> bool {
     match fs::metadata(rt, name) {
         Ok(about) => about.is_dir(),
         Err(_) => false,
@@ -65,7 +65,7 @@ fn add_names<R: AllocGlobal + Files + Clone + Drop>(
 }
 
 /// What a folder has, and in it a folder `ended`.
-pub(crate) fn find<R: AllocGlobal + Files + Clone + Drop>(
+pub fn find<R: AllocGlobal + Files + Clone + Drop>(
     rt: &R,
     folder: &str,
 ) -> Result<Found, RunFault> {

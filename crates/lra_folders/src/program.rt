@@ -15,7 +15,7 @@ enum Deed {
 }
 
 /// Tells on standard error what was left alone in a folder.
-fn tell_others<R: Eprint>(rt: &R, folder: &str, others: &[String]) {
+pub fn tell_others<R: Eprint>(rt: &R, folder: &str, others: &[String]) {
     for name in others {
         let name = name.as_str();
         let _ = eprintln!(rt; "lra: {folder}/{name} is no journal");

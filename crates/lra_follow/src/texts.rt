@@ -1,0 +1,30 @@
+//! What is told of a journal that is followed.
+
+use crate::counts::Counts;
+use lra_model::Memory;
+use std::alloc::Global;
+
+/// Why a journal can't be followed any more.
+#[derive(Clone, Copy, Debug, PartialEq, Eq)]
+pub enum Lost {
+    /// It has fewer bytes than were read.
+    Shrunk,
+    /// Its name stands for another file, or for none.
+    Replaced,
+}
+
+/// The line of a journal that has been sound so far.
+pub fn sound_line(alloc: Global, counts: &Counts) -> Result<String, Memory> {
+    let entries = counts.entries();
+    let actions = counts.actions();
+    let unended = counts.unended();
+    format!(in alloc; "sound so far: {entries} entries, {actions} actions, {unended} unended\n")
+}
+
+/// The line on standard error for a journal that is lost.
+pub fn lost_line(alloc: Global, file: &str, lost: Lost) -> Result<String, Memory> {
+    match lost {
+        Lost::Shrunk => format!(in alloc; "lra: {file} has become shorter\n"),
+        Lost::Replaced => format!(in alloc; "lra: {file} isn't the file that was read any more\n"),
+    }
+}

@@ -1,0 +1,4 @@
+pub mod Hearing
+pub mod Pieces
+pub mod Writing
+pub mod Naming

@@ -1,0 +1,7 @@
+pub mod Facts
+pub mod Times
+pub mod Sentences
+pub mod Waits
+pub mod Wanted
+pub mod Explained
+pub mod inner

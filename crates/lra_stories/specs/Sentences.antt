@@ -1,0 +1,143 @@
+-- The sentences in which facts are told.
+use Rattle.std.specs.Prelude.{ℕ, zero, suc, List, [], ◌∷◌, ◌++◌, codes, Option, Some, None, cond}
+use Rattle.std.specs.Fmt.{decimal}
+use Rattle.lra_model.specs.declared.status.ActionStatus.{ActionStatus}
+use Rattle.lra_model.specs.declared.asks.AskKind.{AskKind}
+use Rattle.lra_model.specs.declared.asks.AskKind.TheVariants as ask
+use Rattle.lra_model.specs.declared.asks.Cause.{Cause}
+use Rattle.lra_model.specs.declared.asks.Cause.TheVariants as cause
+use Rattle.lra_model.specs.declared.asks.Outcome.{Outcome}
+use Rattle.lra_model.specs.declared.asks.Outcome.TheVariants as outcome
+use Rattle.lra_model.specs.Words.{has_failed, is_silent}
+use Rattle.lra_model.specs.Names.{action_status_name}
+use Rattle.lra_reports.specs.Report.{joined, line_feed}
+use Rattle.lra_stories.specs.declared.facts.Fact.{Fact}
+use Rattle.lra_stories.specs.declared.facts.Fact.TheVariants.{Started, Joined, Left, Closes, Cancels, Skipped, Asked, Answered, Reported, Ended, Restarted, Renewed, NestedStarted, NestedCloses, NestedCancels, NestedEnded}
+use Rattle.lra_stories.specs.declared.facts.Told.{Told}
+use Rattle.lra_stories.specs.Times.{moment_text, length_text}
+
+-- which action it is nested in, if it is
+abbrev pub below_text : Option ℕ → List ℕ
+below_text None = []
+below_text (Some a) = codes ", below action " ++ decimal a
+
+-- which limit it has in milliseconds, where 0 is none
+abbrev pub limit_text : ℕ → List ℕ
+limit_text zero = []
+limit_text (suc n) = joined (codes ", with a limit of " ∷ length_text (suc n) ∷ [])
+
+-- who started an action and when, in which one, and with which limit
+abbrev pub started_text : ℕ → ℕ → Option ℕ → ℕ → List ℕ
+started_text by moment parent limit =
+    joined (codes "started by clerk " ∷ decimal by ∷ codes " at " ∷ moment_text moment ∷ below_text parent ∷ limit_text limit ∷ [])
+
+-- why an action is closed
+abbrev pub close_reason : Cause → List ℕ
+close_reason cause.Client = codes "its client closes it"
+close_reason cause.Parent = codes "the action above it is closed"
+close_reason cause.Limit = codes "its limit passed"
+
+-- why an action is cancelled
+abbrev pub cancel_reason : Cause → List ℕ
+cancel_reason cause.Client = codes "its client cancels it"
+cancel_reason cause.Parent = codes "the action above it is cancelled"
+cancel_reason cause.Limit = codes "its limit passed"
+
+-- that an action has a status now, and why
+abbrev pub turned_text : List ℕ → ActionStatus → List ℕ
+turned_text reason status = joined (reason ∷ codes ": it is " ∷ action_status_name status ∷ [])
+
+-- how an action ended, and why so
+abbrev pub ended_text : ActionStatus → List ℕ
+ended_text status =
+    cond (has_failed status)
+    (joined (codes "it is " ∷ action_status_name status ∷ codes ": all that it waited for has ended, and not all of it well" ∷ []))
+    (joined (codes "it is " ∷ action_status_name status ∷ codes ": all that it waited for has ended well" ∷ []))
+
+-- what a member is asked
+abbrev pub ask_words : AskKind → List ℕ
+ask_words ask.Complete = codes "asked to complete"
+ask_words ask.Compensate = codes "asked to compensate"
+ask_words ask.Status = codes "asked how far it is"
+ask_words ask.Forget = codes "asked to forget"
+ask_words ask.After = codes "told how the action ended"
+
+-- that a member is asked, by the ask of a number
+abbrev pub asked_text : ℕ → ℕ → AskKind → List ℕ
+asked_text n p kind = joined (codes "member " ∷ decimal p ∷ codes " is " ∷ ask_words kind ∷ codes " (ask " ∷ decimal n ∷ codes ")" ∷ [])
+
+-- what a member says that has done what a stage is for
+abbrev pub done_words : AskKind → List ℕ
+done_words ask.Complete = codes "it is completed"
+done_words ask.Compensate = codes "it is compensated"
+done_words ask.Status = codes "it is done"
+done_words ask.Forget = codes "it has forgotten"
+done_words ask.After = codes "it knows how the action ended"
+
+-- what a member says that couldn't do what a stage is for
+abbrev pub failed_words : AskKind → List ℕ
+failed_words ask.Complete = codes "it failed to complete"
+failed_words ask.Compensate = codes "it failed to compensate"
+failed_words ask.Status = codes "it failed"
+failed_words ask.Forget = codes "it failed to forget"
+failed_words ask.After = codes "it failed to note how the action ended"
+
+-- what a member says
+abbrev pub outcome_words : AskKind → Outcome → List ℕ
+outcome_words stage outcome.Done = done_words stage
+outcome_words stage outcome.Failed = failed_words stage
+outcome_words stage outcome.Accepted = codes "it goes on"
+outcome_words stage outcome.Silent = codes "nothing"
+
+-- that a member gave no answer to an ask
+abbrev pub silent_text : ℕ → ℕ → List ℕ
+silent_text n p = codes "member " ++ (decimal p ++ (codes " gave no answer to ask " ++ decimal n))
+
+-- what a member answered
+abbrev pub said_text : ℕ → AskKind → Outcome → List ℕ
+said_text p stage o = joined (codes "member " ∷ decimal p ∷ codes " answered that " ∷ outcome_words stage o ∷ [])
+
+-- what a member answered to an ask, or that it didn't
+abbrev pub answered_text : ℕ → ℕ → AskKind → Outcome → List ℕ
+answered_text n p stage o = cond (is_silent o) (silent_text n p) (said_text p stage o)
+
+-- what a member told of itself
+abbrev pub reported_text : ℕ → AskKind → Outcome → List ℕ
+reported_text p stage o = joined (codes "member " ∷ decimal p ∷ codes " reported that " ∷ outcome_words stage o ∷ [])
+
+-- that a limit is set anew, in milliseconds, where 0 is none
+abbrev pub renewed_text : ℕ → List ℕ
+renewed_text zero = codes "its limit is lifted"
+renewed_text (suc n) = joined (codes "its limit is set anew, to " ∷ length_text (suc n) ∷ codes " from now" ∷ [])
+
+-- how a nested action ended
+abbrev pub nested_ended_text : ℕ → ActionStatus → List ℕ
+nested_ended_text b status = joined (codes "action " ∷ decimal b ∷ codes " below it is " ∷ action_status_name status ∷ [])
+
+-- what is told of a fact, where the action has this status after it
+abbrev pub fact_text : ActionStatus → Fact → List ℕ
+fact_text status (Started by moment parent limit) = started_text by moment parent limit
+fact_text status (Joined p) = joined (codes "member " ∷ decimal p ∷ codes " joined" ∷ [])
+fact_text status (Left p) = joined (codes "member " ∷ decimal p ∷ codes " left" ∷ [])
+fact_text status (Closes why) = turned_text (close_reason why) status
+fact_text status (Cancels why) = turned_text (cancel_reason why) status
+fact_text status (Skipped p) = joined (codes "member " ∷ decimal p ∷ codes " is completed without being asked" ∷ [])
+fact_text status (Asked n p kind) = asked_text n p kind
+fact_text status (Answered n p stage o) = answered_text n p stage o
+fact_text status (Reported p stage o) = reported_text p stage o
+fact_text status Ended = ended_text status
+fact_text status Restarted = codes "the coordinator restarted, and waits for no answer any more"
+fact_text status (Renewed limit) = renewed_text limit
+fact_text status (NestedStarted b) = joined (codes "action " ∷ decimal b ∷ codes " started below it" ∷ [])
+fact_text status (NestedCloses b) = joined (codes "action " ∷ decimal b ∷ codes " below it is Closing" ∷ [])
+fact_text status (NestedCancels b) = joined (codes "action " ∷ decimal b ∷ codes " below it is Cancelling" ∷ [])
+fact_text status (NestedEnded b s) = nested_ended_text b s
+
+-- the line that tells of an entry
+abbrev pub told_line : Told → List ℕ
+told_line t = joined (codes "line " ∷ decimal t.line ∷ codes ": " ∷ fact_text t.status t.fact ∷ line_feed ∷ [])
+
+-- the line that tells how an action is now
+abbrev pub head_line : ℕ → Option ℕ → ActionStatus → List ℕ
+head_line a None status = joined (codes "action " ∷ decimal a ∷ codes " is " ∷ action_status_name status ∷ line_feed ∷ [])
+head_line a (Some b) status = joined (codes "action " ∷ decimal a ∷ codes " (nested in " ∷ decimal b ∷ codes ") is " ∷ action_status_name status ∷ line_feed ∷ [])

@@ -1,0 +1,23 @@
+-- Which action is asked for.
+use Rattle.std.specs.Prelude.{◌≡◌, ◌⊎◌, ℕ, List, Option, Some, None}
+use Rattle.std.specs.Fmt.{decimal}
+use Rattle.lra_ids.specs.Identifiers.{IsSpelling, id_text, action_uri}
+use Rattle.lra_stories.specs.declared.wanted.Wanted.{Wanted}
+
+-- how a text names an action: as the number that it spells; or as the UUID, or the URI over some base, of that number at an instance
+abbrev pub IsNamed : List ℕ → ℕ → Option ℕ → Type 0
+IsNamed text a None = text ≡ decimal a
+IsNamed text a (Some i) = IsSpelling (id_text i) text a ⊎ ((base : List ℕ) × IsSpelling (action_uri i base) text a)
+
+-- the text names what is asked for
+abbrev pub IsWanted : List ℕ → Wanted → Type 0
+IsWanted text w = IsNamed text w.action w.instance
+
+-- the text is the UUID of a number at an instance
+abbrev pub IsSpelled : List ℕ → ℕ → Option ℕ → Type 0
+IsSpelled text a None = ⊥
+IsSpelled text a (Some i) = IsSpelling (id_text i) text a
+
+-- the text is the UUID of what is asked for
+abbrev pub IsId : List ℕ → Wanted → Type 0
+IsId text w = IsSpelled text w.action w.instance

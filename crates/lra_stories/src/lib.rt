@@ -1,0 +1,19 @@
+//! What happened to one action of a journal, told in sentences; and a line for each action of one.
+#![tactic(auto)]
+
+mod explaining;
+mod facts;
+mod listing;
+mod reading;
+mod register;
+mod sentences;
+mod story;
+mod tallies;
+mod times;
+mod waits;
+mod wanted;
+
+pub use explaining::explain_run;
+pub use facts::{Fact, Told};
+pub use listing::{Choice, list_run};
+pub use wanted::{Wanted, read_wanted};

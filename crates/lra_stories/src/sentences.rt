@@ -1,0 +1,285 @@
+//! The sentences in which facts are told.
+
+ghost use Rattle.std.specs.Prelude.{◌≡◌, IfOk, string_bytes};
+ghost use Rattle.lra_model.specs.Words.{is_silent};
+ghost use Rattle.lra_stories.specs.Sentences as sentences;
+
+use crate::facts::{Fact, Told};
+use crate::times::{length_text, moment_text};
+use lra_model::{ActionStatus, AskKind, Cause, Memory, Outcome};
+use std::alloc::Global;
+
+/// Which action it is nested in, if it is.
+fn below_text(alloc: Global, parent: Option<u64>) -> Result<String, Memory>
+    ensures { IfOk result (λ text. string_bytes text ≡ sentences.below_text parent) }
+{
+    match parent {
+        Some(parent) => format!(in alloc; ", below action {parent}"),
+        None => Ok(String::new(alloc)),
+    }
+}
+
+/// Which limit it has, if it has one.
+fn limit_text(alloc: Global, limit: u64) -> Result<String, Memory>
+    ensures { IfOk result (λ text. string_bytes text ≡ sentences.limit_text limit) }
+{
+    if limit == 0 {
+        return Ok(String::new(alloc));
+    }
+    let length = length_text(alloc, limit)?;
+    format!(in alloc; ", with a limit of {length}")
+}
+
+fn started_text(
+    alloc: Global,
+    by: u32,
+    moment: u64,
+    parent: Option<u64>,
+    limit: u64,
+) -> Result<String, Memory>
+    ensures { IfOk result (λ text. string_bytes text ≡ sentences.started_text by moment parent limit) }
+{
+    let moment = moment_text(alloc, moment)?;
+    let below = below_text(alloc, parent)?;
+    let limit = limit_text(alloc, limit)?;
+    format!(in alloc; "started by clerk {by} at {moment}{below}{limit}")
+}
+
+/// Why an action is closed.
+fn close_reason(cause: Cause) -> &'static str
+    ensures { result.now ≡ sentences.close_reason cause }
+{
+    match cause {
+        Cause::Client => "its client closes it",
+        Cause::Parent => "the action above it is closed",
+        Cause::Limit => "its limit passed",
+    }
+}
+
+/// Why an action is cancelled.
+fn cancel_reason(cause: Cause) -> &'static str
+    ensures { result.now ≡ sentences.cancel_reason cause }
+{
+    match cause {
+        Cause::Client => "its client cancels it",
+        Cause::Parent => "the action above it is cancelled",
+        Cause::Limit => "its limit passed",
+    }
+}
+
+/// Why an action has this status, for a reason.
+fn turned_text(alloc: Global, reason: &str, status: ActionStatus) -> Result<String, Memory>
+    ensures { IfOk result (λ text. string_bytes text ≡ sentences.turned_text reason.now status) }
+{
+    let status = status.name();
+    format!(in alloc; "{reason}: it is {status}")
+}
+
+/// How an action ended, and why so.
+fn ended_text(alloc: Global, status: ActionStatus) -> Result<String, Memory>
+    ensures { IfOk result (λ text. string_bytes text ≡ sentences.ended_text status) }
+{
+    let name = status.name();
+    if status.has_failed() {
+        format!(in alloc; "it is {name}: all that it waited for has ended, and not all of it well")
+    } else {
+        format!(in alloc; "it is {name}: all that it waited for has ended well")
+    }
+}
+
+/// What a member is asked.
+fn ask_words(kind: AskKind) -> &'static str
+    ensures { result.now ≡ sentences.ask_words kind }
+{
+    match kind {
+        AskKind::Complete => "asked to complete",
+        AskKind::Compensate => "asked to compensate",
+        AskKind::Status => "asked how far it is",
+        AskKind::Forget => "asked to forget",
+        AskKind::After => "told how the action ended",
+    }
+}
+
+fn asked_text(alloc: Global, ask: u64, member: u64, kind: AskKind) -> Result<String, Memory>
+    ensures { IfOk result (λ text. string_bytes text ≡ sentences.asked_text ask member kind) }
+{
+    let words = ask_words(kind);
+    format!(in alloc; "member {member} is {words} (ask {ask})")
+}
+
+/// What a member says that has done what a stage is for.
+fn done_words(stage: AskKind) -> &'static str
+    ensures { result.now ≡ sentences.done_words stage }
+{
+    match stage {
+        AskKind::Complete => "it is completed",
+        AskKind::Compensate => "it is compensated",
+        AskKind::Status => "it is done",
+        AskKind::Forget => "it has forgotten",
+        AskKind::After => "it knows how the action ended",
+    }
+}
+
+/// What a member says that couldn't do what a stage is for.
+fn failed_words(stage: AskKind) -> &'static str
+    ensures { result.now ≡ sentences.failed_words stage }
+{
+    match stage {
+        AskKind::Complete => "it failed to complete",
+        AskKind::Compensate => "it failed to compensate",
+        AskKind::Status => "it failed",
+        AskKind::Forget => "it failed to forget",
+        AskKind::After => "it failed to note how the action ended",
+    }
+}
+
+/// What a member says.
+fn outcome_words(stage: AskKind, outcome: Outcome) -> &'static str
+    ensures { result.now ≡ sentences.outcome_words stage outcome }
+{
+    match outcome {
+        Outcome::Done => done_words(stage),
+        Outcome::Failed => failed_words(stage),
+        Outcome::Accepted => "it goes on",
+        Outcome::Silent => "nothing",
+    }
+}
+
+/// Whether a member gave no answer.
+fn is_silent(outcome: Outcome) -> bool
+    ensures { result ≡ is_silent outcome }
+{
+    matches!(outcome, Outcome::Silent)
+}
+
+/// That a member gave no answer.
+fn silent_text(alloc: Global, ask: u64, member: u64) -> Result<String, Memory>
+    ensures { IfOk result (λ text. string_bytes text ≡ sentences.silent_text ask member) }
+{
+    format!(in alloc; "member {member} gave no answer to ask {ask}")
+}
+
+/// What a member answered.
+fn said_text(alloc: Global, member: u64, stage: AskKind, outcome: Outcome) -> Result<String, Memory>
+    ensures { IfOk result (λ text. string_bytes text ≡ sentences.said_text member stage outcome) }
+{
+    let words = outcome_words(stage, outcome);
+    format!(in alloc; "member {member} answered that {words}")
+}
+
+fn answered_text(
+    alloc: Global,
+    ask: u64,
+    member: u64,
+    stage: AskKind,
+    outcome: Outcome,
+) -> Result<String, Memory>
+    ensures { IfOk result (λ text. string_bytes text ≡ sentences.answered_text ask member stage outcome) }
+{
+    if is_silent(outcome) {
+        silent_text(alloc, ask, member)
+    } else {
+        said_text(alloc, member, stage, outcome)
+    }
+}
+
+fn reported_text(
+    alloc: Global,
+    member: u64,
+    stage: AskKind,
+    outcome: Outcome,
+) -> Result<String, Memory>
+    ensures { IfOk result (λ text. string_bytes text ≡ sentences.reported_text member stage outcome) }
+{
+    let words = outcome_words(stage, outcome);
+    format!(in alloc; "member {member} reported that {words}")
+}
+
+fn renewed_text(alloc: Global, limit: u64) -> Result<String, Memory>
+    ensures { IfOk result (λ text. string_bytes text ≡ sentences.renewed_text limit) }
+{
+    if limit == 0 {
+        return String::from_str(alloc, "its limit is lifted");
+    }
+    let length = length_text(alloc, limit)?;
+    format!(in alloc; "its limit is set anew, to {length} from now")
+}
+
+fn nested_ended_text(alloc: Global, action: u64, status: ActionStatus) -> Result<String, Memory>
+    ensures { IfOk result (λ text. string_bytes text ≡ sentences.nested_ended_text action status) }
+{
+    let status = status.name();
+    format!(in alloc; "action {action} below it is {status}")
+}
+
+/// What is told of a fact, where the action has this status after it.
+fn fact_text(alloc: Global, status: ActionStatus, fact: Fact) -> Result<String, Memory>
+    ensures { IfOk result (λ text. string_bytes text ≡ sentences.fact_text status fact) }
+{
+    match fact {
+        Fact::Started {
+            by,
+            moment,
+            parent,
+            limit,
+        } => started_text(alloc, by, moment, parent, limit),
+        Fact::Joined { member } => format!(in alloc; "member {member} joined"),
+        Fact::Left { member } => format!(in alloc; "member {member} left"),
+        Fact::Closes { cause } => turned_text(alloc, close_reason(cause), status),
+        Fact::Cancels { cause } => turned_text(alloc, cancel_reason(cause), status),
+        Fact::Skipped { member } => {
+            format!(in alloc; "member {member} is completed without being asked")
+        }
+        Fact::Asked { ask, member, kind } => asked_text(alloc, ask, member, kind),
+        Fact::Answered {
+            ask,
+            member,
+            stage,
+            outcome,
+        } => answered_text(alloc, ask, member, stage, outcome),
+        Fact::Reported {
+            member,
+            stage,
+            outcome,
+        } => reported_text(alloc, member, stage, outcome),
+        Fact::Ended => ended_text(alloc, status),
+        Fact::Restarted => {
+            String::from_str(
+                alloc,
+                "the coordinator restarted, and waits for no answer any more",
+            )
+        }
+        Fact::Renewed { limit } => renewed_text(alloc, limit),
+        Fact::NestedStarted { action } => format!(in alloc; "action {action} started below it"),
+        Fact::NestedCloses { action } => format!(in alloc; "action {action} below it is Closing"),
+        Fact::NestedCancels { action } => {
+            format!(in alloc; "action {action} below it is Cancelling")
+        }
+        Fact::NestedEnded { action, status } => nested_ended_text(alloc, action, status),
+    }
+}
+
+/// The line that tells of an entry.
+pub(crate) fn told_line(alloc: Global, told: &Told) -> Result<String, Memory>
+    ensures { IfOk result (λ text. string_bytes text ≡ sentences.told_line told.now) }
+{
+    let line = told.line;
+    let words = fact_text(alloc, told.status, told.fact)?;
+    format!(in alloc; "line {line}: {words}\n")
+}
+
+/// The line that tells how an action is now.
+pub(crate) fn head_line(
+    alloc: Global,
+    action: u64,
+    parent: Option<u64>,
+    status: ActionStatus,
+) -> Result<String, Memory>
+    ensures { IfOk result (λ text. string_bytes text ≡ sentences.head_line action parent status) }
+{
+    let status = status.name();
+    match parent {
+        Some(parent) => format!(in alloc; "action {action} (nested in {parent}) is {status}\n"),
+        None => format!(in alloc; "action {action} is {status}\n"),
+    }
+}

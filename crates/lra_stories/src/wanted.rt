@@ -1,0 +1,84 @@
+//! Which action is asked for.
+
+ghost use Rattle.std.specs.Prelude.{◌≡◌, ◌≢◌, ◌++◌, ℕ, List, IfSome, MatchOption, codes};
+ghost use Rattle.lra_stories.specs.Wanted.{IsId, IsWanted};
+
+use lra_ids::read_id;
+use lra_instances::instance_in;
+use lra_journal::read_number;
+use lra_model::Instance;
+use std::str;
+
+/// What stands before the identifier in the URI of an action.
+const ACTIONS: &str = "lra-coordinator/";
+
+/// How many characters the text of an identifier has.
+const ID_LENGTH: usize = 36;
+
+/// The action of a number, in the journal of an instance or in any.
+#[derive(Clone, Copy)]
+pub struct Wanted {
+    pub action: u64,
+    pub instance: Option<Instance>,
+}
+
+/// The action of which a text is the number.
+fn of_number(text: &str) -> Option<Wanted>
+    ensures { IfSome result (IsWanted text.now) }
+{
+    let action = read_number(text.as_bytes())?;
+    Some(Wanted {
+        action,
+        instance: None,
+    })
+}
+
+/// The action of which a text is the UUID.
+fn of_id(text: &str) -> Option<Wanted>
+    ensures { IfSome result (IsId text.now) }
+{
+    let instance = instance_in(text.as_bytes())?;
+    let action = read_id(text, instance)?;
+    Some(Wanted {
+        action,
+        instance: Some(instance),
+    })
+}
+
+/// The base of a URI, by what stands before its identifier.
+fn base_in(front: &[u8]) -> Option<&[u8]>
+    ensures { MatchOption result ((base : List ℕ) → front.now ≢ base ++ codes "lra-coordinator/") (λ base. front.now ≡ base.now ++ codes "lra-coordinator/") }
+{
+    front.strip_suffix(ACTIONS.as_bytes())
+}
+
+/// The identifier at the end of the URI of an action, whatever its base.
+fn id_at_end(uri: &str) -> Option<&str>
+    ensures { IfSome result (λ id. (base : List ℕ) × (uri.now ≡ base ++ codes "lra-coordinator/" ++ id.now)) }
+{
+    let at = uri.len().checked_sub(ID_LENGTH)?;
+    let (front, id) = uri.as_bytes().split_at(at);
+    let _base = base_in(front)?;
+    str::from_utf8(id).ok()
+}
+
+/// The action of which a text is the URI.
+fn of_uri(text: &str) -> Option<Wanted>
+    ensures { IfSome result (IsWanted text.now) }
+{
+    let id = id_at_end(text)?;
+    of_id(id)
+}
+
+/// The action that a word of the command line names: by its number, by its UUID, or by its whole URI.
+pub fn read_wanted(text: &str) -> Option<Wanted>
+    ensures { IfSome result (IsWanted text.now) }
+{
+    if let Some(wanted) = of_number(text) {
+        return Some(wanted);
+    }
+    if let Some(wanted) = of_id(text) {
+        return Some(wanted);
+    }
+    of_uri(text)
+}

@@ -1,0 +1,239 @@
+"""Stories, listings, and journals that are followed: journals that scripts make, and the sentences that are wanted of them."""
+import os
+import signal
+import subprocess
+import time
+
+from participant import wait_until
+from service import check, equal, run
+
+# 2026-11-26T22:15:01.250Z, in milliseconds from 1970 on.
+AT = 1795731301250
+HEADER = "lra-journal 2 7"
+# An action, and one below it with a limit of 5 s, two members and one that left, whose limit passes.
+SCRIPT = f"""\
+0 {AT} enrol
+1 {AT} start * 0
+1 {AT + 1000} start 1 5000
+1 {AT + 1100} join 2 http://n.test/u http://n.test/c * * *
+1 {AT + 1200} join 2 http://n.test/v http://n.test/d * * *
+1 {AT + 1300} leave 2 2
+1 {AT + 6000} tick
+1 {AT + 6000} ask
+"""
+# What the second action's journal comes to, line by line: 1 is the header, 2 enrols the clerk, 3 starts the first action.
+STARTED = "line 4: started by clerk 1 at 2026-11-26T22:15:02.250Z, below action 1, with a limit of 5.000 s\n"
+MIDDLE = (
+    STARTED
+    + "line 5: member 1 joined\n"
+    + "line 6: member 2 joined\n"
+    + "line 7: member 2 left\n"
+    + "line 8: its limit passed: it is Cancelling\n"
+    + "line 9: member 1 is asked to compensate (ask 1)\n"
+)
+WAITING = "action 2 (nested in 1) is Cancelling\n" + MIDDLE + (
+    "waits for member 1, which is Compensating: ask 1, of line 9, has no answer since 2026-11-26T22:15:07.250Z\n"
+)
+ENDED = "action 2 (nested in 1) is Cancelled\n" + MIDDLE + (
+    "line 10: member 1 answered that it is compensated\n"
+    "line 11: it is Cancelled: all that it waited for has ended well\n"
+)
+FAILED = "action 2 (nested in 1) is FailedToCancel\n" + MIDDLE + (
+    "line 10: member 1 answered that it failed to compensate\n"
+    "line 11: it is FailedToCancel: all that it waited for has ended, and not all of it well\n"
+    "member 1 is FailedToCompensate\n"
+)
+OUTER = (
+    "action 1 is Active\n"
+    "line 3: started by clerk 1 at 2026-11-26T22:15:01.250Z\n"
+    "line 4: action 2 started below it\n"
+    "line 8: action 2 below it is Cancelling\n"
+    "line 11: action 2 below it is Cancelled\n"
+    "waits for its client to close or cancel it\n"
+)
+# The identifier of the second action at the instance of every script, 7.
+ID = "00000000-0000-8007-8000-000000000002"
+FIRST_ID = "00000000-0000-8007-8000-000000000001"
+
+
+def played(setting, *more):
+    """The journal that the script makes, with more lines of it, in a file."""
+    script = f"{setting.folder}/script"
+    with open(script, "w") as it:
+        it.write(SCRIPT + "".join(f"1 {AT + moment} {words}\n" for moment, words in more))
+    lines = setting.run("play", script).output.splitlines()
+    text = "".join(line[2:] + "\n" for line in lines if line.startswith("+ "))
+    with open(setting.journal, "w") as it:
+        it.write(text)
+    return text
+
+
+def explained(setting, name):
+    return setting.run("explain", setting.journal, name)
+
+
+def test_a_story_that_goes_on(setting):
+    played(setting)
+    for name in ("2", ID, "http://127.0.0.1:8080/lra-coordinator/" + ID, "https://else.test/x/lra-coordinator/" + ID):
+        equal(name, explained(setting, name), (0, WAITING, ""))
+
+
+def test_a_story_that_has_ended(setting):
+    played(setting, (6100, "reply 1 done"))
+    equal("the action", explained(setting, "2"), (0, ENDED, ""))
+    equal("the one above it", explained(setting, "1"), (0, OUTER, ""))
+
+
+def test_a_story_that_ended_badly(setting):
+    played(setting, (6100, "reply 1 failed"))
+    equal("the action", explained(setting, "2"), (0, FAILED, ""))
+
+
+def test_a_story_of_no_action(setting):
+    played(setting)
+    other = "00000000-0000-8008-8000-000000000002"
+    for name in ("3", "0", other, ID[:-1] + "9"):
+        equal(name, explained(setting, name), (1, f"unknown action {name}\n", ""))
+    for name in ("2x", "", "02", "+2", ID.replace("-", ""), ID + "/"):
+        equal(name, explained(setting, name), (2, "", "lra: usage\n"))
+
+
+def test_a_story_in_an_unsound_journal(setting):
+    text = played(setting)
+    with open(setting.journal, "a") as it:
+        it.write(f"1 {AT + 9000} end 1 Closed\n")
+    equal("a rule is broken", explained(setting, "2"), (1, "unsound line 10 unsettled\n", ""))
+    with open(setting.journal, "w") as it:
+        it.write(text[:-1])
+    equal("the last line is torn", explained(setting, "2"), (1, "unsound line 9 grammar\n", ""))
+
+
+def test_a_story_on_standard_input(setting):
+    text = played(setting, (6100, "reply 1 done"))
+    it = subprocess.run([setting.program, "explain", "-", "2"], input=text, capture_output=True, text=True)
+    equal("the action", (it.returncode, it.stdout, it.stderr), (0, ENDED, ""))
+
+
+def test_a_listing(setting):
+    played(setting, (6100, "reply 1 done"))
+    first = f"1 {FIRST_ID} Active * 6.100 *\n"
+    second = f"2 {ID} Cancelled 1 5.100 Compensated=1,Left=1\n"
+    wanted = {
+        (): first + second,
+        ("--state", "Cancelled"): second,
+        ("--state", "Closed"): "",
+        ("--older-than", "5"): first + second,
+        ("--older-than", "6"): first,
+        ("--older-than", "6", "--state", "Active"): first,
+        ("--older-than", "7"): "",
+    }
+    for options, lines in wanted.items():
+        equal(f"list {options}", setting.run("list", setting.journal, *options), (0, lines, ""))
+    for options in (("--state", "Open"), ("--older-than",), ("--older-than", "-1"), ("--all",), ("2",)):
+        equal(f"list {options}", setting.run("list", setting.journal, *options), (2, "", "lra: usage\n"))
+
+
+def test_a_listing_of_a_folder(setting):
+    text = played(setting, (6100, "reply 1 done"))
+    os.remove(setting.journal)
+    os.remove(f"{setting.folder}/script")
+    os.makedirs(f"{setting.folder}/ended")
+    for name, content in (("b.journal", text), ("a.journal", HEADER + "\n1 0 end 1 Closed\n"), ("ended/c.journal", HEADER + "\n"), ("notes", "")):
+        with open(f"{setting.folder}/{name}", "w") as it:
+            it.write(content)
+    wanted = (
+        "a.journal unsound line 2 clerk\n"
+        f"b.journal 1 {FIRST_ID} Active * 6.100 *\n"
+        f"b.journal 2 {ID} Cancelled 1 5.100 Compensated=1,Left=1\n"
+    )
+    equal("the folder", setting.run("list", setting.folder), (1, wanted, f"lra: {setting.folder}/notes is no journal\n"))
+
+
+class Following:
+    """A program that follows a journal."""
+
+    def __init__(self, setting, *options):
+        self.output = open(f"{setting.folder}/followed", "w+")
+        self.told = open(f"{setting.folder}/told", "w+")
+        self.process = subprocess.Popen(
+            [setting.program, "follow", setting.journal, *options], stdin=subprocess.PIPE, stdout=self.output, stderr=self.told, text=True
+        )
+
+    def __enter__(self):
+        return self
+
+    def __exit__(self, *_):
+        self.process.kill()
+        self.process.wait()
+        self.process.stdin.close()
+        self.output.close()
+        self.told.close()
+
+    def read(self):
+        with open(self.output.name) as it:
+            return it.read()
+
+    def waits_for(self, text):
+        wait_until(f"it prints {text!r}", lambda: self.read() == text)
+
+    def ends(self, status, told=""):
+        equal("the status", self.process.wait(20), status)
+        with open(self.told.name) as it:
+            equal("what is told", it.read(), told)
+
+
+def test_a_journal_that_is_followed(setting):
+    lines = played(setting, (6100, "reply 1 done")).splitlines(keepends=True)
+    with open(setting.journal, "w") as it:
+        it.write("")
+    with Following(setting) as following, open(setting.journal, "a", buffering=1) as journal:
+        journal.write("".join(lines[:3]))
+        first = "sound so far: 2 entries, 1 actions, 1 unended\n"
+        following.waits_for(first)
+        journal.write("".join(lines[3:]))
+        second = first + "sound so far: 10 entries, 2 actions, 1 unended\n"
+        following.waits_for(second)
+        journal.write(f"1 {AT + 9000} end 1 Cl")
+        journal.flush()
+        time.sleep(1.5)
+        equal("a line that is being written", following.read(), second)
+        journal.write("osed\n")
+        following.waits_for(second + "unsound line 12 unsettled\n")
+        following.ends(1)
+
+
+def test_a_journal_that_is_lost(setting):
+    text = played(setting)
+    wanted = "sound so far: 8 entries, 2 actions, 2 unended\n"
+    with Following(setting) as following:
+        following.waits_for(wanted)
+        with open(setting.journal, "r+") as it:
+            it.truncate(len(text) - 1)
+        following.ends(2, f"lra: {setting.journal} has become shorter\n")
+    played(setting)
+    with Following(setting) as following:
+        following.waits_for(wanted)
+        with open(setting.journal + ".new", "w") as it:
+            it.write(text)
+        os.replace(setting.journal + ".new", setting.journal)
+        following.ends(2, f"lra: {setting.journal} isn't the file that was read any more\n")
+
+
+def test_following_ends(setting):
+    played(setting)
+    wanted = "sound so far: 8 entries, 2 actions, 2 unended\n"
+    with Following(setting, "--stop-at-eof") as following:
+        following.waits_for(wanted)
+        following.process.stdin.close()
+        following.ends(0)
+        equal("what is printed", following.read(), wanted)
+    with Following(setting) as following:
+        following.waits_for(wanted)
+        following.process.send_signal(signal.SIGTERM)
+        following.ends(-signal.SIGTERM)
+
+
+def test_what_cannot_be_read(setting):
+    for words in (("explain", setting.journal, "1"), ("list", setting.journal), ("follow", setting.journal)):
+        equal(words[0], setting.run(*words), (2, "", f"lra: cannot read {setting.journal}\n"))
+    check("help has them", all(f"lra {verb} " in setting.run("--help").output for verb in ("explain", "list", "follow")))
