@@ -5,7 +5,8 @@ use Rattle.std.specs.Fmt.{decimal}
 use Rattle.lra_ids.specs.Identifiers.{IsSpelling, id_text, action_uri}
 use Rattle.lra_journal.specs.Reading.{number_of}
 use Rattle.lra_journal.proofs.Numbers.{number_is}
-use Rattle.lra_stories.specs.Wanted.{IsNamed, IsSpelled}
+use Rattle.lra_stories.specs.Wanted.{IsNamed}
+use Rattle.lra_stories.specs.inner.Ids.{IsSpelled}
 
 -- the number that a text spells
 pub number_named : (text : List ℕ) (a : ℕ) → Some a ≡ number_of (2 ^ 64) text → text ≡ decimal a

@@ -12,12 +12,3 @@ IsNamed text a (Some i) = IsSpelling (id_text i) text a ⊎ ((base : List ℕ) �
 -- the text names what is asked for
 abbrev pub IsWanted : List ℕ → Wanted → Type 0
 IsWanted text w = IsNamed text w.action w.instance
-
--- the text is the UUID of a number at an instance
-abbrev pub IsSpelled : List ℕ → ℕ → Option ℕ → Type 0
-IsSpelled text a None = ⊥
-IsSpelled text a (Some i) = IsSpelling (id_text i) text a
-
--- the text is the UUID of what is asked for
-abbrev pub IsId : List ℕ → Wanted → Type 0
-IsId text w = IsSpelled text w.action w.instance

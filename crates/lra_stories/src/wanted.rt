@@ -1,7 +1,8 @@
 //! Which action is asked for.
 
 ghost use Rattle.std.specs.Prelude.{◌≡◌, ◌≢◌, ◌++◌, ℕ, List, IfSome, MatchOption, codes};
-ghost use Rattle.lra_stories.specs.Wanted.{IsId, IsWanted};
+ghost use Rattle.lra_stories.specs.Wanted.{IsWanted};
+ghost use Rattle.lra_stories.specs.inner.Ids.{IsId};
 
 use lra_ids::read_id;
 use lra_instances::instance_in;
