@@ -105,6 +105,14 @@ answered_text n p stage o = cond (is_silent o) (silent_text n p) (said_text p st
 abbrev pub reported_text : ℕ → AskKind → Outcome → List ℕ
 reported_text p stage o = joined (codes "member " ∷ decimal p ∷ codes " reported that " ∷ outcome_words stage o ∷ [])
 
+-- that a member is completed without being asked
+abbrev pub skipped_text : ℕ → List ℕ
+skipped_text p = joined (codes "member " ∷ decimal p ∷ codes " is completed without being asked" ∷ [])
+
+-- that asks are void
+abbrev pub restarted_text : List ℕ
+restarted_text = codes "the coordinator restarted, and waits for no answer any more"
+
 -- that a limit is set anew, in milliseconds, where 0 is none
 abbrev pub renewed_text : ℕ → List ℕ
 renewed_text zero = codes "its limit is lifted"
@@ -121,12 +129,12 @@ fact_text status (Joined p) = joined (codes "member " ∷ decimal p ∷ codes " 
 fact_text status (Left p) = joined (codes "member " ∷ decimal p ∷ codes " left" ∷ [])
 fact_text status (Closes why) = turned_text (close_reason why) status
 fact_text status (Cancels why) = turned_text (cancel_reason why) status
-fact_text status (Skipped p) = joined (codes "member " ∷ decimal p ∷ codes " is completed without being asked" ∷ [])
+fact_text status (Skipped p) = skipped_text p
 fact_text status (Asked n p kind) = asked_text n p kind
 fact_text status (Answered n p stage o) = answered_text n p stage o
 fact_text status (Reported p stage o) = reported_text p stage o
 fact_text status Ended = ended_text status
-fact_text status Restarted = codes "the coordinator restarted, and waits for no answer any more"
+fact_text status Restarted = restarted_text
 fact_text status (Renewed limit) = renewed_text limit
 fact_text status (NestedStarted b) = joined (codes "action " ∷ decimal b ∷ codes " started below it" ∷ [])
 fact_text status (NestedCloses b) = joined (codes "action " ∷ decimal b ∷ codes " below it is Closing" ∷ [])

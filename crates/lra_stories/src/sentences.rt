@@ -195,6 +195,19 @@ fn reported_text(
     format!(in alloc; "member {member} reported that {words}")
 }
 
+fn skipped_text(alloc: Global, member: u64) -> Result<String, Memory>
+    ensures { IfOk result (λ text. string_bytes text ≡ sentences.skipped_text member) }
+{
+    format!(in alloc; "member {member} is completed without being asked")
+}
+
+fn restarted_text(alloc: Global) -> Result<String, Memory>
+    ensures { IfOk result (λ text. string_bytes text ≡ sentences.restarted_text) }
+{
+    let text = "the coordinator restarted, and waits for no answer any more";
+    String::from_str(alloc, text)
+}
+
 fn renewed_text(alloc: Global, limit: u64) -> Result<String, Memory>
     ensures { IfOk result (λ text. string_bytes text ≡ sentences.renewed_text limit) }
 {
@@ -227,9 +240,7 @@ fn fact_text(alloc: Global, status: ActionStatus, fact: Fact) -> Result<String, 
         Fact::Left { member } => format!(in alloc; "member {member} left"),
         Fact::Closes { cause } => turned_text(alloc, close_reason(cause), status),
         Fact::Cancels { cause } => turned_text(alloc, cancel_reason(cause), status),
-        Fact::Skipped { member } => {
-            format!(in alloc; "member {member} is completed without being asked")
-        }
+        Fact::Skipped { member } => skipped_text(alloc, member),
         Fact::Asked { ask, member, kind } => asked_text(alloc, ask, member, kind),
         Fact::Answered {
             ask,
@@ -243,12 +254,7 @@ fn fact_text(alloc: Global, status: ActionStatus, fact: Fact) -> Result<String, 
             outcome,
         } => reported_text(alloc, member, stage, outcome),
         Fact::Ended => ended_text(alloc, status),
-        Fact::Restarted => {
-            String::from_str(
-                alloc,
-                "the coordinator restarted, and waits for no answer any more",
-            )
-        }
+        Fact::Restarted => restarted_text(alloc),
         Fact::Renewed { limit } => renewed_text(alloc, limit),
         Fact::NestedStarted { action } => format!(in alloc; "action {action} started below it"),
         Fact::NestedCloses { action } => format!(in alloc; "action {action} below it is Closing"),
