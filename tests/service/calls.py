@@ -32,7 +32,7 @@ def test_one_and_sixteen_workers_serve(setting):
 
 
 def test_help_and_version(setting):
-    wanted_texts = {"--help": ("audit", "show", "upgrade", "salvage", "play", "serve ADDRESS FILE WORKERS"), "--version": ("lra ", "rattle logic ")}
+    wanted_texts = {"--help": ("audit", "show", "list", "explain", "follow", "upgrade", "salvage", "play", "serve ADDRESS FILE WORKERS"), "--version": ("lra ", "rattle logic ")}
     for word, wanted in wanted_texts.items():
         status, output, fault = setting.run(word)
         equal(word, (status, fault), (0, ""))
@@ -45,7 +45,7 @@ def words_of_help(setting):
     told, serving = setting.run("--help").output, setting.run("serve", "--help").output
     verbs, calls = (set(re.findall(rf"^lra ({word}) ", told, re.M)) for word in ("[a-z]+", "--[a-z]+"))
     options = set(re.findall(r"--[a-z][a-z-]*", serving))
-    equal("how many there are", (len(verbs), len(calls), len(options)), (6, 2, 14))
+    equal("how many there are", (len(verbs), len(calls), len(options)), (9, 2, 14))
     return verbs, calls, options
 
 
