@@ -1,5 +1,5 @@
 -- How a story goes on with what it hears.
-use Rattle.std.proofs.Common.{◌≡◌, ℕ, ◌+◌, ◌<◌, true, List, [], ◌∷◌, ◌++◌, length, Option, None, Some, refl, sym, ap, ◌∙◌, arith, length-append}
+use Rattle.std.proofs.Common.{◌≡◌, ℕ, ◌+◌, ◌<◌, true, List, [], ◌∷◌, ◌++◌, length, Option, None, refl, sym, ap, ◌∙◌, arith, length-append}
 use Rattle.std.specs.Prelude.{codes, ⊤}
 use Rattle.std.specs.Fmt.{decimal}
 use Rattle.std.specs.List.{join_with_byte, flat_map}
@@ -9,7 +9,7 @@ use Rattle.lra_model.specs.declared.version.Version.TheVariants.{One, Two}
 use Rattle.lra_model.specs.declared.status.ActionStatus.{ActionStatus}
 use Rattle.lra_model.specs.Names.{version_name}
 use Rattle.lra_model.specs.declared.entry.Entry.{Entry}
-use Rattle.lra_model.specs.History.{History, Step, steps}
+use Rattle.lra_model.specs.History.{History, steps}
 use Rattle.lra_model.specs.Rules.{is_legal, allows}
 use Rattle.lra_laws.specs.Sheets.{Sheet, sheet_of, StandsFor, Follows}
 use Rattle.lra_laws.proofs.Legal.{legal_push, allows_from}

@@ -2,7 +2,6 @@
 use Rattle.std.proofs.Common.{◌≡◌, ℕ, List, ◌++◌, ◌^◌, take, drop, codes, Option, Some, None, inl, inr, sym, ap, ◌∙◌}
 use Rattle.std.proofs.lemmas.List.{take-append-drop}
 use Rattle.std.specs.Fmt.{decimal}
-use Rattle.lra_ids.specs.Identifiers.{IsSpelling, id_text, action_uri}
 use Rattle.lra_journal.specs.Reading.{number_of}
 use Rattle.lra_journal.proofs.Numbers.{number_is}
 use Rattle.lra_stories.specs.Wanted.{IsNamed}

@@ -1,4 +1,3 @@
-use Rattle.std.proofs.Common.{List, ℕ, Option, subst}
 use Rattle.lra_stories.proofs.Writing.{heard_tells, fault_explains, story_explains}
 use Rattle.lra_stories.proofs.explaining.put_end.Goals as goal
 

@@ -1,4 +1,4 @@
-use Rattle.std.proofs.Common.{List, ℕ, subst, ◌∙◌}
+use Rattle.std.proofs.Common.{subst, ◌∙◌}
 use Rattle.std.specs.Io.KnownBytes.{Appends}
 use Rattle.lra_stories.proofs.Writing.{explained_some, explained_none}
 use Rattle.lra_stories.proofs.explaining.put_story.Goals as goal
