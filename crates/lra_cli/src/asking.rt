@@ -28,47 +28,67 @@ impl Listed {
         older_than: None,
         is_now: false,
     };
+}
 
-    /// One option more, with the word behind it, if that is its value; and how many words were taken. None where it isn't one.
-    fn and(self, option: &str, value: Option<&str>) -> Option<(Listed, usize)> {
+/// An option that stands before its value.
+#[derive(Clone, Copy)]
+enum Valued {
+    State,
+    OlderThan,
+}
+
+/// The options of a listing so far, and the one whose value comes next.
+#[derive(Clone, Copy)]
+struct Choosing {
+    choice: Listed,
+    open: Option<Valued>,
+}
+
+impl Choosing {
+    /// The value of an option.
+    fn valued(self, option: Valued, value: &str) -> Option<Choosing> {
+        let mut choice = self.choice;
         match option {
-            "--state" => Some((
-                Listed {
-                    status: Some(ActionStatus::from_name(value?.as_bytes())?),
-                    ..self
-                },
-                2,
-            )),
-            "--older-than" => Some((
-                Listed {
-                    older_than: Some(read_number(value?.as_bytes())?),
-                    ..self
-                },
-                2,
-            )),
-            "--now" => Some((
-                Listed {
-                    is_now: true,
-                    ..self
-                },
-                1,
-            )),
-            _ => None,
+            Valued::State => choice.status = Some(ActionStatus::from_name(value.as_bytes())?),
+            Valued::OlderThan => choice.older_than = Some(read_number(value.as_bytes())?),
+        }
+        Some(Choosing { choice, open: None })
+    }
+
+    /// One option more. None where it isn't one.
+    fn with(self, option: &str) -> Option<Choosing> {
+        let mut next = self;
+        match option {
+            "--state" => next.open = Some(Valued::State),
+            "--older-than" => next.open = Some(Valued::OlderThan),
+            "--now" => next.choice.is_now = true,
+            _ => return None,
+        }
+        Some(next)
+    }
+
+    /// One word more.
+    fn and(self, word: &str) -> Option<Choosing> {
+        match self.open {
+            Some(option) => self.valued(option, word),
+            None => self.with(word),
         }
     }
 }
 
 /// The options of a listing.
 fn read_choice(options: &[String]) -> Option<Listed> {
-    let mut choice = Listed::ALL;
-    let mut place = 0;
-    while let Some(option) = options.get(place) {
-        let value = options.get(place + 1).map(|word| word.as_str());
-        let (next, taken) = choice.and(option.as_str(), value)?;
-        choice = next;
-        place += taken;
+    let mut choosing = Choosing {
+        choice: Listed::ALL,
+        open: None,
+    };
+    for word in options {
+        choosing = choosing.and(word.as_str())?;
     }
-    Some(choice)
+    match choosing.open {
+        Some(_) => None,
+        None => Some(choosing.choice),
+    }
 }
 
 /// Whether a word names something, and is no option.
