@@ -23,17 +23,17 @@ use std::sync::{Arc, Wait};
 /// An office that many threads share, with one clerk of it: where orders are given as at a counter of one's own. A thread may have several, of different
 /// offices; an office ends with the last of its branches.
 #[derive(Drop)]
-pub struct Branch<'a, V: Serving, R> {
-    rt: &'a R,
+pub struct Branch<V: Serving, R> {
+    rt: R,
     office: Arc<OfficeOf<V>>,
     clerk: Clerk<V>,
     ghost there: { IsClerkOf (arc_value office).lock clerk },
     ghost made: { IsOfficeOf (V.setting (clerk_view clerk).origin) (arc_value office) },
 }
 
-impl<'a, V: Serving, R> Branch<'a, V, R> {
+impl<V: Serving, R> Branch<V, R> {
     /// A branch of an office, for a clerk of it.
-    pub fn new(rt: &'a R, office: Arc<OfficeOf<V>>, clerk: Clerk<V>) -> Branch<'a, V, R>
+    pub fn new(rt: R, office: Arc<OfficeOf<V>>, clerk: Clerk<V>) -> Branch<V, R>
         requires there { IsClerkOf (arc_value office).lock clerk }
         requires made { IsOfficeOf (V.setting (clerk_view clerk).origin) (arc_value office) }
         ensures office { result.office ≡ office }
@@ -43,20 +43,25 @@ impl<'a, V: Serving, R> Branch<'a, V, R> {
     }
 }
 
-impl<'a, V: Serving, R: Wait> Branch<'a, V, R> {
+impl<V: Serving, R: Wait + Clone + Drop> Branch<V, R> {
     /// Another branch of the office, for a clerk that is enrolled beside this one's, whether that can be done or not this one's stays as it is.
-    pub fn fork(&mut self, moment: u64) -> Result<Branch<'a, V, R>, OfficeRefusal>
+    pub fn fork(&mut self, moment: u64) -> Result<Branch<V, R>, OfficeRefusal>
         ensures number { self.new.clerk.number ≡ self.old.clerk.number }
         ensures same { clerk_view self.new.clerk ≡ clerk_view self.old.clerk }
         ensures office { IfOk result (λ other. arc_value other.office ≡ arc_value self.old.office) }
         ensures enrolled { IfOk result (λ other. IsEnrolled (V.setting (clerk_view self.old.clerk).origin) (newcomer (clerk_view self.old.clerk)) moment other.clerk.number (clerk_view other.clerk)) }
     {
-        let Ok(office) = Arc::try_clone(&self.office) else {
+        let Ok(rt) = self.rt.clone() else {
             return Err(OfficeRefusal::Refused(Refusal::Memory));
         };
-        match self.office.enrol_beside(self.rt, &mut self.clerk, moment) {
-            Ok(clerk) => Ok(Branch::new(self.rt, office, clerk)),
+        let Ok(office) = Arc::try_clone(&self.office) else {
+            drop(rt);
+            return Err(OfficeRefusal::Refused(Refusal::Memory));
+        };
+        match self.office.enrol_beside(&self.rt, &mut self.clerk, moment) {
+            Ok(clerk) => Ok(Branch::new(rt, office, clerk)),
             Err(refusal) => {
+                drop(rt);
                 drop(office);
                 Err(refusal)
             }
@@ -68,7 +73,7 @@ impl<'a, V: Serving, R: Wait> Branch<'a, V, R> {
         ensures number { self.new.clerk.number ≡ self.old.clerk.number }
         ensures known { IsQueried (V.setting (clerk_view self.old.clerk).origin) (clerk_view self.old.clerk) query result (clerk_view self.new.clerk) }
     {
-        self.office.query(self.rt, &mut self.clerk, query)
+        self.office.query(&self.rt, &mut self.clerk, query)
     }
 
     /// Tells its clerk when something is due or late first, as `OfficeOf::next_moment` does.
@@ -76,7 +81,7 @@ impl<'a, V: Serving, R: Wait> Branch<'a, V, R> {
         ensures number { self.new.clerk.number ≡ self.old.clerk.number }
         ensures next { IsLookedAhead (V.setting (clerk_view self.old.clerk).origin) (clerk_view self.old.clerk) result (clerk_view self.new.clerk) }
     {
-        self.office.next_moment(self.rt, &mut self.clerk)
+        self.office.next_moment(&self.rt, &mut self.clerk)
     }
 
     /// Works as its clerk with many errands under way, as `run_carrier` does, and gives the clerk.
@@ -87,17 +92,17 @@ impl<'a, V: Serving, R: Wait> Branch<'a, V, R> {
         clock: &mut K,
     ) -> (Clerk<V>, WorkerEnd)
         requires none { AreFree (C.held carriage.old) }
-        ensures clerk { IsClerkOf (arc_value self.entry.office).lock result.0 }
-        ensures number { result.0.number ≡ self.entry.clerk.number }
-        ensures work { EndsCarrying V.setting C.gives K.tells (post (clerk_view self.entry.clerk) clock.old) result.1 (post (clerk_view result.0) clock.new) }
+        ensures clerk { IsClerkOf (arc_value self.office).lock result.0 }
+        ensures number { result.0.number ≡ self.clerk.number }
+        ensures work { EndsCarrying V.setting C.gives K.tells (post (clerk_view self.clerk) clock.old) result.1 (post (clerk_view result.0) clock.new) }
         ensures why { TellsWhy (G.is_shut gate.new) (G.holds gate.new) (HasStopped V.origin V.history V.lawful V.has_stopped (clerk_view result.0)) (clerk_view result.0).seen result.1 }
     {
         let Branch { rt, office, clerk } = self;
-        run_carrier(rt, &office, clerk, carriage, gate, clock)
+        run_carrier(&rt, &office, clerk, carriage, gate, clock)
     }
 }
 
-impl<V: Serving, R: Wait> Counter for Branch<'_, V, R> {
+impl<V: Serving, R: Wait> Counter for Branch<V, R> {
     ghost use Rattle.lra_office.specs.Clerks.{sight_of};
     ghost use Rattle.lra_office.specs.Stops.{KeepsInTurn};
 
@@ -117,6 +122,51 @@ impl<V: Serving, R: Wait> Counter for Branch<'_, V, R> {
 
     fn give(&mut self, moment: u64, order: &Order<'_>) -> Result<Told, CounterFault> {
         self.office
-            .give_order(self.rt, &mut self.clerk, moment, order)
+            .give_order(&self.rt, &mut self.clerk, moment, order)
+    }
+}
+
+/// An office's clerk, as those use it who serve several offices, whatever their journals are written to.
+pub trait Clerkship: Counter {
+    /// Another clerk of the same office, where one can be enrolled at a moment, in milliseconds.
+    fn fork(&mut self, moment: u64) -> Option<Self>;
+
+    /// What its office tells of its history, if it does.
+    fn query(&mut self, query: Query) -> Option<Known>;
+
+    /// Works as its clerk with many errands under way, until a gate lets no further turn be made, and tells why it has ended.
+    fn carry<C: Carriage, G: Gate, K: Clock>(
+        self,
+        carriage: &mut C,
+        gate: &mut G,
+        clock: &mut K,
+    ) -> WorkerEnd
+        requires none { AreFree (C.held carriage.old) };
+}
+
+impl<V: Serving + Drop, R: Wait + Clone + Drop> Clerkship for Branch<V, R> {
+    fn fork(&mut self, moment: u64) -> Option<Self> {
+        match Branch::fork(self, moment) {
+            Ok(other) => Some(other),
+            Err(_) => None,
+        }
+    }
+
+    fn query(&mut self, query: Query) -> Option<Known> {
+        match Branch::query(self, query) {
+            Ok(known) => Some(known),
+            Err(_) => None,
+        }
+    }
+
+    fn carry<C: Carriage, G: Gate, K: Clock>(
+        self,
+        carriage: &mut C,
+        gate: &mut G,
+        clock: &mut K,
+    ) -> WorkerEnd {
+        let (clerk, end) = Branch::carry(self, carriage, gate, clock);
+        drop(clerk);
+        end
     }
 }

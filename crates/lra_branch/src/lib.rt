@@ -3,4 +3,4 @@
 
 mod branch;
 
-pub use branch::Branch;
+pub use branch::{Branch, Clerkship};
