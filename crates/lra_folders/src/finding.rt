@@ -3,13 +3,14 @@
 use lra_reports::RunFault;
 use std::alloc::{AllocError, Global};
 use std::fs;
+use std::io::ErrorKind;
 use std::rt::Files;
 
-/// The folder in a folder whose journals count too.
-const ENDED: &str = "ended";
+/// The folder in a folder whose journals count too: those that were put away.
+pub const ENDED: &str = "ended";
 
-/// The file in it that has the greatest instance.
-const NEWEST: &str = "newest";
+/// The file in it that has the greatest instance that was ever given.
+pub const NEWEST: &str = "newest";
 
 /// The names of what a folder has.
 #[derive(Debug, Drop)]
@@ -26,6 +27,20 @@ pub fn is_folder<R: Files>(rt: &R, name: &str) -> bool {
         Ok(about) => about.is_dir(),
         Err(_) => false,
     }
+}
+
+/// The line that tells of what is no journal in a folder. Control characters of its name stand as `?`.
+pub fn stray_line(alloc: Global, folder: &str, name: &str) -> Result<String, AllocError> {
+    let mut line = format!(in alloc; "lra: {folder}/")?;
+    for character in name.chars() {
+        line.push(if character.is_control() {
+            '?'
+        } else {
+            character
+        })?;
+    }
+    line.push_str(" is no journal\n")?;
+    Ok(line)
 }
 
 /// Whether a name is that of what a service keeps in its folder beside the journals: the greatest instance, and a journal that is being made ready.
@@ -45,6 +60,32 @@ fn put_name(alloc: Global, found: &mut Found, prefix: &str, name: &str) -> Resul
     }
 }
 
+/// The names of what a folder has, in the order of their bytes. One that isn't UTF-8 is `?`.
+pub fn names_in<R: AllocGlobal + Files + Clone + Drop>(
+    rt: &R,
+    folder: &str,
+) -> Result<Vec<String>, RunFault> {
+    let alloc = rt.alloc();
+    let Ok(entries) = fs::read_dir(rt, folder) else {
+        return Err(RunFault::Read);
+    };
+    let mut names = Vec::new(alloc);
+    for entry in entries {
+        let name = match entry {
+            Ok(entry) => String::from_str(alloc, entry.file_name())?,
+            Err(error) if error.kind() == ErrorKind::InvalidFilename => {
+                String::from_str(alloc, "?")?
+            }
+            Err(_) => return Err(RunFault::Read),
+        };
+        if names.push(name).is_err() {
+            return Err(RunFault::Memory);
+        }
+    }
+    names.sort()?;
+    Ok(names)
+}
+
 /// Adds the names of what a folder has, with what comes before each.
 fn add_names<R: AllocGlobal + Files + Clone + Drop>(
     rt: &R,
@@ -52,14 +93,8 @@ fn add_names<R: AllocGlobal + Files + Clone + Drop>(
     prefix: &str,
     found: &mut Found,
 ) -> Result<(), RunFault> {
-    let Ok(entries) = fs::read_dir(rt, folder) else {
-        return Err(RunFault::Read);
-    };
-    for entry in entries {
-        let Ok(entry) = entry else {
-            return Err(RunFault::Read);
-        };
-        put_name(rt.alloc(), found, prefix, entry.file_name())?;
+    for name in &names_in(rt, folder)? {
+        put_name(rt.alloc(), found, prefix, name.as_str())?;
     }
     Ok(())
 }

@@ -1,9 +1,9 @@
 //! What a program does on a system, where a folder may stand in a file's place.
 
-use crate::finding::{Found, find, is_folder};
+use crate::finding::{Found, find, is_folder, stray_line};
 use crate::journals::{FolderAudit, audit_journals};
 use crate::listings::list_journals;
-use lra_reports::{Invocation, Question, RunFault, System, settle};
+use lra_reports::{Invocation, Question, RunFault, System, settle, tell};
 use std::io;
 use std::rt::Files;
 
@@ -15,10 +15,9 @@ enum Deed {
 }
 
 /// Tells on standard error what was left alone in a folder.
-pub fn tell_others<R: Eprint>(rt: &R, folder: &str, others: &[String]) {
+pub fn tell_others<R: AllocGlobal + Eprint>(rt: &R, folder: &str, others: &[String]) {
     for name in others {
-        let name = name.as_str();
-        let _ = eprintln!(rt; "lra: {folder}/{name} is no journal");
+        let _ = tell(rt, stray_line(rt.alloc(), folder, name.as_str()));
     }
 }
 
