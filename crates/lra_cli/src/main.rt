@@ -3,6 +3,7 @@
 #![tactic(auto)]
 
 mod asking;
+mod rolling;
 mod serving;
 mod telling;
 mod texts;
@@ -17,7 +18,7 @@ use lra_runs::{Task, play_file, read_task};
 use std::fs::File;
 use std::io;
 use std::io::IsTerminal;
-use std::marker::Sync;
+use std::marker::{Send, Sync};
 use std::net::{Net, TcpListener, TcpStream};
 use std::os::fd::AsFd;
 use std::process::ExitCode;
@@ -44,9 +45,10 @@ fn answer<
         + Print
         + Eprint
         + Sync
+        + Send
         + Clone
         + Drop,
-    H: Herald,
+    H: Herald + Sync,
 >(rt: &R, words: &[String], watcher: &H) -> u8
 where
     R::Reader: AsFd,

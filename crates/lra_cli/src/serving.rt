@@ -1,5 +1,7 @@
 //! What is served.
 
+use crate::rolling::{check_rolling, serve_rolling};
+use lra_folders::is_folder;
 use lra_opening::NamedFile;
 use lra_options::{Options, OptionsFault, read_options};
 use lra_reports::{RunFault, error_line, hint_line, put, settle, tell, tell_usage};
@@ -7,7 +9,7 @@ use lra_service::{Aloud, Herald, ServeFault, Served, check_place, fault_line, se
 use lra_settings::Settings;
 use std::fs::{File, OpenOptions};
 use std::io;
-use std::marker::Sync;
+use std::marker::{Send, Sync};
 use std::net::{Net, TcpListener, TcpStream};
 use std::os::fd::AsFd;
 use std::process::ChildStdout;
@@ -52,7 +54,7 @@ where
 }
 
 /// Names the way to what is sound of a journal that isn't served, on standard error.
-fn tell_way<R: AllocGlobal + Eprint>(rt: &R, file: &str) {
+pub(crate) fn tell_way<R: AllocGlobal + Eprint>(rt: &R, file: &str) {
     if let Ok(line) = hint_line(rt.alloc(), file) {
         let _ = eprint!(rt; "{line}");
     }
@@ -80,11 +82,13 @@ fn settle_serving<R: AllocGlobal + Eprint>(
 }
 
 /// Tells what would be served. The watcher is told how far the journal has been read.
-fn answer_check<R: AllocGlobal + Files<File = File> + Clock + Print + Eprint, H: Herald>(
-    rt: &R,
-    options: &Options<'_>,
-    watcher: &H,
-) -> u8 {
+fn answer_check<
+    R: AllocGlobal + Files<File = File> + Clock + Print + Eprint + Clone + Drop,
+    H: Herald + Sync,
+>(rt: &R, options: &Options<'_>, watcher: &H) -> u8 {
+    if is_folder(rt, options.file) {
+        return check_rolling(rt, options, watcher);
+    }
     let outcome = check_place(
         rt.alloc(),
         options.address,
@@ -107,9 +111,15 @@ fn answer_until<
         + Wait
         + Print
         + Eprint
-        + Sync,
-    H: Herald,
+        + Sync
+        + Send
+        + Clone
+        + Drop,
+    H: Herald + Sync,
 >(rt: &R, options: &Options<'_>, input: Option<ChildStdout>, watcher: &H) -> u8 {
+    if is_folder(rt, options.file) {
+        return serve_rolling(rt, options, input, watcher);
+    }
     let served = serve_with(
         rt,
         options.address,
@@ -138,8 +148,11 @@ pub(crate) fn answer_serve<
         + Wait
         + Print
         + Eprint
-        + Sync,
-    H: Herald,
+        + Sync
+        + Send
+        + Clone
+        + Drop,
+    H: Herald + Sync,
 >(rt: &R, address: &str, file: &str, workers: u32, watcher: &H) -> u8 {
     let _streams = stand_ins(rt);
     let options = Options {
@@ -163,8 +176,11 @@ fn answer_serving<
         + Input
         + Print
         + Eprint
-        + Sync,
-    H: Herald,
+        + Sync
+        + Send
+        + Clone
+        + Drop,
+    H: Herald + Sync,
 >(rt: &R, options: &Options<'_>, watcher: &H) -> u8
 where
     R::Reader: AsFd,
@@ -202,8 +218,11 @@ pub(crate) fn answer_options<
         + Input
         + Print
         + Eprint
-        + Sync,
-    H: Herald,
+        + Sync
+        + Send
+        + Clone
+        + Drop,
+    H: Herald + Sync,
 >(rt: &R, words: &[String], watcher: &H) -> u8
 where
     R::Reader: AsFd,

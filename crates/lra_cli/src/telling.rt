@@ -3,6 +3,7 @@
 use crate::asking::{Asking, Listed};
 use crate::serving::standard_input;
 use crate::texts::HELP;
+use lra_clocks::milliseconds;
 use lra_folders::{Found, find, is_folder, tell_others};
 use lra_follow::{Stop, follow, watch_input};
 use lra_model::Memory;
@@ -16,7 +17,7 @@ use std::os::fd::AsFd;
 use std::rt::Files;
 use std::sync::{Arc, Wait};
 use std::thread::Threads;
-use std::time::{Clock, SystemTime};
+use std::time::Clock;
 
 /// Prints the calls of the program, and answers its status.
 pub(crate) fn answer_help<R: AllocGlobal + Print + Eprint>(rt: &R) -> u8 {
@@ -57,22 +58,18 @@ fn answer_explain<R: AllocGlobal + Files + Input + Print + Eprint>(
     }
 }
 
-/// The moment now, in milliseconds, where the clock tells one.
-fn moment_now<R: Clock>(rt: &R) -> Option<u64> {
-    let since = SystemTime::now(rt)
-        .ok()?
-        .duration_since(SystemTime::UNIX_EPOCH)
-        .ok()?;
-    u64::try_from(since.as_millis()).ok()
-}
-
-/// Which actions are listed.
-fn choice_of<R: Clock>(rt: &R, listed: Listed) -> Choice {
-    Choice {
+/// Which actions are listed; none where the moment now is asked for and the clock doesn't tell it.
+fn choice_of<R: Clock>(rt: &R, listed: Listed) -> Option<Choice> {
+    let now = if listed.is_now {
+        Some(milliseconds(rt)?)
+    } else {
+        None
+    };
+    Some(Choice {
         status: listed.status,
         older_than: listed.older_than,
-        now: if listed.is_now { moment_now(rt) } else { None },
-    }
+        now,
+    })
 }
 
 /// Lists the actions of a file's journal, or of standard input's.
@@ -134,7 +131,9 @@ fn answer_list<R: AllocGlobal + Files + Clock + Input + Print + Eprint + Clone +
     place: &str,
     listed: Listed,
 ) -> u8 {
-    let choice = choice_of(rt, listed);
+    let Some(choice) = choice_of(rt, listed) else {
+        return tell(rt, format!(in rt.alloc(); "lra: cannot read the clock\n"));
+    };
     if !is_folder(rt, place) {
         return settle(rt, list(rt, place, &choice), place);
     }

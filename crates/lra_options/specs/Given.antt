@@ -16,6 +16,9 @@ nothing = record {
   callback_seconds = None;
   retry_first_ms = None;
   retry_last_ms = None;
+  roll_after = None;
+  remember_seconds = None;
+  site = None;
   stop_at_eof = None;
 }
 
@@ -32,5 +35,8 @@ applied g s = record {
   callback_seconds = unwrap_or g.callback_seconds s.callback_seconds;
   retry_first_ms = unwrap_or g.retry_first_ms s.retry_first_ms;
   retry_last_ms = unwrap_or g.retry_last_ms s.retry_last_ms;
+  roll_after = unwrap_or g.roll_after s.roll_after;
+  remember_seconds = unwrap_or g.remember_seconds s.remember_seconds;
+  site = unwrap_or g.site s.site;
   stop_at_eof = unwrap_or g.stop_at_eof s.stop_at_eof;
 }

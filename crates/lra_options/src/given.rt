@@ -19,6 +19,9 @@ pub struct Given {
     pub callback_seconds: Option<u64>,
     pub retry_first_ms: Option<u64>,
     pub retry_last_ms: Option<u64>,
+    pub roll_after: Option<u64>,
+    pub remember_seconds: Option<u64>,
+    pub site: Option<u64>,
     pub stop_at_eof: Option<bool>,
 }
 
@@ -38,6 +41,9 @@ impl Given {
             callback_seconds: None,
             retry_first_ms: None,
             retry_last_ms: None,
+            roll_after: None,
+            remember_seconds: None,
+            site: None,
             stop_at_eof: None,
         }
     }
@@ -55,6 +61,9 @@ impl Given {
             Parameter::CallbackTimeout => &mut self.callback_seconds,
             Parameter::RetryFirst => &mut self.retry_first_ms,
             Parameter::RetryLast => &mut self.retry_last_ms,
+            Parameter::RollAfter => &mut self.roll_after,
+            Parameter::Remember => &mut self.remember_seconds,
+            Parameter::Site => &mut self.site,
         };
         *place = Some(value);
     }
@@ -74,6 +83,9 @@ impl Given {
             callback_seconds: self.callback_seconds.unwrap_or(settings.callback_seconds),
             retry_first_ms: self.retry_first_ms.unwrap_or(settings.retry_first_ms),
             retry_last_ms: self.retry_last_ms.unwrap_or(settings.retry_last_ms),
+            roll_after: self.roll_after.unwrap_or(settings.roll_after),
+            remember_seconds: self.remember_seconds.unwrap_or(settings.remember_seconds),
+            site: self.site.unwrap_or(settings.site),
             stop_at_eof: self.stop_at_eof.unwrap_or(settings.stop_at_eof),
         }
     }

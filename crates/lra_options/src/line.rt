@@ -37,13 +37,22 @@ fn help_of(parameter: Parameter) -> &'static str {
         Parameter::CallbackTimeout => "How long a member has for a whole callback [30]",
         Parameter::RetryFirst => "The pause before a member is first asked again [100]",
         Parameter::RetryLast => "The longest pause before it is asked again [60000]",
+        Parameter::RollAfter => {
+            "Actions that a folder's journal takes before the next one [50000]"
+        }
+        Parameter::Remember => "How long a folder's journal stays once it has ended [3600]",
+        Parameter::Site => "The number that a folder's identifiers begin with [0]",
     }
 }
 
 /// What a parameter is counted in.
 fn unit_of(parameter: Parameter) -> &'static str {
     match parameter {
-        Parameter::Connections | Parameter::Callbacks | Parameter::HostShare => "N",
+        Parameter::Connections
+        | Parameter::Callbacks
+        | Parameter::HostShare
+        | Parameter::RollAfter
+        | Parameter::Site => "N",
         Parameter::RetryFirst | Parameter::RetryLast => "MS",
         _ => "S",
     }
@@ -95,7 +104,7 @@ fn with_words(alloc: Global, command: Command<'_>) -> Result<Command<'_>, AllocE
     let file = word_arg(
         alloc,
         "FILE",
-        "The journal, made where it is missing or empty",
+        "The journal, made where it is missing or empty; or a folder of journals that roll",
     );
     let workers = word_arg(alloc, "WORKERS", "How many threads of a kind, from 1 to 16");
     command.arg(address)?.arg(file)?.arg(workers)
@@ -169,7 +178,7 @@ fn option_of(alloc: Global, parameter: Parameter) -> Result<String, AllocError> 
 fn workers_in(alloc: Global, text: &str) -> Result<u32, OptionsFault> {
     match number_in(text) {
         Some(number) if 0 < number && number <= MOST_WORKERS => Ok(number as u32),
-        _ => Err(out_of_range(alloc, "WORKERS", text, MOST_WORKERS)),
+        _ => Err(out_of_range(alloc, "WORKERS", text, 1, MOST_WORKERS)),
     }
 }
 

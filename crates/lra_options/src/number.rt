@@ -1,7 +1,7 @@
 //! Numbers in texts.
 
 use crate::fault::{OptionsFault, wrong};
-use lra_settings::{LEAST, Parameter};
+use lra_settings::Parameter;
 use std::alloc::Global;
 
 /// The number that some digits spell.
@@ -13,8 +13,14 @@ pub(crate) fn number_in(text: &str) -> Option<u64> {
 }
 
 /// The fault of a text that is no number in its range. A place says whose it is.
-pub(crate) fn out_of_range(alloc: Global, place: &str, text: &str, most: u64) -> OptionsFault {
-    wrong(format!(in alloc; "{place}: {text} is not from {LEAST} to {most}"))
+pub(crate) fn out_of_range(
+    alloc: Global,
+    place: &str,
+    text: &str,
+    least: u64,
+    most: u64,
+) -> OptionsFault {
+    wrong(format!(in alloc; "{place}: {text} is not from {least} to {most}"))
 }
 
 /// What a parameter is by a text. A place says whose it is.
@@ -26,6 +32,6 @@ pub(crate) fn value_in(
 ) -> Result<u64, OptionsFault> {
     match number_in(text) {
         Some(value) if parameter.fits(value) => Ok(value),
-        _ => Err(out_of_range(alloc, place, text, parameter.most())),
+        _ => Err(out_of_range(alloc, place, text, parameter.least(), parameter.most())),
     }
 }

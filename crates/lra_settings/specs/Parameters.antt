@@ -1,7 +1,7 @@
 -- The numbers among the settings.
 use Rattle.std.specs.Prelude.{ℕ, Bool, List, ◌&&◌, codes, nat_le}
 use Rattle.lra_settings.specs.declared.parameter.Parameter.{Parameter}
-use Rattle.lra_settings.specs.declared.parameter.Parameter.TheVariants.{Connections, Callbacks, HostShare, IdleTimeout, RequestTimeout, ReplyTimeout, ConnectTimeout, CallbackTimeout, RetryFirst, RetryLast}
+use Rattle.lra_settings.specs.declared.parameter.Parameter.TheVariants.{Connections, Callbacks, HostShare, IdleTimeout, RequestTimeout, ReplyTimeout, ConnectTimeout, CallbackTimeout, RetryFirst, RetryLast, RollAfter, Remember, Site}
 
 -- the word of a parameter, on a command line and in a file (this project's choice)
 abbrev pub name_of : Parameter → List ℕ
@@ -15,8 +15,27 @@ name_of ConnectTimeout = codes "connect-timeout"
 name_of CallbackTimeout = codes "callback-timeout"
 name_of RetryFirst = codes "retry-first"
 name_of RetryLast = codes "retry-last"
+name_of RollAfter = codes "roll-after"
+name_of Remember = codes "remember"
+name_of Site = codes "site"
 
--- the most that a parameter may be: so many, a day in seconds, or a day in milliseconds (this project's choice)
+-- the least that a parameter may be: none but the site's number may be 0 (this project's choice)
+abbrev pub least_of : Parameter → ℕ
+least_of Connections = 1
+least_of Callbacks = 1
+least_of HostShare = 1
+least_of IdleTimeout = 1
+least_of RequestTimeout = 1
+least_of ReplyTimeout = 1
+least_of ConnectTimeout = 1
+least_of CallbackTimeout = 1
+least_of RetryFirst = 1
+least_of RetryLast = 1
+least_of RollAfter = 1
+least_of Remember = 1
+least_of Site = 0
+
+-- the most that a parameter may be: so many, a day in seconds, a day in milliseconds, a year in seconds, or what 16 bits hold (this project's choice)
 abbrev pub most_of : Parameter → ℕ
 most_of Connections = 1000000
 most_of Callbacks = 65536
@@ -28,7 +47,10 @@ most_of ConnectTimeout = 86400
 most_of CallbackTimeout = 86400
 most_of RetryFirst = 86400000
 most_of RetryLast = 86400000
+most_of RollAfter = 50000
+most_of Remember = 31536000
+most_of Site = 65535
 
--- a parameter may be so much: none may be 0
+-- a parameter may be so much
 abbrev pub fits : Parameter → ℕ → Bool
-fits parameter value = nat_le 1 value && nat_le value (most_of parameter)
+fits parameter value = nat_le (least_of parameter) value && nat_le value (most_of parameter)

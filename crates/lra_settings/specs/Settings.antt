@@ -1,7 +1,7 @@
 -- All settings of a service.
 use Rattle.std.specs.Prelude.{ℕ, Bool, false, ◌&&◌, nat_le}
 use Rattle.lra_settings.specs.declared.parameter.Parameter.{Parameter}
-use Rattle.lra_settings.specs.declared.parameter.Parameter.TheVariants.{Connections, Callbacks, HostShare, IdleTimeout, RequestTimeout, ReplyTimeout, ConnectTimeout, CallbackTimeout, RetryFirst, RetryLast}
+use Rattle.lra_settings.specs.declared.parameter.Parameter.TheVariants.{Connections, Callbacks, HostShare, IdleTimeout, RequestTimeout, ReplyTimeout, ConnectTimeout, CallbackTimeout, RetryFirst, RetryLast, RollAfter, Remember, Site}
 use Rattle.lra_settings.specs.declared.settings.Settings.{Settings}
 use Rattle.lra_settings.specs.Parameters.{fits}
 
@@ -18,6 +18,9 @@ usual = record {
   callback_seconds = 30;
   retry_first_ms = 100;
   retry_last_ms = 60000;
+  roll_after = 50000;
+  remember_seconds = 3600;
+  site = 0;
   stop_at_eof = false;
 }
 
@@ -33,12 +36,16 @@ value_of s ConnectTimeout = s.connect_seconds
 value_of s CallbackTimeout = s.callback_seconds
 value_of s RetryFirst = s.retry_first_ms
 value_of s RetryLast = s.retry_last_ms
+value_of s RollAfter = s.roll_after
+value_of s Remember = s.remember_seconds
+value_of s Site = s.site
 
 -- each parameter may be what it is
 abbrev pub are_in_range : Settings → Bool
 are_in_range s =
-    ((((((((fits Connections s.connections && fits Callbacks s.callbacks) && fits HostShare s.host_share) && fits IdleTimeout s.idle_seconds) && fits RequestTimeout s.request_seconds)
-    && fits ReplyTimeout s.reply_seconds) && fits ConnectTimeout s.connect_seconds) && fits CallbackTimeout s.callback_seconds) && fits RetryFirst s.retry_first_ms) && fits RetryLast s.retry_last_ms
+    (((((((((((fits Connections s.connections && fits Callbacks s.callbacks) && fits HostShare s.host_share) && fits IdleTimeout s.idle_seconds) && fits RequestTimeout s.request_seconds)
+    && fits ReplyTimeout s.reply_seconds) && fits ConnectTimeout s.connect_seconds) && fits CallbackTimeout s.callback_seconds) && fits RetryFirst s.retry_first_ms)
+    && fits RetryLast s.retry_last_ms) && fits RollAfter s.roll_after) && fits Remember s.remember_seconds) && fits Site s.site
 
 -- a service may be run by them: each parameter may be what it is, and the first pause is no longer than the last
 abbrev pub are_fit : Settings → Bool

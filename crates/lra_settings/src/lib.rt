@@ -1,8 +1,8 @@
-//! The settings of a service: how much it has at once, how long each waits for another, and what each number may be.
+//! The settings of a service: how much it has at once, how long each waits for another, when a folder's journals roll, and what each number may be.
 #![tactic(auto)]
 
 mod parameter;
 mod settings;
 
-pub use parameter::{LEAST, Parameter};
+pub use parameter::Parameter;
 pub use settings::Settings;

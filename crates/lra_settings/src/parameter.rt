@@ -1,10 +1,7 @@
 //! The numbers among the settings.
 
 ghost use Rattle.std.specs.Prelude.{◌≡◌, ◌&&◌, IfSome, nat_le};
-ghost use Rattle.lra_settings.specs.Parameters.{name_of, most_of, fits};
-
-/// The least that each number may be.
-pub const LEAST: u64 = 1;
+ghost use Rattle.lra_settings.specs.Parameters.{name_of, least_of, most_of, fits};
 
 /// A number among the settings.
 #[derive(Clone, Copy, Debug, PartialEq, Eq)]
@@ -19,11 +16,14 @@ pub enum Parameter {
     CallbackTimeout,
     RetryFirst,
     RetryLast,
+    RollAfter,
+    Remember,
+    Site,
 }
 
 impl Parameter {
     /// All of them.
-    pub const ALL: [Parameter; 10] = [
+    pub const ALL: [Parameter; 13] = [
         Parameter::Connections,
         Parameter::Callbacks,
         Parameter::HostShare,
@@ -34,6 +34,9 @@ impl Parameter {
         Parameter::CallbackTimeout,
         Parameter::RetryFirst,
         Parameter::RetryLast,
+        Parameter::RollAfter,
+        Parameter::Remember,
+        Parameter::Site,
     ];
 
     /// Its word, on a command line and in a file.
@@ -51,6 +54,9 @@ impl Parameter {
             Parameter::CallbackTimeout => "callback-timeout",
             Parameter::RetryFirst => "retry-first",
             Parameter::RetryLast => "retry-last",
+            Parameter::RollAfter => "roll-after",
+            Parameter::Remember => "remember",
+            Parameter::Site => "site",
         }
     }
 
@@ -64,6 +70,16 @@ impl Parameter {
             }
         }
         None
+    }
+
+    /// The least that it may be.
+    pub const fn least(self) -> u64
+        ensures { result ≡ least_of self }
+    {
+        match self {
+            Parameter::Site => 0,
+            _ => 1,
+        }
     }
 
     /// The most that it may be.
@@ -81,6 +97,9 @@ impl Parameter {
             Parameter::CallbackTimeout => 86_400,
             Parameter::RetryFirst => 86_400_000,
             Parameter::RetryLast => 86_400_000,
+            Parameter::RollAfter => 50_000,
+            Parameter::Remember => 31_536_000,
+            Parameter::Site => 65_535,
         }
     }
 
@@ -88,6 +107,6 @@ impl Parameter {
     pub fn fits(self, value: u64) -> bool
         ensures { result ≡ fits self value }
     {
-        LEAST <= value && value <= self.most()
+        self.least() <= value && value <= self.most()
     }
 }

@@ -5,7 +5,7 @@ ghost use Rattle.lra_settings.specs.Settings.{usual, value_of, are_in_range, are
 
 use crate::parameter::Parameter;
 
-/// How much a service has at once, and how long each waits for another.
+/// How much a service has at once, how long each waits for another, and when a folder's journals roll.
 #[derive(Clone, Copy, Debug, PartialEq, Eq)]
 pub struct Settings {
     /// How many connections there are at once.
@@ -28,6 +28,12 @@ pub struct Settings {
     pub retry_first_ms: u64,
     /// How many pass at most before it is asked again.
     pub retry_last_ms: u64,
+    /// How many actions a folder's journal takes before the next one is begun.
+    pub roll_after: u64,
+    /// How many seconds a journal of a folder whose actions have all ended stays before it is put away.
+    pub remember_seconds: u64,
+    /// The number with which the identifiers of a folder's journals begin.
+    pub site: u64,
     /// The service ends gently once standard input has ended.
     pub stop_at_eof: bool,
 }
@@ -48,6 +54,9 @@ impl Settings {
             callback_seconds: 30,
             retry_first_ms: 100,
             retry_last_ms: 60_000,
+            roll_after: 50_000,
+            remember_seconds: 3_600,
+            site: 0,
             stop_at_eof: false,
         }
     }
@@ -67,6 +76,9 @@ impl Settings {
             Parameter::CallbackTimeout => self.callback_seconds,
             Parameter::RetryFirst => self.retry_first_ms,
             Parameter::RetryLast => self.retry_last_ms,
+            Parameter::RollAfter => self.roll_after,
+            Parameter::Remember => self.remember_seconds,
+            Parameter::Site => self.site,
         }
     }
 
@@ -84,6 +96,9 @@ impl Settings {
             && Parameter::CallbackTimeout.fits(self.callback_seconds)
             && Parameter::RetryFirst.fits(self.retry_first_ms)
             && Parameter::RetryLast.fits(self.retry_last_ms)
+            && Parameter::RollAfter.fits(self.roll_after)
+            && Parameter::Remember.fits(self.remember_seconds)
+            && Parameter::Site.fits(self.site)
     }
 
     /// Whether a service may be run by them: each parameter may be what it is, and the first pause is no longer than the last.

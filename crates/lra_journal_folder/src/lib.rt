@@ -1,0 +1,12 @@
+//! A folder of journals on disk: its names, its lock, the file of the greatest instance, what was put away, and its journals, found and audited.
+#![tactic(auto)]
+
+mod fault;
+mod folder;
+mod header;
+mod reading;
+
+pub use fault::{RollingFault, fault_at, rolling_line, told};
+pub use folder::{Contents, Folder};
+pub use header::header_of;
+pub use reading::{Sound, Unsound, audit_all};

@@ -1,0 +1,63 @@
+//! What would be served of a folder, told with nothing served.
+
+use crate::running::FolderServed;
+use lra_journal_folder::{Folder, RollingFault, Sound, Unsound, audit_all};
+use lra_opening::{Herald, ServeFault};
+use lra_service::{base_at, put_number, put_settings, put_text};
+use lra_settings::Settings;
+use std::alloc::Global;
+use std::fs::File;
+use std::io::Write;
+use std::rt::Files;
+use std::time::Clock;
+
+/// Writes what would be served, of journals that could be.
+fn tell<W: Write>(
+    alloc: Global,
+    address: &str,
+    path: &str,
+    sounds: &[Sound],
+    workers: u32,
+    settings: &Settings,
+    writer: &mut W,
+) -> Result<(), ServeFault> {
+    let mut entries = 0u64;
+    for sound in sounds {
+        entries = entries.saturating_add(sound.opening.count_entries());
+    }
+    put_text(alloc, "address", address, writer)?;
+    put_text(alloc, "folder", path, writer)?;
+    put_number(alloc, "workers", u64::from(workers), writer)?;
+    put_number(alloc, "journals", sounds.len() as u64, writer)?;
+    put_number(alloc, "entries", entries, writer)?;
+    put_settings(alloc, settings, writer)
+}
+
+/// Writes what would be served of a folder at an address, a line each: the address, the folder's name, the threads that answer, how many journals there are,
+/// how many entries they have, and all settings. The folder and its journals are found, locked and audited for that, as before they are served, and nothing
+/// is created, bound or written.
+pub fn check_folder<
+    R: Files<File = File> + AllocGlobal + Clone + Drop + Clock,
+    V: Herald,
+    W: Write,
+>(
+    rt: &R,
+    address: &str,
+    path: &str,
+    workers: u32,
+    settings: &Settings,
+    watcher: &V,
+    writer: &mut W,
+) -> Result<FolderServed, RollingFault> {
+    let alloc = rt.alloc();
+    drop(base_at(alloc, address)?);
+    let folder = Folder::open(rt, path)?;
+    let contents = folder.contents()?;
+    match audit_all(rt, &folder, &contents, watcher, writer)? {
+        Err(Unsound { status, path }) => Ok(FolderServed::Unsound { status, path }),
+        Ok(sounds) => {
+            tell(alloc, address, path, &sounds, workers, settings, writer)?;
+            Ok(FolderServed::Ended)
+        }
+    }
+}

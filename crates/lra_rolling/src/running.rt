@@ -1,0 +1,355 @@
+//! The run of a service over a folder.
+
+ghost use Rattle.std.specs.Prelude.{◌≡◌, true, All, None};
+ghost use Rattle.lra_ids.specs.Addresses.{is_base};
+ghost use Rattle.lra_opening.specs.Places.{IsRead};
+
+use crate::crier::Crier;
+use crate::opening::{Bench, Opener};
+use crate::preparing::Maker;
+use crate::shift::Shift;
+use crate::steward::{Steward, steady};
+use crate::working::work;
+use lra_branch::Clerkship;
+use lra_clocks::milliseconds;
+use lra_folders::stray_line;
+use lra_ids::Address;
+use lra_journal_folder::{Contents, Folder, RollingFault, Sound, Unsound, audit_all};
+use lra_model::Instance;
+use lra_opening::{Herald, ServeFault};
+use lra_reports::RunFault;
+use lra_rolls::Counts;
+use lra_roster::{Journal, Roster, Watch};
+use lra_rounds::Arrivals;
+use lra_service::{Doorway, base_at, bind, end_of, limits_of, make_doorway, say};
+use lra_settings::Settings;
+use lra_shelf::Shelf;
+use std::alloc::Global;
+use std::fs::File;
+use std::io::{Read, Write};
+use std::marker::{Send, Sync};
+use std::net::{Net, TcpListener, TcpStream};
+use std::rt::Files;
+use std::sync::{Arc, Wait};
+use std::thread::Threads;
+use std::time::Clock;
+
+/// How many bytes a journal has at most until the next one takes its place.
+const HALF_OF_BYTES: u64 = 1 << 29;
+
+/// How a service over a folder came to an end without a fault.
+#[derive(Debug, Drop)]
+pub enum FolderServed {
+    /// The journal of that path isn't sound: that is written, and this is the program's status.
+    Unsound { status: u8, path: String },
+    /// Gently: what was in flight is recorded or given up, and all is synced.
+    Ended,
+}
+
+/// How much a journal has of each until the next one takes its place.
+fn most_of(settings: &Settings) -> Counts {
+    let limits = limits_of(settings);
+    Counts {
+        actions: settings.roll_after.min(limits.actions / 2),
+        members: limits.members / 2,
+        entries: limits.entries / 2,
+        bytes: HALF_OF_BYTES,
+    }
+}
+
+/// What serves, and the words that say what.
+#[derive(Drop)]
+struct Service<'a, R, V, H> {
+    rt: &'a R,
+    alloc: Global,
+    address: &'a str,
+    base: &'a Address,
+    folder: &'a Folder<'a, R>,
+    workers: u32,
+    settings: Settings,
+    /// Who is told how far journals have been read.
+    watcher: &'a V,
+    herald: &'a H,
+    ghost based: { is_base base.now ≡ true },
+}
+
+/// Where connections come in to so many threads.
+fn arrivals_of<R: Net>(rt: &R, alloc: Global, workers: u32) -> Result<Vec<Arrivals>, RollingFault> {
+    let mut all = Vec::new(alloc);
+    for _worker in 0..workers {
+        let Ok(arrivals) = Arrivals::new(rt, alloc) else {
+            return Err(RollingFault::Here(ServeFault::Address));
+        };
+        all.push(arrivals)?;
+    }
+    Ok(all)
+}
+
+/// The later of the moments up to which journals go.
+fn latest(sounds: &[Sound]) -> u64 {
+    let mut latest = 0;
+    for sound in sounds {
+        latest = latest.max(sound.opening.last_moment());
+    }
+    latest
+}
+
+impl<
+    'a,
+    R: Files<File = File>
+        + AllocGlobal
+        + Clone
+        + Drop
+        + Threads
+        + Wait
+        + Clock
+        + Net<Stream = TcpStream, Listener = TcpListener>
+        + Sync,
+    V: Herald + Sync,
+    H: Herald + Sync,
+> Service<'a, R, V, H> {
+    /// Who makes the next journals ready.
+    fn maker<O: Opener + Drop>(
+        &self,
+        shelf: &'a Arc<Shelf>,
+        opener: O,
+        contents: &Contents,
+        moment: u64,
+    ) -> Result<Maker<'a, R, O>, RollingFault> {
+        let newest = self.folder.newest(contents)?;
+        let Some(newest) = Instance::new(newest) else {
+            return Err(RollingFault::Here(ServeFault::Address));
+        };
+        let maker = Maker {
+            rt: self.rt,
+            alloc: self.alloc,
+            shelf,
+            opener,
+            folder: self.folder,
+            site: u16::try_from(self.settings.site).unwrap_or(u16::MAX),
+            newest,
+        };
+        let _first = maker.instance(moment)?;
+        Ok(maker)
+    }
+
+    /// A journal that was found sound, as one that is served.
+    fn open_one<O: Opener>(
+        &self,
+        opener: &O,
+        sound: Sound,
+        moment: u64,
+    ) -> Result<Arc<Journal<O::Branch>>, RollingFault>
+        requires { IsRead None sound.opening }
+    {
+        let (file, opening) = sound.ready(self.rt, self.watcher)?;
+        opener.open(file, opening, moment)
+    }
+
+    /// The journals that were found sound, as those that are served.
+    fn open_all<O: Opener>(
+        &self,
+        opener: &O,
+        sounds: Vec<Sound>,
+        moment: u64,
+    ) -> Result<Vec<Watch<O::Branch>>, RollingFault>
+        requires { All (λ sound. IsRead None sound.opening) sounds.items }
+    {
+        let mut watches = Vec::new(self.alloc);
+        for sound in sounds {
+            let journal = self.open_one(opener, sound, moment)?;
+            watches.push(Watch::new(journal, steady(self.rt)))?;
+        }
+        Ok(watches)
+    }
+
+    /// The journals of a folder, of which there is one at least.
+    fn open<O: Opener>(
+        &self,
+        maker: &mut Maker<'a, R, O>,
+        sounds: Vec<Sound>,
+        moment: u64,
+    ) -> Result<Vec<Watch<O::Branch>>, RollingFault>
+        requires { All (λ sound. IsRead None sound.opening) sounds.items }
+    {
+        let mut watches = self.open_all(&maker.opener, sounds, moment)?;
+        if watches.is_empty() {
+            let mut ready = maker.make(moment)?;
+            maker.name(&mut ready)?;
+            watches.push(Watch::new(ready.into_journal(), steady(self.rt)))?;
+        }
+        Ok(watches)
+    }
+
+    /// The roster of journals.
+    fn roster<B: Clerkship + Drop>(&self, watches: &[Watch<B>]) -> Result<Roster<B>, RollingFault> {
+        let roster = Roster::new(self.alloc);
+        for watch in watches {
+            roster.publish(self.rt, Arc::try_clone(&watch.journal)?)?;
+        }
+        Ok(roster)
+    }
+
+    /// Who looks after the journals.
+    fn steward<O: Opener<Branch = B>, B: Clerkship + Drop>(
+        &self,
+        maker: Maker<'a, R, O>,
+        watches: Vec<Watch<B>>,
+    ) -> Steward<'a, R, O, B> {
+        Steward {
+            maker,
+            address: self.address,
+            most: most_of(&self.settings),
+            remember: self.settings.remember_seconds.saturating_mul(1_000),
+            watches,
+            idle: Vec::new(self.alloc),
+            is_full: false,
+            next: None,
+            retry: 0,
+            has_told: false,
+        }
+    }
+
+    /// Says that it serves, and serves until none can come any more.
+    fn serve_roster<O: Opener<Branch = B> + Send + Drop, B: Clerkship + Send + Drop, W: Write>(
+        &self,
+        shelf: &'a Arc<Shelf>,
+        steward: Steward<'a, R, O, B>,
+        roster: &Roster<B>,
+        door: Doorway,
+        moment: u64,
+        writer: &mut W,
+    ) -> Result<FolderServed, RollingFault> {
+        let Doorway { line, ending } = door;
+        let arrivals = arrivals_of(self.rt, self.alloc, self.workers)?;
+        let Some(crier) = Crier::new(self.rt, self.alloc) else {
+            return Err(RollingFault::Here(ServeFault::Address));
+        };
+        let shift = Shift::new(
+            self.rt,
+            self.alloc,
+            self.herald,
+            &self.settings,
+            shelf,
+            &ending,
+            roster,
+            line,
+            arrivals,
+            crier,
+            moment,
+        );
+        say(self.alloc, self.address, writer)?;
+        work(&shift, steward, self.workers as usize);
+        drop(shift);
+        let end = end_of(self.rt, shelf.progress(), &ending);
+        drop(ending);
+        match end {
+            Ok(_) => Ok(FolderServed::Ended),
+            Err(fault) => Err(RollingFault::Here(fault)),
+        }
+    }
+
+    /// The same, of journals that were found sound, with those on a shelf.
+    fn serve_on<
+        O: Opener<Branch = B> + Send + Drop,
+        B: Clerkship + Send + Drop,
+        I: Read + Send + Drop + 'static,
+        W: Write,
+    >(
+        &self,
+        shelf: &'a Arc<Shelf>,
+        opener: O,
+        contents: &Contents,
+        sounds: Vec<Sound>,
+        input: Option<I>,
+        writer: &mut W,
+    ) -> Result<FolderServed, RollingFault>
+        requires { All (λ sound. IsRead None sound.opening) sounds.items }
+    {
+        let Some(now) = milliseconds(self.rt) else {
+            return Err(RollingFault::Here(ServeFault::Address));
+        };
+        let moment = now.max(latest(&sounds));
+        let mut maker = self.maker(shelf, opener, contents, now)?;
+        let listener = bind(self.alloc, self.rt, self.base)?;
+        self.folder.clear(contents)?;
+        let watches = self.open(&mut maker, sounds, moment)?;
+        let roster = self.roster(&watches)?;
+        let door = make_doorway(self.rt, self.alloc, listener, input)?;
+        let steward = self.steward(maker, watches);
+        self.serve_roster(shelf, steward, &roster, door, moment, writer)
+    }
+
+    /// Tells what is left alone in the folder.
+    fn tell_others(&self, contents: &Contents) {
+        let path = self.folder.path;
+        for name in &contents.others {
+            if let Ok(line) = stray_line(self.alloc, path, name.as_str()) {
+                self.herald.tell(line.as_str());
+            }
+        }
+    }
+}
+
+/// Serves the coordinators of a folder's journals at an address, as [`lra_service::serve_with`] does that of a file. What is begun, and names no journal,
+/// goes to the newest; once that is full, or has as many actions as it is to have, the next one takes its place. A journal that isn't the newest is put away
+/// once nothing of it is left to be done.
+pub fn serve_folder<
+    R: Files<File = File>
+        + AllocGlobal
+        + Clone
+        + Drop
+        + Threads
+        + Wait
+        + Clock
+        + Net<Stream = TcpStream, Listener = TcpListener>
+        + Sync
+        + Send,
+    I: Read + Send + Drop + 'static,
+    V: Herald + Sync,
+    H: Herald + Sync,
+    W: Write,
+>(
+    rt: &R,
+    address: &str,
+    path: &str,
+    workers: u32,
+    settings: Settings,
+    input: Option<I>,
+    watcher: &V,
+    herald: &H,
+    writer: &mut W,
+) -> Result<FolderServed, RollingFault> {
+    let alloc = rt.alloc();
+    let base = base_at(alloc, address)?;
+    let folder = Folder::open(rt, path)?;
+    let contents = folder.contents()?;
+    let Ok(shelf) = Shelf::open(alloc) else {
+        return Err(RollingFault::Here(ServeFault::Run(RunFault::Memory)));
+    };
+    let service = Service {
+        rt,
+        alloc,
+        address,
+        base: &base,
+        folder: &folder,
+        workers,
+        settings,
+        watcher,
+        herald,
+    };
+    service.tell_others(&contents);
+    match audit_all(rt, &folder, &contents, watcher, writer)? {
+        Err(Unsound { status, path }) => Ok(FolderServed::Unsound { status, path }),
+        Ok(sounds) => {
+            let opener = Bench {
+                rt,
+                alloc,
+                shelf: &shelf,
+                base: &base,
+                limits: limits_of(&settings),
+            };
+            service.serve_on(&shelf, opener, &contents, sounds, input, writer)
+        }
+    }
+}

@@ -1,0 +1,254 @@
+//! What the threads of a service over a folder share, and what each does.
+
+ghost use Rattle.std.specs.Prelude.{◌≡◌, [], IfSome};
+
+use crate::crier::Crier;
+use lra_branch::Clerkship;
+use lra_callbacks::{Callbacks, Names, Share};
+use lra_clocks::{Clock, SystemClock};
+use lra_durable::Progress;
+use lra_family_front::Household;
+use lra_opening::Herald;
+use lra_roster::{Journal, Kin, Roster};
+use lra_rounds::{Arrivals, Rounds, Times};
+use lra_service::{
+    CarrierGate, Ending, Entrance, Line, share_of, tell_answered, tell_carried, times_of,
+};
+use lra_settings::Settings;
+use lra_shelf::{Shelf, ShelfDisk};
+use lra_workers::{Gate, Go, WorkerEnd};
+use std::alloc::Global;
+use std::net::{Net, TcpListener, TcpStream};
+use std::sync::atomic::{AtomicU64, Ordering};
+use std::sync::{Arc, Wait};
+use std::time;
+
+/// Between how many of the journals the callbacks that go out at once are shared: the newest, and one before it.
+const BUSY: usize = 2;
+
+/// What the threads share.
+#[derive(Drop)]
+pub(crate) struct Shift<'s, 'a, R: Wait, H, B> {
+    pub(crate) rt: &'a R,
+    pub(crate) alloc: Global,
+    pub(crate) herald: &'s H,
+    door: Entrance<'s, R>,
+    pub(crate) shelf: &'a Arc<Shelf>,
+    pub(crate) ending: &'s Arc<Ending>,
+    pub(crate) roster: &'s Roster<B>,
+    /// The moment at which it began, in milliseconds.
+    moment: u64,
+    /// How many connections one who answers has at most.
+    most: usize,
+    /// How long a client has.
+    times: Times,
+    /// How many answer connections.
+    answering: AtomicU64,
+    crier: Crier,
+    /// The addresses of members' hosts.
+    names: Names,
+    /// What one who carries has under way at most.
+    share: Share,
+}
+
+/// What one who carries for a journal is let do: as at a file's, until the journal is put away.
+#[derive(Drop)]
+struct JournalGate<'a, R: Wait, B> {
+    gate: CarrierGate<'a, R, ShelfDisk>,
+    journal: &'a Journal<B>,
+}
+
+impl<R: Wait + time::Clock + Net, B: Drop> Gate for JournalGate<'_, R, B> {
+    fn more(&mut self) -> bool {
+        !self.journal.is_over() && self.gate.more()
+    }
+
+    fn begins(&self) -> bool {
+        self.gate.begins()
+    }
+
+    fn hold(&mut self, _ask: u64) -> Go {
+        Go::Carry
+    }
+
+    fn answered(&mut self, _ask: u64) {}
+}
+
+impl<'s, 'a: 's, R: Wait + time::Clock, H, B> Shift<'s, 'a, R, H, B> {
+    /// One that begins.
+    pub(crate) fn new(
+        rt: &'a R,
+        alloc: Global,
+        herald: &'s H,
+        settings: &Settings,
+        shelf: &'a Arc<Shelf>,
+        ending: &'s Arc<Ending>,
+        roster: &'s Roster<B>,
+        line: Line,
+        arrivals: Vec<Arrivals>,
+        crier: Crier,
+        moment: u64,
+    ) -> Shift<'s, 'a, R, H, B> {
+        let workers = arrivals.len();
+        let most = settings.connections.div_ceil((workers as u64).max(1));
+        Shift {
+            rt,
+            alloc,
+            herald,
+            door: Entrance::new(rt, line, ending, arrivals),
+            shelf,
+            ending,
+            roster,
+            moment,
+            most: most as usize,
+            times: times_of(settings),
+            answering: AtomicU64::new(workers as u64),
+            crier,
+            names: Names::new(alloc),
+            share: share_of(settings, BUSY),
+        }
+    }
+
+    /// What the journals' files have taken and keep.
+    pub(crate) fn progress(&self) -> &Progress<ShelfDisk> {
+        self.shelf.progress()
+    }
+
+    /// The clock of one of the threads.
+    pub(crate) fn clock(&self) -> SystemClock<'a, R> {
+        SystemClock::new(self.rt, self.moment)
+    }
+}
+
+impl<
+    's,
+    'a: 's,
+    R: Wait + time::Clock + Net<Stream = TcpStream, Listener = TcpListener>,
+    H: Herald,
+    B: Clerkship + Drop,
+> Shift<'s, 'a, R, H, B> {
+    /// Takes down that one who answered connections has ended: with the last one all end.
+    fn leave(&self) {
+        if self.answering.fetch_sub(1, Ordering::SeqCst) <= 1 {
+            self.ending.finish();
+            lra_callbacks::ring(&self.crier.bells);
+            self.roster.ring(self.rt);
+        }
+    }
+
+    /// Hands on the connections that come, until there are to be no others. Then those who carry look whether they are to end.
+    pub(crate) fn admit(&self) {
+        self.door.open();
+        self.roster.ring(self.rt);
+    }
+
+    /// Answers the connections that come in there.
+    fn answer_at(&self, arrivals: &Arrivals) {
+        let mut kin = Kin::new(self.rt, self.alloc, self.roster, self.clock());
+        let Some(family) = kin.begin(self.alloc) else {
+            self.herald.tell("lra: a thread that answered has ended: no clerk could be enrolled\n");
+            return;
+        };
+        let mut household = Household::new(family, kin);
+        let rounds = Rounds::new(
+            self.rt,
+            self.alloc,
+            self.progress(),
+            arrivals,
+            &self.crier.bells,
+            self.most,
+            self.times,
+        );
+        tell_answered(self.herald, rounds.run(&mut household, &mut self.clock()));
+        drop(household);
+    }
+
+    /// Answers connections.
+    pub(crate) fn answer(&self, place: u32) {
+        if let Some(arrivals) = self.door.arrivals(place) {
+            self.answer_at(arrivals);
+            arrivals.close(self.rt);
+        }
+        self.leave();
+    }
+
+    /// Wakes those who carry.
+    pub(crate) fn cry(&self) {
+        self.crier
+            .run(self.rt, self.alloc, self.roster, self.ending);
+    }
+
+    /// Looks up the names of members' hosts.
+    pub(crate) fn look_up(&self) {
+        self.names.run(self.rt, &self.crier.bells);
+    }
+
+    /// The callbacks of one who carries for a journal: none are under way.
+    fn callbacks<'b>(&'b self, journal: &'b Journal<B>) -> Option<Callbacks<'b, R, ShelfDisk>>
+        ensures { IfSome result (λ made. made ≡ []) }
+    {
+        let poll = journal.stall.poll.lock(self.rt).take()?;
+        Callbacks::new(
+            self.rt,
+            self.alloc,
+            self.progress(),
+            &self.names,
+            poll,
+            self.share,
+            &journal.stall.under_way,
+            self.clock(),
+            &journal.bells,
+        )
+        .ok()
+    }
+
+    /// What one who carries for a journal is let do.
+    fn gate<'b>(&'b self, journal: &'b Journal<B>) -> JournalGate<'b, R, B> {
+        JournalGate {
+            gate: CarrierGate::new(
+                self.rt,
+                self.ending,
+                self.progress(),
+                &journal.stall.under_way,
+            ),
+            journal,
+        }
+    }
+
+    /// Lets limits fire and carries errands of a journal, many at once. Where that can't be begun no one answers any more.
+    pub(crate) fn carry(&self, journal: &Journal<B>) {
+        let Some(branch) = journal.fork(self.rt, self.clock().now()) else {
+            self.door.close();
+            return;
+        };
+        match self.callbacks(journal) {
+            Some(mut callbacks) => {
+                let end = branch.carry(&mut callbacks, &mut self.gate(journal), &mut self.clock());
+                drop(callbacks);
+                self.tell_end(end);
+            }
+            None => {
+                drop(branch);
+                self.door.close();
+            }
+        }
+    }
+
+    /// No one answers any more.
+    pub(crate) fn close(&self) {
+        self.door.close();
+    }
+
+    /// Tells why one who carried has ended, unless the disk has failed: then the program ends, and says so.
+    fn tell_end(&self, end: WorkerEnd) {
+        if !self.progress().has_failed(self.rt) {
+            tell_carried(self.alloc, self.herald, end);
+        }
+    }
+
+    /// All that answered have ended: so do those who look names up, and who waits for connections.
+    pub(crate) fn end(&self) {
+        self.names.close(self.rt);
+        self.ending.finish();
+    }
+}

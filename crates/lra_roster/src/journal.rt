@@ -1,0 +1,115 @@
+//! One journal of a folder that is served.
+
+use lra_branch::Clerkship;
+use lra_callbacks::ring;
+use lra_commands::{Known, Query};
+use lra_model::{Instance, Memory};
+use lra_service::Stall;
+use lra_shelf::Leaf;
+use mio::Waker;
+use std::alloc::Global;
+use std::net::Net;
+use std::sync::atomic::{AtomicBool, AtomicU64, Ordering};
+use std::sync::{Arc, Mutex, Wait};
+
+/// One journal of a folder, with the branch `B` of its coordinator.
+#[derive(Drop)]
+pub struct Journal<B> {
+    pub instance: Instance,
+    pub leaf: Arc<Leaf>,
+    /// How many entries it had when it was opened.
+    entries: u64,
+    /// From this clerk each thread has its own.
+    branch: Mutex<Option<B>>,
+    /// The place of who carries.
+    pub stall: Stall,
+    /// What wakes that one.
+    pub bells: Vec<Waker>,
+    /// How many bytes it had when who carries was woken last.
+    heard: AtomicU64,
+    /// It is put away.
+    is_over: AtomicBool,
+}
+
+impl<B: Clerkship + Drop> Journal<B> {
+    /// A journal, which was opened with so many entries, with a clerk of it.
+    pub fn new<R: Net>(
+        rt: &R,
+        alloc: Global,
+        leaf: Arc<Leaf>,
+        entries: u64,
+        branch: B,
+    ) -> Result<Journal<B>, Memory> {
+        let instance = branch.instance();
+        let Some((stall, bell)) = Stall::new(rt) else {
+            drop(leaf);
+            drop(branch);
+            return Err(Memory);
+        };
+        let mut bells = Vec::new(alloc);
+        if bells.push(bell).is_err() {
+            drop(leaf);
+            drop(branch);
+            drop(stall);
+            return Err(Memory);
+        }
+        Ok(Journal {
+            instance,
+            leaf,
+            entries,
+            branch: Mutex::new(Some(branch)),
+            stall,
+            bells,
+            heard: AtomicU64::new(0),
+            is_over: AtomicBool::new(false),
+        })
+    }
+
+    /// Another clerk of its coordinator, where one can be enrolled.
+    pub fn fork<R: Wait>(&self, rt: &R, moment: u64) -> Option<B> {
+        self.branch.lock(rt).as_mut()?.fork(moment)
+    }
+
+    /// What its coordinator tells of its history, if it does.
+    pub fn query<R: Wait>(&self, rt: &R, query: Query) -> Option<Known> {
+        self.branch.lock(rt).as_mut()?.query(query)
+    }
+}
+
+impl<B: Drop> Journal<B> {
+    /// How many bytes it has.
+    pub fn bytes(&self) -> u64 {
+        self.leaf.bytes()
+    }
+
+    /// How many entries it has.
+    pub fn count_entries(&self) -> u64 {
+        self.entries.saturating_add(self.leaf.entries())
+    }
+
+    /// Wakes who carries.
+    pub fn ring(&self) {
+        ring(&self.bells);
+    }
+
+    /// Whether it has grown since this was asked last, or something is under way.
+    pub fn has_news(&self) -> bool {
+        let bytes = self.bytes();
+        self.heard.swap(bytes, Ordering::SeqCst) != bytes || self.under_way() > 0
+    }
+
+    /// It is put away: who carries ends.
+    pub fn finish(&self) {
+        self.is_over.store(true, Ordering::SeqCst);
+        self.ring();
+    }
+
+    pub fn is_over(&self) -> bool {
+        self.is_over.load(Ordering::SeqCst)
+    }
+
+    /// How many callbacks are under way.
+    pub fn under_way(&self) -> u64 {
+        self.stall.under_way.load(Ordering::SeqCst)
+    }
+}

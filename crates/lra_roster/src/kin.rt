@@ -1,0 +1,144 @@
+//! Which journals a thread answers for.
+
+ghost use Rattle.std.specs.Prelude.{IfSome};
+ghost use Rattle.lra_family_front.specs.Households.{HaveBase, KeepsBase, Moved, base_of};
+
+use crate::journal::Journal;
+use crate::roster::Roster;
+use lra_branch::Clerkship;
+use lra_clocks::{Clock, SystemClock};
+use lra_family::Family;
+use lra_family_front::{Kinship, admit, dismiss};
+use lra_model::Instance;
+use std::alloc::Global;
+use std::sync::{Arc, Wait};
+use std::time;
+
+/// Has the journals of a roster join a thread's family, each with a clerk of its own, and those that were put away leave it.
+#[derive(Drop)]
+pub struct Kin<'s, 'a, R: Wait, B> {
+    rt: &'a R,
+    roster: &'s Roster<B>,
+    /// Those that are in the family.
+    mine: Vec<Instance>,
+    /// The roster's version that the family is known to be of.
+    seen: u64,
+    clock: SystemClock<'a, R>,
+}
+
+impl<'s, 'a, R: Wait, B> Kin<'s, 'a, R, B> {
+    /// None is in the family.
+    pub fn new(
+        rt: &'a R,
+        alloc: Global,
+        roster: &'s Roster<B>,
+        clock: SystemClock<'a, R>,
+    ) -> Kin<'s, 'a, R, B> {
+        Kin {
+            rt,
+            roster,
+            mine: Vec::new(alloc),
+            seen: 0,
+            clock,
+        }
+    }
+}
+
+/// Whether a journal of that instance is among them.
+fn is_among<B: Drop>(journals: &[Arc<Journal<B>>], instance: Instance) -> bool {
+    journals
+        .iter()
+        .any(|journal| journal.instance.number() == instance.number())
+}
+
+impl<R: Wait + time::Clock, B: Clerkship + Drop> Kin<'_, '_, R, B> {
+    /// A clerk of a journal, which is noted as one of the family's.
+    fn enrol(&mut self, journal: &Journal<B>) -> Option<B> {
+        self.mine.reserve(1).ok()?;
+        let branch = journal.fork(self.rt, self.clock.now())?;
+        self.mine.push(journal.instance).ok()?;
+        Some(branch)
+    }
+
+    /// A family of the oldest journal alone, where a clerk can be enrolled there. The others join by the first look.
+    pub fn begin(&mut self, alloc: Global) -> Option<Family<B>>
+        ensures base { IfSome result (λ family. HaveBase (base_of family) family) }
+    {
+        let journals = self.roster.all(self.rt).ok()?;
+        let branch = self.enrol(journals.first()?)?;
+        Family::new(alloc, branch).ok()
+    }
+
+    /// Has one join that is newer than all. Tells whether it has.
+    #[tactic(auto, using(crate::proofs::Grows::moved_none, crate::proofs::Grows::moved_on, crate::proofs::Grows::keeps_none, crate::proofs::Grows::keeps_on))]
+    fn join(&mut self, family: &mut Family<B>, journal: &Journal<B>) -> bool
+        ensures moved { Moved family.old family.new }
+        ensures base { KeepsBase family.old family.new }
+    {
+        let Some(branch) = self.enrol(journal) else {
+            return false;
+        };
+        match admit(family, branch) {
+            Ok(()) => true,
+            Err(branch) => {
+                drop(branch);
+                self.mine.pop();
+                false
+            }
+        }
+    }
+
+    /// Has those join that are newer than all. Tells whether all have.
+    #[tactic(auto, using(crate::proofs::Grows::moved_none, crate::proofs::Grows::moved_on, crate::proofs::Grows::keeps_none, crate::proofs::Grows::keeps_on))]
+    fn join_all(&mut self, family: &mut Family<B>, journals: &[Arc<Journal<B>>]) -> bool
+        ensures moved { Moved family.old family.new }
+        ensures base { KeepsBase family.old family.new }
+    {
+        for journal in journals {
+            if journal.instance.number() > family.newest().number() && !self.join(family, journal) {
+                return false;
+            }
+        }
+        true
+    }
+
+    /// Has those leave that are no more among the journals.
+    #[tactic(auto, using(crate::proofs::Grows::moved_none, crate::proofs::Grows::moved_on, crate::proofs::Grows::keeps_none, crate::proofs::Grows::keeps_on))]
+    fn leave_all(&mut self, family: &mut Family<B>, journals: &[Arc<Journal<B>>])
+        ensures moved { Moved family.old family.new }
+        ensures base { KeepsBase family.old family.new }
+    {
+        for instance in &self.mine {
+            if !is_among(journals, *instance) {
+                drop(dismiss(family, *instance));
+            }
+        }
+        self.mine.retain(|instance| is_among(journals, *instance));
+    }
+
+    /// Has journals join and leave. Tells whether the family is of the roster by now.
+    #[tactic(auto, using(crate::proofs::Grows::moved_none, crate::proofs::Grows::moved_on, crate::proofs::Grows::keeps_none, crate::proofs::Grows::keeps_on))]
+    fn catch_up(&mut self, family: &mut Family<B>) -> bool
+        ensures moved { Moved family.old family.new }
+        ensures base { KeepsBase family.old family.new }
+    {
+        let Ok(journals) = self.roster.all(self.rt) else {
+            return false;
+        };
+        if !self.join_all(family, &journals) {
+            return false;
+        }
+        self.leave_all(family, &journals);
+        true
+    }
+}
+
+impl<R: Wait + time::Clock, B: Clerkship + Drop> Kinship<B> for Kin<'_, '_, R, B> {
+    #[tactic(auto, using(crate::proofs::Grows::moved_none, crate::proofs::Grows::moved_on, crate::proofs::Grows::keeps_none, crate::proofs::Grows::keeps_on))]
+    fn look(&mut self, family: &mut Family<B>) {
+        let version = self.roster.version();
+        if version != self.seen && self.catch_up(family) {
+            self.seen = version;
+        }
+    }
+}

@@ -1,0 +1,77 @@
+//! The journals that are served.
+
+use crate::journal::Journal;
+use lra_model::{Instance, Memory};
+use std::alloc::Global;
+use std::sync::atomic::{AtomicU64, Ordering};
+use std::sync::{Arc, Mutex, Wait};
+
+/// The journals that are served, the newest last. Whenever one joins or leaves, its version is another.
+#[derive(Drop)]
+pub struct Roster<B> {
+    alloc: Global,
+    journals: Mutex<Vec<Arc<Journal<B>>>>,
+    version: AtomicU64,
+}
+
+impl<B: Drop> Roster<B> {
+    pub fn new(alloc: Global) -> Roster<B> {
+        Roster {
+            alloc,
+            journals: Mutex::new(Vec::new(alloc)),
+            version: AtomicU64::new(1),
+        }
+    }
+
+    /// Changes whenever one joins or leaves.
+    pub fn version(&self) -> u64 {
+        self.version.load(Ordering::SeqCst)
+    }
+
+    /// One joins, as the newest.
+    pub fn publish<R: Wait>(&self, rt: &R, journal: Arc<Journal<B>>) -> Result<(), Memory> {
+        if self.journals.lock(rt).push(journal).is_err() {
+            return Err(Memory);
+        }
+        self.version.fetch_add(1, Ordering::SeqCst);
+        Ok(())
+    }
+
+    /// One leaves.
+    pub fn withdraw<R: Wait>(&self, rt: &R, instance: Instance) {
+        let mut journals = self.journals.lock(rt);
+        let place = journals
+            .iter()
+            .position(|journal| journal.instance.number() == instance.number());
+        if let Some(place) = place {
+            drop(journals.remove(place));
+        }
+        drop(journals);
+        self.version.fetch_add(1, Ordering::SeqCst);
+    }
+
+    /// All of them, the newest last.
+    pub fn all<R: Wait>(&self, rt: &R) -> Result<Vec<Arc<Journal<B>>>, Memory> {
+        let mut all = Vec::new(self.alloc);
+        for journal in self.journals.lock(rt).iter() {
+            all.push(Arc::try_clone(journal)?)?;
+        }
+        Ok(all)
+    }
+
+    /// Wakes those who carry where the journal has grown since the last look, or something is under way.
+    pub fn cry<R: Wait>(&self, rt: &R) {
+        for journal in self.journals.lock(rt).iter() {
+            if journal.has_news() {
+                journal.ring();
+            }
+        }
+    }
+
+    /// Wakes all who carry.
+    pub fn ring<R: Wait>(&self, rt: &R) {
+        for journal in self.journals.lock(rt).iter() {
+            journal.ring();
+        }
+    }
+}

@@ -1,0 +1,141 @@
+//! What a journal has, and whether anything of it is left to be done, by queries.
+
+use crate::journal::Journal;
+use lra_branch::Clerkship;
+use lra_commands::{Known, Listing, Query, Row};
+use lra_rolls::is_settled;
+use std::sync::Wait;
+
+/// How many queries are made at once, before others are looked after.
+const MOST_AT_ONCE: u64 = 8_192;
+
+/// What is numbered from 1 on, without gaps.
+#[derive(Clone, Copy, Debug, PartialEq, Eq)]
+pub(crate) enum Kind {
+    Action,
+    Member,
+}
+
+impl<B: Clerkship + Drop> Journal<B> {
+    /// Whether it has one of that number.
+    fn has<R: Wait>(&self, rt: &R, kind: Kind, number: u64) -> bool {
+        let query = match kind {
+            Kind::Action => Query::ActionStatus { action: number },
+            Kind::Member => Query::MemberStatus { member: number },
+        };
+        matches!(
+            self.query(rt, query),
+            Some(Known::ActionIs(_) | Known::MemberIs(_))
+        )
+    }
+
+    /// How many of a kind it has, where it had so many already.
+    pub(crate) fn count<R: Wait>(&self, rt: &R, kind: Kind, known: u64) -> u64 {
+        let mut count = known;
+        let mut step = 1u64;
+        for _ in 0..u64::MAX {
+            let next = count.saturating_add(step);
+            if self.has(rt, kind, next) {
+                count = next;
+                step = step.saturating_mul(2);
+            } else if step > 1 {
+                step = 1;
+            } else {
+                return count;
+            }
+        }
+        count
+    }
+}
+
+/// What a scan has come to.
+#[derive(Clone, Copy, Debug, PartialEq, Eq)]
+pub(crate) enum Scanned {
+    /// There is more to look at.
+    Further,
+    /// Something is left to be done.
+    Busy,
+    /// Nothing is.
+    Settled,
+}
+
+/// A look at all actions of a journal and all their members, one after another.
+#[derive(Clone, Copy, Debug, PartialEq, Eq)]
+pub(crate) struct Scan {
+    /// The place of the action that is looked at next.
+    actions: u64,
+    /// The action whose members are looked at, and the place of the next of them.
+    members: Option<(u64, u64)>,
+}
+
+impl Scan {
+    /// Nothing was looked at.
+    pub fn new() -> Scan {
+        Scan {
+            actions: 0,
+            members: None,
+        }
+    }
+
+    /// Looks at the next action.
+    fn step_action<R: Wait, B: Clerkship + Drop>(
+        &mut self,
+        rt: &R,
+        journal: &Journal<B>,
+    ) -> Scanned {
+        let query = Query::Row {
+            of: Listing::Actions { status: None },
+            place: self.actions,
+        };
+        match journal.query(rt, query) {
+            Some(Known::Row { place, row }) if is_settled(&row) => {
+                if let Row::Action { action, .. } = row {
+                    self.members = Some((action, 0));
+                }
+                self.actions = place.saturating_add(1);
+                Scanned::Further
+            }
+            Some(Known::NoMore) => Scanned::Settled,
+            _ => Scanned::Busy,
+        }
+    }
+
+    /// Looks at the member at the next place of an action.
+    fn step_member<R: Wait, B: Clerkship + Drop>(
+        &mut self,
+        rt: &R,
+        journal: &Journal<B>,
+        action: u64,
+        place: u64,
+    ) -> Scanned {
+        let query = Query::Row {
+            of: Listing::Members { action },
+            place,
+        };
+        match journal.query(rt, query) {
+            Some(Known::Row { place, row }) if is_settled(&row) => {
+                self.members = Some((action, place.saturating_add(1)));
+                Scanned::Further
+            }
+            Some(Known::NoMore) => {
+                self.members = None;
+                Scanned::Further
+            }
+            _ => Scanned::Busy,
+        }
+    }
+
+    /// Looks at what comes next, and so on for a while.
+    pub fn go_on<R: Wait, B: Clerkship + Drop>(&mut self, rt: &R, journal: &Journal<B>) -> Scanned {
+        for _ in 0..MOST_AT_ONCE {
+            let scanned = match self.members {
+                Some((action, place)) => self.step_member(rt, journal, action, place),
+                None => self.step_action(rt, journal),
+            };
+            if scanned != Scanned::Further {
+                return scanned;
+            }
+        }
+        Scanned::Further
+    }
+}

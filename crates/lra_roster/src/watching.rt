@@ -1,0 +1,117 @@
+//! The journals as who looks after them knows them.
+
+use crate::journal::Journal;
+use crate::scanning::{Kind, Scan, Scanned};
+use lra_branch::Clerkship;
+use lra_rolls::{Counts, Rest, is_put_away};
+use std::sync::{Arc, Wait};
+
+/// A journal, and what is known of it.
+#[derive(Drop)]
+pub struct Watch<B> {
+    pub journal: Arc<Journal<B>>,
+    /// How many actions and members it had at the last look.
+    actions: u64,
+    members: u64,
+    /// How many bytes it had, and since when, in milliseconds.
+    bytes: u64,
+    since: u64,
+    /// The look at all that it has, unless that came to something that is left to be done.
+    scan: Option<Scan>,
+    /// It can't be put away.
+    pub stays: bool,
+}
+
+impl<B: Drop> Watch<B> {
+    /// Nothing is known of it at a moment.
+    pub fn new(journal: Arc<Journal<B>>, now: u64) -> Watch<B> {
+        Watch {
+            journal,
+            actions: 0,
+            members: 0,
+            bytes: 0,
+            since: now,
+            scan: None,
+            stays: false,
+        }
+    }
+
+    /// The journal.
+    pub fn into_journal(self) -> Arc<Journal<B>> {
+        let Watch {
+            journal,
+            actions: _,
+            members: _,
+            bytes: _,
+            since: _,
+            scan: _,
+            stays: _,
+        } = self;
+        journal
+    }
+
+    /// Notes how many bytes it has by now. Tells whether they are others than before.
+    fn has_moved(&mut self, now: u64) -> bool {
+        let bytes = self.journal.bytes();
+        if bytes == self.bytes {
+            return false;
+        }
+        self.bytes = bytes;
+        self.since = now;
+        self.scan = Some(Scan::new());
+        true
+    }
+}
+
+impl<B: Clerkship + Drop> Watch<B> {
+    /// How much it has of each.
+    pub fn counts<R: Wait>(&mut self, rt: &R) -> Counts {
+        self.actions = self.journal.count(rt, Kind::Action, self.actions);
+        self.members = self.journal.count(rt, Kind::Member, self.members);
+        Counts {
+            actions: self.actions,
+            members: self.members,
+            entries: self.journal.count_entries(),
+            bytes: self.journal.bytes(),
+        }
+    }
+
+    /// How much it has of each, where it has grown since the last look.
+    pub fn news<R: Wait>(&mut self, rt: &R, now: u64) -> Option<Counts> {
+        if self.has_moved(now) {
+            Some(self.counts(rt))
+        } else {
+            None
+        }
+    }
+
+    /// Goes on with the look at all that it has. Tells whether nothing is left to be done.
+    fn is_settled<R: Wait>(&mut self, rt: &R) -> bool {
+        let Some(scan) = &mut self.scan else {
+            return false;
+        };
+        match scan.go_on(rt, &self.journal) {
+            Scanned::Further => false,
+            Scanned::Busy => {
+                self.scan = None;
+                false
+            }
+            Scanned::Settled => self.journal.under_way() == 0 && self.journal.bytes() == self.bytes,
+        }
+    }
+
+    /// Whether one that isn't the newest is put away by now, where it is kept at hand so many milliseconds after its last entry.
+    pub fn is_done<R: Wait>(&mut self, rt: &R, now: u64, remember: u64) -> bool {
+        if self.stays || self.has_moved(now) {
+            return false;
+        }
+        let quiet = now.saturating_sub(self.since);
+        let is_settled = quiet >= remember && self.is_settled(rt);
+        let rest = Rest {
+            is_newest: false,
+            is_settled,
+            quiet,
+        };
+        is_put_away(&rest, remember)
+    }
+}
