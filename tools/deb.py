@@ -27,6 +27,8 @@ FILES = (
     ("docs/HEADLINE.md", f"{DOC}/HEADLINE.md", False),
     ("docs/MEASURED.md", f"{DOC}/MEASURED.md", False),
     ("examples/systemd/gentle.conf", f"{DOC}/examples/gentle.conf", False),
+    ("examples/systemd/lra-archive.service", f"{DOC}/examples/lra-archive.service", False),
+    ("examples/systemd/lra-archive.timer", f"{DOC}/examples/lra-archive.timer", False),
 )
 # What an administrator may change, and an upgrade or a removal leaves as it is.
 SETTINGS = ("etc/default/lra", "etc/lra/lra.toml")

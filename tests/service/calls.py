@@ -45,7 +45,7 @@ def words_of_help(setting):
     told, serving = setting.run("--help").output, setting.run("serve", "--help").output
     verbs, calls = (set(re.findall(rf"^lra ({word}) ", told, re.M)) for word in ("[a-z]+", "--[a-z]+"))
     options = set(re.findall(r"--[a-z][a-z-]*", serving))
-    equal("how many there are", (len(verbs), len(calls), len(options)), (9, 2, 14))
+    equal("how many there are", (len(verbs), len(calls), len(options)), (9, 2, 17))
     return verbs, calls, options
 
 
@@ -95,8 +95,16 @@ def test_an_address_of_another_machine_cannot_be_served(setting):
     told(setting, "lra: cannot serve 192.0.2.1:8080", "serve", "192.0.2.1:8080", setting.journal, "2")
 
 
+def unreadable(setting):
+    """The path of a file that nobody can read: a link to itself."""
+    path = setting.folder + "/circle"
+    os.symlink(path, path)
+    return path
+
+
 def test_a_file_that_cannot_be_read(setting):
-    told(setting, f"lra: cannot read {setting.folder}", "serve", f"{HOST}:{free_port()}", setting.folder, "2")
+    path = unreadable(setting)
+    told(setting, f"lra: cannot read {path}", "serve", f"{HOST}:{free_port()}", path, "2")
 
 
 def test_a_file_in_a_folder_that_is_missing(setting):
@@ -112,8 +120,9 @@ def test_faults_come_in_their_order(setting):
         listener.listen()
         used = f"{HOST}:{port}"
         told(setting, "lra: usage", "serve", "a b", setting.journal, "0")
-        told(setting, "lra: cannot serve a b", "serve", "a b", setting.folder, "2")
-        told(setting, f"lra: cannot read {setting.folder}", "serve", used, setting.folder, "2")
+        circle = unreadable(setting)
+        told(setting, "lra: cannot serve a b", "serve", "a b", circle, "2")
+        told(setting, f"lra: cannot read {circle}", "serve", used, circle, "2")
         equal("an unsound file", setting.run("serve", used, setting.journal, "2"), (1, VERDICT, hint(setting)))
         missing = setting.folder + "/missing/journal"
         told(setting, f"lra: cannot serve {used}", "serve", used, missing, "2")

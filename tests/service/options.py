@@ -26,6 +26,9 @@ NUMBERS = (
     ("callback-timeout", 30, 1, 86400),
     ("retry-first", 100, 1, 86400000),
     ("retry-last", 60000, 1, 86400000),
+    ("roll-after", 50000, 1, 50000),
+    ("remember", 3600, 1, 31536000),
+    ("site", 0, 0, 65535),
 )
 USUAL = {name: str(usual) for name, usual, _, _ in NUMBERS} | {"stop-at-eof": "false"}
 # How many seconds what is in flight has at a gentle end.
@@ -56,23 +59,29 @@ def settings_of(setting, *options):
     return {name: told[name] for name in USUAL}
 
 
+def near(usual, most, step=1):
+    """Another value that a setting may have."""
+    return usual + step if usual + step <= most else usual - step
+
+
 def test_without_options_the_settings_are_the_usual_ones(setting):
     equal("the settings", settings_of(setting), USUAL)
 
 
 def test_each_option_is_taken_from_the_line(setting):
     for name, usual, least, most in NUMBERS:
-        for value in (usual + 1, least if name != "retry-last" else 100, most if name != "retry-first" else 60000):
+        for value in (near(usual, most), least if name != "retry-last" else 100, most if name != "retry-first" else 60000):
             equal(name, settings_of(setting, f"--{name}", str(value)), USUAL | {name: str(value)})
     equal("by =", settings_of(setting, "--callbacks=7"), USUAL | {"callbacks": "7"})
     equal("the end", settings_of(setting, "--stop-at-eof"), USUAL | {"stop-at-eof": "true"})
 
 
 def test_each_option_is_taken_from_a_file_and_the_line_wins(setting):
-    for name, usual, _, _ in NUMBERS:
-        path = config(setting, f"{name} = {usual + 2}\n")
-        equal(name, settings_of(setting, "--config", path), USUAL | {name: str(usual + 2)})
-        equal(f"{name} by the line", settings_of(setting, "--config", path, f"--{name}", str(usual + 1)), USUAL | {name: str(usual + 1)})
+    for name, usual, _, most in NUMBERS:
+        in_file, on_line = near(usual, most, 2), near(usual, most)
+        path = config(setting, f"{name} = {in_file}\n")
+        equal(name, settings_of(setting, "--config", path), USUAL | {name: str(in_file)})
+        equal(f"{name} by the line", settings_of(setting, "--config", path, f"--{name}", str(on_line)), USUAL | {name: str(on_line)})
     path = config(setting, "# all of it\nstop-at-eof = true\nretry-first = 5\n'retry-last' = 5\n")
     wanted = USUAL | {"stop-at-eof": "true", "retry-first": "5", "retry-last": "5"}
     equal("a file", settings_of(setting, "--config", path), wanted)
@@ -90,8 +99,11 @@ def test_a_number_out_of_its_range_is_refused(setting):
     for name, _, least, most in NUMBERS:
         for value in (least - 1, most + 1, 2**64, "abc", "", "+5", "1.5"):
             refused(setting, f"--{name}: {value} is not from {least} to {most}", f"--{name}={value}")
-        path = config(setting, f"{name} = 0\n")
-        refused(setting, f"{path}: {name}: 0 is not from {least} to {most}", "--config", path)
+        path = config(setting, f"{name} = {most + 1}\n")
+        refused(setting, f"{path}: {name}: {most + 1} is not from {least} to {most}", "--config", path)
+        if least > 0:
+            path = config(setting, f"{name} = 0\n")
+            refused(setting, f"{path}: {name}: 0 is not from {least} to {most}", "--config", path)
         path = config(setting, f"{name} = -3\n")
         refused(setting, f"{path}: {name}: -3 is not from {least} to {most}", "--config", path)
     for value in ("0", "17", "x"):
@@ -173,7 +185,9 @@ def test_a_check_tells_faults_as_a_start_does(setting):
         equal("an address in use", told.status, 0)
     path = setting.folder + "/none/journal"
     equal("no folder", setting.run("serve", "--check", f"{HOST}:1", path, "1"), (2, "", f"lra: cannot write {path}\n"))
-    equal("a folder", setting.run("serve", "--check", f"{HOST}:1", setting.folder, "1"), (2, "", f"lra: cannot read {setting.folder}\n"))
+    path = setting.folder + "/circle"
+    os.symlink(path, path)
+    equal("a link to itself", setting.run("serve", "--check", f"{HOST}:1", path, "1"), (2, "", f"lra: cannot read {path}\n"))
 
 
 def held_check(setting, told):

@@ -149,6 +149,20 @@ def test_a_listing_of_a_folder(setting):
     equal("the folder", setting.run("list", setting.folder), (1, wanted, f"lra: {setting.folder}/notes is no journal\n"))
 
 
+def test_names_that_are_no_text_or_have_control_characters(setting):
+    """They are told like all that is no journal, and the others go on."""
+    for name in (b"\xff\xfe.journal", b"a\x1b[2Jb\n"):
+        with open(os.path.join(setting.folder.encode(), name), "wb"):
+            pass
+    with open(f"{setting.folder}/a.journal", "w") as it:
+        it.write(HEADER + "\n")
+    told = "".join(f"lra: {setting.folder}/{name} is no journal\n" for name in ("?", "a?[2Jb?"))
+    for verb, wanted in (("audit", "a.journal sound 0\njournals sound 1 unsound 0 unread 0\n"), ("list", "")):
+        done = setting.run(verb, setting.folder)
+        equal(verb, (done.status, done.told), (0, told))
+        check(f"{verb} says {done.output!r}", done.output.endswith(wanted.splitlines(True)[-1] if wanted else ""))
+
+
 class Following:
     """A program that follows a journal."""
 
