@@ -161,7 +161,7 @@ def test_a_file_of_the_longest_length_is_gone_on_from(setting):
     lengthen(setting, LONGEST)
     with setting.serve() as service, service.client() as client:
         equal("the action", client.status(FIRST), "Active")
-        most = resident(service)
+        most = service.memory("VmHWM") * 1024
     check("the whole lines stay", journal.read(setting.journal).startswith(SOUND))
     return f"{most / 2**30:.2f} GiB of memory"
 
@@ -246,12 +246,6 @@ def test_a_service_whose_first_lines_would_pass_the_longest_length_does_not_begi
     equal("the program", told, (2, "", f"lra: cannot write {setting.journal}\n"))
     check("it is no longer than it may be", os.path.getsize(setting.journal) <= LONGEST)
     close_hole(setting, length)
-
-
-def resident(service):
-    """The most memory that a service had."""
-    with open(f"/proc/{service.process.pid}/status", encoding="ascii") as it:
-        return next(int(line.split()[1]) for line in it if line.startswith("VmHWM:")) * 1024
 
 
 def test_a_file_that_memory_does_not_hold_is_told_and_as_it_was(setting):

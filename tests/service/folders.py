@@ -12,7 +12,7 @@ import uuid
 import journal
 from files import SOUND, UNSOUND
 from participant import Participant, wait_until
-from service import HOST, PATIENCE, LeftOut, Run, Service, check, equal, free_port, id_of, lock, started
+from service import HOST, PATIENCE, LeftOut, Run, Service, check, equal, free_port, id_of
 
 NAME = re.compile(r"[0-9a-f]{15}\.journal")
 # The instance of files.SOUND, as a journal's name has it.
@@ -45,15 +45,7 @@ class Folder(Service):
 
     def __enter__(self):
         self.errors = tempfile.TemporaryFile()
-        self.process = subprocess.Popen(
-            self.words,
-            stdin=subprocess.PIPE if self.stops else subprocess.DEVNULL,
-            stdout=subprocess.PIPE,
-            stderr=self.errors,
-            restore_signals=False,
-        )
-        with lock:
-            started.append(self.process)
+        self.begin(subprocess.PIPE if self.stops else subprocess.DEVNULL, self.errors)
         line = self.first_line()
         if line != f"serving {self.address}\n":
             told, taken = self.told(), self.seconds()

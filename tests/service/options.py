@@ -12,7 +12,7 @@ from asks import recorded
 from files import SOUND, UNSOUND, VERDICT, hint
 from participant import Participant, wait_until
 from patience import REQUESTS, narrow
-from service import HOST, LATE, PATIENCE, LeftOut, Service, check, equal, free_port, id_of, is_ready, lock, number_of, received, started
+from service import HOST, LATE, PATIENCE, LeftOut, Service, check, equal, free_port, id_of, is_ready, number_of, received
 
 # Each setting's word, what it is where nothing is said, the least and the most that it may be.
 NUMBERS = (
@@ -224,11 +224,7 @@ class Stopping(Service):
         self.words[2:2] = ["--stop-at-eof", *options]
 
     def __enter__(self):
-        self.process = subprocess.Popen(
-            self.words, stdin=subprocess.PIPE, stdout=subprocess.PIPE, stderr=subprocess.STDOUT, restore_signals=False
-        )
-        with lock:
-            started.append(self.process)
+        self.begin(stdin=subprocess.PIPE)
         equal("the first line", self.first_line(), f"serving {self.address}\n")
         return self
 

@@ -151,13 +151,15 @@ class Service:
         self.address = f"{HOST}:{self.port}"
         self.words = [program, "serve", self.address, journal, str(workers)]
 
-    def __enter__(self):
+    def begin(self, stdin=subprocess.DEVNULL, stderr=subprocess.STDOUT):
+        """Starts the program."""
         # SIGXFSZ stays ignored, as Python has it: else a file that may not grow would end the program.
-        self.process = subprocess.Popen(
-            self.words, stdin=subprocess.DEVNULL, stdout=subprocess.PIPE, stderr=subprocess.STDOUT, restore_signals=False
-        )
+        self.process = subprocess.Popen(self.words, stdin=stdin, stdout=subprocess.PIPE, stderr=stderr, restore_signals=False)
         with lock:
             started.append(self.process)
+
+    def __enter__(self):
+        self.begin()
         line = self.first_line()
         if line != f"serving {self.address}\n":
             self.kill()
@@ -189,6 +191,11 @@ class Service:
         stream = socket.create_connection((HOST, self.port), timeout=PATIENCE)
         stream.setsockopt(socket.IPPROTO_TCP, socket.TCP_NODELAY, 1)
         return stream
+
+    def memory(self, which="VmRSS"):
+        """How many kilobytes of memory the program has; with VmHWM, the most that it has had."""
+        with open(f"/proc/{self.process.pid}/status", encoding="ascii") as it:
+            return next(int(line.split()[1]) for line in it if line.startswith(which + ":"))
 
     def seconds(self):
         """The processor time that the program has taken."""
