@@ -138,7 +138,7 @@ def test_a_check_tells_what_would_be_served_and_makes_nothing(setting):
     told = refused(folder, "--check", "--site", "3")
     equal("the status, and what is told", (told.status, told.told), (0, ""))
     lines = told.output.splitlines()
-    equal("what is served", lines[:5], [f'address = "{folder.address}"', f'folder = "{folder.folder}"', "workers = 2", "journals = 1", "entries = 5"])
+    equal("what is served", lines[:6], [f'address = "{folder.address}"', f'base = "http://{folder.address}/"', f'folder = "{folder.folder}"', "workers = 2", "journals = 1", "entries = 5"])
     check(f"the settings: {lines}", "site = 3" in lines)
     equal("what is there", os.listdir(folder.folder), [SEVENTH + ".journal"])
 

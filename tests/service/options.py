@@ -160,7 +160,7 @@ def test_help_is_told(setting):
 def test_a_check_tells_what_would_be_served_and_leaves_all_as_it_is(setting):
     port = free_port()
     told = serve_by(setting, "--check", address=f"{HOST}:{port}", workers=3)
-    lines = [f'address = "{HOST}:{port}"', f'file = "{setting.journal}"', "workers = 3", 'journal = "new"']
+    lines = [f'address = "{HOST}:{port}"', f'base = "http://{HOST}:{port}/"', f'file = "{setting.journal}"', "workers = 3", 'journal = "new"']
     lines += [f"{name} = {value}" for name, value in USUAL.items()]
     equal("what is told", told, (0, "\n".join(lines) + "\n", ""))
     check("a file was made", not os.path.exists(setting.journal))

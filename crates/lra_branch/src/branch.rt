@@ -15,7 +15,7 @@ ghost use Rattle.lra_workers.specs.Carrying.{EndsCarrying};
 use lra_commands::{Counter, CounterFault, Known, Order, Query, Refusal, Told};
 use lra_courier::Carriage;
 use lra_front::Clock;
-use lra_ids::{Address, Instance};
+use lra_ids::{Base, Instance};
 use lra_office::{Clerk, OfficeOf, OfficeRefusal, Serving};
 use lra_workers::{Gate, WorkerEnd, run_carrier};
 use std::sync::{Arc, Wait};
@@ -116,7 +116,7 @@ impl<V: Serving, R: Wait> Counter for Branch<V, R> {
         self.office.instance()
     }
 
-    fn base(&self) -> &Address {
+    fn base(&self) -> &Base {
         self.office.base()
     }
 

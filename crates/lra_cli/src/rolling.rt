@@ -1,6 +1,6 @@
 //! What is served of a folder.
 
-use crate::serving::tell_way;
+use crate::serving::{base_of, tell_way};
 use lra_opening::{Aloud, Herald};
 use lra_options::Options;
 use lra_reports::tell;
@@ -40,9 +40,14 @@ pub(crate) fn check_rolling<
     R: AllocGlobal + Files<File = File> + Clone + Drop + Clock + Print + Eprint,
     H: Herald + Sync,
 >(rt: &R, options: &Options<'_>, watcher: &H) -> u8 {
+    let base = match base_of(options) {
+        Ok(base) => base,
+        Err(fault) => return settle_rolling(rt, Err(RollingFault::Here(fault)), options),
+    };
     let outcome = check_folder(
         rt,
         options.address,
+        base,
         options.file,
         options.workers,
         &options.settings,
@@ -68,9 +73,14 @@ pub(crate) fn serve_rolling<
         + Drop,
     H: Herald + Sync,
 >(rt: &R, options: &Options<'_>, input: Option<ChildStdout>, watcher: &H) -> u8 {
+    let base = match base_of(options) {
+        Ok(base) => base,
+        Err(fault) => return settle_rolling(rt, Err(RollingFault::Here(fault)), options),
+    };
     let outcome = serve_folder(
         rt,
         options.address,
+        base,
         options.file,
         options.workers,
         options.settings,

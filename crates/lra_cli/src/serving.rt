@@ -2,6 +2,7 @@
 
 use crate::rolling::{check_rolling, serve_rolling};
 use lra_folders::is_folder;
+use lra_ids::Base;
 use lra_opening::NamedFile;
 use lra_options::{Options, OptionsFault, read_options};
 use lra_reports::{RunFault, error_line, hint_line, put, settle, tell, tell_usage};
@@ -81,6 +82,17 @@ fn settle_serving<R: AllocGlobal + Eprint>(
     }
 }
 
+/// The base of their own that identifiers are to begin with, if there is one.
+pub(crate) fn base_of(options: &Options<'_>) -> Result<Option<Base>, ServeFault> {
+    match &options.base {
+        Some(base) => match base.copy() {
+            Ok(base) => Ok(Some(base)),
+            Err(_) => Err(ServeFault::Run(RunFault::Memory)),
+        },
+        None => Ok(None),
+    }
+}
+
 /// Tells what would be served. The watcher is told how far the journal has been read.
 fn answer_check<
     R: AllocGlobal + Files<File = File> + Clock + Print + Eprint + Clone + Drop,
@@ -89,9 +101,14 @@ fn answer_check<
     if is_folder(rt, options.file) {
         return check_rolling(rt, options, watcher);
     }
+    let base = match base_of(options) {
+        Ok(base) => base,
+        Err(fault) => return settle_serving(rt, Err(fault), options),
+    };
     let outcome = check_place(
         rt.alloc(),
         options.address,
+        base,
         options.file,
         &NamedFile::told(rt, options.file, watcher),
         options.workers,
@@ -120,9 +137,14 @@ fn answer_until<
     if is_folder(rt, options.file) {
         return serve_rolling(rt, options, input, watcher);
     }
+    let base = match base_of(options) {
+        Ok(base) => base,
+        Err(fault) => return settle_serving(rt, Err(fault), options),
+    };
     let served = serve_with(
         rt,
         options.address,
+        base,
         &NamedFile::told(rt, options.file, watcher),
         options.workers,
         options.settings,
@@ -160,6 +182,7 @@ pub(crate) fn answer_serve<
         file,
         workers,
         settings: Settings::usual(),
+        base: None,
         is_check: false,
     };
     answer_until(rt, &options, None, watcher)

@@ -1,13 +1,12 @@
 //! Where one clerk gives its orders, whatever stands behind: a coordinator of its own, or one that others share.
 
 ghost use Rattle.std.specs.Prelude.{◌≡◌, IsTrue};
-ghost use Rattle.lra_ids.specs.Addresses.{is_base};
 ghost use Rattle.lra_commands.specs.declared.counter.Order.TheVariants as order;
 ghost use Rattle.lra_commands.specs.Counters.{command_of};
 
 use crate::command::{Command, Told};
 use crate::refusal::Refusal;
-use lra_ids::{Address, Instance};
+use lra_ids::{Base, Instance};
 use lra_model::{Ending, Uris};
 use thiserror::Error;
 
@@ -93,9 +92,8 @@ pub trait Counter {
         ensures { result ≡ (sight self.now).setting.instance };
 
     /// What the URIs of the coordinator begin with. This takes no memory.
-    fn base(&self) -> &Address
-        ensures value { result.now ≡ (sight self.now).setting.base }
-        ensures base { IsTrue (is_base result.now) };
+    fn base(&self) -> &Base
+        ensures { result.now ≡ (sight self.now).setting.base };
 
     /// Gives an order at a moment, in milliseconds.
     fn give(&mut self, moment: u64, order: &Order<'_>) -> Result<Told, CounterFault>

@@ -1,7 +1,7 @@
 -- What a coordinator is, as contracts see it.
-use Rattle.std.specs.Prelude.{◌≡◌, ℕ, true}
+use Rattle.std.specs.Prelude.{◌≡◌, ℕ}
 use Rattle.lra_model.specs.History.{History}
-use Rattle.lra_ids.specs.Addresses.{is_address, is_base}
+use Rattle.lra_ids.specs.Addresses.{is_address}
 use Rattle.lra_model.specs.Settling.{IsQuiet}
 use Rattle.lra_tables.specs.Plans.{Tabled}
 use Rattle.lra_commands.specs.Terms.{AreKeepable}
@@ -20,10 +20,9 @@ pub record Shape : Type 0 where
   pub history : History
   pub room : Room
 
--- what holds of every coordinator: its base is one, its limits can be kept, and its history is legal in its version and passes none of them,
+-- what holds of every coordinator: its limits can be kept, and its history is legal in its version and passes none of them,
 -- depth among them
 pub record IsCoordinator (c : Shape) : Type 0 where
-  pub base : is_base c.setting.base ≡ true
   pub limits : AreKeepable c.setting.limits
   pub history : IsLawful (terms_of c.setting) c.history
 

@@ -5,7 +5,7 @@ ghost use Rattle.lra_core.specs.inner.Replied.{replied};
 
 use crate::coordinator::Coordinator;
 use lra_commands::{Counter, CounterFault, Order, Refusal, Told};
-use lra_ids::{Address, Instance};
+use lra_ids::{Base, Instance};
 use std::marker::Model;
 
 /// A coordinator, with the number of the clerk that gives its orders there. Nobody else writes, so that all of its history is
@@ -69,7 +69,7 @@ impl Counter for Bench {
         self.coordinator.instance()
     }
 
-    fn base(&self) -> &Address {
+    fn base(&self) -> &Base {
         self.coordinator.base()
     }
 

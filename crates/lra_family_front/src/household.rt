@@ -10,7 +10,7 @@ use crate::serving;
 use lra_commands::Counter;
 use lra_family::Family;
 use lra_front::Routes;
-use lra_ids::Address;
+use lra_ids::Base;
 use lra_model::Instance;
 use lra_steps::{Answered, Responder};
 use lra_wire::RequestRead;
@@ -108,7 +108,7 @@ impl<C: Counter + Drop, K: Kinship<C>> Responder for Household<C, K> {
 
     ghost responds = { Responds C.gives };
 
-    fn base(&self) -> &Address {
+    fn base(&self) -> &Base {
         newest(&self.family).base()
     }
 

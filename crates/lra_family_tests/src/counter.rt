@@ -1,11 +1,11 @@
 //! A counter that counts the orders that it is given, and does none of them; and a family of two.
-ghost use Rattle.std.specs.Prelude.{◌≡◌, true, IsTrue, IfSome};
+ghost use Rattle.std.specs.Prelude.{◌≡◌, true, IfSome};
 ghost use Rattle.lra_ids.specs.Addresses.{is_base};
 ghost use Rattle.lra_family_front.specs.Households.{HaveBase, base_of as base_of_family};
 
 use lra_commands::{Counter, CounterFault, Order, Told};
 use lra_family::Family;
-use lra_ids::{Address, Instance, base_of};
+use lra_ids::{Address, Base, Instance, base_of};
 use std::alloc::Global;
 
 /// The instances of the older and of the newer member, which differ in the upper bits alone.
@@ -16,9 +16,8 @@ pub(super) const NEWER: u64 = 4103;
 #[derive(Drop)]
 pub(super) struct Counting {
     instance: Instance,
-    base: Address,
+    base: Base,
     orders: u64,
-    ghost is_base: { IsTrue (is_base base) },
 }
 
 /// The base of both members.
@@ -33,7 +32,7 @@ fn base(alloc: Global) -> Option<Address>
 
 fn counter_of(alloc: Global, instance: u64) -> Option<Counting> {
     let instance = Instance::new(instance)?;
-    let base = base(alloc)?;
+    let base = Base::of(base(alloc)?);
     Some(Counting {
         instance,
         base,
@@ -63,7 +62,7 @@ impl Counter for Counting {
         self.instance
     }
 
-    fn base(&self) -> &Address {
+    fn base(&self) -> &Base {
         &self.base
     }
 

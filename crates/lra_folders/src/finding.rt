@@ -48,10 +48,29 @@ fn is_kept(name: &str) -> bool {
     name == ENDED || name == NEWEST || name.ends_with(".next")
 }
 
-/// Puts a name where it belongs.
-fn put_name(alloc: Global, found: &mut Found, prefix: &str, name: &str) -> Result<(), AllocError> {
-    let path = format!(in alloc; "{prefix}{name}")?;
-    if name.ends_with(".journal") {
+/// Whether a name in a folder is that of a file, or of what can't be looked at: a pipe would be read for ever.
+fn may_be_file<R: AllocGlobal + Files>(
+    rt: &R,
+    folder: &str,
+    name: &str,
+) -> Result<bool, AllocError> {
+    let path = format!(in rt.alloc(); "{folder}/{name}")?;
+    match fs::metadata(rt, path.as_str()) {
+        Ok(about) => Ok(about.is_file()),
+        Err(_) => Ok(true),
+    }
+}
+
+/// Puts a name of a folder where it belongs.
+fn put_name<R: AllocGlobal + Files>(
+    rt: &R,
+    folder: &str,
+    found: &mut Found,
+    prefix: &str,
+    name: &str,
+) -> Result<(), AllocError> {
+    let path = format!(in rt.alloc(); "{prefix}{name}")?;
+    if name.ends_with(".journal") && may_be_file(rt, folder, name)? {
         Ok(found.journals.push(path)?)
     } else if prefix.is_empty() && is_kept(name) {
         Ok(())
@@ -94,7 +113,7 @@ fn add_names<R: AllocGlobal + Files + Clone + Drop>(
     found: &mut Found,
 ) -> Result<(), RunFault> {
     for name in &names_in(rt, folder)? {
-        put_name(rt.alloc(), found, prefix, name.as_str())?;
+        put_name(rt, folder, found, prefix, name.as_str())?;
     }
     Ok(())
 }

@@ -7,7 +7,6 @@ ghost use Rattle.std.specs.Cmp.Lexicographic.{slice_cmp};
 ghost use Rattle.std.specs.Io.KnownBytes.{Keeps};
 ghost use Rattle.serde_json.specs.View.{view};
 ghost use Rattle.serde_json.specs.Written.{compact_text};
-ghost use Rattle.lra_ids.specs.Addresses.{is_base};
 ghost use Rattle.lra_wire.specs.Writing.{Sends};
 ghost use Rattle.lra_front.specs.Replies as spec;
 ghost use Rattle.lra_front.specs.inner.Seen.{seen, IsPartsOf};
@@ -15,7 +14,7 @@ ghost use Rattle.lra_front.specs.inner.Seen.{seen, IsPartsOf};
 use crate::denial::Denial;
 use http::StatusCode;
 use lra_commands::Refusal;
-use lra_ids::{Address, Instance, spell_action, spell_recovery};
+use lra_ids::{Base, Instance};
 use lra_model::{ActionStatus, MemberStatus, Memory};
 use lra_wire::{ReplyWrite, WireFault, write_response_in};
 use serde_json::{Value, json};
@@ -156,15 +155,14 @@ impl Answer {
     }
 
     /// The URI that it names, or nothing.
-    fn uri(self, alloc: Global, instance: Instance, base: &Address) -> Result<String, Memory>
+    fn uri(self, alloc: Global, instance: Instance, base: &Base) -> Result<String, Memory>
         requires numbers { spec.HasIdentifiers self }
-        requires base { IsTrue (is_base base.now) }
         ensures { IfOk result (λ uri. string_bytes uri ≡ spec.uri_of instance base.now self) }
     {
         match self {
-            Answer::Started(action) => spell_action(alloc, instance, action, base),
-            Answer::Found { action, .. } => spell_action(alloc, instance, action, base),
-            Answer::Joined(member) => spell_recovery(alloc, instance, member, base),
+            Answer::Started(action) => base.spell_action(alloc, instance, action),
+            Answer::Found { action, .. } => base.spell_action(alloc, instance, action),
+            Answer::Joined(member) => base.spell_recovery(alloc, instance, member),
             _ => Ok(String::new(alloc)),
         }
     }
@@ -235,9 +233,8 @@ impl Answer {
     }
 
     /// What its reply is written from.
-    fn parts(self, alloc: Global, instance: Instance, base: &Address) -> Result<Parts, Memory>
+    fn parts(self, alloc: Global, instance: Instance, base: &Base) -> Result<Parts, Memory>
         requires numbers { spec.HasIdentifiers self }
-        requires base { IsTrue (is_base base.now) }
         ensures { IfOk result (IsPartsOf instance base.now self) }
     {
         let uri = self.uri(alloc, instance, base)?;
@@ -253,12 +250,11 @@ impl Answer {
         page: &mut Vec<u8>,
         writer: &mut W,
         instance: Instance,
-        base: &Address,
+        base: &Base,
         head: bool,
         close: bool,
     ) -> Result<(), WireFault>
         requires numbers { spec.HasIdentifiers self }
-        requires base { IsTrue (is_base base.now) }
         ensures text { Sends (W.contents writer.old) (W.contents writer.new) (spec.reply_bytes instance base.now self head close) result }
         // No memory, and nothing went out.
         ensures memory { result ≡ Err WireFault.Memory → Keeps (W.contents writer.old) (W.contents writer.new) }

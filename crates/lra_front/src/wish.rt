@@ -14,7 +14,7 @@ use crate::body::{ending_told, number_under, text_under};
 use crate::denial::Denial;
 use crate::route::{Route, Routes, id_in};
 use lra_commands::{Order, Refusal};
-use lra_ids::{Address, Instance, read_action, read_id, read_recovery};
+use lra_ids::{Base, Instance, read_id};
 use lra_model::{Ending, Memory, Uris};
 use lra_wire::RequestRead;
 use serde_json::Value;
@@ -135,7 +135,7 @@ fn ending_in(body: &Value) -> Ending
 }
 
 /// An action is started at the top, or under the parent of which the body has the URI.
-fn start(instance: Instance, base: &Address, body: &Value) -> Result<Wish, Denial>
+fn start(instance: Instance, base: &Base, body: &Value) -> Result<Wish, Denial>
     ensures { IfSome (as_object (view body.now)) (λ members. spec.IsStart instance base.now members result) }
 {
     let limit = limit_in(body);
@@ -145,7 +145,7 @@ fn start(instance: Instance, base: &Address, body: &Value) -> Result<Wish, Denia
             limit,
         });
     };
-    match read_action(uri, instance, base) {
+    match base.read_action(uri, instance) {
         Some(parent) => Ok(Wish::Start {
             parent: Some(parent),
             limit,
@@ -155,11 +155,11 @@ fn start(instance: Instance, base: &Address, body: &Value) -> Result<Wish, Denia
 }
 
 /// The member leaves of which the body has the recovery URI.
-fn leave(instance: Instance, base: &Address, action: u64, body: &Value) -> Result<Wish, Denial>
+fn leave(instance: Instance, base: &Base, action: u64, body: &Value) -> Result<Wish, Denial>
     ensures { IfSome (as_object (view body.now)) (λ members. spec.IsOfAction instance base.now members Route.Remove action result) }
 {
     let uri = text_under(body, "recovery").unwrap_or("");
-    match read_recovery(uri, instance, base) {
+    match base.read_recovery(uri, instance) {
         Some(member) => Ok(Wish::Leave { action, member }),
         None => Err(Denial::Refused(Refusal::NoSuchMember)),
     }
@@ -171,7 +171,7 @@ impl Route {
         self,
         alloc: Global,
         instance: Instance,
-        base: &Address,
+        base: &Base,
         action: u64,
         body: &Value,
     ) -> Result<Wish, Denial>
@@ -214,7 +214,7 @@ impl Route {
         self,
         alloc: Global,
         instance: Instance,
-        base: &Address,
+        base: &Base,
         id: &str,
         body: &Value,
     ) -> Result<Wish, Denial>
@@ -241,7 +241,7 @@ impl Routes {
         &self,
         alloc: Global,
         instance: Instance,
-        base: &Address,
+        base: &Base,
         request: &RequestRead,
     ) -> Result<Wish, Denial>
         ensures { spec.MayAsk instance base.now (request_of request.now) result }

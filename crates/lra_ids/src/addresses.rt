@@ -14,7 +14,7 @@ use url::{Position, Url};
 pub(crate) const LONGEST: usize = 512;
 
 // The most bytes of an address that is a base.
-const LONGEST_BASE: usize = 400;
+pub(crate) const LONGEST_BASE: usize = 400;
 
 /// An `http` URL as the URL Standard serialises it: at most 512 bytes, each from 0x21 to 0x7E. A contract sees its
 /// text.
@@ -36,7 +36,7 @@ impl Model for Address {
     ghost invariant = { λ a. IsAddressUrl a.url };
 }
 
-fn ends_in_slash(text: &[u8]) -> bool
+pub(crate) fn ends_in_slash(text: &[u8]) -> bool
     ensures { result ≡ (slice_index text.now (length text.now - 1) == slash) }
 {
     text.last() == Some(&b'/')
@@ -49,7 +49,7 @@ fn slashes(text: &[u8]) -> usize
 }
 
 // Whether the text has a query or a fragment.
-fn has_tail(text: &[u8]) -> bool
+pub(crate) fn has_tail(text: &[u8]) -> bool
     ensures { result ≡ list_any (λ b. b == question_mark || b == number_sign) text.now }
 {
     text.iter().any(|b| *b == b'?' || *b == b'#')

@@ -13,9 +13,9 @@ use std::alloc::Global;
 use uuid::Uuid;
 
 // What stands between the base and the identifier.
-const ACTIONS: &str = "lra-coordinator/";
+pub(crate) const ACTIONS: &str = "lra-coordinator/";
 
-const RECOVERIES: &str = "lra-recovery/";
+pub(crate) const RECOVERIES: &str = "lra-recovery/";
 
 // The UUID of `n`, with the bits of the version and the variant (RFC 9562, sections 4.1 and 4.2).
 fn id_of(instance: u64, n: u64) -> Uuid
@@ -42,11 +42,11 @@ fn write_id<'b>(instance: u64, n: u64, buffer: &'b mut [u8]) -> &'b str
 }
 
 // The URI of a part of the coordinator.
-fn spell(
+pub(crate) fn spell(
     alloc: Global,
     instance: Instance,
     n: u64,
-    base: &Address,
+    base: &str,
     part: &str,
 ) -> Result<String, Memory>
     requires number { n < 2 ^ 62 }
@@ -55,7 +55,6 @@ fn spell(
 {
     let mut buffer = Uuid::encode_buffer();
     let id = write_id(instance.number(), n, &mut buffer);
-    let base = base.as_str();
     let mut uri = String::with_capacity(alloc, base.len() + part.len() + id.len())?;
     uri.push_str(base)?;
     uri.push_str(part)?;
@@ -98,11 +97,11 @@ fn after_prefix<'a>(text: &'a [u8], prefix: &str) -> Option<&'a [u8]>
     text.strip_prefix(prefix.as_bytes())
 }
 
-fn read(text: &str, instance: Instance, base: &Address, part: &str) -> Option<u64>
+pub(crate) fn read(text: &str, instance: Instance, base: &str, part: &str) -> Option<u64>
     ensures found { IfSome result (IsSpelling (λ n. base.now ++ part.now ++ id_text instance n) text.now) }
     ensures all { (n : ℕ) → IsSpelling (λ n. base.now ++ part.now ++ id_text instance n) text.now n → result ≡ Some n }
 {
-    let below = after_prefix(text.as_bytes(), base.as_str())?;
+    let below = after_prefix(text.as_bytes(), base)?;
     read_bytes(after_prefix(below, part)?, instance)
 }
 
@@ -118,7 +117,7 @@ pub fn spell_action(
     requires base { IsTrue (is_base base.now) }
     ensures { IfOk result (λ uri. string_bytes uri ≡ action_uri instance base.now n) }
 {
-    spell(alloc, instance, n, base, ACTIONS)
+    spell(alloc, instance, n, base.as_str(), ACTIONS)
 }
 
 /// The recovery URI of member `n` of a coordinator: its base, `lra-recovery/` and the UUID.
@@ -133,7 +132,7 @@ pub fn spell_recovery(
     requires base { IsTrue (is_base base.now) }
     ensures { IfOk result (λ uri. string_bytes uri ≡ recovery_uri instance base.now n) }
 {
-    spell(alloc, instance, n, base, RECOVERIES)
+    spell(alloc, instance, n, base.as_str(), RECOVERIES)
 }
 
 /// The number of the action of which the text is the URI.
@@ -141,7 +140,7 @@ pub fn read_action(text: &str, instance: Instance, base: &Address) -> Option<u64
     ensures found { IfSome result (IsSpelling (action_uri instance base.now) text.now) }
     ensures all { (n : ℕ) → IsSpelling (action_uri instance base.now) text.now n → result ≡ Some n }
 {
-    read(text, instance, base, ACTIONS)
+    read(text, instance, base.as_str(), ACTIONS)
 }
 
 /// The number of the member of which the text is the recovery URI.
@@ -149,7 +148,7 @@ pub fn read_recovery(text: &str, instance: Instance, base: &Address) -> Option<u
     ensures found { IfSome result (IsSpelling (recovery_uri instance base.now) text.now) }
     ensures all { (n : ℕ) → IsSpelling (recovery_uri instance base.now) text.now n → result ≡ Some n }
 {
-    read(text, instance, base, RECOVERIES)
+    read(text, instance, base.as_str(), RECOVERIES)
 }
 
 /// The number of the action or the member of which the text is the UUID.

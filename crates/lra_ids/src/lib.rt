@@ -4,12 +4,14 @@
 
 mod addresses;
 mod base;
+mod bases;
 mod fault;
 mod identifier;
 mod reading;
 
 pub use addresses::Address;
 pub use base::base_of;
+pub use bases::Base;
 pub use fault::UriFault;
 pub use identifier::{read_action, read_id, read_recovery, spell_action, spell_recovery};
 pub use lra_model::{Instance, Memory};

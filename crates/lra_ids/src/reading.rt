@@ -13,7 +13,7 @@ use std::str;
 use url::Url;
 
 // Whether each byte is one from 0x21 to 0x7E.
-fn is_graphic(text: &[u8]) -> bool
+pub(crate) fn is_graphic(text: &[u8]) -> bool
     ensures { result ≡ list_all is_ascii_graphic text.now }
 {
     text.iter().all(|b| b.is_ascii_graphic())

@@ -15,7 +15,7 @@ use Rattle.lra_commands.specs.Shortages.{IsRefusal}
 use Rattle.lra_commands.specs.Terms.{AreKeepable}
 use Rattle.lra_commands.specs.Runs.{IsLawful}
 use Rattle.lra_model.specs.Settling.{IsQuiet}
-use Rattle.lra_ids.specs.Addresses.{is_address, is_base}
+use Rattle.lra_ids.specs.Addresses.{is_address}
 use Rattle.lra_core.specs.declared.block.Committed.{Committed}
 
 -- the scribe has stopped, and what the call would write can't be written
@@ -40,7 +40,6 @@ IsServed g J c (Err r) K = IsHeldBack (terms_of g) J c r × (K ≡ J)
 
 -- a history that a coordinator of this setting can have whenever the lock is free
 pub record IsKeptBy (g : Setting) (J : History) : Type 0 where
-  pub base : is_base g.base ≡ true
   pub limits : AreKeepable g.limits
   pub lawful : IsLawful (terms_of g) J
   pub quiet : IsQuiet g.version is_address J

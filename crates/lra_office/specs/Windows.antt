@@ -1,6 +1,5 @@
 -- What a window of an office is.
-use Rattle.std.specs.Prelude.{◌≡◌, true}
-use Rattle.lra_ids.specs.Addresses.{is_base}
+use Rattle.std.specs.Prelude.{◌≡◌}
 use Rattle.lra_commands.specs.Counters.{Setting}
 use Rattle.lra_office.specs.declared.office.OfficeOf.{OfficeOf}
 
@@ -8,4 +7,3 @@ use Rattle.lra_office.specs.declared.office.OfficeOf.{OfficeOf}
 pub record IsOfficeOf {X O : Type 0} (g : Setting) (o : OfficeOf X O) : Type 0 where
   pub instance : o.instance ≡ g.instance
   pub base : o.base ≡ g.base
-  pub is_base : is_base g.base ≡ true

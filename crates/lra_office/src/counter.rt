@@ -10,7 +10,7 @@ use crate::fault::OfficeRefusal;
 use crate::office::OfficeOf;
 use crate::serving::Serving;
 use lra_commands::{CounterFault, Order, Told};
-use lra_ids::{Address, Instance};
+use lra_ids::{Base, Instance};
 use std::sync::Wait;
 
 fn fault_of(refusal: OfficeRefusal) -> CounterFault
@@ -31,7 +31,7 @@ impl<V: Serving> OfficeOf<V> {
     }
 
     /// The base of its coordinator's identifiers.
-    pub fn base(&self) -> &Address
+    pub fn base(&self) -> &Base
         ensures { result.now ≡ self.now.base }
     {
         &self.base

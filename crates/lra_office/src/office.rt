@@ -16,7 +16,7 @@ use crate::desk::Desk;
 use crate::fault::OfficeRefusal;
 use crate::serving::Serving;
 use lra_core::{Command, Committed};
-use lra_ids::{Address, Instance};
+use lra_ids::{Base, Instance};
 use lra_ticket::{Pass, TicketLock, Worn};
 use std::sync::Wait;
 
@@ -25,7 +25,7 @@ use std::sync::Wait;
 pub struct OfficeOf<V: Serving> {
     pub(crate) lock: TicketLock<V>,
     pub(crate) instance: Instance,
-    pub(crate) base: Address,
+    pub(crate) base: Base,
 }
 
 /// One coordinator for many threads, its journal behind one lock.

@@ -12,7 +12,7 @@ use crate::fault::OfficeRefusal;
 use crate::office::OfficeOf;
 use crate::serving::Serving;
 use lra_commands::{Counter, CounterFault, Known, Order, Query, Told};
-use lra_ids::{Address, Instance};
+use lra_ids::{Base, Instance};
 use std::marker::{Brand, PhantomData};
 use std::sync::Wait;
 
@@ -97,7 +97,7 @@ impl<V: Serving, R: Wait, L: WhichLock> Counter for Window<'_, V, R, L> {
         self.office.instance()
     }
 
-    fn base(&self) -> &Address {
+    fn base(&self) -> &Base {
         self.office.base()
     }
 

@@ -3,7 +3,6 @@
 ghost use Rattle.std.specs.Prelude.{◌≡◌, ℕ, List, true, IfOk, IfErr};
 ghost use Rattle.lra_commands.specs.Terms.{AreKeepable};
 ghost use Rattle.lra_core.specs.Fed.{IsFed};
-ghost use Rattle.lra_ids.specs.Addresses.{is_base};
 ghost use Rattle.lra_office.specs.Made.{new_origin};
 ghost use Rattle.lra_opening.specs.Faults.{IsOfNoScript};
 ghost use Rattle.lra_opening.specs.Opened.{IsBegun, GoesOn};
@@ -12,7 +11,7 @@ use crate::fault::{ServeFault, enrol_fault};
 use crate::feeding::is_new;
 use lra_commands::Limits;
 use lra_core::Opening;
-use lra_ids::{Address, Instance};
+use lra_ids::{Base, Instance};
 use lra_office::{Clerk, Desk, Office, ReopenFault, StartFault};
 use lra_reports::RunFault;
 use std::alloc::Global;
@@ -56,17 +55,16 @@ pub fn begin_office<W: Write + Drop, R: Wait>(
     rt: &R,
     alloc: Global,
     instance: Instance,
-    base: Address,
+    base: Base,
     limits: Limits,
     writer: W,
     moment: u64,
 ) -> Result<(Office<W>, Clerk<Desk<W>>), ServeFault>
-    requires base { is_base base ≡ true }
     requires limits { AreKeepable limits }
     ensures opened { IfOk result (λ opened. IsBegun (new_origin instance base limits (W.contents writer)) moment opened.0 opened.1) }
     ensures fault { IfErr result IsOfNoScript }
 {
-    match Office::create(alloc, instance, base, limits, writer) {
+    match Office::with_base(alloc, instance, base, limits, writer) {
         Ok((office, pass)) => match office.clerk(rt, pass, moment) {
             Ok(clerk) => Ok((office, clerk)),
             Err((pass, refusal)) => {
@@ -86,12 +84,11 @@ pub fn begin_office<W: Write + Drop, R: Wait>(
 fn begin<W: Write + Drop, R: Wait>(
     rt: &R,
     alloc: Global,
-    base: Address,
+    base: Base,
     limits: Limits,
     writer: W,
     moment: u64,
 ) -> Result<(Office<W>, Clerk<Desk<W>>), ServeFault>
-    requires base { is_base base ≡ true }
     requires limits { AreKeepable limits }
     ensures opened { IfOk result (λ opened. IsBegun (new_origin moment base limits (W.contents writer)) moment opened.0 opened.1) }
     ensures fault { IfErr result IsOfNoScript }
@@ -110,13 +107,12 @@ fn begin<W: Write + Drop, R: Wait>(
 pub fn open_office<W: Write + Drop, R: Wait>(
     rt: &R,
     alloc: Global,
-    base: Address,
+    base: Base,
     limits: Limits,
     opening: Opening,
     writer: W,
     moment: u64,
 ) -> Result<(Office<W>, Clerk<Desk<W>>), ServeFault>
-    requires base { is_base base ≡ true }
     requires limits { AreKeepable limits }
     ensures opened { IfOk result (λ opened. (b : List ℕ) → IsFed b opening → GoesOn base limits b moment (W.contents writer) opened.0 opened.1) }
     ensures fault { IfErr result IsOfNoScript }

@@ -13,6 +13,24 @@ use toml::{Table, Value};
 /// How many bytes a file of settings may have.
 const LONGEST: usize = 65_536;
 
+/// What a file says.
+#[derive(Drop)]
+pub(crate) struct Config {
+    pub(crate) given: Given,
+    /// What identifiers begin with, if it is said.
+    pub(crate) base: Option<String>,
+}
+
+impl Config {
+    /// A file that says nothing.
+    pub(crate) fn nothing() -> Config {
+        Config {
+            given: Given::nothing(),
+            base: None,
+        }
+    }
+}
+
 /// All that a file has.
 fn read_file<R: Files>(rt: &R, alloc: Global, name: &str) -> Result<Vec<u8>, OptionsFault> {
     let Ok(mut file) = fs::open(rt, name) else {
@@ -57,43 +75,68 @@ fn number_of(
     }
 }
 
+/// The text that a value is. A place says whose it is.
+fn text_of(alloc: Global, place: &str, value: &Value) -> Result<String, OptionsFault> {
+    match value.as_str() {
+        Some(text) => Ok(String::from_str(alloc, text)?),
+        None => Err(wrong(format!(in alloc; "{place}: no text"))),
+    }
+}
+
+/// What is true or false by a value. A place says whose it is.
+fn truth_of(alloc: Global, place: &str, value: &Value) -> Result<bool, OptionsFault> {
+    match value.as_bool() {
+        Some(truth) => Ok(truth),
+        None => Err(wrong(format!(in alloc; "{place}: neither true nor false"))),
+    }
+}
+
+/// Notes what a file says under a key that is no parameter's. A place says whose it is.
+fn note_other(
+    alloc: Global,
+    place: &str,
+    key: &str,
+    value: &Value,
+    config: &mut Config,
+) -> Result<(), OptionsFault> {
+    if key == "stop-at-eof" {
+        config.given.stop_at_eof = Some(truth_of(alloc, place, value)?);
+    } else if key == "base" {
+        config.base = Some(text_of(alloc, place, value)?);
+    } else {
+        return Err(wrong(format!(in alloc; "{place}: no such setting")));
+    }
+    Ok(())
+}
+
 /// Notes what a file says under a key.
 fn note(
     alloc: Global,
     name: &str,
     key: &str,
     value: &Value,
-    given: &mut Given,
+    config: &mut Config,
 ) -> Result<(), OptionsFault> {
     let place = format!(in alloc; "{name}: {key}")?;
     if let Some(parameter) = Parameter::from_name(key) {
         let number = number_of(alloc, parameter, place.as_str(), value)?;
-        given.put(parameter, number);
+        config.given.put(parameter, number);
         return Ok(());
     }
-    if key != "stop-at-eof" {
-        return Err(wrong(format!(in alloc; "{place}: no such setting")));
-    }
-    match value.as_bool() {
-        Some(stops) => {
-            given.stop_at_eof = Some(stops);
-            Ok(())
-        }
-        None => Err(wrong(format!(in alloc; "{place}: neither true nor false"))),
-    }
+    note_other(alloc, place.as_str(), key, value, config)
 }
 
-/// What a file says of the settings.
+/// What a file says.
 pub(crate) fn read_config<R: Files>(
     rt: &R,
     alloc: Global,
     name: &str,
-) -> Result<Given, OptionsFault> {
+) -> Result<Config, OptionsFault> {
     let bytes = read_file(rt, alloc, name)?;
     let table = table_of(alloc, name, bytes.as_slice())?;
-    let mut given = Given::nothing();
+    let mut config = Config::nothing();
     for (key, value) in &table {
-        note(alloc, name, key.as_str(), value, &mut given)?;
+        note(alloc, name, key.as_str(), value, &mut config)?;
     }
-    Ok(given)
+    Ok(config)
 }

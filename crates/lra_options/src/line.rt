@@ -19,6 +19,8 @@ pub(crate) struct Line<'a> {
     pub(crate) workers: u32,
     /// The file that has further settings, if one is named.
     pub(crate) config: Option<&'a str>,
+    /// What identifiers begin with, if it is said.
+    pub(crate) base: Option<&'a str>,
     /// It is only told what would be served.
     pub(crate) is_check: bool,
     pub(crate) given: Given,
@@ -123,8 +125,14 @@ fn with_flags(alloc: Global, command: Command<'_>) -> Result<Command<'_>, AllocE
         "stop-at-eof",
         "Ends gently once standard input has ended",
     );
+    let base = value_arg(
+        alloc,
+        "base",
+        "URL",
+        "What identifiers begin with [http://ADDRESS/]",
+    );
     let check = flag_arg(alloc, "check", "Tells what would be served, and ends");
-    command.arg(stop)?.arg(config)?.arg(check)
+    command.arg(base)?.arg(stop)?.arg(config)?.arg(check)
 }
 
 /// What the words are read by.
@@ -200,6 +208,7 @@ fn line_of<'a>(alloc: Global, matches: &ArgMatches<'a>) -> Result<Line<'a>, Opti
         file: word_in(matches, "FILE"),
         workers,
         config: matches.get_str("config"),
+        base: matches.get_str("base"),
         is_check: matches.get_flag("check"),
         given,
     })

@@ -3,22 +3,25 @@
 ghost use Rattle.std.specs.Prelude.{◌≡◌, true, IfOk};
 ghost use Rattle.lra_settings.specs.Settings.{are_fit};
 
-use crate::config::read_config;
+use crate::config::{Config, read_config};
 use crate::fault::{OptionsFault, wrong};
 use crate::given::{Given, settings_of};
 use crate::line::{Line, read_line};
+use lra_ids::Base;
 use lra_settings::Settings;
 use std::alloc::Global;
 use std::rt::Files;
 
 /// What is to be served, and by which settings.
-#[derive(Clone, Copy, Debug)]
+#[derive(Debug, Drop)]
 pub struct Options<'a> {
     pub address: &'a str,
     pub file: &'a str,
     /// How many threads of a kind there are: from 1 to 16.
     pub workers: u32,
     pub settings: Settings,
+    /// What identifiers begin with, if that isn't `http://`, the address and `/`.
+    pub base: Option<Base>,
     /// It is only told what would be served.
     pub is_check: bool,
 }
@@ -37,11 +40,40 @@ fn fit_settings(alloc: Global, line: &Given, file: &Given) -> Result<Settings, O
 }
 
 /// What the file that a line names says, if it names one.
-fn config_of<R: Files>(rt: &R, alloc: Global, config: Option<&str>) -> Result<Given, OptionsFault> {
+fn config_of<R: Files>(
+    rt: &R,
+    alloc: Global,
+    config: Option<&str>,
+) -> Result<Config, OptionsFault> {
     match config {
         Some(name) => read_config(rt, alloc, name),
-        None => Ok(Given::nothing()),
+        None => Ok(Config::nothing()),
     }
+}
+
+/// The base that a text is. A place says whose it is.
+fn base_in(alloc: Global, place: &str, text: &str) -> Result<Base, OptionsFault> {
+    match Base::read(alloc, text) {
+        Ok(Some(base)) => Ok(base),
+        Ok(None) => Err(wrong(format!(in alloc; "{place}: no base: {text}"))),
+        Err(_) => Err(OptionsFault::Memory),
+    }
+}
+
+/// The base that the line names, or else the file.
+fn base_of(
+    alloc: Global,
+    line: &Line<'_>,
+    config: Option<&str>,
+) -> Result<Option<Base>, OptionsFault> {
+    if let Some(text) = line.base {
+        return Ok(Some(base_in(alloc, "--base", text)?));
+    }
+    let (Some(text), Some(name)) = (config, line.config) else {
+        return Ok(None);
+    };
+    let place = format!(in alloc; "{name}: base")?;
+    Ok(Some(base_in(alloc, place.as_str(), text)?))
 }
 
 /// What a line says is to be served.
@@ -53,12 +85,14 @@ fn options_of<'a, R: Files>(
     ensures { IfOk result (λ options. are_fit options.settings ≡ true) }
 {
     let file = config_of(rt, alloc, line.config)?;
-    let settings = fit_settings(alloc, &line.given, &file)?;
+    let settings = fit_settings(alloc, &line.given, &file.given)?;
+    let base = base_of(alloc, line, file.base.as_deref())?;
     Ok(Options {
         address: line.address,
         file: line.file,
         workers: line.workers,
         settings,
+        base,
         is_check: line.is_check,
     })
 }

@@ -1,9 +1,10 @@
 //! What would be served of a folder, told with nothing served.
 
 use crate::running::FolderServed;
+use lra_ids::Base;
 use lra_journal_folder::{Folder, RollingFault, Sound, Unsound, audit_all};
 use lra_opening::{Herald, ServeFault};
-use lra_service::{base_at, put_number, put_settings, put_text};
+use lra_service::{Site, put_number, put_settings, put_text, site_at};
 use lra_settings::Settings;
 use std::alloc::Global;
 use std::fs::File;
@@ -15,6 +16,7 @@ use std::time::Clock;
 fn tell<W: Write>(
     alloc: Global,
     address: &str,
+    site: &Site,
     path: &str,
     sounds: &[Sound],
     workers: u32,
@@ -26,6 +28,7 @@ fn tell<W: Write>(
         entries = entries.saturating_add(sound.opening.count_entries());
     }
     put_text(alloc, "address", address, writer)?;
+    put_text(alloc, "base", site.base.as_str(), writer)?;
     put_text(alloc, "folder", path, writer)?;
     put_number(alloc, "workers", u64::from(workers), writer)?;
     put_number(alloc, "journals", sounds.len() as u64, writer)?;
@@ -43,6 +46,7 @@ pub fn check_folder<
 >(
     rt: &R,
     address: &str,
+    base: Option<Base>,
     path: &str,
     workers: u32,
     settings: &Settings,
@@ -50,13 +54,15 @@ pub fn check_folder<
     writer: &mut W,
 ) -> Result<FolderServed, RollingFault> {
     let alloc = rt.alloc();
-    drop(base_at(alloc, address)?);
+    let site = site_at(alloc, address, base)?;
     let folder = Folder::open(rt, path)?;
     let contents = folder.contents()?;
     match audit_all(rt, &folder, &contents, watcher, writer)? {
         Err(Unsound { status, path }) => Ok(FolderServed::Unsound { status, path }),
         Ok(sounds) => {
-            tell(alloc, address, path, &sounds, workers, settings, writer)?;
+            tell(
+                alloc, address, &site, path, &sounds, workers, settings, writer,
+            )?;
             Ok(FolderServed::Ended)
         }
     }

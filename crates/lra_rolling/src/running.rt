@@ -1,7 +1,6 @@
 //! The run of a service over a folder.
 
 ghost use Rattle.std.specs.Prelude.{◌≡◌, true, All, None};
-ghost use Rattle.lra_ids.specs.Addresses.{is_base};
 ghost use Rattle.lra_opening.specs.Places.{IsRead};
 
 use crate::crier::Crier;
@@ -13,7 +12,7 @@ use crate::working::work;
 use lra_branch::Clerkship;
 use lra_clocks::milliseconds;
 use lra_folders::stray_line;
-use lra_ids::Address;
+use lra_ids::Base;
 use lra_journal_folder::{Contents, Folder, RollingFault, Sound, Unsound, audit_all};
 use lra_model::Instance;
 use lra_opening::{Herald, ServeFault};
@@ -21,7 +20,7 @@ use lra_reports::RunFault;
 use lra_rolls::Counts;
 use lra_roster::{Journal, Roster, Watch};
 use lra_rounds::Arrivals;
-use lra_service::{Doorway, base_at, bind, end_of, limits_of, make_doorway, say};
+use lra_service::{Doorway, Site, bind, end_of, limits_of, make_doorway, say, site_at};
 use lra_settings::Settings;
 use lra_shelf::Shelf;
 use std::alloc::Global;
@@ -63,14 +62,13 @@ struct Service<'a, R, V, H> {
     rt: &'a R,
     alloc: Global,
     address: &'a str,
-    base: &'a Address,
+    site: &'a Site,
     folder: &'a Folder<'a, R>,
     workers: u32,
     settings: Settings,
     /// Who is told how far journals have been read.
     watcher: &'a V,
     herald: &'a H,
-    ghost based: { is_base base.now ≡ true },
 }
 
 /// Where connections come in to so many threads.
@@ -271,7 +269,7 @@ impl<
         };
         let moment = now.max(latest(&sounds));
         let mut maker = self.maker(shelf, opener, contents, now)?;
-        let listener = bind(self.alloc, self.rt, self.base)?;
+        let listener = bind(self.rt, self.site.socket.as_str())?;
         self.folder.clear(contents)?;
         let watches = self.open(&mut maker, sounds, moment)?;
         let roster = self.roster(&watches)?;
@@ -312,6 +310,7 @@ pub fn serve_folder<
 >(
     rt: &R,
     address: &str,
+    base: Option<Base>,
     path: &str,
     workers: u32,
     settings: Settings,
@@ -321,7 +320,7 @@ pub fn serve_folder<
     writer: &mut W,
 ) -> Result<FolderServed, RollingFault> {
     let alloc = rt.alloc();
-    let base = base_at(alloc, address)?;
+    let site = site_at(alloc, address, base)?;
     let folder = Folder::open(rt, path)?;
     let contents = folder.contents()?;
     let Ok(shelf) = Shelf::open(alloc) else {
@@ -331,7 +330,7 @@ pub fn serve_folder<
         rt,
         alloc,
         address,
-        base: &base,
+        site: &site,
         folder: &folder,
         workers,
         settings,
@@ -346,7 +345,7 @@ pub fn serve_folder<
                 rt,
                 alloc,
                 shelf: &shelf,
-                base: &base,
+                base: &site.base,
                 limits: limits_of(&settings),
             };
             service.serve_on(&shelf, opener, &contents, sounds, input, writer)

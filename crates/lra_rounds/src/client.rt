@@ -10,7 +10,7 @@ use crate::answering::{Stage, answer_some};
 use crate::base::WhichBase;
 use lra_durable::{Disk, Noted, Progress, release};
 use lra_front::{Clock, Routes};
-use lra_ids::{Address, Instance};
+use lra_ids::{Base, Instance};
 use lra_model::Memory;
 use lra_steps::{Connection, Responder};
 use std::alloc::{AllocError, Global};
@@ -77,7 +77,7 @@ pub struct Client<S, D: Disk, P: WhichBase, A> {
 
 impl<S, D: Disk, P: WhichBase, A: Responder> Client<S, D, P, A> {
     /// One that has just come in.
-    pub fn new(alloc: Global, stream: S, instance: Instance, base: &Address) -> Client<S, D, P, A>
+    pub fn new(alloc: Global, stream: S, instance: Instance, base: &Base) -> Client<S, D, P, A>
         requires { base.now ≡ P.base }
         ensures stream { result.stream ≡ stream }
         ensures connection { result.connection ≡ begun instance base.now }

@@ -10,7 +10,7 @@ use crate::seat::{Need, Seat, Turn};
 use crate::times::Times;
 use lra_durable::{Disk, Progress};
 use lra_front::Clock;
-use lra_ids::{Address, Instance};
+use lra_ids::{Base, Instance};
 use lra_steps::Responder;
 use lra_timers::Agenda;
 use mio::net::TcpStream;
@@ -135,7 +135,7 @@ impl<D: Disk, P: WhichBase, A: Responder> Clients<D, P, A> {
         registry: &Registry,
         stream: TcpStream,
         instance: Instance,
-        base: &Address,
+        base: &Base,
         most: usize,
         now: u64,
     )

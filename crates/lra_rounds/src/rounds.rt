@@ -11,7 +11,7 @@ use crate::moments::Moments;
 use crate::times::Times;
 use lra_durable::{Disk, Due, Progress};
 use lra_front::{Clock, Routes};
-use lra_ids::{Address, Instance};
+use lra_ids::{Base, Instance};
 use lra_model::Memory;
 use lra_steps::Responder;
 use mio::{Events, Poll, Waker};
@@ -152,7 +152,7 @@ impl<'a, R: Wait + time::Clock, D: Disk> Rounds<'a, R, D> {
         watch: &Watch<'a, R>,
         clients: &mut Clients<D, P, A>,
         instance: Instance,
-        base: &Address,
+        base: &Base,
         now: u64,
     )
         requires { base.now ≡ P.base }

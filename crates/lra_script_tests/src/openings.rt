@@ -5,6 +5,7 @@ use crate::rows::OPENED;
 use crate::same::assert_same;
 use crate::words::parted;
 use lra_core::{Command, CoordinatorOf, Counted, Limits, Memory, OpenFault, Opening, Prepared};
+use lra_ids::Base;
 use std::alloc::Global;
 
 /// How many bytes a piece has; of the last size there is one piece.
@@ -49,7 +50,7 @@ fn open_once(
         entries: u64::from(entries),
         ..Limits::usual()
     };
-    opening.finish(base, limits)
+    opening.finish(Base::of(base), limits)
 }
 
 /// The same, once more where memory was refused.

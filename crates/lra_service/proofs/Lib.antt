@@ -1,2 +1,3 @@
 pub mod Pushed
 pub mod Going
+pub mod Own

@@ -1,3 +1,4 @@
 pub mod Limited
 pub mod Outcomes
+pub mod Sited
 pub mod inner

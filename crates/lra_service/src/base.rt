@@ -1,19 +1,29 @@
-//! The address that is served, as a base of identifiers and as a socket's.
+//! Where a service is: the socket that it listens at, and what the identifiers that it gives begin with.
 
-ghost use Rattle.std.specs.Prelude.{◌≡◌, true, false, Err, IfOk, IfErr};
+ghost use Rattle.std.specs.Prelude.{◌≡◌, true, false, None, Err, IfOk, IfErr};
 ghost use Rattle.lra_ids.specs.Addresses.{is_base};
 ghost use Rattle.lra_ids.specs.Bases.{base_text, is_own_base};
 ghost use Rattle.lra_opening.specs.Ends.{IsOfAddress};
+ghost use Rattle.lra_service.specs.Sited.{base_served};
 
 use lra_courier::socket_text;
-use lra_ids::{Address, base_of};
+use lra_ids::{Address, Base, base_of};
 use lra_opening::ServeFault;
 use lra_reports::RunFault;
 use std::alloc::Global;
 use std::net::{Net, TcpListener};
 
+/// Where a service is.
+#[derive(Drop)]
+pub struct Site {
+    /// What the identifiers begin with that it gives.
+    pub base: Base,
+    /// Host and port of the socket that it listens at.
+    pub socket: String,
+}
+
 /// The base of the identifiers that are served at an address, or why there is none.
-pub fn base_at(alloc: Global, to: &str) -> Result<Address, ServeFault>
+fn base_at(alloc: Global, to: &str) -> Result<Address, ServeFault>
     ensures text { IfOk result (λ base. base ≡ base_text to.now) }
     ensures base { IfOk result (λ base. is_base base ≡ true) }
     ensures fault { IfErr result IsOfAddress }
@@ -26,12 +36,48 @@ pub fn base_at(alloc: Global, to: &str) -> Result<Address, ServeFault>
     }
 }
 
-/// A listener at a base's host and port.
-pub fn bind<R: Net>(alloc: Global, rt: &R, base: &Address) -> Result<R::Listener, ServeFault>
+/// The site whose identifiers begin with `http://`, its address and `/`, or why there is none.
+fn own_site(alloc: Global, to: &str) -> Result<Site, ServeFault>
+    ensures base { IfOk result (λ site. site.base ≡ base_text to.now) }
+    ensures own { IfOk result (λ _. is_base (base_text to.now) ≡ true) }
+    ensures fault { IfErr result IsOfAddress }
+    ensures address { result ≡ Err ServeFault.Address → is_own_base (base_text to.now) ≡ false }
+{
+    let address = base_at(alloc, to)?;
+    match socket_text(alloc, &address) {
+        Ok(socket) => Ok(Site {
+            base: Base::of(address),
+            socket,
+        }),
+        Err(_) => {
+            drop(address);
+            Err(ServeFault::Run(RunFault::Memory))
+        }
+    }
+}
+
+/// The site at an address, whose identifiers begin with a base of their own, if there is one: else with `http://`, the address and `/`.
+pub fn site_at(alloc: Global, to: &str, base: Option<Base>) -> Result<Site, ServeFault>
+    ensures base { IfOk result (λ site. site.base ≡ base_served base to.now) }
+    ensures own { base ≡ None → IfOk result (λ _. is_base (base_text to.now) ≡ true) }
+    ensures fault { IfErr result IsOfAddress }
+    ensures address { base ≡ None → result ≡ Err ServeFault.Address → is_own_base (base_text to.now) ≡ false }
+{
+    let Some(base) = base else {
+        return own_site(alloc, to);
+    };
+    match String::from_str(alloc, to) {
+        Ok(socket) => Ok(Site { base, socket }),
+        Err(_) => {
+            drop(base);
+            Err(ServeFault::Run(RunFault::Memory))
+        }
+    }
+}
+
+/// A listener at a socket's host and port.
+pub fn bind<R: Net>(rt: &R, socket: &str) -> Result<R::Listener, ServeFault>
     ensures { IfErr result IsOfAddress }
 {
-    let Ok(socket) = socket_text(alloc, base) else {
-        return Err(ServeFault::Run(RunFault::Memory));
-    };
-    TcpListener::bind(rt, socket.as_str()).map_err(|_| ServeFault::Address)
+    TcpListener::bind(rt, socket).map_err(|_| ServeFault::Address)
 }

@@ -5,8 +5,9 @@ ghost use Rattle.lra_ids.specs.Addresses.{is_base};
 ghost use Rattle.lra_ids.specs.Bases.{base_text};
 ghost use Rattle.lra_opening.specs.Ends.{IsRefused, IsOfAddress};
 
-use crate::base::base_at;
+use crate::base::{Site, site_at};
 use lra_core::Opening;
+use lra_ids::Base;
 use lra_opening::{Found, Place, ServeFault, find_journal, is_new, refuse};
 use lra_reports::put;
 use lra_settings::{Parameter, Settings};
@@ -80,6 +81,7 @@ fn can_be_kept<P: Place>(place: &P, found: &Found<P::File>) -> Result<(), ServeF
 pub fn check_place<P: Place, W: Write>(
     alloc: Global,
     address: &str,
+    base: Option<Base>,
     file: &str,
     place: &P,
     workers: u32,
@@ -87,22 +89,26 @@ pub fn check_place<P: Place, W: Write>(
     writer: &mut W,
 ) -> Result<u8, ServeFault>
     ensures unsound { IfOk result (λ status. status ≢ 0 → IsRefused (P.had place.now) (W.contents writer.old) (W.contents writer.new) status) }
-    ensures base { IsFalse (is_base (base_text address.now)) → IsErrAnd result IsOfAddress × (W.contents writer.new ≡ W.contents writer.old) }
+    ensures base { base ≡ None → IsFalse (is_base (base_text address.now)) → IsErrAnd result IsOfAddress × (W.contents writer.new ≡ W.contents writer.old) }
 {
-    drop(base_at(alloc, address)?);
+    let site = site_at(alloc, address, base)?;
     let (found, opening) = find_journal(alloc, place)?;
     if let Some(told) = refuse(alloc, &opening, writer) {
         drop(found);
         drop(opening);
+        drop(site);
         return told;
     }
     let kept = can_be_kept(place, &found);
     drop(found);
     let told = match kept {
-        Ok(()) => tell(alloc, address, file, &opening, workers, settings, writer),
+        Ok(()) => tell(
+            alloc, address, &site, file, &opening, workers, settings, writer,
+        ),
         Err(fault) => Err(fault),
     };
     drop(opening);
+    drop(site);
     match told {
         Ok(()) => Ok(0),
         Err(fault) => Err(fault),
@@ -113,6 +119,7 @@ pub fn check_place<P: Place, W: Write>(
 fn tell<W: Write>(
     alloc: Global,
     address: &str,
+    site: &Site,
     file: &str,
     opening: &Opening,
     workers: u32,
@@ -120,6 +127,7 @@ fn tell<W: Write>(
     writer: &mut W,
 ) -> Result<(), ServeFault> {
     put_text(alloc, "address", address, writer)?;
+    put_text(alloc, "base", site.base.as_str(), writer)?;
     put_text(alloc, "file", file, writer)?;
     put_number(alloc, "workers", u64::from(workers), writer)?;
     put_journal(alloc, opening, writer)?;

@@ -15,7 +15,7 @@ mod running;
 mod shares;
 mod shift;
 
-pub use base::{base_at, bind};
+pub use base::{Site, bind, site_at};
 pub use checking::{check_place, put_journal, put_number, put_settings, put_text};
 pub use disk::{FilePen, JournalFile};
 pub use doorway::{Doorway, make_doorway};

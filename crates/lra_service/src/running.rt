@@ -12,7 +12,7 @@ ghost use Rattle.lra_service.specs.Outcomes.{HasSaid};
 ghost use Rattle.lra_service.specs.Limited.{limits_of};
 ghost use Rattle.lra_service.specs.inner.Opened.{IsOpenAt};
 
-use crate::base::{base_at, bind};
+use crate::base::{Site, bind, site_at};
 use crate::disk::{FilePen, JournalFile};
 use crate::doorway::{Doorway, make_doorway};
 use crate::ending::{end_of, say};
@@ -23,7 +23,7 @@ use crate::shift::{Shift, work};
 use lra_clocks::milliseconds;
 use lra_core::Opening;
 use lra_durable::{Keeper, Progress};
-use lra_ids::Address;
+use lra_ids::{Address, Base};
 use lra_office::{Clerk, Desk, Office};
 use lra_opening::{
     Found, Herald, NamedFile, Place, ServeFault, Silence, find_journal, open_office, ready_file,
@@ -57,6 +57,7 @@ struct Service<'a, R, P, H> {
     alloc: Global,
     herald: &'a H,
     address: &'a str,
+    site: &'a Site,
     /// Where the journal is kept.
     place: &'a P,
     workers: u32,
@@ -111,7 +112,7 @@ impl<
         clerk: Clerk<Desk<K>>,
         writer: &mut W,
     ) -> Result<(), ServeFault>
-        requires { IsOpenAt (P.had self.now.place.now) (base_text self.now.address.now) (limits_of self.now.settings) shift.now.moment office.now clerk }
+        requires { IsOpenAt (P.had self.now.place.now) self.now.site.now.base (limits_of self.now.settings) shift.now.moment office.now clerk }
         ensures said { OnOk result (Appends (W.contents writer.old) (W.contents writer.new) (serving_line self.now.address.now)) }
         ensures fault { IfErr result (IsSaid self.now.address.now (W.contents writer.old) (W.contents writer.new)) }
     {
@@ -135,17 +136,19 @@ impl<
     /// The office of a journal, and its first clerk.
     fn open<K: Write + Drop>(
         &self,
-        base: Address,
         opening: Opening,
         keeper: K,
         moment: u64,
     ) -> Result<(Office<K>, Clerk<Desk<K>>), ServeFault>
-        requires base { is_base base ≡ true }
-        requires text { base ≡ base_text self.now.address.now }
         requires journal { IsRead (P.had self.now.place.now) opening }
-        ensures opened { IfOk result (λ opened. IsOpenAt (P.had self.now.place.now) (base_text self.now.address.now) (limits_of self.now.settings) moment opened.0 opened.1) }
+        ensures opened { IfOk result (λ opened. IsOpenAt (P.had self.now.place.now) self.now.site.now.base (limits_of self.now.settings) moment opened.0 opened.1) }
         ensures fault { IfErr result IsOfNoScript }
     {
+        let Ok(base) = self.site.base.copy() else {
+            drop(opening);
+            drop(keeper);
+            return Err(ServeFault::Run(RunFault::Memory));
+        };
         let limits = limits_of(&self.settings);
         open_office(self.rt, self.alloc, base, limits, opening, keeper, moment)
     }
@@ -154,18 +157,15 @@ impl<
     fn serve_journal<K: Write + Drop + Send, W: Write>(
         &self,
         shift: &Shift<'_, R, H>,
-        base: Address,
         opening: Opening,
         keeper: K,
         writer: &mut W,
     ) -> Result<(), ServeFault>
-        requires base { is_base base ≡ true }
-        requires text { base ≡ base_text self.now.address.now }
         requires journal { IsRead (P.had self.now.place.now) opening }
         ensures said { OnOk result (Appends (W.contents writer.old) (W.contents writer.new) (serving_line self.now.address.now)) }
         ensures fault { IfErr result (IsSaid self.now.address.now (W.contents writer.old) (W.contents writer.new)) }
     {
-        let (office, clerk) = self.open(base, opening, keeper, shift.moment)?;
+        let (office, clerk) = self.open(opening, keeper, shift.moment)?;
         let served = self.serve_office(shift, &office, clerk, writer);
         drop(office);
         served
@@ -175,12 +175,9 @@ impl<
     fn serve_at<W: Write>(
         &self,
         stand: Stand,
-        base: Address,
         opening: Opening,
         writer: &mut W,
     ) -> Result<Served, ServeFault>
-        requires base { is_base base ≡ true }
-        requires text { base ≡ base_text self.now.address.now }
         requires journal { IsRead (P.had self.now.place.now) opening }
         ensures ended { IfOk result (HasSaid (P.had self.now.place.now) self.now.address.now (W.contents writer.old) (W.contents writer.new)) }
         ensures fault { IfErr result (IsSaid self.now.address.now (W.contents writer.old) (W.contents writer.new)) }
@@ -206,7 +203,7 @@ impl<
             polls,
             moment,
         );
-        let served = self.serve_journal(&shift, base, opening, keeper, writer);
+        let served = self.serve_journal(&shift, opening, keeper, writer);
         drop(shift);
         let end = end_of(self.rt, &progress, &ending);
         drop(progress);
@@ -230,10 +227,9 @@ impl<
         stand_on(file, door, polls, now.max(latest))
     }
 
-    /// Where connections come in to a base's host and port, and the disk of a journal that was found so.
+    /// Where connections come in to the site's socket, and the disk of a journal that was found so.
     fn make_ready<I: Read + Send + Drop + 'static>(
         &self,
-        base: &Address,
         found: Found<File>,
         opening: &Opening,
         input: Option<I>,
@@ -242,7 +238,7 @@ impl<
         requires journal { IsRead (P.had self.now.place.now) opening.now }
         ensures { IfErr result IsOfNoScript }
     {
-        let listener = bind(self.alloc, self.rt, base)?;
+        let listener = bind(self.rt, self.site.socket.as_str())?;
         let file = ready_file(self.place, found, opening)?;
         let door = make_doorway(self.rt, self.alloc, listener, input)?;
         self.stand(file, door, opening.last_moment())
@@ -251,23 +247,19 @@ impl<
     /// Serves a sound journal that was found so.
     fn serve_found<I: Read + Send + Drop + 'static, W: Write>(
         &self,
-        base: Address,
         found: Found<File>,
         opening: Opening,
         input: Option<I>,
         writer: &mut W,
     ) -> Result<Served, ServeFault>
-        requires base { is_base base ≡ true }
-        requires text { base ≡ base_text self.now.address.now }
         requires found { IsFound P.contents (P.had self.now.place.now) found }
         requires journal { IsRead (P.had self.now.place.now) opening }
         ensures ended { IfOk result (HasSaid (P.had self.now.place.now) self.now.address.now (W.contents writer.old) (W.contents writer.new)) }
         ensures fault { IfErr result (IsSaid self.now.address.now (W.contents writer.old) (W.contents writer.new)) }
     {
-        match self.make_ready(&base, found, &opening, input) {
-            Ok(stand) => self.serve_at(stand, base, opening, writer),
+        match self.make_ready(found, &opening, input) {
+            Ok(stand) => self.serve_at(stand, opening, writer),
             Err(fault) => {
-                drop(base);
                 drop(opening);
                 Err(fault)
             }
@@ -277,12 +269,9 @@ impl<
     /// Serves what the place has, once its lock is taken and its journal is audited.
     fn serve_place<I: Read + Send + Drop + 'static, W: Write>(
         &self,
-        base: Address,
         input: Option<I>,
         writer: &mut W,
     ) -> Result<Served, ServeFault>
-        requires base { is_base base ≡ true }
-        requires text { base ≡ base_text self.now.address.now }
         ensures ended { IfOk result (HasSaid (P.had self.now.place.now) self.now.address.now (W.contents writer.old) (W.contents writer.new)) }
         ensures fault { IfErr result (IsSaid self.now.address.now (W.contents writer.old) (W.contents writer.new)) }
     {
@@ -290,18 +279,17 @@ impl<
         if let Some(told) = refuse(self.alloc, &opening, writer) {
             drop(found);
             drop(opening);
-            drop(base);
             drop(input);
             return match told {
                 Ok(status) => Ok(Served::Unsound(status)),
                 Err(fault) => Err(fault),
             };
         }
-        self.serve_found(base, found, opening, input, writer)
+        self.serve_found(found, opening, input, writer)
     }
 }
 
-/// Serves the coordinator of a place's journal at an address, by so many threads that answer connections and as many that carry errands,
+/// Serves the coordinator of a place's journal at an address, with identifiers that begin with a base of their own if there is one, by so many threads that answer connections and as many that carry errands,
 /// until the last of the former has ended: then the answer is [`ServeFault::Address`]. Where the journal isn't sound, that is written as
 /// `lra audit` does, and the answer is the program's status. Once an input has ended, if there is one, the service ends gently: no more connections are
 /// accepted and no more requests read, replies that wait leave, what came of the callbacks under way is recorded, for 10 s at most, and all is synced.
@@ -323,6 +311,7 @@ pub fn serve_with<
 >(
     rt: &R,
     address: &str,
+    base: Option<Base>,
     place: &P,
     workers: u32,
     settings: Settings,
@@ -332,20 +321,21 @@ pub fn serve_with<
 ) -> Result<Served, ServeFault>
     ensures ended { IfOk result (HasSaid (P.had place.now) address.now (W.contents writer.old) (W.contents writer.new)) }
     ensures fault { IfErr result (IsSaid address.now (W.contents writer.old) (W.contents writer.new)) }
-    ensures base { IsFalse (is_base (base_text address.now)) → IsErrAnd result IsOfAddress × (W.contents writer.new ≡ W.contents writer.old) }
+    ensures base { base ≡ None → IsFalse (is_base (base_text address.now)) → IsErrAnd result IsOfAddress × (W.contents writer.new ≡ W.contents writer.old) }
 {
     let alloc = rt.alloc();
-    let base = base_at(alloc, address)?;
+    let site = site_at(alloc, address, base)?;
     let service = Service {
         rt,
         alloc,
         herald,
         address,
+        site: &site,
         place,
         workers,
         settings,
     };
-    service.serve_place(base, input, writer)
+    service.serve_place(input, writer)
 }
 
 /// The same with the usual settings, and with no end but by a fault.
@@ -367,6 +357,7 @@ pub fn serve_from<
     match serve_with(
         rt,
         address,
+        None,
         place,
         workers,
         usual,

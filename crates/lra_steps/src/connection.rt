@@ -1,7 +1,6 @@
 //! One connection.
 ghost use Rattle.std.specs.Prelude.{◌≡◌, ◌≤◌, ◌==◌, [], ◌∷◌, ◌++◌, map, take, drop, length, if◌then◌else◌, Some, None, IfSome, IsTrue, IsSome};
 ghost use Rattle.std.specs.Option.{option_map};
-ghost use Rattle.lra_ids.specs.Addresses.{is_base};
 ghost use Rattle.lra_wire.specs.Fronts.{IsUnfinished, Sees};
 ghost use Rattle.lra_wire.specs.Request.{request_of};
 ghost use Rattle.lra_front.specs.declared.stream.StreamEnd.TheVariants.{Done, WriteFault};
@@ -17,7 +16,7 @@ use crate::reply::{push_fault, push_reply};
 use crate::responder::Answered;
 use http::Method;
 use lra_front::StreamEnd;
-use lra_ids::{Address, Instance};
+use lra_ids::{Base, Instance};
 use lra_log::Log;
 use lra_model::Memory;
 use lra_wire::{Front, RequestRead, Seen, WireFault, end_fault, request_front, request_front_seen};
@@ -68,7 +67,7 @@ pub struct Connection {
     /// How many requests are taken yet, beside the last.
     left: u64,
     /// What the URIs in replies begin with. From here on all is for contracts, and takes no memory.
-    base: Snapshot<Address>,
+    base: Snapshot<Base>,
     /// What was kept after each piece came, and where the piece begins.
     reads: Log<Queue, usize>,
     turns: Log<RequestRead, Reply>,
@@ -170,7 +169,7 @@ fn end_after(replied: bool, close: bool) -> Option<StreamEnd>
 
 impl Connection {
     /// A connection at which all URIs begin with that base, and replies to faults of reading name identifiers of that instance.
-    pub fn new(alloc: Global, instance: Instance, base: &Address) -> Connection
+    pub fn new(alloc: Global, instance: Instance, base: &Base) -> Connection
         ensures { result ≡ begun instance base.now }
     {
         Connection {
@@ -229,9 +228,8 @@ impl Connection {
     }
 
     /// The next step. Where memory is refused nothing changes.
-    pub fn next(&mut self, base: &Address) -> Result<Step, Memory>
+    pub fn next(&mut self, base: &Base) -> Result<Step, Memory>
         requires value { base.now ≡ self.old.base }
-        requires base { IsTrue (is_base base.now) }
         ensures { Steps result self.old self.new }
     {
         if let Some(end) = self.ended {
@@ -282,11 +280,10 @@ impl Connection {
 
     /// The answer to the request that stands, and the moment at which it was given: the reply names identifiers of the instance whose answer it is.
     /// Where memory for it is refused, the reply is lost and the connection ends: the request doesn't stand any more in any case.
-    pub fn told(&mut self, base: &Address, moment: u64, answered: Answered) -> Result<(), Memory>
+    pub fn told(&mut self, base: &Base, moment: u64, answered: Answered) -> Result<(), Memory>
         requires stands { IsSome self.old.stands }
         requires numbers { HasIdentifiers answered.answer }
         requires value { base.now ≡ self.old.base }
-        requires base { IsTrue (is_base base.now) }
         ensures { IfSome self.old.stands (λ request.
             Tells result self.old self.new (record { request = request; moment = moment; answered = answered })) }
     {

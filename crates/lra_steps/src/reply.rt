@@ -1,12 +1,11 @@
 //! The replies to requests and to faults, as bytes.
 ghost use Rattle.std.specs.Prelude.{◌≡◌, ◌++◌, IsTrue, OnOk, OnErr};
-ghost use Rattle.lra_ids.specs.Addresses.{is_base};
 ghost use Rattle.lra_front.specs.Replies.{HasIdentifiers, reply_bytes};
 ghost use Rattle.lra_steps.specs.History.{fault_reply};
 
 use crate::queue::Queue;
 use lra_front::{Answer, fault_answer};
-use lra_ids::{Address, Instance};
+use lra_ids::{Base, Instance};
 use lra_model::Memory;
 use lra_wire::WireFault;
 use std::alloc::{AllocError, Global};
@@ -19,13 +18,12 @@ pub(crate) fn push_reply(
     alloc: Global,
     out: &mut Queue,
     instance: Instance,
-    base: &Address,
+    base: &Base,
     answer: Answer,
     head: bool,
     close: bool,
 ) -> Result<(), Memory>
     requires numbers { HasIdentifiers answer }
-    requires base { IsTrue (is_base base.now) }
     ensures ok { OnOk result (out.new ≡ out.old ++ reply_bytes instance base.now answer head close) }
     ensures err { OnErr result (out.new ≡ out.old) }
 {
@@ -42,10 +40,9 @@ pub(crate) fn push_fault(
     alloc: Global,
     out: &mut Queue,
     instance: Instance,
-    base: &Address,
+    base: &Base,
     fault: WireFault,
 ) -> Result<(), Memory>
-    requires { IsTrue (is_base base.now) }
     ensures ok { OnOk result (out.new ≡ out.old ++ fault_reply instance base.now fault) }
     ensures err { OnErr result (out.new ≡ out.old) }
 {

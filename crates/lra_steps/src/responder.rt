@@ -1,13 +1,12 @@
 //! Who answers requests.
 
 ghost use Rattle.std.specs.Prelude.{◌≡◌, IsTrue};
-ghost use Rattle.lra_ids.specs.Addresses.{is_base};
 ghost use Rattle.lra_wire.specs.Request.{request_of};
 ghost use Rattle.lra_front.specs.Replies.{HasIdentifiers};
 
 use lra_commands::Counter;
 use lra_front::{Answer, Routes};
-use lra_ids::{Address, Instance};
+use lra_ids::{Base, Instance};
 use lra_wire::RequestRead;
 use std::alloc::Global;
 
@@ -40,9 +39,8 @@ pub trait Responder {
     ghost responds: { State → ℕ → Request → Answered → State → Type 0 };
 
     /// What all its URIs begin with. This takes no memory.
-    fn base(&self) -> &Address
-        ensures value { result.now ≡ base_of (sight self.now) }
-        ensures base { IsTrue (is_base result.now) };
+    fn base(&self) -> &Base
+        ensures { result.now ≡ base_of (sight self.now) };
 
     /// Whose identifiers a reply may name that answers no request: one to a fault of reading. This takes no memory.
     fn instance(&self) -> Instance;
@@ -79,7 +77,7 @@ impl<C: Counter> Responder for C {
 
     ghost responds = { AnswersAlone C.gives };
 
-    fn base(&self) -> &Address {
+    fn base(&self) -> &Base {
         Counter::base(self)
     }
 

@@ -8,6 +8,7 @@ use crate::stopwatch::Stopwatch;
 use anyhow::{Result, ensure};
 use lra_auditor::{Verdict, audit};
 use lra_core::Opening;
+use lra_ids::Base;
 use lra_model::Memory;
 use std::alloc::Global;
 use std::num::nearest_u64_to_f64;
@@ -44,7 +45,7 @@ fn fed(alloc: Global, text: &[u8]) -> Result<Opening, Memory> {
 
 /// Goes on from a journal's bytes, which are read, audited and taken into the tables line by line.
 fn open(rt: &HostRuntime, text: &[u8]) -> Result<Cost> {
-    let base = base(rt.alloc())?;
+    let base = Base::of(base(rt.alloc())?);
     let before = kilobytes(rt, "VmRSS:")?;
     let watch = Stopwatch::start(rt);
     let opening = fed(rt.alloc(), text)?;

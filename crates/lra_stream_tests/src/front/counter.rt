@@ -1,24 +1,21 @@
 //! A counter at which nothing can be given, and a clock that stands still.
-ghost use Rattle.std.specs.Prelude.{◌≡◌, IsTrue};
-ghost use Rattle.lra_ids.specs.Addresses.{is_base};
 
 use crate::coordinator::base;
 use lra_commands::{Counter, CounterFault, Order, Told};
 use lra_front::Clock;
-use lra_ids::{Address, Instance};
+use lra_ids::{Base, Instance};
 use std::alloc::Global;
 
 #[derive(Drop)]
 pub(super) struct Worn {
     instance: Instance,
-    base: Address,
-    ghost is_base: { IsTrue (is_base base) },
+    base: Base,
 }
 
 /// A counter at which nothing can be given.
 pub(super) fn worn_counter(alloc: Global) -> Option<Worn> {
     let instance = Instance::new(7)?;
-    let base = base(alloc)?;
+    let base = Base::of(base(alloc)?);
     Some(Worn { instance, base })
 }
 
@@ -44,7 +41,7 @@ impl Counter for Worn {
         self.instance
     }
 
-    fn base(&self) -> &Address {
+    fn base(&self) -> &Base {
         &self.base
     }
 

@@ -1,4 +1,4 @@
-use Rattle.std.proofs.Common.{rules, ◌≡◌, ◌∙◌, None, IfOk, false, subst}
+use Rattle.std.proofs.Common.{◌≡◌, ◌∙◌, None, IfOk, false, subst}
 use Rattle.lra_ids.specs.Bases.{base_text, is_own_base}
 use Rattle.lra_ids.proofs.base.base_of.Goals as goal
 
