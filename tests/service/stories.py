@@ -4,8 +4,9 @@ import signal
 import subprocess
 import time
 
+from folders import SOON, Folder
 from participant import wait_until
-from service import check, equal, run
+from service import check, equal
 
 # 2026-11-26T22:15:01.250Z, in milliseconds from 1970 on.
 AT = 1795731301250
@@ -164,13 +165,13 @@ def test_names_that_are_no_text_or_have_control_characters(setting):
 
 
 class Following:
-    """A program that follows a journal."""
+    """A program that follows a journal, or those of a folder."""
 
-    def __init__(self, setting, *options):
+    def __init__(self, setting, *options, place=None):
         self.output = open(f"{setting.folder}/followed", "w+")
         self.told = open(f"{setting.folder}/told", "w+")
         self.process = subprocess.Popen(
-            [setting.program, "follow", setting.journal, *options], stdin=subprocess.PIPE, stdout=self.output, stderr=self.told, text=True
+            [setting.program, "follow", place or setting.journal, *options], stdin=subprocess.PIPE, stdout=self.output, stderr=self.told, text=True
         )
 
     def __enter__(self):
@@ -245,6 +246,105 @@ def test_following_ends(setting):
         following.waits_for(wanted)
         following.process.send_signal(signal.SIGTERM)
         following.ends(-signal.SIGTERM)
+
+
+def sound(entries, actions, unended):
+    return f"sound so far: {entries} entries, {actions} actions, {unended} unended\n"
+
+
+class Place:
+    """A folder of journals that a test writes."""
+
+    def __init__(self, setting):
+        self.path = f"{setting.folder}/journals"
+        os.makedirs(f"{self.path}/ended")
+
+    def put(self, name, text, mode="w"):
+        with open(f"{self.path}/{name}", mode) as it:
+            it.write(text)
+
+    def move(self, name, other):
+        os.rename(f"{self.path}/{name}", f"{self.path}/{other}")
+
+    def remove(self, name):
+        os.remove(f"{self.path}/{name}")
+
+
+def test_a_folder_that_is_followed(setting):
+    """What was put away is followed too, and so is what is new; a journal that is put away goes on as the same one."""
+    text = played(setting, (6100, "reply 1 done"))
+    lines = text.splitlines(keepends=True)
+    place = Place(setting)
+    place.put("b.journal", text)
+    place.put("ended/a.journal", text)
+    place.put("c.next", "no journal yet\n")
+    place.put("notes", "")
+    with Following(setting, place=place.path) as following:
+        told = f"b.journal {sound(10, 2, 1)}ended/a.journal {sound(10, 2, 1)}"
+        following.waits_for(told)
+        place.put("c.next", "".join(lines[:3]))
+        place.move("c.next", "c.journal")
+        told += "c.journal " + sound(2, 1, 1)
+        following.waits_for(told)
+        place.put("c.journal", "".join(lines[3:6]), "a")
+        place.move("c.journal", "ended/c.journal")
+        told += "ended/c.journal " + sound(5, 2, 2)
+        following.waits_for(told)
+        place.put("ended/c.journal", "".join(lines[6:]), "a")
+        told += "ended/c.journal " + sound(10, 2, 1)
+        following.waits_for(told)
+        place.put("b.journal", f"1 {AT + 9000} end 1 Closed\n", "a")
+        following.waits_for(told + "b.journal unsound line 12 unsettled\n")
+        following.ends(1, f"lra: {place.path}/notes is no journal\n")
+
+
+def test_a_journal_of_a_folder_that_is_lost(setting):
+    """Who lets go of what was put away does no harm; but one that isn't there, or is shorter, is lost."""
+    text = played(setting)
+    told = f"b.journal {sound(8, 2, 2)}ended/a.journal {sound(8, 2, 2)}"
+    place = Place(setting)
+    for deed, wanted in (
+        (lambda: place.remove("b.journal"), "isn't the file that was read any more"),
+        (lambda: place.put("b.journal", text[:-1]), "has become shorter"),
+    ):
+        place.put("b.journal", text)
+        place.put("ended/a.journal", text)
+        with Following(setting, place=place.path) as following:
+            following.waits_for(told)
+            place.remove("ended/a.journal")
+            time.sleep(1)
+            equal("what is printed", following.read(), told)
+            deed()
+            following.ends(2, f"lra: {place.path}/b.journal {wanted}\n")
+    os.chmod(f"{place.path}/b.journal", 0)
+    if not os.access(f"{place.path}/b.journal", os.R_OK):
+        equal("one that can't be read", setting.run("follow", place.path), (2, "", f"lra: cannot read {place.path}/b.journal\n"))
+
+
+def test_a_folder_that_is_served_and_followed(setting):
+    """At its end each journal, also those that were put away meanwhile, was told as the audit tells it."""
+    with Folder(setting, *SOON) as folder, Following(setting, "--stop-at-eof", place=folder.folder) as following:
+        with folder.client() as client:
+            for ended in (1, 2):
+                for action in folder.first(3):
+                    client.end(action, "close")
+                wait_until("it is put away", lambda ended=ended: len(folder.ended()) == ended)
+            client.start()
+        time.sleep(1.5)
+        following.process.stdin.close()
+        following.ends(0)
+        folder.kill()
+        last = {}
+        for line in following.read().splitlines():
+            name, words = line.split(" ", 1)
+            last[os.path.basename(name)] = words
+        audited = setting.run("audit", folder.folder)
+        equal("the audit's status", audited.status, 0)
+        names = sorted(name + ".journal" for name in folder.journals() + folder.ended())
+        equal("the journals that were followed", sorted(last), names)
+        for line in audited.output.splitlines()[:-1]:
+            name, _, _, entries, _, actions, _, unended, *_ = line.split()
+            equal(name, last[os.path.basename(name)] + "\n", sound(entries, actions, unended))
 
 
 def test_what_cannot_be_read(setting):

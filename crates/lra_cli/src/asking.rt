@@ -10,8 +10,8 @@ pub(crate) enum Asking<'a> {
     Explain { file: &'a str, name: &'a str },
     /// A line for each action.
     List { place: &'a str, choice: Listed },
-    /// A journal's audit as it grows.
-    Follow { file: &'a str, stop_at_eof: bool },
+    /// The audit of a journal, or of a folder's, as it grows.
+    Follow { place: &'a str, stop_at_eof: bool },
 }
 
 /// Which actions are listed, and whether their ages count up to now.
@@ -112,11 +112,11 @@ fn read_on<'a>(verb: &str, place: &'a str, rest: &'a [String]) -> Option<Asking<
         }),
         "follow" => match rest {
             [] => Some(Asking::Follow {
-                file: place,
+                place,
                 stop_at_eof: false,
             }),
             [option] if option.as_str() == "--stop-at-eof" => Some(Asking::Follow {
-                file: place,
+                place,
                 stop_at_eof: true,
             }),
             _ => None,

@@ -4,20 +4,21 @@ use crate::asking::{Asking, Listed};
 use crate::serving::standard_input;
 use crate::texts::HELP;
 use lra_clocks::milliseconds;
-use lra_folders::{Found, find, is_folder, tell_others};
-use lra_follow::{Stop, follow, watch_input};
+use lra_folders::{Found, find, is_folder, open_each, tell_others, width};
+use lra_follow::{Journals, Stop, follow, pause, watch_input};
 use lra_model::Memory;
-use lra_reports::{RunFault, Sources, System, error_line, put, settle, tell, tell_usage};
+use lra_reports::{RunFault, Sources, System, put, settle, tell, tell_usage};
 use lra_stories::{Choice, Wanted, explain_run, list_run, read_wanted};
 use std::alloc::Global;
 use std::fs::File;
-use std::io;
-use std::io::Write;
+use std::io::Read;
+use std::marker::Sync;
 use std::os::fd::AsFd;
 use std::rt::Files;
 use std::sync::{Arc, Wait};
 use std::thread::Threads;
 use std::time::Clock;
+use std::{io, thread};
 
 /// Prints the calls of the program, and answers its status.
 pub(crate) fn answer_help<R: AllocGlobal + Print + Eprint>(rt: &R) -> u8 {
@@ -86,29 +87,81 @@ fn list<R: AllocGlobal + Files + Input + Print + Eprint>(
     list_run(rt.alloc(), input, choice, "", &mut io::writer(rt))
 }
 
-/// Lists the actions of one of a folder's journals, each behind its name. One that can't be read is told.
-fn list_next<R: AllocGlobal + Files + Input + Print + Eprint>(
-    rt: &R,
-    folder: &str,
-    name: &str,
+/// What is listed of one of a folder's journals.
+#[derive(Drop)]
+struct Listing {
+    name: String,
+    /// A line for each action, behind the journal's name.
+    text: Vec<u8>,
+    outcome: Result<u8, RunFault>,
+}
+
+/// Adds the lines of a journal's actions to a text, each behind the journal's name. The answer is its status.
+fn add_listing<F: Read + Drop>(
+    alloc: Global,
     choice: &Choice,
+    name: &str,
+    file: Option<F>,
+    text: &mut Vec<u8>,
 ) -> Result<u8, RunFault> {
-    let alloc = rt.alloc();
-    let path = format!(in alloc; "{folder}/{name}")?;
-    let prefix = format!(in alloc; "{name} ")?;
-    let sources = System { rt };
-    let outcome = match sources.open(path.as_str()) {
-        Ok(input) => list_run(alloc, input, choice, prefix.as_str(), &mut io::writer(rt)),
-        Err(fault) => Err(fault),
+    let Some(file) = file else {
+        return Err(RunFault::Read);
     };
-    match outcome {
-        Err(RunFault::Read | RunFault::TooLong) => Ok(settle(rt, outcome, path.as_str())),
-        _ => outcome,
+    let prefix = format!(in alloc; "{name} ")?;
+    list_run(alloc, file, choice, prefix.as_str(), text)
+}
+
+/// What is listed of the journal of a name, whose file this is, where it could be opened.
+fn listing_of<F: Read + Drop>(
+    alloc: Global,
+    choice: &Choice,
+    name: String,
+    file: Option<F>,
+) -> Listing {
+    let mut text = Vec::new(alloc);
+    let outcome = add_listing(alloc, choice, name.as_str(), file, &mut text);
+    Listing {
+        name,
+        text,
+        outcome,
     }
 }
 
-/// Lists the actions of a folder's journals. The answer is the greatest status of any.
-fn list_found<R: AllocGlobal + Files + Input + Print + Eprint>(
+/// What is listed of the journals of these names, or of as many as can be open at once, each by a thread of its own where one can be started.
+fn list_side_by_side<R: AllocGlobal + Files<File = File> + Threads + Input + Sync>(
+    rt: &R,
+    folder: &str,
+    names: &[String],
+    choice: &Choice,
+) -> Result<Vec<Listing>, Memory> {
+    let alloc = rt.alloc();
+    let jobs = open_each(alloc, &System { rt }, folder, names)?;
+    thread::map_vec(
+        rt,
+        jobs,
+        &|job: (String, Option<File>)| -> Listing { listing_of(alloc, choice, job.0, job.1) },
+    )
+}
+
+/// Prints what is listed of a journal, and answers its status. One that can't be read is told.
+fn print_listing<R: AllocGlobal + Print + Eprint>(
+    rt: &R,
+    folder: &str,
+    listing: &Listing,
+) -> Result<u8, RunFault> {
+    put(&mut io::writer(rt), &listing.text)?;
+    match listing.outcome {
+        Err(RunFault::Read | RunFault::TooLong) => {
+            let name = listing.name.as_str();
+            let path = format!(in rt.alloc(); "{folder}/{name}")?;
+            Ok(settle(rt, listing.outcome, path.as_str()))
+        }
+        outcome => outcome,
+    }
+}
+
+/// Lists the actions of a folder's journals, as many side by side as threads run and files can be open. The answer is the greatest status of any.
+fn list_found<R: AllocGlobal + Files<File = File> + Threads + Input + Print + Eprint + Sync>(
     rt: &R,
     folder: &str,
     found: &Found,
@@ -116,21 +169,34 @@ fn list_found<R: AllocGlobal + Files + Input + Print + Eprint>(
 ) -> Result<u8, RunFault> {
     tell_others(rt, folder, &found.others);
     let mut greatest = 0;
-    for name in found.journals.as_slice() {
-        let status = list_next(rt, folder, name.as_str(), choice)?;
-        if status > greatest {
-            greatest = status;
+    let mut rest = found.journals.as_slice();
+    for _ in 0..rest.len() {
+        let (next, _) = rest.split_at(width(rt).min(rest.len()));
+        let listings = list_side_by_side(rt, folder, next, choice)?;
+        for listing in &listings {
+            greatest = greatest.max(print_listing(rt, folder, listing)?);
         }
+        let Some(others) = rest.get(listings.len()..) else {
+            break;
+        };
+        rest = others;
     }
     Ok(greatest)
 }
 
 /// Lists actions, and answers the program's status.
-fn answer_list<R: AllocGlobal + Files + Clock + Input + Print + Eprint + Clone + Drop>(
-    rt: &R,
-    place: &str,
-    listed: Listed,
-) -> u8 {
+fn answer_list<
+    R: AllocGlobal
+        + Files<File = File>
+        + Clock
+        + Threads
+        + Input
+        + Print
+        + Eprint
+        + Sync
+        + Clone
+        + Drop,
+>(rt: &R, place: &str, listed: Listed) -> u8 {
     let Some(choice) = choice_of(rt, listed) else {
         return tell(rt, format!(in rt.alloc(); "lra: cannot read the clock\n"));
     };
@@ -162,18 +228,63 @@ where
     }
 }
 
-/// Follows a journal, and answers the program's status.
+/// Follows the journals of a folder, until a line of one is at fault, one is lost or can't be read, or the end is asked for.
+fn follow_found<R: AllocGlobal + Files<File = File> + Clock + Wait + Print + Eprint + Clone + Drop>(
+    rt: &R,
+    folder: &str,
+    stop: &Arc<Stop>,
+) -> Result<u8, RunFault> {
+    tell_others(rt, folder, &find(rt, folder)?.others);
+    let mut journals = Journals::new(rt.alloc(), folder);
+    for _ in rt.forever() {
+        let is_last = stop.is_asked();
+        let found = find(rt, folder)?;
+        let ended = journals.look(rt, &found.journals, is_last, &mut io::writer(rt))?;
+        if let Some(status) = ended {
+            return Ok(status);
+        }
+        if is_last {
+            return Ok(0);
+        }
+        pause(rt);
+    }
+    Ok(0)
+}
+
+/// Follows a journal or those of a folder, and answers the program's status.
+fn follow_place<R: AllocGlobal + Files<File = File> + Clock + Wait + Print + Eprint + Clone + Drop>(
+    rt: &R,
+    place: &str,
+    stop: &Arc<Stop>,
+) -> u8 {
+    if is_folder(rt, place) {
+        settle(rt, follow_found(rt, place, stop), place)
+    } else {
+        follow(rt, place, stop)
+    }
+}
+
+/// Follows a journal or those of a folder, until standard input ends if it is to be so, and answers the program's status.
 fn answer_follow<
-    R: AllocGlobal + Files<File = File> + Clock + Threads + Wait + Input + Print + Eprint,
->(rt: &R, file: &str, stop_at_eof: bool) -> u8
+    R: AllocGlobal
+        + Files<File = File>
+        + Clock
+        + Threads
+        + Wait
+        + Input
+        + Print
+        + Eprint
+        + Clone
+        + Drop,
+>(rt: &R, place: &str, stop_at_eof: bool) -> u8
 where
     R::Reader: AsFd,
 {
     let Ok(stop) = Arc::new(rt.alloc(), Stop::new()) else {
-        return settle(rt, Err(RunFault::Memory), file);
+        return settle(rt, Err(RunFault::Memory), place);
     };
     match watch_end(rt, &stop, stop_at_eof) {
-        Ok(()) => follow(rt, file, &stop),
+        Ok(()) => follow_place(rt, place, &stop),
         Err(fault) => settle(rt, Err(fault), "-"),
     }
 }
@@ -188,6 +299,7 @@ pub(crate) fn answer_asking<
         + Input
         + Print
         + Eprint
+        + Sync
         + Clone
         + Drop,
 >(rt: &R, asking: Asking<'_>) -> u8
@@ -197,6 +309,6 @@ where
     match asking {
         Asking::Explain { file, name } => answer_explain(rt, file, name),
         Asking::List { place, choice } => answer_list(rt, place, choice),
-        Asking::Follow { file, stop_at_eof } => answer_follow(rt, file, stop_at_eof),
+        Asking::Follow { place, stop_at_eof } => answer_follow(rt, place, stop_at_eof),
     }
 }

@@ -1,13 +1,17 @@
 -- What an audit of a folder's journals writes, tells and answers.
-use Rattle.std.specs.Prelude.{◌≡◌, ℕ, ◌+◌, nat_lt, List, [], ◌∷◌, ◌++◌, codes, Option, Some, None, if◌then◌else◌}
+use Rattle.std.specs.Prelude.{◌≡◌, ℕ, ◌+◌, nat_lt, nat_eq, List, [], ◌∷◌, ◌++◌, codes, String, string_bytes, Option, Some, None, IfSome, if◌then◌else◌}
 use Rattle.std.specs.Fmt.{decimal}
+use Rattle.std.specs.Global.{Global}
 use Rattle.std.specs.Io.KnownBytes.{Appends}
 use Rattle.lra_auditor.specs.declared.verdict.Verdict.{Verdict}
 use Rattle.lra_auditor.specs.declared.verdict.Verdict.TheVariants.{Sound, Unsound}
 use Rattle.lra_auditor.specs.Verdicts.{IsVerdict}
 use Rattle.lra_reports.specs.declared.fault.RunFault.TheVariants.{Read}
 use Rattle.lra_reports.specs.Faults.{error_line}
-use Rattle.lra_reports.specs.Report.{joined, line_feed, report_of}
+use Rattle.lra_reports.specs.Report.{joined, line_feed, report_of, ReportsAudit}
+use Rattle.lra_reports.specs.Show.{ReportsListing}
+use Rattle.lra_folders.specs.declared.deed.Deed.{Deed}
+use Rattle.lra_folders.specs.declared.deed.Deed.TheVariants.{Audit, Show}
 use Rattle.lra_folders.specs.declared.journals.Tally.{Tally}
 
 -- the path of a name in a folder
@@ -61,3 +65,43 @@ pub record AuditsAll (bytes : List ℕ → List ℕ) (folder : List ℕ) (names 
   pub counts : Appends last.written after (totals_line last.tally)
   pub tells : told ≡ last.told
   pub answered : status ≡ status_of last.tally
+
+-- what stands between a journal's name and what is told of it
+abbrev pub behind : Deed → List ℕ
+behind Audit = codes " "
+behind Show = line_feed
+
+-- what was added to a text is the report on the bytes, or their listing, and that is their status
+abbrev pub Tells : Deed → List ℕ → ℕ → Option (List ℕ) → Option (List ℕ) → Type 0
+Tells Audit bytes status before after = ReportsAudit bytes status before after
+Tells Show bytes status before after = ReportsListing bytes status before after
+
+-- one more journal has this status
+abbrev pub counted_as : ℕ → Tally → Tally
+counted_as status t = if nat_eq status 0 then record t { sound = t.sound + 1 } else record t { unsound = t.unsound + 1 }
+
+-- one journal more, of these bytes: what is told of it, of this status and with this text, was written; or it can't be read, which is told
+abbrev pub TellsNext : Deed → List ℕ → List ℕ → List ℕ → Option (ℕ × List ℕ) → Progress → Progress → Type 0
+TellsNext deed bytes path name (Some (status, text)) p q =
+    Tells deed bytes status (Some (name ++ behind deed)) (Some text) × Appends p.written q.written text × (q.told ≡ p.told) × (q.tally ≡ counted_as status p.tally)
+TellsNext deed bytes path name None p q =
+    (q.written ≡ p.written) × (q.told ≡ p.told ++ error_line Read path) × (q.tally ≡ record p.tally { unread = p.tally.unread + 1 })
+
+-- what is told of the journals of these names was written, one after another
+abbrev pub TellsEach : Deed → (List ℕ → List ℕ) → List ℕ → List (List ℕ) → Progress → Progress → Type 0
+TellsEach deed bytes folder [] p q = q ≡ p
+TellsEach deed bytes folder (name ∷ names) p q =
+    (line : Option (ℕ × List ℕ)) × (r : Progress) × TellsNext deed (bytes (path_of folder name)) (path_of folder name) name line p r × TellsEach deed bytes folder names r q
+
+-- what is told of the journals of these names, whose bytes are those, was written one after another; then the counts were
+pub record TellsAll (deed : Deed) (bytes : List ℕ → List ℕ) (folder : List ℕ) (names : List (List ℕ)) (before after : Option (List ℕ)) (told : List ℕ) (status : ℕ) : Type 0 where
+  pub last : Progress
+  pub each : TellsEach deed bytes folder names (at_first before) last
+  pub counts : Appends last.written after (totals_line last.tally)
+  pub tells : told ≡ last.told
+  pub answered : status ≡ status_of last.tally
+
+-- a name in a folder, and its file, if that could be opened
+abbrev pub IsOpened : {F : Type 0}
+    → (List ℕ → Option (List ℕ)) → (F → Option (List ℕ)) → List ℕ → List ℕ → String Global × Option F → Type 0
+IsOpened named remaining folder name job = (string_bytes job.0 ≡ name) × IfSome job.1 (λ file. IfSome (named (path_of folder name)) (λ all. remaining file ≡ Some all))

@@ -1,16 +1,20 @@
-//! Audits of the journals of a folder, by their names.
+//! Audits and listings of the journals of a folder, by their names.
 
-ghost use Rattle.std.specs.Prelude.{◌≡◌, ◌+◌, ◌-◌, ◌<◌, ◌^◌, ◌++◌, ℕ, List, map, Option, Some, IfOk, IfErr, IfSome, OnOk, codes, string_bytes};
-ghost use Rattle.std.specs.Io.KnownBytes.{Appends};
-ghost use Rattle.lra_auditor.specs.declared.verdict.Verdict.{Verdict};
-ghost use Rattle.lra_reports.specs.Report.{ReportsAudit, status_of as report_status};
+ghost use Rattle.std.specs.Prelude.{◌≡◌, ◌+◌, ◌-◌, ◌<◌, ◌≤◌, ◌^◌, ◌++◌, ℕ, List, Option, Some, IfOk, OnOk, codes, length, string_bytes};
 ghost use Rattle.lra_reports.specs.Words.{texts};
-ghost use Rattle.lra_folders.specs.Folders.{path_of, counted, AuditsNext, AuditsAll, verdicts_counted, totals_line, status_of};
+ghost use Rattle.lra_folders.specs.declared.deed.Deed.{Deed};
+ghost use Rattle.lra_folders.specs.declared.deed.Deed.TheVariants as deeds;
+ghost use Rattle.lra_folders.specs.Folders.{path_of, behind, counted_as, TellsNext, TellsEach, TellsAll, AuditsAll, verdicts_counted, totals_line, status_of};
+ghost use Rattle.lra_folders.specs.inner.Told.{IsTold, AllTold};
 
+use crate::deed::{Deed, Told};
+use crate::threads::{tell_names, width};
 use lra_auditor::Memory;
-use lra_reports::{RunFault, Sources, audit_run, error_line, put};
+use lra_reports::{RunFault, Sources, error_line, put};
 use std::alloc::Global;
-use std::io::Write;
+use std::io::{Read, Write};
+use std::marker::{Send, Sync};
+use std::thread::Threads;
 
 /// How many journals are sound, how many aren't, and how many can't be read.
 #[derive(Clone, Copy, Debug, PartialEq, Eq)]
@@ -36,41 +40,10 @@ pub(crate) fn path_in(alloc: Global, folder: &str, name: &str) -> Result<String,
     format!(in alloc; "{folder}/{name}")
 }
 
-/// What is printed of a journal, and its status: 0 where it is sound, else 1.
-#[derive(Drop)]
-pub(crate) struct Line {
-    pub(crate) status: u8,
-    pub(crate) text: Vec<u8>,
-}
-
-/// A name, a space, and the report on the journal of a path; or nothing where that can't be read.
-fn line_on<S: Sources>(
-    alloc: Global,
-    sources: &S,
-    path: &str,
-    name: &str,
-) -> Result<Option<Line>, RunFault>
-    ensures ok { (bytes : List ℕ) → S.named sources.now path.now ≡ Some bytes
-        → IfOk result (λ found. IfSome found (λ line. ReportsAudit bytes line.status (Some (name.now ++ codes " ")) (Some line.text.items))) }
-{
-    let mut text = Vec::new(alloc);
-    text.extend_from_slice(name.as_bytes())?;
-    text.extend_from_slice(b" ")?;
-    let Ok(file) = sources.open(path) else {
-        return Ok(None);
-    };
-    match audit_run(alloc, file, &mut text) {
-        Ok(status) => Ok(Some(Line { status, text })),
-        // The report is written into memory.
-        Err(RunFault::Memory | RunFault::Write) => Err(RunFault::Memory),
-        Err(_) => Ok(None),
-    }
-}
-
 /// Counts a journal that was read, by its status.
-pub(crate) fn count(tally: &mut Tally, status: u8)
+fn count(tally: &mut Tally, status: u8)
     requires { tally.old.sound + tally.old.unsound + tally.old.unread < 2 ^ 64 - 1 }
-    ensures counted { (verdict : Verdict) → status ≡ report_status verdict → tally.new ≡ counted verdict tally.old }
+    ensures counted { tally.new ≡ counted_as status tally.old }
     ensures more { tally.new.sound + tally.new.unsound + tally.new.unread ≡ tally.old.sound + tally.old.unsound + tally.old.unread + 1 }
 {
     if status == 0 {
@@ -80,29 +53,56 @@ pub(crate) fn count(tally: &mut Tally, status: u8)
     }
 }
 
-/// Audits one more journal, and writes its line, or adds to what is told where it can't be read.
-fn audit_next<S: Sources, W: Write>(
+/// Writes what was told of one more journal, or adds to what is told on standard error where it can't be read.
+fn write_next<W: Write>(
     alloc: Global,
-    sources: &S,
     path: &str,
-    name: &str,
+    journal: &Told,
     writer: &mut W,
     told: &mut String,
     tally: &mut Tally,
 ) -> Result<(), RunFault>
     requires { tally.old.sound + tally.old.unsound + tally.old.unread < 2 ^ 64 - 1 }
-    ensures next { (bytes : List ℕ) → S.named sources.now path.now ≡ Some bytes → OnOk result ((verdict : Option Verdict) × AuditsNext bytes path.now name.now verdict
+    ensures next { (deed : Deed) (bytes name : List ℕ) → IsTold deed bytes (name ++ behind deed) journal.now → OnOk result ((line : Option (ℕ × List ℕ)) × TellsNext deed bytes path.now name line
         (record { written = W.contents writer.old; told = string_bytes told.old; tally = tally.old })
         (record { written = W.contents writer.new; told = string_bytes told.new; tally = tally.new })) }
     ensures more { OnOk result (tally.new.sound + tally.new.unsound + tally.new.unread ≡ tally.old.sound + tally.old.unsound + tally.old.unread + 1) }
 {
-    let Some(line) = line_on(alloc, sources, path, name)? else {
-        told.push_str(&error_line(alloc, RunFault::Read, path)?)?;
-        tally.unread += 1;
-        return Ok(());
-    };
-    put(writer, &line.text)?;
-    count(tally, line.status);
+    match journal {
+        Ok(Some(line)) => {
+            put(writer, &line.text)?;
+            count(tally, line.status);
+        }
+        Ok(None) => {
+            told.push_str(&error_line(alloc, RunFault::Read, path)?)?;
+            tally.unread += 1;
+        }
+        Err(fault) => return Err(*fault),
+    }
+    Ok(())
+}
+
+/// Writes what was told of the journals of these names, one after another.
+fn write_each<W: Write>(
+    alloc: Global,
+    folder: &str,
+    names: &[String],
+    journals: &[Told],
+    writer: &mut W,
+    told: &mut String,
+    tally: &mut Tally,
+) -> Result<(), RunFault>
+    requires all { length journals.now ≡ length names.now }
+    requires room { tally.old.sound + tally.old.unsound + tally.old.unread + length names.now < 2 ^ 64 }
+    ensures each { (deed : Deed) (bytes : List ℕ → List ℕ) → AllTold deed bytes folder.now names.now (length names.now) journals.now → OnOk result (TellsEach deed bytes folder.now (texts names.now)
+        (record { written = W.contents writer.old; told = string_bytes told.old; tally = tally.old })
+        (record { written = W.contents writer.new; told = string_bytes told.new; tally = tally.new })) }
+    ensures more { OnOk result (tally.new.sound + tally.new.unsound + tally.new.unread ≡ tally.old.sound + tally.old.unsound + tally.old.unread + length names.now) }
+{
+    for (place, name) in names.iter().enumerate() {
+        let path = path_in(alloc, folder, name.as_str())?;
+        write_next(alloc, path.as_str(), &journals[place], writer, told, tally)?;
+    }
     Ok(())
 }
 
@@ -116,7 +116,7 @@ fn verdicts_text(alloc: Global, tally: Tally) -> Result<String, Memory>
 }
 
 /// The last line.
-pub(crate) fn line_of_totals(alloc: Global, tally: Tally) -> Result<String, Memory>
+fn line_of_totals(alloc: Global, tally: Tally) -> Result<String, Memory>
     ensures { IfOk result (λ text. string_bytes text ≡ totals_line tally) }
 {
     let unread = tally.unread;
@@ -127,7 +127,7 @@ pub(crate) fn line_of_totals(alloc: Global, tally: Tally) -> Result<String, Memo
 }
 
 /// The program's status by the counts.
-pub(crate) fn status_by(tally: Tally) -> u8
+fn status_by(tally: Tally) -> u8
     ensures { result ≡ status_of tally }
 {
     if tally.unread > 0 {
@@ -139,9 +139,67 @@ pub(crate) fn status_by(tally: Tally) -> u8
     0
 }
 
-/// Audits the journals of these names in a folder, one after another: writes each with its report behind its name, and at the end how many
-/// there are. One that can't be read, or has more than 2^30 bytes, is told, and the others go on.
-pub fn audit_journals<S: Sources, W: Write>(
+/// Does this with the journals of these names in a folder, and counts them: as many side by side as threads run and files can be open, and then as many again.
+fn tell_each<R: Threads + Sync, F: Read + Send + Drop, S: Sources<File = F>, W: Write>(
+    rt: &R,
+    alloc: Global,
+    deed: Deed,
+    sources: &S,
+    folder: &str,
+    names: &[String],
+    writer: &mut W,
+    told: &mut String,
+) -> Result<Tally, RunFault>
+    ensures { (bytes : List ℕ → List ℕ) → ((path : List ℕ) → S.named sources.now path ≡ Some (bytes path))
+        → IfOk result (λ tally. TellsEach deed bytes folder.now (texts names.now)
+        (record { written = W.contents writer.old; told = string_bytes told.old; tally = record { sound = 0; unsound = 0; unread = 0 } })
+        (record { written = W.contents writer.new; told = string_bytes told.new; tally = tally })) }
+{
+    let width = width(rt);
+    let mut tally = Tally {
+        sound: 0,
+        unsound: 0,
+        unread: 0,
+    };
+    let mut rest = names;
+    while !rest.is_empty() {
+        let (next, _) = rest.split_at(width.min(rest.len()));
+        let journals = tell_names(rt, alloc, deed, sources, folder, next)?;
+        let (done, others) = rest.split_at(journals.len());
+        write_each(alloc, folder, done, &journals, writer, told, &mut tally)?;
+        rest = others;
+    }
+    Ok(tally)
+}
+
+/// Does this with the journals of these names in a folder: writes what is told of each, and at the end how many there are. One that can't be
+/// read, or has more than 2^30 bytes, is told, and the others go on.
+fn tell_journals<R: Threads + Sync, F: Read + Send + Drop, S: Sources<File = F>, W: Write>(
+    rt: &R,
+    alloc: Global,
+    deed: Deed,
+    sources: &S,
+    folder: &str,
+    names: &[String],
+    writer: &mut W,
+) -> Result<FolderAudit, RunFault>
+    ensures { (bytes : List ℕ → List ℕ) → ((path : List ℕ) → S.named sources.now path ≡ Some (bytes path))
+        → IfOk result (λ audit. TellsAll deed bytes folder.now (texts names.now) (W.contents writer.old) (W.contents writer.new) (string_bytes audit.told) audit.status) }
+{
+    let mut told = String::new(alloc);
+    let tally = tell_each(rt, alloc, deed, sources, folder, names, writer, &mut told)?;
+    let line = line_of_totals(alloc, tally)?;
+    put(writer, line.as_bytes())?;
+    Ok(FolderAudit {
+        status: status_by(tally),
+        told,
+    })
+}
+
+/// Audits the journals of these names in a folder, as many side by side as threads run: writes each with its report behind its name, in the order of
+/// the names, and at the end how many there are. One that can't be read, or has more than 2^30 bytes, is told, and the others go on.
+pub fn audit_journals<R: Threads + Sync, F: Read + Send + Drop, S: Sources<File = F>, W: Write>(
+    rt: &R,
     alloc: Global,
     sources: &S,
     folder: &str,
@@ -152,28 +210,22 @@ pub fn audit_journals<S: Sources, W: Write>(
     ensures ok { (bytes : List ℕ → List ℕ) → ((path : List ℕ) → S.named sources.now path ≡ Some (bytes path))
         → IfOk result (λ audit. AuditsAll bytes folder.now (texts names.now) (W.contents writer.old) (W.contents writer.new) (string_bytes audit.told) audit.status) }
 {
-    let mut told = String::new(alloc);
-    let mut tally = Tally {
-        sound: 0,
-        unsound: 0,
-        unread: 0,
-    };
-    for name in names {
-        let path = path_in(alloc, folder, name.as_str())?;
-        audit_next(
-            alloc,
-            sources,
-            path.as_str(),
-            name.as_str(),
-            writer,
-            &mut told,
-            &mut tally,
-        )?;
-    }
-    let line = line_of_totals(alloc, tally)?;
-    put(writer, line.as_bytes())?;
-    Ok(FolderAudit {
-        status: status_by(tally),
-        told,
-    })
+    tell_journals(rt, alloc, Deed::Audit, sources, folder, names, writer)
+}
+
+/// Lists the journals of these names in a folder, side by side too: writes each one's listing below its name, or the line of its first fault, and
+/// at the end how many there are. One that can't be read, or has more than 2^30 bytes, is told, and the others go on.
+pub fn list_journals<R: Threads + Sync, F: Read + Send + Drop, S: Sources<File = F>, W: Write>(
+    rt: &R,
+    alloc: Global,
+    sources: &S,
+    folder: &str,
+    names: &[String],
+    writer: &mut W,
+) -> Result<FolderAudit, RunFault>
+    // Of a source that is known to have these bytes at each path.
+    ensures ok { (bytes : List ℕ → List ℕ) → ((path : List ℕ) → S.named sources.now path ≡ Some (bytes path))
+        → IfOk result (λ audit. TellsAll deeds.Show bytes folder.now (texts names.now) (W.contents writer.old) (W.contents writer.new) (string_bytes audit.told) audit.status) }
+{
+    tell_journals(rt, alloc, Deed::Show, sources, folder, names, writer)
 }

@@ -1,12 +1,13 @@
 //! Audits and listings of all journals of a folder.
 #![tactic(auto)]
 
+mod deed;
 mod finding;
 mod journals;
-mod listings;
 mod program;
+mod threads;
 
-pub use finding::{ENDED, Found, NEWEST, find, is_folder, names_in, stray_line};
-pub use journals::{FolderAudit, audit_journals};
-pub use listings::list_journals;
+pub use finding::{BASE, ENDED, Found, NEWEST, find, is_folder, names_in, stray_line};
+pub use journals::{FolderAudit, audit_journals, list_journals};
 pub use program::{answer_question, tell_others};
+pub use threads::{open_each, width};

@@ -1,18 +1,14 @@
 //! What a program does on a system, where a folder may stand in a file's place.
 
+use crate::deed::Deed;
 use crate::finding::{Found, find, is_folder, stray_line};
-use crate::journals::{FolderAudit, audit_journals};
-use crate::listings::list_journals;
+use crate::journals::{FolderAudit, audit_journals, list_journals};
 use lra_reports::{Invocation, Question, RunFault, System, settle, tell};
+use std::fs::File;
 use std::io;
+use std::marker::Sync;
 use std::rt::Files;
-
-/// What is done with the journals of a folder.
-#[derive(Clone, Copy)]
-enum Deed {
-    Audit,
-    List,
-}
+use std::thread::Threads;
 
 /// Tells on standard error what was left alone in a folder.
 pub fn tell_others<R: AllocGlobal + Eprint>(rt: &R, folder: &str, others: &[String]) {
@@ -22,7 +18,7 @@ pub fn tell_others<R: AllocGlobal + Eprint>(rt: &R, folder: &str, others: &[Stri
 }
 
 /// Does this with the journals of these names, each read from the system.
-fn run_on<R: AllocGlobal + Files + Input + Print>(
+fn run_on<R: AllocGlobal + Files<File = File> + Threads + Input + Print + Sync>(
     rt: &R,
     deed: Deed,
     folder: &str,
@@ -32,13 +28,13 @@ fn run_on<R: AllocGlobal + Files + Input + Print>(
     let sources = System { rt };
     let writer = &mut io::writer(rt);
     match deed {
-        Deed::Audit => audit_journals(alloc, &sources, folder, names, writer),
-        Deed::List => list_journals(alloc, &sources, folder, names, writer),
+        Deed::Audit => audit_journals(rt, alloc, &sources, folder, names, writer),
+        Deed::Show => list_journals(rt, alloc, &sources, folder, names, writer),
     }
 }
 
 /// Does this with the journals that a folder has, and gives the program's status.
-fn run_found<R: AllocGlobal + Files + Input + Print + Eprint>(
+fn run_found<R: AllocGlobal + Files<File = File> + Threads + Input + Print + Eprint + Sync>(
     rt: &R,
     deed: Deed,
     folder: &str,
@@ -52,11 +48,9 @@ fn run_found<R: AllocGlobal + Files + Input + Print + Eprint>(
 }
 
 /// Does this with a folder, and gives the program's status.
-fn answer_folder<R: AllocGlobal + Files + Input + Print + Eprint + Clone + Drop>(
-    rt: &R,
-    deed: Deed,
-    folder: &str,
-) -> u8 {
+fn answer_folder<
+    R: AllocGlobal + Files<File = File> + Threads + Input + Print + Eprint + Sync + Clone + Drop,
+>(rt: &R, deed: Deed, folder: &str) -> u8 {
     let outcome = match find(rt, folder) {
         Ok(found) => run_found(rt, deed, folder, &found),
         Err(fault) => Err(fault),
@@ -65,16 +59,15 @@ fn answer_folder<R: AllocGlobal + Files + Input + Print + Eprint + Clone + Drop>
 }
 
 /// Answers a question on standard output, and gives the program's status. An audit or a listing may be of a folder.
-pub fn answer_question<R: AllocGlobal + Files + Input + Print + Eprint + Clone + Drop>(
-    rt: &R,
-    question: Question<'_>,
-) -> u8 {
+pub fn answer_question<
+    R: AllocGlobal + Files<File = File> + Threads + Input + Print + Eprint + Sync + Clone + Drop,
+>(rt: &R, question: Question<'_>) -> u8 {
     match question {
         Question::Run(Invocation::Audit { file }) if is_folder(rt, file) => {
             answer_folder(rt, Deed::Audit, file)
         }
         Question::Run(Invocation::Show { file }) if is_folder(rt, file) => {
-            answer_folder(rt, Deed::List, file)
+            answer_folder(rt, Deed::Show, file)
         }
         _ => lra_reports::answer_question(rt, question),
     }

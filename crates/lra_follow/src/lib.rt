@@ -1,13 +1,16 @@
-//! An audit of a journal that goes on as the journal grows.
+//! An audit of a journal, or of a folder's journals, that goes on as they grow.
 #![tactic(auto)]
 
 mod counts;
+mod followed;
+mod journals;
 mod program;
 mod tail;
 mod texts;
 mod watch;
 
 pub use counts::Counts;
-pub use program::{Stop, follow, watch_input};
+pub use journals::Journals;
+pub use program::{Stop, follow, pause, watch_input};
 pub use tail::Tail;
 pub use texts::{Lost, lost_line, sound_line};

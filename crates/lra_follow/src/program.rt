@@ -1,10 +1,7 @@
 //! A journal followed on a system.
 
-use crate::texts::{lost_line, sound_line};
-use crate::watch::{Seen, Watch};
-use lra_model::Memory;
-use lra_reports::{RunFault, put, report_fault, settle, tell};
-use std::alloc::Global;
+use crate::followed::Followed;
+use lra_reports::{RunFault, settle};
 use std::fs::File;
 use std::io;
 use std::io::{ErrorKind, Read, Write};
@@ -17,9 +14,6 @@ use std::time::{Clock, Duration};
 
 /// How long it waits from one look to the next, in milliseconds.
 const PAUSE: u64 = 250;
-
-/// How many looks there are from one line to the next at least.
-const LOOKS: u64 = 4;
 
 /// How many bytes of what nobody needs are read at once.
 const IGNORED: usize = 256;
@@ -43,9 +37,15 @@ impl Stop {
         self.is_asked.store(true, Ordering::SeqCst);
     }
 
-    fn is_asked(&self) -> bool {
+    /// Whether it is to end.
+    pub fn is_asked(&self) -> bool {
         self.is_asked.load(Ordering::SeqCst)
     }
+}
+
+/// Waits from one look to the next.
+pub fn pause<R: Clock>(rt: &R) {
+    sleep(rt, Duration::from_millis(PAUSE));
 }
 
 /// Reads until nothing more comes.
@@ -85,69 +85,6 @@ pub fn watch_input<R: Threads, I: Read + Send + Drop + 'static>(
     }
 }
 
-/// What was told, and how long ago.
-#[derive(Drop)]
-struct Told {
-    /// How many entries were told of, if any line was.
-    entries: Option<u64>,
-    /// How many looks there were since.
-    looks: u64,
-}
-
-/// Writes a line at once.
-fn say<W: Write>(writer: &mut W, line: Result<String, Memory>) -> Result<(), RunFault> {
-    let line = line?;
-    put(writer, line.as_bytes())?;
-    writer.flush().map_err(|_| RunFault::Write)
-}
-
-/// Tells that the journal has been sound so far, where entries came that weren't told of, and the last line is old enough or this is the last.
-fn tell_sound<W: Write>(
-    alloc: Global,
-    watch: &Watch<'_>,
-    told: &mut Told,
-    is_last: bool,
-    writer: &mut W,
-) -> Result<(), RunFault> {
-    told.looks = told.looks.saturating_add(1);
-    let Some(tail) = watch.tail() else {
-        return Err(RunFault::Memory);
-    };
-    if tail.fed() == 0 {
-        return Ok(());
-    }
-    let entries = tail.counts().entries();
-    let is_new = match told.entries {
-        Some(told) => told != entries,
-        None => true,
-    };
-    if is_new && (is_last || told.looks >= LOOKS) {
-        say(writer, sound_line(alloc, tail.counts()))?;
-        told.entries = Some(entries);
-        told.looks = 0;
-    }
-    Ok(())
-}
-
-/// One look at the journal: the program's status, where it ends by that.
-fn look<R: AllocGlobal + Files<File = File> + Eprint, W: Write>(
-    rt: &R,
-    file: &str,
-    watch: &mut Watch<'_>,
-    told: &mut Told,
-    is_last: bool,
-    writer: &mut W,
-) -> Result<Option<u8>, RunFault> {
-    match watch.look(rt)? {
-        Seen::Read => {
-            tell_sound(rt.alloc(), watch, told, is_last, writer)?;
-            Ok(if is_last { Some(0) } else { None })
-        }
-        Seen::Unsound(fault) => Ok(Some(report_fault(rt.alloc(), fault.line, fault.rule, writer)?)),
-        Seen::Lost(lost) => Ok(Some(tell(rt, lost_line(rt.alloc(), file, lost)))),
-    }
-}
-
 /// Follows a journal until a line of it is at fault, its file is lost, or the end is asked for.
 fn follow_to<R: AllocGlobal + Files<File = File> + Clock + Wait + Eprint, W: Write>(
     rt: &R,
@@ -155,17 +92,18 @@ fn follow_to<R: AllocGlobal + Files<File = File> + Clock + Wait + Eprint, W: Wri
     stop: &Arc<Stop>,
     writer: &mut W,
 ) -> Result<u8, RunFault> {
-    let mut watch = Watch::new(rt, rt.alloc(), file)?;
-    let mut told = Told {
-        entries: None,
-        looks: LOOKS,
-    };
+    let alloc = rt.alloc();
+    let mut journal = Followed::new(rt, alloc, file, String::new(alloc))?;
     for _ in rt.forever() {
         let is_last = stop.is_asked();
-        if let Some(status) = look(rt, file, &mut watch, &mut told, is_last, writer)? {
+        let seen = journal.look(rt)?;
+        if let Some(status) = journal.tell(rt, seen, is_last, writer)? {
             return Ok(status);
         }
-        sleep(rt, Duration::from_millis(PAUSE));
+        if is_last {
+            return Ok(0);
+        }
+        pause(rt);
     }
     Ok(0)
 }

@@ -1,31 +1,19 @@
-use Rattle.std.proofs.Common.{List, String, Global, string_bytes, refl, ap, subst, ◌∙◌, arith}
-use Rattle.std.specs.Io.KnownBytes.{Appends}
-use Rattle.std.proofs.lemmas.List.{take_all}
+use Rattle.std.proofs.Common.{string_bytes}
+use Rattle.std.proofs.lemmas.Result.{IfOk-weaker}
 use Rattle.lra_reports.specs.Words.{texts}
-use Rattle.lra_folders.specs.Folders.{path_of, Progress, at_first, AuditsEach}
-use Rattle.lra_folders.proofs.Each.{each_more}
+use Rattle.lra_folders.specs.declared.deed.Deed.TheVariants.{Audit}
+use Rattle.lra_folders.specs.declared.journals.FolderAudit.{FolderAudit}
+use Rattle.lra_folders.specs.Folders.{AuditsAll, TellsAll}
+use Rattle.lra_folders.proofs.Each.{all_audited}
 use Rattle.lra_folders.proofs.journals.audit_journals.Goals as goal
 
-pub loop-name-preserved : goal.loop-name-preserved
-loop-name-preserved g c = (
-  λ bytes known.
-      each_more bytes c.args.folder.now c.args.names.now c.loop-name.name-index c.name-item.result c.as_str-in-loop-name.result.now c.as_str-in-loop-name-2.result.now _ _ _
-      (omega (arith, c.loop-name-test.true, c.loop-name.auto.name-index-end)) c.name-item.is
-      (c.as_str-in-loop-name.ensures.value ∙ c.in_ok-path.ensures ∙ ap (path_of c.args.folder.now) c.as_str.ensures.value) c.as_str-in-loop-name-2.ensures.value
-      (c.loop-name.invariant.0 bytes known) (c.in_ok-audit_next.ensures.next (bytes c.as_str-in-loop-name.result.now) (known c.as_str-in-loop-name.result.now)),
-  (let more = c.in_ok-audit_next.ensures.more in let before = c.loop-name.invariant.1 in omega (arith, more, before)),
-)
-
 pub returns : goal.returns
-returns g c =
-    let last : Progress = record { written = g.W.Write.contents c.loop-name.writer; told = string_bytes c.loop-name.told; tally = c.loop-name.tally } in
-    record {
-      ok = λ bytes known. record {
-        last = last;
-        each = subst (λ (words : List (String Global)). AuditsEach bytes c.args.folder.now (texts words) (at_first (g.W.Write.contents c.args.writer.now)) last)
-            (take_all c.loop-name.name-index c.args.names.now (omega (arith, c.loop-name-test.false, c.loop-name.auto.name-index-end))) (c.loop-name.invariant.0 bytes known);
-        counts = subst (Appends (g.W.Write.contents c.loop-name.writer) (g.W.Write.contents c.put.new.writer)) (c.as_bytes.ensures.value ∙ c.in_ok-line.ensures) c.in_ok-put.ensures.written;
-        tells = refl;
-        answered = c.status_by.ensures;
-      };
-    }
+returns g c = record {
+  ok = λ bytes known.
+      let before = g.W.Write.contents c.args.writer.now in
+      let after = g.W.Write.contents c.tell_journals.new.writer in
+      IfOk-weaker c.tell_journals.result
+      (λ (audit : FolderAudit). TellsAll Audit bytes c.args.folder.now (texts c.args.names.now) before after (string_bytes audit.told) audit.status)
+      (λ (audit : FolderAudit). AuditsAll bytes c.args.folder.now (texts c.args.names.now) before after (string_bytes audit.told) audit.status)
+      (λ audit. all_audited bytes c.args.folder.now (texts c.args.names.now) before after (string_bytes audit.told) audit.status) (c.tell_journals.ensures bytes known);
+}

@@ -1,0 +1,133 @@
+//! One journal that is followed, and what was told of it.
+
+use crate::texts::{Lost, lost_line, sound_line};
+use crate::watch::{Extent, Seen, Watch};
+use lra_auditor::FaultyLine;
+use lra_reports::{RunFault, put, report_fault, tell};
+use std::alloc::Global;
+use std::fs::File;
+use std::io::Write;
+use std::rt::Files;
+
+/// How many looks there are from one line to the next at least.
+const LOOKS: u64 = 4;
+
+/// A journal that is followed.
+#[derive(Drop)]
+pub(crate) struct Followed {
+    alloc: Global,
+    /// What stands before each line that is told of it.
+    front: String,
+    watch: Watch,
+    /// How many entries were told of, if any line was.
+    told: Option<u64>,
+    /// How many looks there were since.
+    looks: u64,
+}
+
+impl Followed {
+    /// The journal in the file of a path, of which nothing was read yet.
+    pub(crate) fn new<R: Files<File = File>>(
+        rt: &R,
+        alloc: Global,
+        path: &str,
+        front: String,
+    ) -> Result<Followed, RunFault> {
+        let watch = Watch::new(rt, alloc, path)?;
+        Ok(Followed {
+            alloc,
+            front,
+            watch,
+            told: None,
+            looks: LOOKS,
+        })
+    }
+
+    /// Reads all that its file has now.
+    pub(crate) fn look<R: Files<File = File>>(&mut self, rt: &R) -> Result<Seen, RunFault> {
+        self.watch.look(rt)
+    }
+
+    /// What of its file was read.
+    pub(crate) fn extent(&self) -> Extent {
+        self.watch.extent()
+    }
+
+    /// Goes on at another path, with another text before each line, where its file is there now. The answer is whether it is.
+    pub(crate) fn moves_to<R: Files<File = File>>(
+        &mut self,
+        rt: &R,
+        path: String,
+        front: String,
+    ) -> bool {
+        let is_there = self.watch.moves_to(rt, path);
+        if is_there {
+            self.front = front;
+        }
+        is_there
+    }
+
+    /// How many entries came, where any whole line did.
+    fn entries(&self) -> Option<u64> {
+        match self.watch.tail() {
+            Some(tail) if tail.fed() > 0 => Some(tail.counts().entries()),
+            _ => None,
+        }
+    }
+
+    /// Whether all that came was told.
+    pub(crate) fn is_told(&self) -> bool {
+        self.entries() == self.told
+    }
+
+    /// Writes that the journal has been sound so far.
+    fn say_sound<W: Write>(&self, writer: &mut W) -> Result<(), RunFault> {
+        let Some(tail) = self.watch.tail() else {
+            return Err(RunFault::Memory);
+        };
+        let line = sound_line(self.alloc, tail.counts())?;
+        put(writer, self.front.as_bytes())?;
+        put(writer, line.as_bytes())?;
+        writer.flush().map_err(|_| RunFault::Write)
+    }
+
+    /// Tells that the journal has been sound so far, where entries came that weren't told of, and the last line is old enough or this is the last.
+    fn tell_sound<W: Write>(&mut self, is_last: bool, writer: &mut W) -> Result<(), RunFault> {
+        self.looks = self.looks.saturating_add(1);
+        if !self.is_told() && (is_last || self.looks >= LOOKS) {
+            self.say_sound(writer)?;
+            self.told = self.entries();
+            self.looks = 0;
+        }
+        Ok(())
+    }
+
+    /// Writes which line is at fault. The answer is the program's status.
+    fn tell_fault<W: Write>(&self, fault: FaultyLine, writer: &mut W) -> Result<u8, RunFault> {
+        put(writer, self.front.as_bytes())?;
+        report_fault(self.alloc, fault.line, fault.rule, writer)
+    }
+
+    /// Tells on standard error why it can't be followed any more. The answer is the program's status.
+    fn tell_lost<R: Eprint>(&self, rt: &R, lost: Lost) -> u8 {
+        tell(rt, lost_line(self.alloc, self.watch.path(), lost))
+    }
+
+    /// Tells what was seen at a look: the program's status, where it ends by that.
+    pub(crate) fn tell<R: Eprint, W: Write>(
+        &mut self,
+        rt: &R,
+        seen: Seen,
+        is_last: bool,
+        writer: &mut W,
+    ) -> Result<Option<u8>, RunFault> {
+        match seen {
+            Seen::Read => {
+                self.tell_sound(is_last, writer)?;
+                Ok(None)
+            }
+            Seen::Unsound(fault) => Ok(Some(self.tell_fault(fault, writer)?)),
+            Seen::Lost(lost) => Ok(Some(self.tell_lost(rt, lost))),
+        }
+    }
+}

@@ -1,0 +1,232 @@
+//! The journals of a folder, followed side by side.
+
+use crate::followed::Followed;
+use crate::texts::Lost;
+use crate::watch::{Extent, Seen, extent_of};
+use lra_model::Memory;
+use lra_reports::{RunFault, settle};
+use std::alloc::Global;
+use std::fs::File;
+use std::io::Write;
+use std::rt::Files;
+
+/// What stands before the name of a journal that was put away.
+const ENDED: &str = "ended/";
+
+/// A journal of a folder.
+#[derive(Drop)]
+struct Journal {
+    /// Its name in the folder.
+    name: String,
+    /// None before the first look, and once it was put away and all of it was told: nobody writes to it any more.
+    followed: Option<Followed>,
+    /// What of its file was read by then.
+    extent: Option<Extent>,
+    /// Whether it isn't there any more, and nothing of it is to be told.
+    is_gone: bool,
+}
+
+/// The path of a name in a folder.
+fn path_of(alloc: Global, folder: &str, name: &str) -> Result<String, Memory> {
+    format!(in alloc; "{folder}/{name}")
+}
+
+/// What stands before each line that is told of a name.
+fn front_of(alloc: Global, name: &str) -> Result<String, Memory> {
+    format!(in alloc; "{name} ")
+}
+
+/// The journal of a name, of which nothing was read yet. None where its file isn't there any more.
+fn begin<R: AllocGlobal + Files<File = File>>(
+    rt: &R,
+    path: &str,
+    name: &str,
+) -> Result<Option<Followed>, RunFault> {
+    let front = front_of(rt.alloc(), name)?;
+    match Followed::new(rt, rt.alloc(), path, front) {
+        Ok(followed) => Ok(Some(followed)),
+        Err(RunFault::Read) if extent_of(rt, path).is_none() => Ok(None),
+        Err(fault) => Err(fault),
+    }
+}
+
+impl Journal {
+    /// A journal that wasn't looked at yet.
+    fn new(alloc: Global, name: &str) -> Result<Journal, Memory> {
+        Ok(Journal {
+            name: String::from_str(alloc, name)?,
+            followed: None,
+            extent: None,
+            is_gone: false,
+        })
+    }
+
+    /// Whether it was put away.
+    fn is_ended(&self) -> bool {
+        self.name.starts_with(ENDED)
+    }
+
+    /// Follows it from its beginning, if it isn't followed and its file isn't what was read of it.
+    fn wake<R: AllocGlobal + Files<File = File>>(
+        &mut self,
+        rt: &R,
+        path: &str,
+    ) -> Result<(), RunFault> {
+        if self.followed.is_some() {
+            return Ok(());
+        }
+        let extent = extent_of(rt, path);
+        self.is_gone = extent.is_none();
+        if extent.is_some() && extent != self.extent {
+            self.followed = begin(rt, path, self.name.as_str())?;
+        }
+        Ok(())
+    }
+
+    /// What is seen of it where its name doesn't stand for its file any more: it may have been put away, or let go of.
+    fn see_moved<R: AllocGlobal + Files<File = File>>(
+        &mut self,
+        rt: &R,
+        folder: &str,
+        path: &str,
+        followed: &mut Followed,
+    ) -> Result<Seen, RunFault> {
+        let alloc = rt.alloc();
+        if self.is_ended() {
+            self.is_gone = extent_of(rt, path).is_none();
+            return Ok(if self.is_gone {
+                Seen::Read
+            } else {
+                Seen::Lost(Lost::Replaced)
+            });
+        }
+        let name = path_of(alloc, "ended", self.name.as_str())?;
+        let path = path_of(alloc, folder, name.as_str())?;
+        let front = front_of(alloc, name.as_str())?;
+        if !followed.moves_to(rt, path, front) {
+            return Ok(Seen::Lost(Lost::Replaced));
+        }
+        self.name = name;
+        followed.look(rt)
+    }
+
+    /// Looks at it, and tells what is seen: the program's status, where it ends by that.
+    fn look_on<R: AllocGlobal + Files<File = File> + Eprint, W: Write>(
+        &mut self,
+        rt: &R,
+        folder: &str,
+        path: &str,
+        is_last: bool,
+        writer: &mut W,
+    ) -> Result<Option<u8>, RunFault> {
+        self.wake(rt, path)?;
+        let Some(mut followed) = self.followed.take() else {
+            return Ok(None);
+        };
+        let seen = match followed.look(rt)? {
+            Seen::Lost(Lost::Replaced) => self.see_moved(rt, folder, path, &mut followed)?,
+            seen => seen,
+        };
+        let status = followed.tell(rt, seen, is_last, writer)?;
+        if self.is_ended() && followed.is_told() {
+            self.extent = Some(followed.extent());
+            drop(followed);
+        } else {
+            self.followed = Some(followed);
+        }
+        Ok(status)
+    }
+
+    /// The same. A fault is told of its path.
+    fn look<R: AllocGlobal + Files<File = File> + Eprint, W: Write>(
+        &mut self,
+        rt: &R,
+        folder: &str,
+        is_last: bool,
+        writer: &mut W,
+    ) -> Result<Option<u8>, RunFault> {
+        let path = path_of(rt.alloc(), folder, self.name.as_str())?;
+        match self.look_on(rt, folder, path.as_str(), is_last, writer) {
+            Ok(status) => Ok(status),
+            Err(fault) => Ok(Some(settle(rt, Err(fault), path.as_str()))),
+        }
+    }
+}
+
+/// The journals of a folder that are followed, in the order of their names.
+#[derive(Drop)]
+pub struct Journals<'a> {
+    alloc: Global,
+    folder: &'a str,
+    all: Vec<Journal>,
+}
+
+impl<'a> Journals<'a> {
+    /// No journal yet.
+    pub fn new(alloc: Global, folder: &'a str) -> Journals<'a> {
+        Journals {
+            alloc,
+            folder,
+            all: Vec::new(alloc),
+        }
+    }
+
+    /// Looks at those that were there at the look before, and lets go of those that were put away and aren't there any more.
+    fn look_at_known<R: AllocGlobal + Files<File = File> + Eprint, W: Write>(
+        &mut self,
+        rt: &R,
+        is_last: bool,
+        writer: &mut W,
+    ) -> Result<Option<u8>, RunFault> {
+        for journal in self.all.iter_mut() {
+            if let Some(status) = journal.look(rt, self.folder, is_last, writer)? {
+                return Ok(Some(status));
+            }
+        }
+        self.all.retain(|journal| !journal.is_gone);
+        self.all
+            .sort_by(|one, other| one.name.as_str().cmp(other.name.as_str()))?;
+        Ok(None)
+    }
+
+    /// Begins with the journal of a name, if there is none yet, and looks at it.
+    fn add<R: AllocGlobal + Files<File = File> + Eprint, W: Write>(
+        &mut self,
+        rt: &R,
+        name: &str,
+        is_last: bool,
+        writer: &mut W,
+    ) -> Result<Option<u8>, RunFault> {
+        let found = self
+            .all
+            .binary_search_by(|journal| journal.name.as_str().cmp(name));
+        let Err(place) = found else {
+            return Ok(None);
+        };
+        let mut journal = Journal::new(self.alloc, name)?;
+        let status = journal.look(rt, self.folder, is_last, writer)?;
+        match self.all.insert(place, journal) {
+            Ok(()) => Ok(status),
+            Err(_) => Err(RunFault::Memory),
+        }
+    }
+
+    /// One look at each of them, and at those of these names that are new: the program's status, where it ends by that.
+    pub fn look<R: AllocGlobal + Files<File = File> + Eprint, W: Write>(
+        &mut self,
+        rt: &R,
+        names: &[String],
+        is_last: bool,
+        writer: &mut W,
+    ) -> Result<Option<u8>, RunFault> {
+        if let Some(status) = self.look_at_known(rt, is_last, writer)? {
+            return Ok(Some(status));
+        }
+        for name in names {
+            if let Some(status) = self.add(rt, name.as_str(), is_last, writer)? {
+                return Ok(Some(status));
+            }
+        }
+        Ok(None)
+    }
+}
