@@ -1,0 +1,110 @@
+-- What bodies and requests mean.
+use Rattle.std.proofs.Common.{◌≡◌, ℕ, Bool, true, false, true≢false, List, [], ◌∷◌, length, Option, Some, None, IfSome, MatchOption, is_some, option_map, option_and_then, if◌then◌else◌, String, Global, string_bytes, Result, Ok, Err, refl, sym, ap, arith}
+use Rattle.std.specs.Prelude.{unwrap_or}
+use Rattle.serde_json.specs.Data.{Data, null, boolean, number, string, array, object, Members, put}
+use Rattle.serde_json.specs.Find.{get, as_str, as_object}
+use Rattle.lra_wire.specs.Request.{Request}
+use Rattle.lra_front.specs.declared.route.Route.{Route}
+use Rattle.lra_front.specs.declared.denial.Denial.{Denial}
+use Rattle.lra_front.specs.Routes.{route_of}
+use Rattle.lra_front.specs.Bodies.{object_in, text_under}
+use Rattle.lra_proxied.specs.Paths.{served_behind, other_target}
+use Rattle.lra_proxied.specs.Texts.{other_text}
+use Rattle.lra_proxied.specs.Bodies.{key_of, other_members, other_at, other_body}
+use Rattle.lra_proxied.specs.Requests.{Means}
+use Rattle.lra_proxied.specs.inner.Found.{IsOther}
+use Rattle.lra_proxied.specs.inner.Made.{with_others}
+
+-- ---- bodies that mean themselves
+
+pub empty_other : (base : List ℕ) (olders : List (List ℕ)) (key body : List ℕ) → length body ≡ 0 → IsOther (other_at base olders key body) None
+unfolding other_at
+empty_other base olders key [] e = refl
+empty_other base olders key (b ∷ rest) e = absurd (omega (arith, e))
+
+pub unread_other : (base : List ℕ) (olders : List (List ℕ)) (key body : List ℕ) → object_in body ≡ None → IsOther (other_at base olders key body) None
+unfolding other_at
+unread_other base olders key body e = rw e refl
+
+neither : (b : Bool) (o : Option (List ℕ)) → o ≡ None → (if b then None else o) ≡ None
+neither true o e = refl
+neither false o e = e
+
+no_text : (base text : List ℕ) → other_text base [] text ≡ None
+unfolding other_text
+no_text base text = neither (is_some (served_behind base text)) None refl
+
+no_members_of : (base key : List ℕ) (o : Option (List ℕ)) (ms : Members) → option_map (λ text. put key (string text) ms) (option_and_then (other_text base []) o) ≡ None
+no_members_of base key None ms = refl
+no_members_of base key (Some text) ms = rw (no_text base text) refl
+
+no_object : (base key : List ℕ) (o : Option Members) → option_and_then (other_members base [] key) o ≡ None
+no_object base key None = refl
+no_object base key (Some ms) = no_members_of base key (text_under key ms) ms
+
+no_key : (base body : List ℕ) (o : Option (List ℕ)) → option_and_then (λ key. other_at base [] key body) o ≡ None
+unfolding other_at
+no_key base body None = refl
+no_key base body (Some key) = no_object base key (object_in body)
+
+no_body : (base : List ℕ) (asked : Result Route Denial) (body : List ℕ) → other_body base [] asked body ≡ None
+no_body base (Ok r) body = no_key base body (key_of r)
+no_body base (Err d) body = refl
+
+-- where there is no older base
+pub none_older : (base : List ℕ) (olders : List (List ℕ)) (asked : Result Route Denial) (body : List ℕ) → length olders ≡ 0 → IsOther (other_body base olders asked body) None
+none_older base [] asked body e = rw (no_body base asked body) refl
+none_older base (o ∷ olders) asked body e = absurd (omega (arith, e))
+
+-- ---- bodies whose value is known
+
+found_none : (base : List ℕ) (olders : List (List ℕ)) (key : List ℕ) (d : Data) → None ≡ option_and_then (other_text base olders) (option_and_then as_str (get key d))
+    → option_and_then (other_members base olders key) (as_object d) ≡ None
+found_none base olders key null e = refl
+found_none base olders key (boolean b) e = refl
+found_none base olders key (number n) e = refl
+found_none base olders key (string s) e = refl
+found_none base olders key (array ds) e = refl
+found_none base olders key (object ms) e = ap (option_map (λ text. put key (string text) ms)) (sym e)
+
+pub other_none : (base : List ℕ) (olders : List (List ℕ)) (key body : List ℕ) (d : Data) → object_in body ≡ as_object d
+    → None ≡ option_and_then (other_text base olders) (option_and_then as_str (get key d)) → IsOther (other_at base olders key body) None
+unfolding other_at
+other_none base olders key body d is e = rw (is, found_none base olders key d e) refl
+
+found_some : (base : List ℕ) (olders : List (List ℕ)) (key : List ℕ) (d : Data) (text : List ℕ) (other : String Global)
+    → Some text ≡ option_and_then (other_text base olders) (option_and_then as_str (get key d))
+    → IfSome (as_object d) (λ ms. object_in (string_bytes other) ≡ Some (put key (string text) ms)) → IsOther (option_and_then (other_members base olders key) (as_object d)) (Some other)
+found_some base olders key null text other e h = absurd (true≢false (ap is_some e))
+found_some base olders key (boolean b) text other e h = absurd (true≢false (ap is_some e))
+found_some base olders key (number n) text other e h = absurd (true≢false (ap is_some e))
+found_some base olders key (string s) text other e h = absurd (true≢false (ap is_some e))
+found_some base olders key (array ds) text other e h = absurd (true≢false (ap is_some e))
+found_some base olders key (object ms) text other e h = rw (← e) h
+
+pub other_some : (base : List ℕ) (olders : List (List ℕ)) (key body : List ℕ) (d : Data) (text : List ℕ) (other : String Global) → object_in body ≡ as_object d
+    → Some text ≡ option_and_then (other_text base olders) (option_and_then as_str (get key d))
+    → IfSome (as_object d) (λ ms. object_in (string_bytes other) ≡ Some (put key (string text) ms)) → IsOther (other_at base olders key body) (Some other)
+unfolding other_at
+other_some base olders key body d text other is e h = rw is (found_some base olders key d text other e h)
+
+-- ---- requests
+
+body_meant : (members : Option Members) (other : Option (String Global)) (own : List ℕ) → IsOther members other
+    → MatchOption members (unwrap_or (option_map string_bytes other) own ≡ own) (λ ms. object_in (unwrap_or (option_map string_bytes other) own) ≡ Some ms)
+body_meant None None own h = refl
+body_meant None (Some body) own h = absurd (true≢false (ap is_some h))
+body_meant (Some ms) None own h = absurd h
+body_meant (Some ms) (Some body) own h = h
+
+-- a request with the target and the body that its own mean
+pub means : (base : List ℕ) (olders : List (List ℕ)) (own : Request) (target body : Option (String Global)) → option_map string_bytes target ≡ other_target base own.target
+    → IsOther (other_body base olders (route_of own.method (unwrap_or (option_map string_bytes target) own.target)) own.body) body
+    → Means base olders own (with_others own (option_map string_bytes target) (option_map string_bytes body))
+means base olders own target body is other = record {
+  method = refl;
+  target = ap (λ t. unwrap_or t own.target) is;
+  minor = refl;
+  close = refl;
+  body = body_meant _ body own.body other;
+}

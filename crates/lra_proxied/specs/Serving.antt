@@ -1,0 +1,31 @@
+-- Whoever answers, asked what each request means.
+use Rattle.std.specs.Prelude.{◌≡◌, ◌⊎◌, ℕ, List}
+use Rattle.lra_wire.specs.Request.{Request}
+use Rattle.lra_commands.specs.declared.refusal.Refusal.TheVariants as refusal
+use Rattle.lra_front.specs.declared.denial.Denial.TheVariants as denial
+use Rattle.lra_front.specs.declared.answer.Answer.TheVariants as answer
+use Rattle.lra_steps.specs.declared.responder.Answered.{Answered}
+use Rattle.lra_proxied.specs.Requests.{Means, LacksMemory}
+
+-- what there is to know of who answers, and the older bases in their order
+pub record Served (S : Type 0) : Type 0 where
+  pub inner : S
+  pub olders : List (List ℕ)
+
+module _ {S : Type 0} (base_of : S → List ℕ) (responds : S → ℕ → Request → Answered → S → Type 0) where
+  -- a request that this one means is answered
+  pub record Answers (before : Served S) (moment : ℕ) (request : Request) (answered : Answered) (after : S) : Type 0 where
+    pub meant : Request
+    pub means : Means (base_of before.inner) before.olders request meant
+    pub does : responds before.inner moment meant answered after
+
+  -- memory was refused in making it, and nothing was done
+  pub record Refuses (before : Served S) (request : Request) (answered : Answered) (after : S) : Type 0 where
+    pub lacks : LacksMemory (base_of before.inner) before.olders request
+    pub answer : answered.answer ≡ answer.Denied (denial.Refused refusal.Memory)
+    pub unchanged : after ≡ before.inner
+
+  -- What a request at a moment does: what the one does that it means, unless memory was refused in making that. The older bases stay.
+  pub record Responds (before : Served S) (moment : ℕ) (request : Request) (answered : Answered) (after : Served S) : Type 0 where
+    pub olders : after.olders ≡ before.olders
+    pub inner : Answers before moment request answered after.inner ⊎ Refuses before request answered after.inner

@@ -1,0 +1,131 @@
+//! Bodies in which an identifier under an older base stands.
+
+ghost use Rattle.std.specs.Prelude.{◌≡◌, ◌≢◌, ◌≤◌, ◌<◌, [], length, option_map, option_and_then, string_bytes, IfOk, IfSome, OnSome, OnErr};
+ghost use Rattle.serde_json.specs.Data.{depth, put, string};
+ghost use Rattle.serde_json.specs.Find.{as_object, as_str, get};
+ghost use Rattle.serde_json.specs.Read.{max_depth};
+ghost use Rattle.serde_json.specs.View.{view};
+ghost use Rattle.lra_front.specs.Bodies.{object_in};
+ghost use Rattle.lra_proxied.specs.Texts as texts;
+ghost use Rattle.lra_proxied.specs.Bodies as spec;
+ghost use Rattle.lra_proxied.specs.inner.Found.{IsOther, Finds};
+
+use crate::texts::other_text;
+use lra_front::{Denial, Route};
+use lra_ids::Base;
+use lra_model::Memory;
+use serde_json::Value;
+use std::alloc::Global;
+
+/// The key under which a route's body has an identifier.
+fn key_of(route: Route) -> Option<&'static str>
+    ensures { option_map (λ key. key.now) result ≡ spec.key_of route }
+{
+    match route {
+        Route::Start => Some("parent"),
+        Route::Remove => Some("recovery"),
+        _ => None,
+    }
+}
+
+/// The value that a body is, if it is one.
+fn value_in(alloc: Global, body: &[u8]) -> Result<Option<Value>, Memory>
+    requires { 0 < length body.now }
+    ensures { IfOk result (Finds body.now) }
+{
+    match Value::from_slice(alloc, body) {
+        Ok(value) => Ok(Some(value)),
+        Err(error) if error.is_memory() => Err(Memory),
+        Err(_) => Ok(None),
+    }
+}
+
+/// The text that the one under a key of a value means, where that is another.
+fn other_under(
+    alloc: Global,
+    base: &str,
+    olders: &[Base],
+    key: &str,
+    value: &Value,
+) -> Result<Option<String>, Memory>
+    ensures { IfOk result (λ other. option_map string_bytes other
+        ≡ option_and_then (texts.other_text base.now olders.now) (option_and_then as_str (get key.now (view value.now)))) }
+{
+    match value.get(key) {
+        Some(member) => match member.as_str() {
+            Some(text) => other_text(alloc, base, olders, text),
+            None => Ok(None),
+        },
+        None => Ok(None),
+    }
+}
+
+/// The body with a text under a key of what it is.
+fn body_with(alloc: Global, value: Value, key: &str, text: String) -> Result<String, Memory>
+    requires { depth (view value) ≤ max_depth }
+    ensures { IfOk result (λ body. IfSome (as_object (view value)) (λ ms. object_in (string_bytes body) ≡ Some (put key.now (string (string_bytes text)) ms))) }
+{
+    match value {
+        Value::Object(members) => {
+            let mut members = members;
+            members.insert(String::from_str(alloc, key)?, Value::String(text))?;
+            Ok(Value::Object(members).to_string(alloc)?)
+        }
+        value => Ok(value.to_string(alloc)?),
+    }
+}
+
+/// The body that one means that has an identifier under a key, where that is another.
+fn other_at(
+    alloc: Global,
+    base: &str,
+    olders: &[Base],
+    key: &str,
+    body: &[u8],
+) -> Result<Option<String>, Memory>
+    ensures ok { IfOk result (IsOther (spec.other_at base.now olders.now key.now body.now)) }
+    ensures some { IfOk result (λ other. OnSome other (body.now ≢ [])) }
+    ensures err { OnErr result (body.now ≢ []) }
+{
+    if body.is_empty() {
+        return Ok(None);
+    }
+    let Some(value) = value_in(alloc, body)? else {
+        return Ok(None);
+    };
+    match other_under(alloc, base, olders, key, &value) {
+        Ok(Some(text)) => Ok(Some(body_with(alloc, value, key, text)?)),
+        Ok(None) => {
+            drop(value);
+            Ok(None)
+        }
+        Err(Memory) => {
+            drop(value);
+            Err(Memory)
+        }
+    }
+}
+
+/// The body that one means of a request which asks for that, where it is another. Where there is no older base it isn't looked at.
+pub(crate) fn other_body(
+    alloc: Global,
+    base: &str,
+    olders: &[Base],
+    route: Result<Route, Denial>,
+    body: &[u8],
+) -> Result<Option<String>, Memory>
+    ensures ok { IfOk result (IsOther (spec.other_body base.now olders.now route body.now)) }
+    ensures some { IfOk result (λ other. OnSome other (spec.IsRead olders.now route body.now)) }
+    ensures err { OnErr result (spec.IsRead olders.now route body.now) }
+{
+    if olders.is_empty() {
+        return Ok(None);
+    }
+    let Ok(route) = route else {
+        return Ok(None);
+    };
+    match key_of(route) {
+        Some(key) => other_at(alloc, base, olders, key, body),
+        None => Ok(None),
+    }
+}

@@ -1,0 +1,92 @@
+//! Targets that have the path of a base before them.
+
+ghost use Rattle.std.specs.Prelude.{◌≡◌, ◌++◌, nat_eq, option_map, string_bytes, IsSome, IfOk, OnErr};
+ghost use Rattle.std.specs.List.{after_first, starts_with};
+ghost use Rattle.lra_front.specs.Routes.{is_slash};
+ghost use Rattle.lra_proxied.specs.Paths as spec;
+
+use lra_model::Memory;
+use std::alloc::Global;
+
+/// What a text has behind a front, where it begins with that.
+fn behind<'t>(front: &str, text: &'t str) -> Option<&'t str>
+    ensures { option_map (λ rest. rest.now) result ≡ spec.behind front.now text.now }
+{
+    text.strip_prefix(front)
+}
+
+/// Whether a text begins with a front.
+fn begins_with(text: &str, front: &str) -> bool
+    ensures { result ≡ starts_with nat_eq text.now front.now }
+{
+    text.starts_with(front)
+}
+
+/// Whether a text begins as all paths do that are served, but for their first slash.
+fn is_served(text: &str) -> bool
+    ensures { result ≡ spec.is_served text.now }
+{
+    begins_with(text, "lra-coordinator") || begins_with(text, "lra-recovery")
+}
+
+/// What a text has behind a front, where it begins with that and goes on as a path that is served.
+#[tactic(auto, unfolding(crate::specs::Paths::served_behind))]
+pub(crate) fn served_behind<'t>(front: &str, text: &'t str) -> Option<&'t str>
+    ensures { option_map (λ rest. rest.now) result ≡ spec.served_behind front.now text.now }
+{
+    let rest = behind(front, text)?;
+    if is_served(rest) { Some(rest) } else { None }
+}
+
+/// What follows the first slash, or nothing.
+fn after_slash(text: &str) -> &str
+    ensures { result.now ≡ after_first is_slash text.now }
+{
+    match text.split_once('/') {
+        Some((_, after)) => after,
+        None => "",
+    }
+}
+
+/// The path of a base, without its first slash: what follows the third slash of its text.
+#[tactic(auto, unfolding(crate::specs::Paths::path_of))]
+pub fn path_of(base: &str) -> &str
+    ensures { result.now ≡ spec.path_of base.now }
+{
+    after_slash(after_slash(after_slash(base)))
+}
+
+/// What a target has behind a path, where a proxy passed that on.
+fn passed_on<'t>(path: &str, target: &'t str) -> Option<&'t str>
+    ensures { option_map (λ rest. rest.now) result ≡ spec.passed_on path.now target.now }
+{
+    if path.is_empty() {
+        return None;
+    }
+    served_behind(path, behind("/", target)?)
+}
+
+/// A text of two parts.
+pub(crate) fn joined(alloc: Global, front: &str, rest: &str) -> Result<String, Memory>
+    ensures { IfOk result (λ text. string_bytes text ≡ front.now ++ rest.now) }
+{
+    let mut text = String::with_capacity(alloc, front.len().saturating_add(rest.len()))?;
+    text.push_str(front)?;
+    text.push_str(rest)?;
+    Ok(text)
+}
+
+/// The target that one means, where that is another.
+pub(crate) fn other_target(
+    alloc: Global,
+    base: &str,
+    target: &str,
+) -> Result<Option<String>, Memory>
+    ensures ok { IfOk result (λ other. option_map string_bytes other ≡ spec.other_target base.now target.now) }
+    ensures err { OnErr result (IsSome (spec.other_target base.now target.now)) }
+{
+    match passed_on(path_of(base), target) {
+        Some(rest) => Ok(Some(joined(alloc, "/", rest)?)),
+        None => Ok(None),
+    }
+}

@@ -1,0 +1,82 @@
+//! Who answers what requests mean.
+
+ghost use Rattle.std.specs.Prelude.{◌≡◌};
+
+use crate::requests::other_request;
+use lra_commands::Refusal;
+use lra_front::{Answer, Denial, Routes};
+use lra_ids::{Base, Instance};
+use lra_steps::{Answered, Responder};
+use lra_wire::RequestRead;
+use std::alloc::Global;
+
+/// Whoever answers, asked what each request means: behind a proxy that passes the path of the base on, and by identifiers under older bases. It can't be
+/// dropped, but gives back who answers.
+pub struct Proxied<A: Responder> {
+    inner: A,
+    olders: Vec<Base>,
+}
+
+impl<A: Responder> Proxied<A> {
+    /// That of one who answers, where identifiers may be under older bases, of which the first counts that one is under.
+    pub fn new(inner: A, olders: Vec<Base>) -> Proxied<A>
+        ensures inner { result.inner ≡ inner }
+        ensures olders { result.olders ≡ olders }
+    {
+        Proxied { inner, olders }
+    }
+
+    /// Who answers.
+    pub fn into_inner(self) -> A
+        ensures { result ≡ self.inner }
+    {
+        let Proxied { inner, olders } = self;
+        drop(olders);
+        inner
+    }
+}
+
+impl<A: Responder> Responder for Proxied<A> {
+    ghost use Rattle.lra_proxied.specs.Serving.{Served, Responds};
+    ghost use Rattle.lra_proxied.specs.inner.Stays.{base_stays};
+
+    ghost State = { Served A.State };
+
+    ghost sight = { λ p. record { inner = A.sight p.inner; olders = p.olders.items } };
+
+    ghost base_of = { λ s. A.base_of s.inner };
+
+    ghost responds = { Responds A.base_of A.responds };
+
+    fn base(&self) -> &Base {
+        self.inner.base()
+    }
+
+    fn instance(&self) -> Instance {
+        self.inner.instance()
+    }
+
+    fn respond(
+        &mut self,
+        alloc: Global,
+        routes: &Routes,
+        moment: u64,
+        request: &RequestRead,
+    ) -> Answered {
+        let base = self.inner.base();
+        match other_request(alloc, routes, base, self.olders.as_slice(), request) {
+            Ok(Some(meant)) => {
+                let answered = self.inner.respond(alloc, routes, moment, &meant);
+                drop(meant);
+                answered
+            }
+            Ok(None) => self.inner.respond(alloc, routes, moment, request),
+            Err(_) => Answered {
+                instance: self.inner.instance(),
+                answer: Answer::Denied(Denial::Refused(Refusal::Memory)),
+            },
+        }
+    }
+
+    ghost stays = { λ before after moment request answered h. base_stays A.base_of A.responds A.stays before after moment request answered h };
+}
