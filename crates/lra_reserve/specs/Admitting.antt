@@ -1,0 +1,54 @@
+-- What is begun while a journal is near its end.
+use Rattle.std.specs.Prelude.{◌≡◌, ◌⊎◌, ℕ, Bool, true, false, Option, Some, None, IfSome, Result, Ok, Err}
+use Rattle.lra_wire.specs.Request.{Request}
+use Rattle.lra_commands.specs.declared.refusal.Refusal.TheVariants as refusal
+use Rattle.lra_commands.specs.declared.refusal.Resource.TheVariants as resource
+use Rattle.lra_front.specs.declared.route.Route.{Route}
+use Rattle.lra_front.specs.declared.route.Route.TheVariants as route
+use Rattle.lra_front.specs.declared.denial.Denial.{Denial}
+use Rattle.lra_front.specs.declared.denial.Denial.TheVariants.{Refused}
+use Rattle.lra_front.specs.declared.answer.Answer.TheVariants.{Denied}
+use Rattle.lra_front.specs.Routes.{route_of}
+use Rattle.lra_front.specs.Wishes.{LacksMemory}
+use Rattle.lra_steps.specs.declared.responder.Answered.{Answered}
+use Rattle.lra_family_front.specs.Naming.{instance_of}
+
+-- a route begins something: an action, or that a member is in one
+abbrev pub begins_at : Route → Bool
+begins_at route.Start = true
+begins_at route.Join = true
+begins_at _ = false
+
+-- the same where there is a route
+abbrev pub begins_by : Result Route Denial → Bool
+begins_by (Ok r) = begins_at r
+begins_by (Err denial) = false
+
+-- a request begins something
+abbrev pub begins : Request → Bool
+begins request = begins_by (route_of request.method request.target)
+
+module _ (tells : Option ℕ → Option ℕ → Type 0) where
+  -- a request is let through: it begins nothing, or it is told that the journal which takes it isn't near its end
+  abbrev pub IsLet : Request → Type 0
+  IsLet request = (begins request ≡ false) ⊎ tells (instance_of request) None
+
+  -- it is refused as one that doesn't fit: it is told which journal near its end would take it, and that is the one that it names, if it names any
+  pub record IsFull (request : Request) (answered : Answered) : Type 0 where
+    pub told : tells (instance_of request) (Some answered.instance)
+    pub own : IfSome (instance_of request) (λ i. answered.instance ≡ i)
+    pub answer : answered.answer ≡ Denied (Refused (refusal.Full resource.Entries))
+
+  -- memory is refused in reading what it names
+  abbrev pub IsUnread : Request → Answered → Type 0
+  IsUnread request answered = LacksMemory request × (answered.answer ≡ Denied (Refused refusal.Memory))
+
+  -- a request that begins something is turned away
+  abbrev pub IsTurnedAway : Request → Answered → Type 0
+  IsTurnedAway request answered = (begins request ≡ true) × (IsFull request answered ⊎ IsUnread request answered)
+
+module _ {S : Type 0} (responds : S → ℕ → Request → Answered → S → Type 0) (tells : Option ℕ → Option ℕ → Type 0) where
+  -- what a request at a moment does: where it is let through what it does without, and else nothing
+  abbrev pub Responds : S → ℕ → Request → Answered → S → Type 0
+  Responds before moment request answered after =
+      (IsLet tells request × responds before moment request answered after) ⊎ (IsTurnedAway tells request answered × (after ≡ before))

@@ -1,0 +1,105 @@
+//! Who answers, but turns away what would begin something in a journal near its end.
+
+ghost use Rattle.std.specs.Prelude.{◌≡◌, IfNone, IfSome};
+ghost use Rattle.lra_wire.specs.Request.{request_of};
+ghost use Rattle.lra_reserve.specs.Admitting as spec;
+
+use crate::reserve::Reserve;
+use lra_commands::{Refusal, Resource};
+use lra_family_front::instance_of;
+use lra_front::{Answer, Denial, Route, Routes};
+use lra_ids::Base;
+use lra_model::Instance;
+use lra_steps::{Answered, Responder};
+use lra_wire::RequestRead;
+use std::alloc::Global;
+
+/// Who answers, and who tells which journals are near their end.
+#[derive(Drop)]
+pub struct Reserved<A: Responder, K: Reserve> {
+    inner: A,
+    reserve: K,
+}
+
+/// Whether what a route asks for begins something.
+fn begins_at(route: Route) -> bool
+    ensures { result ≡ spec.begins_at route }
+{
+    matches!(route, Route::Start | Route::Join)
+}
+
+/// Whether a request begins something.
+fn begins(routes: &Routes, request: &RequestRead) -> bool
+    ensures { result ≡ spec.begins (request_of request.now) }
+{
+    match routes.route(request.method.as_str(), request.target.as_str()) {
+        Ok(route) => begins_at(route),
+        Err(_) => false,
+    }
+}
+
+impl<A: Responder, K: Reserve> Reserved<A, K> {
+    pub fn new(inner: A, reserve: K) -> Reserved<A, K>
+        ensures inner { result.inner ≡ inner }
+        ensures reserve { result.reserve ≡ reserve }
+    {
+        Reserved { inner, reserve }
+    }
+
+    /// What a request is answered that is turned away, if it is.
+    fn turned_away(&self, alloc: Global, routes: &Routes, request: &RequestRead) -> Option<Answered>
+        ensures none { IfNone result (spec.IsLet K.tells (request_of request.now)) }
+        ensures some { IfSome result (λ answered. spec.IsTurnedAway K.tells (request_of request.now) answered) }
+    {
+        if !self.reserve.has_any() || !begins(routes, request) {
+            return None;
+        }
+        let (instance, refusal) = match instance_of(alloc, routes, request) {
+            Ok(named) => (
+                self.reserve.reserved(named)?,
+                Refusal::Full(Resource::Entries),
+            ),
+            Err(_) => (self.inner.instance(), Refusal::Memory),
+        };
+        Some(Answered {
+            instance,
+            answer: Answer::Denied(Denial::Refused(refusal)),
+        })
+    }
+}
+
+impl<A: Responder, K: Reserve> Responder for Reserved<A, K> {
+    ghost use Rattle.lra_reserve.specs.Admitting.{Responds};
+    ghost use Rattle.lra_reserve.specs.inner.Stays.{responds_stays};
+
+    ghost State = { A.State };
+
+    ghost sight = { λ r. A.sight r.inner };
+
+    ghost base_of = { A.base_of };
+
+    ghost responds = { Responds A.responds K.tells };
+
+    fn base(&self) -> &Base {
+        self.inner.base()
+    }
+
+    fn instance(&self) -> Instance {
+        self.inner.instance()
+    }
+
+    fn respond(
+        &mut self,
+        alloc: Global,
+        routes: &Routes,
+        moment: u64,
+        request: &RequestRead,
+    ) -> Answered {
+        match self.turned_away(alloc, routes, request) {
+            Some(answered) => answered,
+            None => self.inner.respond(alloc, routes, moment, request),
+        }
+    }
+
+    ghost stays = { λ before after moment request answered h. responds_stays A.responds K.tells A.base_of A.stays before after moment request answered h };
+}
