@@ -1,0 +1,8 @@
+//! The law of escapes: a public function that does nothing, whose contract says what follows from the definitions.
+
+ghost use Rattle.lra_escape.specs.Escapes.{ReadsBack};
+
+/// What is added for a text reads back as that text, whatever bytes it has. So none of the five marks stands bare in it: the reading would refuse it.
+pub fn escapes_read_back()
+    ensures { ReadsBack }
+{}

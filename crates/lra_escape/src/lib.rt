@@ -1,0 +1,8 @@
+//! Text in HTML, of which nothing is read as markup.
+#![tactic(auto)]
+
+mod laws;
+mod spelling;
+
+pub use laws::escapes_read_back;
+pub use spelling::escape;

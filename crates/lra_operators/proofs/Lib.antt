@@ -1,0 +1,4 @@
+pub mod Routing
+pub mod Comparing
+pub mod Giving
+pub mod Texts

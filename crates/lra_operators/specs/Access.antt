@@ -1,0 +1,131 @@
+-- Whether a request may be made.
+use Rattle.std.specs.Prelude.{ℕ, ◌==◌, Bool, true, false, not, ◌&&◌, ◌||◌, if◌then◌else◌, List, [], length, take, codes, bytes_eq, string_bytes, Option, Some, is_some, option_map, Result, Ok, Err}
+use Rattle.std.specs.List.{before_first, after_first, list_all}
+use Rattle.std.specs.Option.{option_map_or}
+use Rattle.std.specs.Str.{str_eq_ignore_ascii_case, is_utf8}
+use Rattle.std.specs.Char.{is_ascii_digit}
+use Rattle.base64.specs.Engines.{standard}
+use Rattle.base64.specs.GeneralPurpose.{decode_of}
+use Rattle.base64.specs.declared.decode.DecodeError.{DecodeError}
+use Rattle.lra_operators.specs.declared.access.Access.{Access}
+use Rattle.lra_operators.specs.declared.access.Admission.{Admission}
+use Rattle.lra_operators.specs.declared.access.Admission.TheVariants as admission
+use Rattle.lra_operators.specs.declared.access.Seen.{Seen}
+use Rattle.lra_operators.specs.declared.asked.Asked.{Asked}
+use Rattle.lra_operators.specs.declared.route.Place.{Place}
+use Rattle.lra_operators.specs.declared.route.Place.TheVariants as place
+use Rattle.lra_operators.specs.Routes.{is_order}
+use Rattle.lra_operators.specs.Forms.{form_value}
+
+-- whether a text that was given, if one was, is the one that is wanted, if one is
+abbrev pub gives : Option (List ℕ) → Option (List ℕ) → Bool
+gives (Some given) (Some wanted) = bytes_eq given wanted
+gives _ _ = false
+
+-- ---- heads
+
+-- whether a text begins with another
+abbrev pub begins : List ℕ → List ℕ → Bool
+begins front text = bytes_eq front (take (length front) text)
+
+-- a space
+abbrev pub is_space : ℕ → Bool
+is_space b = b == 32
+
+-- a colon
+abbrev pub is_colon : ℕ → Bool
+is_colon b = b == 58
+
+-- the key that a value of Authorization gives as Bearer: what follows that word and a space, or nothing (RFC 6750, section 2.1)
+abbrev pub bearer_in : List ℕ → List ℕ
+bearer_in value = if str_eq_ignore_ascii_case (before_first is_space value) (codes "bearer") then after_first is_space value else []
+
+-- what a value of Authorization has as Basic: what follows that word and a space, or nothing (RFC 7617, section 2)
+abbrev pub basic_in : List ℕ → List ℕ
+basic_in value = if str_eq_ignore_ascii_case (before_first is_space value) (codes "basic") then after_first is_space value else []
+
+-- what was decoded, or nothing
+abbrev pub decoded_or_none : Result (List ℕ) DecodeError → List ℕ
+decoded_or_none (Ok bytes) = bytes
+decoded_or_none (Err error) = []
+
+-- what is spelled in base64 (RFC 4648, section 4), or nothing where it isn't
+abbrev pub decoded : List ℕ → List ℕ
+decoded spelled = decoded_or_none (decode_of standard spelled)
+
+-- bytes that are a text, or nothing
+abbrev pub text_of : List ℕ → List ℕ
+text_of bytes = if is_utf8 bytes then bytes else []
+
+-- the key that a value of Authorization gives as the password of Basic, whatever the name before it is
+abbrev pub password_in : List ℕ → List ℕ
+password_in value = after_first is_colon (text_of (decoded (basic_in value)))
+
+-- a digit or a point
+abbrev pub is_numeric : ℕ → Bool
+is_numeric b = is_ascii_digit b || b == 46
+
+-- an address of the machine's own in numbers: it begins as all those do, and no other name has digits and points alone (RFC 1122, section 3.2.1.3)
+abbrev pub is_loopback : List ℕ → Bool
+is_loopback name = begins (codes "127.") name && list_all is_numeric name
+
+-- a name of the machine's own without its port (this project's choice)
+abbrev pub is_own_host : List ℕ → Bool
+is_own_host name = bytes_eq name (codes "localhost") || is_loopback name
+
+-- a host that is the machine's own, as those name it who are on it: such a name with any port, or the address of version 6
+abbrev pub is_own_name : List ℕ → Bool
+is_own_name host = is_own_host (before_first is_colon host) || bytes_eq host (codes "[::1]") || begins (codes "[::1]:") host
+
+-- whether a request came by one of these: one with no Host didn't
+abbrev pub is_own : Option (List ℕ) → Bool
+is_own host = option_map_or is_own_name host false
+
+-- whether a body is said to be JSON, which no form of another place can say (Fetch Standard, safelisted values of Content-Type)
+abbrev pub is_json : Option (List ℕ) → Bool
+is_json kind = option_map_or (λ value. begins (codes "application/json") value) kind false
+
+-- ---- what is seen of a request, and what it comes to
+
+-- the place where a member is given up
+abbrev pub is_give_up : Place → Bool
+is_give_up place.GiveUp = true
+is_give_up _ = false
+
+-- the key that each has to give, if there is one
+abbrev pub key_of : Access → Option (List ℕ)
+key_of access = option_map (λ key. key.now) access.key
+
+-- what of a request for a place says whether it may be made
+abbrev pub seen : Access → Asked → Place → Seen
+seen access asked p = record {
+  wants_key = is_some access.key;
+  is_own = is_own (option_map string_bytes asked.host);
+  is_order = is_order p;
+  is_give_up = is_give_up p;
+  head_has_key =
+      gives (option_map (λ value. bearer_in (string_bytes value)) asked.authorization) (key_of access)
+      || gives (option_map (λ value. password_in (string_bytes value)) asked.authorization) (key_of access);
+  bearer_has_key = gives (option_map (λ value. bearer_in (string_bytes value)) asked.authorization) (key_of access);
+  form_has_key = gives (form_value (codes "key") asked.request.body.items) (key_of access);
+  form_has_token = gives (form_value (codes "token") asked.request.body.items) (Some access.token.now);
+  is_json = is_json (option_map string_bytes asked.kind);
+}
+
+-- of an order: with the key as Bearer it may be given; else it has the key, where one is wanted, in its head or in its form, and it is a form with the token, or says that it is no form.
+-- A browser sends the password of Basic with the form of any other place too, so that it alone doesn't do
+abbrev pub order_admission : Seen → Admission
+order_admission s =
+    if s.is_give_up && not s.wants_key then admission.NeedsKey
+    else if s.bearer_has_key then admission.Admitted
+    else if s.wants_key && not s.head_has_key && not s.form_has_key then admission.WrongKey
+    else if s.form_has_token || s.is_json then admission.Admitted
+    else admission.Forged
+
+-- of any request: where no key is wanted it has to come by a name of the machine's own; and where one is, what tells has it in its head
+abbrev pub admission_of : Seen → Admission
+admission_of s =
+    if not s.wants_key && not s.is_own then admission.WrongHost
+    else if s.is_order then order_admission s
+    else if s.wants_key && not s.head_has_key then admission.WrongKey
+    else admission.Admitted

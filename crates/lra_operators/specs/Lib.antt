@@ -1,0 +1,4 @@
+pub mod Routes
+pub mod Orders
+pub mod Forms
+pub mod Access

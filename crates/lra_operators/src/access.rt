@@ -1,0 +1,352 @@
+//! Whether a request may be made.
+
+ghost use Rattle.std.specs.Prelude.{◌≡◌, IfOk, bytes_eq, codes, string_bytes, option_map};
+ghost use Rattle.std.specs.List.{before_first, after_first, list_all};
+ghost use Rattle.lra_operators.specs.Access as spec;
+ghost use Rattle.lra_operators.specs.Forms.{form_value};
+
+use crate::asked::Asked;
+use crate::route::Place;
+use base64::DecodeAllocError;
+use base64::engine::general_purpose::STANDARD;
+use lra_model::Memory;
+use std::alloc::Global;
+
+/// What requests need to be taken.
+#[derive(Clone, Copy)]
+pub struct Access<'a> {
+    /// The key that each has to give, if there is one.
+    pub key: Option<&'a str>,
+    /// The word that the forms of the pages have, and that nobody else knows.
+    pub token: &'a str,
+}
+
+/// Whether a request may be made.
+#[derive(Clone, Copy, Debug, PartialEq, Eq)]
+pub enum Admission {
+    Admitted,
+    /// No key was given, or another.
+    WrongKey,
+    /// It came by a name of the host that isn't the machine's own, as a page of another place would have it.
+    WrongHost,
+    /// An order that may come from a page of another place.
+    Forged,
+    /// An order that needs a key, where there is none.
+    NeedsKey,
+}
+
+/// What of a request says whether it may be made.
+#[derive(Clone, Copy, Debug, PartialEq, Eq)]
+pub struct Seen {
+    /// Each request has to give a key.
+    pub wants_key: bool,
+    /// It came by a name of the machine's own.
+    pub is_own: bool,
+    /// It asks for an order, and for the one that gives a member up.
+    pub is_order: bool,
+    pub is_give_up: bool,
+    /// What it gives: the key in its head, in any way or in the one that no browser takes by itself, or in the form that its body is, and the token in that form.
+    pub head_has_key: bool,
+    pub bearer_has_key: bool,
+    pub form_has_key: bool,
+    pub form_has_token: bool,
+    /// It says that its body is JSON.
+    pub is_json: bool,
+}
+
+impl Seen {
+    ghost use Rattle.std.specs.Prelude.{◌≡◌};
+    ghost use Rattle.lra_operators.specs.Access.{order_admission, admission_of};
+
+    /// Whether an order may be given.
+    fn order_admission(self) -> Admission
+        ensures { result ≡ order_admission self }
+    {
+        if self.is_give_up && !self.wants_key {
+            return Admission::NeedsKey;
+        }
+        if self.bearer_has_key {
+            return Admission::Admitted;
+        }
+        if self.wants_key && !self.head_has_key && !self.form_has_key {
+            return Admission::WrongKey;
+        }
+        if self.form_has_token || self.is_json {
+            return Admission::Admitted;
+        }
+        Admission::Forged
+    }
+
+    /// Whether the request may be made.
+    pub fn admission(self) -> Admission
+        ensures { result ≡ admission_of self }
+    {
+        if !self.wants_key && !self.is_own {
+            return Admission::WrongHost;
+        }
+        if self.is_order {
+            return self.order_admission();
+        }
+        if self.wants_key && !self.head_has_key {
+            return Admission::WrongKey;
+        }
+        Admission::Admitted
+    }
+}
+
+/// Whether two texts are one, in a time that depends on how long the given one is alone.
+fn is_same(given: &[u8], wanted: &[u8]) -> bool
+    ensures { result ≡ bytes_eq given.now wanted.now }
+{
+    let mut same = given.len() == wanted.len();
+    for (place, byte) in given.iter().enumerate() {
+        let other = wanted.get(place).copied().unwrap_or(0);
+        same &= *byte == other;
+    }
+    same
+}
+
+/// The key that a value of `Authorization` gives as `Bearer`.
+fn bearer_in(authorization: &str) -> &str
+    ensures { result.now ≡ spec.bearer_in authorization.now }
+{
+    if before_space(authorization).eq_ignore_ascii_case("bearer") {
+        after_space(authorization)
+    } else {
+        ""
+    }
+}
+
+/// What a value of `Authorization` has as `Basic`: a name, a colon and a password, spelled in base64.
+fn basic_in(authorization: &str) -> &str
+    ensures { result.now ≡ spec.basic_in authorization.now }
+{
+    if before_space(authorization).eq_ignore_ascii_case("basic") {
+        after_space(authorization)
+    } else {
+        ""
+    }
+}
+
+/// What the spelled bytes are, or none where they are no base64.
+fn decoded(alloc: Global, spelled: &str) -> Result<Vec<u8>, Memory>
+    ensures { IfOk result (λ bytes. bytes.items ≡ spec.decoded spelled.now) }
+{
+    match STANDARD.decode(alloc, spelled.as_bytes()) {
+        Ok(bytes) => Ok(bytes),
+        Err(DecodeAllocError::OutOfMemory) => Err(Memory),
+        Err(DecodeAllocError::DecodeError(_)) => Ok(Vec::new(alloc)),
+    }
+}
+
+/// The text of bytes, or none where they are no text.
+fn text_of(bytes: &[u8]) -> &str
+    ensures { result.now ≡ spec.text_of bytes.now }
+{
+    match str::from_utf8(bytes) {
+        Ok(text) => text,
+        Err(_) => "",
+    }
+}
+
+/// What stands before the first space, or all of it.
+fn before_space(text: &str) -> &str
+    ensures { result.now ≡ before_first spec.is_space text.now }
+{
+    match text.split_once(' ') {
+        Some((before, _)) => before,
+        None => text,
+    }
+}
+
+/// What follows the first space, or nothing.
+fn after_space(text: &str) -> &str
+    ensures { result.now ≡ after_first spec.is_space text.now }
+{
+    match text.split_once(' ') {
+        Some((_, after)) => after,
+        None => "",
+    }
+}
+
+/// What stands before the first colon, or all of it.
+fn before_colon(text: &str) -> &str
+    ensures { result.now ≡ before_first spec.is_colon text.now }
+{
+    match text.split_once(':') {
+        Some((before, _)) => before,
+        None => text,
+    }
+}
+
+/// What follows the first colon, or nothing.
+fn after_colon(text: &str) -> &str
+    ensures { result.now ≡ after_first spec.is_colon text.now }
+{
+    match text.split_once(':') {
+        Some((_, after)) => after,
+        None => "",
+    }
+}
+
+/// Whether a name has digits and points alone.
+fn is_numeric(name: &[u8]) -> bool
+    ensures { result ≡ list_all spec.is_numeric name.now }
+{
+    name.iter()
+        .all(|byte| byte.is_ascii_digit() || *byte == b'.')
+}
+
+/// Whether a name is an address of the machine's own in numbers.
+fn is_loopback(name: &[u8]) -> bool
+    ensures { result ≡ spec.is_loopback name.now }
+{
+    name.starts_with(b"127.") && is_numeric(name)
+}
+
+/// Whether a name without its port is the machine's own.
+fn is_own_host(name: &[u8]) -> bool
+    ensures { result ≡ spec.is_own_host name.now }
+{
+    name == b"localhost".as_slice() || is_loopback(name)
+}
+
+/// Whether a host is the machine's own, as those name it who are on it.
+fn is_own_name(host: &str) -> bool
+    ensures { result ≡ spec.is_own_name host.now }
+{
+    let bytes = host.as_bytes();
+    is_own_host(before_colon(host).as_bytes())
+        || bytes == b"[::1]".as_slice()
+        || bytes.starts_with(b"[::1]:")
+}
+
+/// Whether a request came by a name of the machine's own.
+fn is_own(host: &Option<String>) -> bool
+    ensures { result ≡ spec.is_own (option_map string_bytes host.now) }
+{
+    match host {
+        Some(host) => is_own_name(host.as_str()),
+        None => false,
+    }
+}
+
+/// Whether a request says that its body is JSON.
+fn is_json(kind: &Option<String>) -> bool
+    ensures { result ≡ spec.is_json (option_map string_bytes kind.now) }
+{
+    match kind {
+        Some(kind) => kind.as_str().as_bytes().starts_with(b"application/json"),
+        None => false,
+    }
+}
+
+/// Whether a place is one where a member is given up.
+fn is_give_up(place: Place) -> bool
+    ensures { result ≡ spec.is_give_up place }
+{
+    matches!(place, Place::GiveUp)
+}
+
+/// Whether the head of a request gives a key as `Bearer`.
+fn bearer_gives(authorization: &Option<String>, key: &str) -> bool
+    ensures { result ≡ spec.gives (option_map (λ value. spec.bearer_in (string_bytes value)) authorization.now) (Some key.now) }
+{
+    match authorization {
+        Some(given) => is_same(bearer_in(given.as_str()).as_bytes(), key.as_bytes()),
+        None => false,
+    }
+}
+
+/// Whether a value of `Authorization` gives a key as the password of `Basic`.
+fn password_is(alloc: Global, authorization: &str, key: &str) -> Result<bool, Memory>
+    ensures { IfOk result (λ b. b ≡ bytes_eq (spec.password_in authorization.now) key.now) }
+{
+    let bytes = decoded(alloc, basic_in(authorization))?;
+    let password = after_colon(text_of(bytes.as_slice()));
+    Ok(is_same(password.as_bytes(), key.as_bytes()))
+}
+
+/// Whether the head of a request gives a key as the password of `Basic`.
+fn basic_gives(alloc: Global, authorization: &Option<String>, key: &str) -> Result<bool, Memory>
+    ensures { IfOk result (λ b. b ≡ spec.gives (option_map (λ value. spec.password_in (string_bytes value)) authorization.now) (Some key.now)) }
+{
+    match authorization {
+        Some(given) => password_is(alloc, given.as_str(), key),
+        None => Ok(false),
+    }
+}
+
+/// Whether the form that a request's body is gives a text under a name.
+fn form_gives(alloc: Global, asked: &Asked, name: &str, wanted: &str) -> Result<bool, Memory>
+    ensures { IfOk result (λ b. b ≡ spec.gives (form_value name.now asked.now.request.body.items) (Some wanted.now)) }
+{
+    match asked.in_form(alloc, name)? {
+        Some(given) => Ok(is_same(given.as_str().as_bytes(), wanted.as_bytes())),
+        None => Ok(false),
+    }
+}
+
+/// Whether the head of a request gives the key as `Bearer`, where there is one.
+fn bearer_has_key(asked: &Asked, key: Option<&str>) -> bool
+    ensures { result ≡ spec.gives (option_map (λ value. spec.bearer_in (string_bytes value)) asked.now.authorization) (option_map (λ k. k.now) key.entry) }
+{
+    match key {
+        Some(key) => bearer_gives(&asked.authorization, key),
+        None => false,
+    }
+}
+
+/// Whether the head of a request gives the key as the password of `Basic`, where there is one.
+fn basic_has_key(alloc: Global, asked: &Asked, key: Option<&str>) -> Result<bool, Memory>
+    ensures { IfOk result (λ b. b ≡ spec.gives (option_map (λ value. spec.password_in (string_bytes value)) asked.now.authorization) (option_map (λ k. k.now) key.entry)) }
+{
+    match key {
+        Some(key) => basic_gives(alloc, &asked.authorization, key),
+        None => Ok(false),
+    }
+}
+
+/// Whether the form that a request's body is gives the key, where there is one.
+fn form_has_key(alloc: Global, asked: &Asked, key: Option<&str>) -> Result<bool, Memory>
+    ensures { IfOk result (λ b. b ≡ spec.gives (form_value (codes "key") asked.now.request.body.items) (option_map (λ k. k.now) key.entry)) }
+{
+    match key {
+        Some(key) => form_gives(alloc, asked, "key", key),
+        None => Ok(false),
+    }
+}
+
+impl Access<'_> {
+    ghost use Rattle.std.specs.Prelude.{◌≡◌, IfOk};
+    ghost use Rattle.lra_operators.specs.Access.{seen, admission_of};
+
+    /// What of a request for a place says whether it may be made.
+    fn see(&self, alloc: Global, asked: &Asked, place: Place) -> Result<Seen, Memory>
+        ensures { IfOk result (λ s. s ≡ seen self.now asked.now place) }
+    {
+        let basic_has_key = basic_has_key(alloc, asked, self.key)?;
+        let form_has_key = form_has_key(alloc, asked, self.key)?;
+        let form_has_token = form_gives(alloc, asked, "token", self.token)?;
+        let bearer_has_key = bearer_has_key(asked, self.key);
+        Ok(Seen {
+            wants_key: self.key.is_some(),
+            is_own: is_own(&asked.host),
+            is_order: place.is_order(),
+            is_give_up: is_give_up(place),
+            head_has_key: bearer_has_key || basic_has_key,
+            bearer_has_key,
+            form_has_key,
+            form_has_token,
+            is_json: is_json(&asked.kind),
+        })
+    }
+
+    /// Whether a request may be made at a place.
+    pub fn admit(&self, alloc: Global, asked: &Asked, place: Place) -> Result<Admission, Memory>
+        ensures { IfOk result (λ a. a ≡ admission_of (seen self.now asked.now place)) }
+    {
+        let seen = self.see(alloc, asked, place)?;
+        Ok(seen.admission())
+    }
+}

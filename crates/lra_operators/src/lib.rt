@@ -1,0 +1,21 @@
+//! The operators' port: requests in, replies out, over whatever tells of a service's histories.
+#![tactic(auto)]
+
+mod access;
+mod asked;
+mod memo;
+mod ordering;
+mod port;
+mod reply;
+mod route;
+mod telling;
+#[cfg(test)]
+mod trials;
+mod visiting;
+
+pub use access::{Access, Admission};
+pub use asked::{Asked, asked_in};
+pub use port::Port;
+pub use reply::Reply;
+pub use route::{Place, Routes, Unserved};
+pub use visiting::{is_enough, visit};

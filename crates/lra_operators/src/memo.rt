@@ -1,0 +1,242 @@
+//! What was counted last, and since when actions are known of.
+
+ghost use Rattle.std.specs.Prelude.{◌≡◌};
+
+use lra_ids::Instance;
+use lra_model::Memory;
+use lra_overview::{Census, Counts, Overview, Trouble, count_all};
+use std::alloc::Global;
+
+/// For how many milliseconds a count is good.
+const FRESH: u64 = 1_000;
+
+/// How many marks are kept at most.
+const MOST_MARKS: usize = 256;
+
+/// That there were so many actions at a moment.
+#[derive(Clone, Copy, Debug, PartialEq, Eq)]
+struct Mark {
+    actions: u64,
+    moment: u64,
+}
+
+/// What was counted last of a journal.
+#[derive(Debug, Drop)]
+pub(crate) struct Counted {
+    pub(crate) instance: Instance,
+    pub(crate) counts: Counts,
+    pub(crate) census: Census,
+    marks: Vec<Mark>,
+}
+
+/// What was counted last of each journal, and when. Counts are remembered for a second, so that asking often holds nobody up.
+#[derive(Debug, Drop)]
+pub struct Memo {
+    moment: u64,
+    /// The newest last.
+    journals: Vec<Counted>,
+}
+
+/// Which marks are kept, where they become too many: each second one.
+fn thin(alloc: Global, marks: &Vec<Mark>) -> Result<Vec<Mark>, Memory> {
+    let mut kept = Vec::new(alloc);
+    for (place, mark) in marks.as_slice().iter().enumerate() {
+        if place % 2 == 0 {
+            kept.push(*mark)?;
+        }
+    }
+    Ok(kept)
+}
+
+impl Counted {
+    /// Nothing of it was counted.
+    fn new(alloc: Global, instance: Instance) -> Counted {
+        Counted {
+            instance,
+            counts: Counts::none(),
+            census: Census::new(alloc),
+            marks: Vec::new(alloc),
+        }
+    }
+
+    /// Takes down how many actions there are at a moment.
+    fn mark(&mut self, alloc: Global, moment: u64) -> Result<(), Memory> {
+        let actions = self.counts.actions;
+        if let Some(last) = self.marks.as_slice().last() {
+            if last.actions >= actions {
+                return Ok(());
+            }
+        }
+        if self.marks.len() >= MOST_MARKS {
+            self.marks = thin(alloc, &self.marks)?;
+        }
+        self.marks.push(Mark { actions, moment })?;
+        Ok(())
+    }
+
+    /// Counts anew.
+    fn renew<O: Overview>(
+        &mut self,
+        alloc: Global,
+        overview: &mut O,
+        moment: u64,
+    ) -> Result<(), Trouble>
+        ensures { O.orders overview.new ≡ O.orders overview.old }
+    {
+        self.counts = count_all(alloc, overview, self.instance, &mut self.census)?;
+        self.mark(alloc, moment)?;
+        Ok(())
+    }
+
+    /// How many milliseconds the oldest action that hasn't ended is known of, at a moment.
+    fn age(&self, moment: u64) -> u64 {
+        let Some(oldest) = self.counts.oldest else {
+            return 0;
+        };
+        for mark in self.marks.as_slice() {
+            if mark.actions >= oldest {
+                return moment.saturating_sub(mark.moment);
+            }
+        }
+        0
+    }
+}
+
+/// Whether a journal is served.
+fn is_served<O: Overview>(overview: &O, instance: Instance) -> bool {
+    for place in 0..u64::MAX {
+        let Some(served) = overview.instance(place) else {
+            return false;
+        };
+        if served == instance {
+            return true;
+        }
+    }
+    false
+}
+
+impl Memo {
+    /// What was counted of a journal, if anything.
+    pub(crate) fn journal(&self, instance: Instance) -> Option<&Counted> {
+        self.journals
+            .as_slice()
+            .iter()
+            .find(|counted| counted.instance == instance)
+    }
+
+    /// Whether it is of the journals that are served.
+    fn is_of<O: Overview>(&self, overview: &O) -> bool {
+        for (place, counted) in self.journals.as_slice().iter().enumerate() {
+            if overview.instance(place as u64) != Some(counted.instance) {
+                return false;
+            }
+        }
+        overview.instance(self.journals.len() as u64).is_none()
+    }
+
+    /// Adds the journals that have joined.
+    fn add_new<O: Overview>(&mut self, alloc: Global, overview: &O) -> Result<(), Memory> {
+        for place in 0..u64::MAX {
+            let Some(instance) = overview.instance(place) else {
+                return Ok(());
+            };
+            if self.journal(instance).is_none() {
+                self.journals.push(Counted::new(alloc, instance))?;
+            }
+        }
+        Ok(())
+    }
+
+    /// Counts each journal anew.
+    fn count_each<O: Overview>(
+        &mut self,
+        alloc: Global,
+        overview: &mut O,
+        moment: u64,
+    ) -> Result<(), Trouble>
+        ensures { O.orders overview.new ≡ O.orders overview.old }
+    {
+        for counted in self.journals.iter_mut() {
+            counted.renew(alloc, overview, moment)?;
+        }
+        Ok(())
+    }
+
+    /// Counts anew.
+    fn renew<O: Overview>(
+        &mut self,
+        alloc: Global,
+        overview: &mut O,
+        moment: u64,
+    ) -> Result<(), Trouble>
+        ensures { O.orders overview.new ≡ O.orders overview.old }
+    {
+        self.journals
+            .retain(|counted| is_served(overview, counted.instance));
+        self.add_new(alloc, overview)?;
+        self.count_each(alloc, overview, moment)?;
+        self.moment = moment;
+        Ok(())
+    }
+
+    /// Whether it is good at a moment.
+    fn is_fresh<O: Overview>(&self, overview: &O, moment: u64) -> bool {
+        moment.saturating_sub(self.moment) < FRESH && self.is_of(overview)
+    }
+
+    /// What was counted of the newest journal.
+    pub(crate) fn newest(&self) -> Option<&Counted> {
+        self.journals.as_slice().last()
+    }
+
+    /// What was counted of the first journal in which something hasn't ended, or else of the newest.
+    pub(crate) fn first_open(&self) -> Option<&Counted> {
+        for counted in self.journals.as_slice() {
+            if counted.counts.oldest.is_some() {
+                return Some(counted);
+            }
+        }
+        self.newest()
+    }
+
+    /// How many there are in all journals.
+    pub(crate) fn total(&self) -> Counts {
+        let mut total = Counts::none();
+        for counted in self.journals.as_slice() {
+            total.add(&counted.counts);
+        }
+        total
+    }
+
+    /// How many milliseconds the oldest action that hasn't ended is known of, at a moment.
+    pub(crate) fn age(&self, moment: u64) -> u64 {
+        let mut age = 0;
+        for counted in self.journals.as_slice() {
+            age = age.max(counted.age(moment));
+        }
+        age
+    }
+
+    /// What is counted at a moment, or was within the second before it.
+    pub(crate) fn look<'a, O: Overview>(
+        memo: &'a mut Memo,
+        alloc: Global,
+        overview: &mut O,
+        moment: u64,
+    ) -> Result<&'a Memo, Trouble>
+        ensures { O.orders overview.new ≡ O.orders overview.old }
+    {
+        if !memo.is_fresh(overview, moment) {
+            memo.renew(alloc, overview, moment)?;
+        }
+        Ok(memo)
+    }
+
+    /// Nothing was counted.
+    pub(crate) fn new(alloc: Global) -> Memo {
+        Memo {
+            moment: 0,
+            journals: Vec::new(alloc),
+        }
+    }
+}

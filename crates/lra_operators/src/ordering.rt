@@ -1,0 +1,122 @@
+//! What requests order, and that it is given.
+
+ghost use Rattle.std.specs.Prelude.{◌≡◌, string_bytes};
+ghost use Rattle.lra_overview.specs.Orders.{Gives};
+ghost use Rattle.lra_operators.specs.declared.route.Place.TheVariants as place;
+ghost use Rattle.lra_operators.specs.Orders.{Orders};
+
+use crate::asked::Asked;
+use crate::route::{Place, id_in, path_in};
+use crate::telling::{action_named, find_named};
+use lra_commands::{Order, Refusal, Told};
+use lra_ids::Instance;
+use lra_model::{Ending, Memory};
+use lra_overview::{Overview, Trouble};
+use serde_json::Value;
+use std::alloc::Global;
+
+/// How a member is given up, as the body of a request tells it: a form, or an object.
+fn ending_in(alloc: Global, asked: &Asked) -> Result<Option<Ending>, Memory> {
+    if let Some(word) = asked.in_form(alloc, "status")? {
+        return Ok(Ending::from_name(word.as_str().as_bytes()));
+    }
+    match Value::from_slice(alloc, asked.request.body.as_slice()) {
+        Ok(body) => {
+            let ending = match body.get("status").and_then(Value::as_str) {
+                Some(word) => Ending::from_name(word.as_bytes()),
+                None => None,
+            };
+            drop(body);
+            Ok(ending)
+        }
+        Err(error) if error.is_memory() => Err(Memory),
+        Err(_) => Ok(None),
+    }
+}
+
+/// Gives an order to a journal.
+fn give<O: Overview>(
+    overview: &mut O,
+    instance: Instance,
+    order: &Order<'_>,
+) -> Result<Told, Trouble>
+    ensures { Gives instance order.now (O.orders overview.old) (O.orders overview.new) }
+{
+    match overview.give(instance, order) {
+        Ok(told) => Ok(told),
+        Err(fault) => Err(Trouble::from(fault)),
+    }
+}
+
+/// Closes the action that a target names.
+fn close<O: Overview>(overview: &mut O, target: &str) -> Result<Told, Trouble>
+    ensures { Orders target.now place.Close (O.orders overview.old) (O.orders overview.new) }
+{
+    let found = action_named(overview, target)?;
+    let action = found.number;
+    give(overview, found.instance, &Order::Close { action })
+}
+
+/// Cancels the action that a target names.
+fn cancel<O: Overview>(overview: &mut O, target: &str) -> Result<Told, Trouble>
+    ensures { Orders target.now place.Cancel (O.orders overview.old) (O.orders overview.new) }
+{
+    let found = action_named(overview, target)?;
+    let action = found.number;
+    give(overview, found.instance, &Order::Cancel { action })
+}
+
+/// Has the member that a target names end by its failure.
+fn give_up<O: Overview>(
+    overview: &mut O,
+    target: &str,
+    ending: Option<Ending>,
+) -> Result<Told, Trouble>
+    ensures { Orders target.now place.GiveUp (O.orders overview.old) (O.orders overview.new) }
+{
+    let Some(found) = find_named(overview, id_in(path_in(target))) else {
+        return Err(Trouble::Refused(Refusal::NoSuchMember));
+    };
+    let member = found.number;
+    match ending {
+        Some(Ending::FailedToComplete) => {
+            let ending = Ending::FailedToComplete;
+            give(overview, found.instance, &Order::Report { member, ending })
+        }
+        Some(Ending::FailedToCompensate) => {
+            let ending = Ending::FailedToCompensate;
+            give(overview, found.instance, &Order::Report { member, ending })
+        }
+        _ => Err(Trouble::Refused(Refusal::BadAddresses)),
+    }
+}
+
+/// Gives the order of a place for what a target names.
+fn order_of<O: Overview>(
+    overview: &mut O,
+    target: &str,
+    place: Place,
+    ending: Option<Ending>,
+) -> Result<Told, Trouble>
+    ensures { Orders target.now place (O.orders overview.old) (O.orders overview.new) }
+{
+    match place {
+        Place::Close => close(overview, target),
+        Place::Cancel => cancel(overview, target),
+        Place::GiveUp => give_up(overview, target, ending),
+        _ => Err(Trouble::Refused(Refusal::NoSuchAction)),
+    }
+}
+
+/// Gives the order that a request asks for at a place.
+pub(crate) fn order_at<O: Overview>(
+    alloc: Global,
+    overview: &mut O,
+    asked: &Asked,
+    place: Place,
+) -> Result<Told, Trouble>
+    ensures { Orders (string_bytes asked.now.request.target) place (O.orders overview.old) (O.orders overview.new) }
+{
+    let ending = ending_in(alloc, asked)?;
+    order_of(overview, asked.request.target.as_str(), place, ending)
+}

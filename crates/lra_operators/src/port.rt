@@ -1,0 +1,293 @@
+//! The port: what each request does.
+
+ghost use Rattle.std.specs.Prelude.{◌≡◌, ◌≢◌, false, IfOk, string_bytes};
+ghost use Rattle.lra_operators.specs.declared.access.Admission.TheVariants as Admission;
+ghost use Rattle.lra_operators.specs.declared.route.Place.{Place};
+ghost use Rattle.lra_operators.specs.Access.{seen, admission_of};
+ghost use Rattle.lra_operators.specs.Orders.{Orders, AddsOne};
+ghost use Rattle.lra_operators.specs.Routes.{is_order, gives_order, route_of};
+ghost use Rattle.lra_wire.specs.Request.{request_of};
+
+use crate::access::{Access, Admission};
+use crate::asked::Asked;
+use crate::memo::Memo;
+use crate::ordering::order_at;
+use crate::reply::{Kind, Reply};
+use crate::route::{Place, Routes, Unserved};
+use crate::telling::{tell_action, tell_actions, tell_health, tell_home, tell_metrics, tell_tree};
+use http::StatusCode;
+use lra_commands::{Refusal, Told};
+use lra_model::Memory;
+use lra_overview::{Forms, Names, Overview, Probe, Trouble, put_plain_page, put_text};
+use std::alloc::Global;
+
+/// What answers operators' requests: the routes, and what was counted last.
+#[derive(Drop)]
+pub struct Port {
+    alloc: Global,
+    routes: Routes,
+    memo: Memo,
+}
+
+/// The status code of a refusal.
+fn refusal_status(refusal: Refusal) -> StatusCode {
+    match refusal {
+        Refusal::NoSuchAction | Refusal::NoSuchMember => StatusCode::NOT_FOUND,
+        Refusal::BadAddresses | Refusal::LimitTooFar => StatusCode::BAD_REQUEST,
+        Refusal::HasLeft => StatusCode::GONE,
+        Refusal::NotActive(_) | Refusal::NotAsked => StatusCode::PRECONDITION_FAILED,
+        Refusal::OldJournal | Refusal::WrongAction | Refusal::TooDeep => StatusCode::CONFLICT,
+        Refusal::NoSuchClerk => StatusCode::INTERNAL_SERVER_ERROR,
+        Refusal::Full(_) | Refusal::Stopped | Refusal::Memory => StatusCode::SERVICE_UNAVAILABLE,
+    }
+}
+
+/// The status code and the word of what isn't told.
+fn trouble_told(trouble: Trouble) -> (StatusCode, &'static str) {
+    match trouble {
+        Trouble::Refused(Refusal::BadAddresses) => (StatusCode::BAD_REQUEST, "BadQuery"),
+        Trouble::Refused(refusal) => (refusal_status(refusal), refusal.name()),
+        Trouble::Worn => (StatusCode::SERVICE_UNAVAILABLE, "Worn"),
+        Trouble::NoSuchJournal => (StatusCode::NOT_FOUND, "NoSuchJournal"),
+    }
+}
+
+/// The status code and the word of a request that may not be made.
+fn admission_told(admission: Admission) -> (StatusCode, &'static str) {
+    match admission {
+        Admission::Admitted => (StatusCode::OK, "Admitted"),
+        Admission::WrongKey => (StatusCode::UNAUTHORIZED, "WrongKey"),
+        Admission::WrongHost => (StatusCode::FORBIDDEN, "WrongHost"),
+        Admission::Forged => (StatusCode::FORBIDDEN, "Forged"),
+        Admission::NeedsKey => (StatusCode::FORBIDDEN, "NeedsKey"),
+    }
+}
+
+/// An object of one text.
+fn one_text(
+    alloc: Global,
+    status: StatusCode,
+    key: &'static str,
+    text: &str,
+) -> Result<Reply, Memory>
+    ensures { IfOk result (λ reply. reply.status ≡ status) }
+{
+    let mut reply = Reply::new(status, Kind::Json, Vec::new(alloc));
+    put_text(alloc, &mut reply.text, key, text)?;
+    Ok(reply)
+}
+
+/// The status that an order came to.
+fn status_told(told: Told) -> &'static str {
+    match told {
+        Told::Now(status) | Told::Already(status) => status.name(),
+        Told::MemberNow(status) | Told::MemberAlready(status) => status.name(),
+        _ => "Done",
+    }
+}
+
+/// Whether a body is a form's.
+fn is_form(asked: &Asked) -> bool {
+    match &asked.kind {
+        Some(kind) => kind
+            .as_str()
+            .starts_with("application/x-www-form-urlencoded"),
+        None => false,
+    }
+}
+
+impl Port {
+    /// One that has counted nothing yet.
+    pub fn new(alloc: Global) -> Result<Port, Memory> {
+        let routes = Routes::new(alloc)?;
+        Ok(Port {
+            alloc,
+            routes,
+            memo: Memo::new(alloc),
+        })
+    }
+
+    /// What isn't served.
+    fn tell_unserved<O: Overview>(
+        &self,
+        overview: &O,
+        asked: &Asked,
+        unserved: Unserved,
+    ) -> Result<Reply, Memory> {
+        match unserved {
+            Unserved::BadMethod(place) => {
+                let mut reply = one_text(
+                    self.alloc,
+                    StatusCode::METHOD_NOT_ALLOWED,
+                    "error",
+                    "BadMethod",
+                )?;
+                reply.field = Some(("Allow", place.method()));
+                Ok(reply)
+            }
+            Unserved::NoSuchPath => self.tell_no_path(overview, asked.request.target.as_str()),
+        }
+    }
+
+    /// That nothing is served at a target: as a page where it looks like one.
+    fn tell_no_path<O: Overview>(&self, overview: &O, target: &str) -> Result<Reply, Memory> {
+        let code = StatusCode::NOT_FOUND;
+        if !target.starts_with("/page") {
+            return one_text(self.alloc, code, "error", "NoSuchPath");
+        }
+        let Some(instance) = overview.instance(0) else {
+            return one_text(self.alloc, code, "error", "NoSuchPath");
+        };
+        let names = Names::new(self.alloc, instance, overview.base());
+        let mut reply = Reply::new(code, Kind::Page, Vec::new(self.alloc));
+        put_plain_page(&mut reply.text, &names, "There is no such page", target)?;
+        Ok(reply)
+    }
+
+    /// What is told at a place where nothing is ordered.
+    fn tell<O: Overview>(
+        &mut self,
+        overview: &mut O,
+        access: &Access<'_>,
+        place: Place,
+        target: &str,
+    ) -> Result<Reply, Trouble>
+        ensures { O.orders overview.new ≡ O.orders overview.old }
+    {
+        let alloc = self.alloc;
+        let memo = &mut self.memo;
+        let forms = Forms {
+            token: access.token,
+            have_key: access.key.is_some(),
+        };
+        match place {
+            Place::Health => tell_health(alloc, overview, memo, Probe::Whole),
+            Place::Live => tell_health(alloc, overview, memo, Probe::Live),
+            Place::Ready => tell_health(alloc, overview, memo, Probe::Ready),
+            Place::Started => tell_health(alloc, overview, memo, Probe::Started),
+            Place::Metrics => tell_metrics(alloc, overview, memo),
+            Place::Actions => tell_actions(alloc, overview, target),
+            Place::Action => tell_action(alloc, overview, target),
+            Place::Home => tell_home(alloc, overview, memo, &forms, target),
+            _ => tell_tree(alloc, overview, &forms, target),
+        }
+    }
+
+    /// Gives the order that a request asks for at a place.
+    fn order<O: Overview>(
+        &self,
+        overview: &mut O,
+        asked: &Asked,
+        place: Place,
+    ) -> Result<Reply, Trouble>
+        ensures { Orders (string_bytes asked.now.request.target) place (O.orders overview.old) (O.orders overview.new) }
+    {
+        match order_at(self.alloc, overview, asked, place) {
+            Ok(told) => self.tell_done(asked, told),
+            Err(trouble) => Err(trouble),
+        }
+    }
+
+    /// What an order came to: a browser is sent to the first page.
+    fn tell_done(&self, asked: &Asked, told: Told) -> Result<Reply, Trouble> {
+        let mut reply = one_text(self.alloc, StatusCode::OK, "status", status_told(told))?;
+        if is_form(asked) {
+            reply.status = StatusCode::SEE_OTHER;
+            reply.field = Some(("Location", "/"));
+        }
+        Ok(reply)
+    }
+
+    /// What is told or ordered at a place.
+    fn serve<O: Overview>(
+        &mut self,
+        overview: &mut O,
+        access: &Access<'_>,
+        asked: &Asked,
+        place: Place,
+    ) -> Result<Reply, Trouble>
+        ensures asked { Orders (string_bytes asked.now.request.target) place (O.orders overview.old) (O.orders overview.new) }
+        ensures none { is_order place ≡ false → O.orders overview.new ≡ O.orders overview.old }
+    {
+        if place.is_order() {
+            return self.order(overview, asked, place);
+        }
+        self.tell(overview, access, place, asked.request.target.as_str())
+    }
+
+    /// Why a request may not be made.
+    fn tell_denied(&self, admission: Admission) -> Result<Reply, Memory> {
+        let (status, word) = admission_told(admission);
+        let mut reply = one_text(self.alloc, status, "error", word)?;
+        if admission == Admission::WrongKey {
+            reply.field = Some(("WWW-Authenticate", "Basic realm=\"lra\", charset=\"UTF-8\""));
+        }
+        Ok(reply)
+    }
+
+    /// What a request that may be made is answered.
+    fn respond_to<O: Overview>(
+        &mut self,
+        overview: &mut O,
+        access: &Access<'_>,
+        asked: &Asked,
+        place: Place,
+    ) -> Result<Reply, Memory>
+        ensures asked { Orders (string_bytes asked.now.request.target) place (O.orders overview.old) (O.orders overview.new) }
+        ensures none { is_order place ≡ false → O.orders overview.new ≡ O.orders overview.old }
+    {
+        match self.serve(overview, access, asked, place) {
+            Ok(reply) => Ok(reply),
+            Err(trouble) => {
+                let (status, word) = trouble_told(trouble);
+                one_text(self.alloc, status, "error", word)
+            }
+        }
+    }
+
+    /// What a request that has a route is answered.
+    fn respond<O: Overview>(
+        &mut self,
+        overview: &mut O,
+        access: &Access<'_>,
+        asked: &Asked,
+        place: Place,
+    ) -> Result<Reply, Memory>
+        ensures asked { Orders (string_bytes asked.now.request.target) place (O.orders overview.old) (O.orders overview.new) }
+        ensures none { is_order place ≡ false → O.orders overview.new ≡ O.orders overview.old }
+        ensures denied { admission_of (seen access.now asked.now place) ≢ Admission.Admitted → O.orders overview.new ≡ O.orders overview.old }
+    {
+        let admission = access.admit(self.alloc, asked, place)?;
+        match admission {
+            Admission::Admitted => self.respond_to(overview, access, asked, place),
+            denied => self.tell_denied(denied),
+        }
+    }
+
+    /// What a request is replied. One whose route orders nothing gives no order, nor does one that may not be made, and any other gives that of its place alone, for what its path names, or none.
+    pub fn answer<O: Overview>(
+        &mut self,
+        overview: &mut O,
+        access: &Access<'_>,
+        asked: &Asked,
+    ) -> Result<Reply, Memory>
+        ensures most { AddsOne (O.orders overview.old) (O.orders overview.new) }
+        ensures asked { (place : Place) → route_of (request_of asked.now.request).method (request_of asked.now.request).target ≡ Ok place → Orders (request_of asked.now.request).target place (O.orders overview.old) (O.orders overview.new) }
+        ensures none { gives_order (route_of (request_of asked.now.request).method (request_of asked.now.request).target) ≡ false → O.orders overview.new ≡ O.orders overview.old }
+        ensures denied { (place : Place) → route_of (request_of asked.now.request).method (request_of asked.now.request).target ≡ Ok place → admission_of (seen access.now asked.now place) ≢ Admission.Admitted → O.orders overview.new ≡ O.orders overview.old }
+    {
+        let method = asked.request.method.as_str();
+        let target = asked.request.target.as_str();
+        match self.routes.route(method, target) {
+            Ok(place) => self.respond(overview, access, asked, place),
+            Err(unserved) => self.tell_unserved(overview, asked, unserved),
+        }
+    }
+
+    /// What is replied where a request can't be read.
+    pub fn refuse(&self, status: StatusCode, word: &str) -> Result<Reply, Memory>
+        ensures { IfOk result (λ reply. reply.status ≡ status) }
+    {
+        one_text(self.alloc, status, "error", word)
+    }
+}

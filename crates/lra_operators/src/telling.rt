@@ -1,0 +1,468 @@
+//! What is told at each place where nothing is ordered.
+
+ghost use Rattle.std.specs.Prelude.{◌≡◌, IfSome, IfOk};
+ghost use Rattle.lra_ids.specs.Identifiers.{id_text, IsSpelling};
+ghost use Rattle.lra_operators.specs.Routes.{path_in as path_of, id_in as id_of};
+
+use crate::asked::in_form;
+use crate::memo::{Counted, Memo};
+use crate::reply::{Kind, Reply};
+use crate::route::{id_in, path_in, query_in};
+use http::StatusCode;
+use lra_commands::{Listing, Query, Refusal};
+use lra_ids::{Instance, read_id};
+use lra_model::{ActionStatus, Memory};
+use lra_overview::{
+    Answered, Counts, Facts, Forms, Names, Node, Overview, Probe, Shown, Trouble, Waiting,
+    all_waiting, is_up, list_actions, list_unended, put_action, put_action_page, put_actions,
+    put_health, put_home, put_metrics, show_action, tree_of,
+};
+use std::alloc::Global;
+
+/// How many actions a page has, and how many at most.
+const USUAL: u64 = 100;
+
+const MOST: u64 = 1_000;
+
+/// The first journal.
+pub(crate) fn first_of<O: Overview>(overview: &O) -> Result<Instance, Trouble> {
+    overview.instance(0).ok_or(Trouble::NoSuchJournal)
+}
+
+/// What an identifier names: the instance of its journal, and its number there.
+#[derive(Clone, Copy, Debug, PartialEq, Eq)]
+pub(crate) struct Named {
+    pub instance: Instance,
+    pub number: u64,
+}
+
+/// What an identifier names, of the journals that are there.
+pub(crate) fn find_named<O: Overview>(overview: &O, id: &str) -> Option<Named>
+    ensures { IfSome result (λ found. IsSpelling (id_text found.instance) id.now found.number) }
+{
+    for place in 0..u64::MAX {
+        let instance = overview.instance(place)?;
+        if let Some(number) = read_id(id, instance) {
+            return Some(Named { instance, number });
+        }
+    }
+    None
+}
+
+/// The action that a request's path names.
+pub(crate) fn action_named<O: Overview>(overview: &O, target: &str) -> Result<Named, Trouble>
+    ensures { IfOk result (λ found. IsSpelling (id_text found.instance) (id_of (path_of target.now)) found.number) }
+{
+    match find_named(overview, id_in(path_in(target))) {
+        Some(found) => Ok(found),
+        None => Err(Trouble::Refused(Refusal::NoSuchAction)),
+    }
+}
+
+/// A list of actions as it is asked for.
+#[derive(Clone, Copy, Debug, PartialEq, Eq)]
+struct Wanted {
+    instance: Instance,
+    status: Option<ActionStatus>,
+    from: u64,
+    most: u64,
+}
+
+/// A text of a query.
+fn text_in(alloc: Global, query: &str, name: &str) -> Result<Option<String>, Trouble> {
+    Ok(in_form(alloc, query.as_bytes(), name)?)
+}
+
+/// The status that a query names, or nothing. A word that is none is a fault.
+fn status_in(alloc: Global, query: &str) -> Result<Option<ActionStatus>, Trouble> {
+    let Some(word) = text_in(alloc, query, "state")? else {
+        return Ok(None);
+    };
+    match ActionStatus::from_name(word.as_str().as_bytes()) {
+        Some(status) => Ok(Some(status)),
+        None => Err(Trouble::Refused(Refusal::BadAddresses)),
+    }
+}
+
+/// How many rows a query asks for.
+fn most_in(alloc: Global, query: &str) -> Result<u64, Trouble> {
+    let Some(word) = text_in(alloc, query, "limit")? else {
+        return Ok(USUAL);
+    };
+    match word.as_str().parse::<u64>() {
+        Ok(number) => Ok(number.max(1).min(MOST)),
+        Err(_) => Err(Trouble::Refused(Refusal::BadAddresses)),
+    }
+}
+
+/// From where on a query asks for rows: from an action on.
+fn from_in<O: Overview>(
+    alloc: Global,
+    overview: &O,
+    query: &str,
+) -> Result<Option<Named>, Trouble> {
+    let Some(id) = text_in(alloc, query, "from")? else {
+        return Ok(None);
+    };
+    match find_named(overview, id.as_str()) {
+        Some(found) => Ok(Some(found)),
+        None => Err(Trouble::Refused(Refusal::NoSuchAction)),
+    }
+}
+
+/// The journal that a query names by its place, if it names one: the oldest has the place 0.
+fn journal_in<O: Overview>(
+    alloc: Global,
+    overview: &O,
+    query: &str,
+) -> Result<Option<Instance>, Trouble> {
+    let Some(word) = text_in(alloc, query, "journal")? else {
+        return Ok(None);
+    };
+    match word.as_str().parse::<u64>() {
+        Ok(place) => match overview.instance(place) {
+            Some(instance) => Ok(Some(instance)),
+            None => Err(Trouble::NoSuchJournal),
+        },
+        Err(_) => Err(Trouble::Refused(Refusal::BadAddresses)),
+    }
+}
+
+/// The list that a target asks for, of one journal unless it names another.
+fn wanted_in<O: Overview>(
+    alloc: Global,
+    overview: &O,
+    usual: Instance,
+    target: &str,
+) -> Result<Wanted, Trouble> {
+    let query = query_in(target);
+    let status = status_in(alloc, query)?;
+    let most = most_in(alloc, query)?;
+    let named = journal_in(alloc, overview, query)?;
+    let found = from_in(alloc, overview, query)?;
+    let (instance, from) = match found {
+        Some(found) => (found.instance, found.number.saturating_sub(1)),
+        None => (named.unwrap_or(usual), 0),
+    };
+    Ok(Wanted {
+        instance,
+        status,
+        from,
+        most,
+    })
+}
+
+/// A reply of an empty page, which is filled.
+fn empty(alloc: Global, kind: Kind) -> Reply {
+    Reply::new(StatusCode::OK, kind, Vec::new(alloc))
+}
+
+/// Whether the coordinator of each journal answers, and there is one.
+fn all_answer<O: Overview>(overview: &mut O) -> bool
+    ensures { O.orders overview.new ≡ O.orders overview.old }
+{
+    let query = Query::Count {
+        of: Listing::Actions { status: None },
+        place: 0,
+    };
+    for place in 0..u64::MAX {
+        let Some(instance) = overview.instance(place) else {
+            return place > 0;
+        };
+        if overview.query(instance, query).is_err() {
+            return false;
+        }
+    }
+    false
+}
+
+/// How many there are in the newest journal, where the coordinators answer.
+fn answered_in<O: Overview>(
+    alloc: Global,
+    overview: &mut O,
+    memo: &mut Memo,
+    moment: u64,
+) -> Option<Answered>
+    ensures { O.orders overview.new ≡ O.orders overview.old }
+{
+    if !all_answer(overview) {
+        return None;
+    }
+    let Ok(known) = Memo::look(memo, alloc, overview, moment) else {
+        return None;
+    };
+    let newest = known.newest()?;
+    Some(Answered {
+        actions: newest.counts.actions,
+        members: newest.counts.members,
+    })
+}
+
+/// A service's health, as a probe asks for it.
+pub(crate) fn tell_health<O: Overview>(
+    alloc: Global,
+    overview: &mut O,
+    memo: &mut Memo,
+    probe: Probe,
+) -> Result<Reply, Trouble>
+    ensures { O.orders overview.new ≡ O.orders overview.old }
+{
+    let facts = overview.facts();
+    let answered = answered_in(alloc, overview, memo, facts.moment);
+    let mut reply = empty(alloc, Kind::Json);
+    if !is_up(probe, &facts, &answered) {
+        reply.status = StatusCode::SERVICE_UNAVAILABLE;
+    }
+    put_health(&mut reply.text, probe, &facts, &answered)?;
+    Ok(reply)
+}
+
+/// Adds what is measured, of what was counted.
+fn put_measures(page: &mut Vec<u8>, facts: &Facts, memo: &Memo) -> Result<(), Trouble> {
+    let newest = match memo.newest() {
+        Some(counted) => counted.counts,
+        None => Counts::none(),
+    };
+    put_metrics(page, facts, &memo.total(), &newest, memo.age(facts.moment))?;
+    Ok(())
+}
+
+/// What is measured.
+pub(crate) fn tell_metrics<O: Overview>(
+    alloc: Global,
+    overview: &mut O,
+    memo: &mut Memo,
+) -> Result<Reply, Trouble>
+    ensures { O.orders overview.new ≡ O.orders overview.old }
+{
+    let facts = overview.facts();
+    let known = Memo::look(memo, alloc, overview, facts.moment)?;
+    let mut reply = empty(alloc, Kind::Metrics);
+    put_measures(&mut reply.text, &facts, known)?;
+    overview.put_tallies(&mut reply.text)?;
+    Ok(reply)
+}
+
+/// A list of actions.
+pub(crate) fn tell_actions<O: Overview>(
+    alloc: Global,
+    overview: &mut O,
+    target: &str,
+) -> Result<Reply, Trouble>
+    ensures { O.orders overview.new ≡ O.orders overview.old }
+{
+    let usual = first_of(overview)?;
+    let wanted = wanted_in(alloc, overview, usual, target)?;
+    let listed = list_actions(
+        alloc,
+        overview,
+        wanted.instance,
+        wanted.status,
+        wanted.from,
+        wanted.most as usize,
+    )?;
+    let names = Names::new(alloc, wanted.instance, overview.base());
+    let mut reply = empty(alloc, Kind::Json);
+    let added = put_actions(&mut reply.text, &names, listed.rows.as_slice(), listed.next);
+    drop(listed);
+    added?;
+    Ok(reply)
+}
+
+/// Adds an action with its members.
+fn lay_action(reply: &mut Reply, names: &Names<'_>, shown: &Shown) -> Result<(), Memory> {
+    let waiting = Waiting {
+        row: shown.row,
+        awaited: shown.awaited,
+    };
+    put_action(
+        &mut reply.text,
+        names,
+        &waiting,
+        shown.members.as_slice(),
+        shown.nested.as_slice(),
+        shown.is_cut,
+    )
+}
+
+/// An action with its members.
+pub(crate) fn tell_action<O: Overview>(
+    alloc: Global,
+    overview: &mut O,
+    target: &str,
+) -> Result<Reply, Trouble>
+    ensures { O.orders overview.new ≡ O.orders overview.old }
+{
+    let found = action_named(overview, target)?;
+    let shown = show_action(alloc, overview, found.instance, found.number)?;
+    let names = Names::new(alloc, found.instance, overview.base());
+    let mut reply = empty(alloc, Kind::Json);
+    let added = lay_action(&mut reply, &names, &shown);
+    drop(shown);
+    added?;
+    Ok(reply)
+}
+
+/// What is waited for in a journal, from a place on, and the action to go on from.
+#[derive(Debug, Drop)]
+struct Hanging {
+    waiting: Vec<Waiting>,
+    next: Option<u64>,
+}
+
+/// What hasn't ended in a journal, as its census knows where such is.
+fn find_hanging<O: Overview>(
+    alloc: Global,
+    overview: &mut O,
+    counted: &Counted,
+    wanted: Wanted,
+) -> Result<Hanging, Trouble>
+    ensures { O.orders overview.new ≡ O.orders overview.old }
+{
+    let instance = wanted.instance;
+    let most = wanted.most as usize;
+    let listed = list_unended(
+        alloc,
+        overview,
+        instance,
+        &counted.census,
+        wanted.from,
+        most,
+    )?;
+    let next = listed.next;
+    let gathered = all_waiting(alloc, overview, instance, listed.rows.as_slice());
+    drop(listed);
+    match gathered {
+        Ok(waiting) => Ok(Hanging { waiting, next }),
+        Err(trouble) => Err(trouble),
+    }
+}
+
+/// Adds the first page, of what was counted and what hangs.
+fn lay_home(
+    alloc: Global,
+    names: &Names<'_>,
+    forms: &Forms<'_>,
+    total: &Counts,
+    found: &Hanging,
+) -> Result<Reply, Trouble> {
+    let mut reply = empty(alloc, Kind::Page);
+    put_home(
+        &mut reply.text,
+        names,
+        forms,
+        total.shares.as_slice(),
+        found.waiting.as_slice(),
+        found.next,
+    )?;
+    Ok(reply)
+}
+
+/// The first page, of one journal.
+fn show_journal<O: Overview>(
+    alloc: Global,
+    overview: &mut O,
+    counted: &Counted,
+    total: &Counts,
+    forms: &Forms<'_>,
+    wanted: Wanted,
+) -> Result<Reply, Trouble>
+    ensures { O.orders overview.new ≡ O.orders overview.old }
+{
+    let instance = wanted.instance;
+    let found = find_hanging(alloc, overview, counted, wanted)?;
+    let names = Names::new(alloc, instance, overview.base());
+    lay_home(alloc, &names, forms, total, &found)
+}
+
+/// The first page, of what was counted.
+fn show_home<O: Overview>(
+    alloc: Global,
+    overview: &mut O,
+    known: &Memo,
+    forms: &Forms<'_>,
+    target: &str,
+) -> Result<Reply, Trouble>
+    ensures { O.orders overview.new ≡ O.orders overview.old }
+{
+    let total = known.total();
+    let Some(first) = known.first_open() else {
+        return Err(Trouble::NoSuchJournal);
+    };
+    let wanted = wanted_in(alloc, overview, first.instance, target)?;
+    match known.journal(wanted.instance) {
+        Some(counted) => show_journal(alloc, overview, counted, &total, forms, wanted),
+        None => Err(Trouble::NoSuchJournal),
+    }
+}
+
+/// The first page: what hasn't ended, the oldest first. Unless another journal is named, it is of the first in which there is something.
+pub(crate) fn tell_home<O: Overview>(
+    alloc: Global,
+    overview: &mut O,
+    memo: &mut Memo,
+    forms: &Forms<'_>,
+    target: &str,
+) -> Result<Reply, Trouble>
+    ensures { O.orders overview.new ≡ O.orders overview.old }
+{
+    let moment = overview.facts().moment;
+    let known = Memo::look(memo, alloc, overview, moment)?;
+    show_home(alloc, overview, known, forms, target)
+}
+
+/// Adds an action's page.
+fn lay_tree(
+    alloc: Global,
+    names: &Names<'_>,
+    forms: &Forms<'_>,
+    row: &Waiting,
+    nodes: &[Node],
+) -> Result<Reply, Trouble> {
+    let mut reply = empty(alloc, Kind::Page);
+    put_action_page(&mut reply.text, names, forms, row, nodes)?;
+    Ok(reply)
+}
+
+/// An action's page.
+pub(crate) fn tell_tree<O: Overview>(
+    alloc: Global,
+    overview: &mut O,
+    forms: &Forms<'_>,
+    target: &str,
+) -> Result<Reply, Trouble>
+    ensures { O.orders overview.new ≡ O.orders overview.old }
+{
+    let id = id_in(after_first_piece(path_in(target)));
+    let found = find_named(overview, id).ok_or(Trouble::Refused(Refusal::NoSuchAction))?;
+    let row = show_row(alloc, overview, found.instance, found.number)?;
+    let nodes = tree_of(alloc, overview, found.instance, found.number)?;
+    let names = Names::new(alloc, found.instance, overview.base());
+    lay_tree(alloc, &names, forms, &row, nodes.as_slice())
+}
+
+/// A path without its first piece.
+fn after_first_piece(path: &str) -> &str {
+    match path.split_once("/page") {
+        Some((_, rest)) => rest,
+        None => path,
+    }
+}
+
+/// An action, and what it waits for.
+fn show_row<O: Overview>(
+    alloc: Global,
+    overview: &mut O,
+    instance: Instance,
+    action: u64,
+) -> Result<Waiting, Trouble>
+    ensures { O.orders overview.new ≡ O.orders overview.old }
+{
+    let shown = show_action(alloc, overview, instance, action)?;
+    let waiting = Waiting {
+        row: shown.row,
+        awaited: shown.awaited,
+    };
+    drop(shown);
+    Ok(waiting)
+}

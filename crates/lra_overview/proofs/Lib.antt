@@ -1,0 +1,4 @@
+pub mod Chains
+pub mod Marks
+pub mod Refers
+pub mod Referring

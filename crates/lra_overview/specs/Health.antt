@@ -1,0 +1,131 @@
+-- When a service is well.
+use Rattle.std.specs.Prelude.{ℕ, ◌-◌, nat_lt, Bool, true, false, ◌&&◌, not, cond, List, [], ◌∷◌, codes, Option, Some, None, is_some}
+use Rattle.std.specs.Fmt.{decimal}
+use Rattle.lra_overview.specs.declared.overview.Facts.{Facts}
+use Rattle.lra_overview.specs.declared.health.Probe.{Probe}
+use Rattle.lra_overview.specs.declared.health.Probe.TheVariants as probe
+use Rattle.lra_overview.specs.declared.health.Answered.{Answered}
+use Rattle.lra_overview.specs.Laying.{joined}
+
+-- the journal takes and keeps what is written
+abbrev pub keeps : Facts → Bool
+keeps facts = not facts.has_failed
+
+-- of what the coordinator told there are fewer than there may be; where it told nothing, nothing is known
+abbrev pub counts_fit : Facts → Option Answered → Bool
+counts_fit facts (Some told) = nat_lt told.actions facts.most_actions && nat_lt told.members facts.most_members
+counts_fit facts None = true
+
+-- there is room for bytes, entries, actions and members
+abbrev pub has_room : Facts → Option Answered → Bool
+has_room facts answered = nat_lt facts.bytes facts.most_bytes && nat_lt facts.entries facts.most_entries && counts_fit facts answered
+
+-- all checks of a probe come out well (MicroProfile Health 4.0, liveness, readiness and startup)
+abbrev pub is_up : Probe → Facts → Option Answered → Bool
+is_up probe.Whole facts answered = keeps facts && is_some answered && has_room facts answered
+is_up probe.Live facts answered = keeps facts && is_some answered
+is_up probe.Ready facts answered = keeps facts && is_some answered && has_room facts answered
+is_up probe.Started facts answered = true
+
+-- ---- texts (MicroProfile Health 4.0, the response's JSON)
+
+-- the word for what came of a check
+abbrev pub word : Bool → List ℕ
+word up = cond up (codes "UP") (codes "DOWN")
+
+-- a check's beginning: its name and what came of it
+abbrev pub check : List ℕ → Bool → List ℕ
+check name up = joined (codes "{\"name\":\"" ∷ name ∷ codes "\",\"status\":\"" ∷ word up ∷ codes "\"" ∷ [])
+
+-- a number of a check's data
+abbrev pub measured : List ℕ → ℕ → List ℕ
+measured name n = joined (codes "\"" ∷ name ∷ codes "\":" ∷ decimal n ∷ [])
+
+-- whether the journal takes and keeps what is written
+abbrev pub journal : Facts → List ℕ
+journal facts =
+    joined
+    (check (codes "journal") (keeps facts)
+    ∷ codes ",\"data\":{"
+    ∷ measured (codes "bytes") facts.bytes
+    ∷ codes ","
+    ∷ measured (codes "entries") facts.entries
+    ∷ codes "}}"
+    ∷ []
+    )
+
+-- that the coordinator answers, and what it told
+abbrev pub answer : Answered → List ℕ
+answer told =
+    joined
+    (check (codes "lock") true
+    ∷ codes ",\"data\":{"
+    ∷ measured (codes "actions") told.actions
+    ∷ codes ","
+    ∷ measured (codes "members") told.members
+    ∷ codes "}}"
+    ∷ []
+    )
+
+-- that it doesn't
+abbrev pub silence : List ℕ
+silence = joined (check (codes "lock") false ∷ codes "}" ∷ [])
+
+-- whether it answers
+abbrev pub lock : Option Answered → List ℕ
+lock (Some told) = answer told
+lock None = silence
+
+-- the room for actions and members
+abbrev pub room_left : Facts → Answered → List ℕ
+room_left facts told =
+    joined
+    (codes ","
+    ∷ measured (codes "actions") (facts.most_actions - told.actions)
+    ∷ codes ","
+    ∷ measured (codes "members") (facts.most_members - told.members)
+    ∷ []
+    )
+
+-- the same, where it is known how many there are
+abbrev pub room_counted : Facts → Option Answered → List ℕ
+room_counted facts (Some told) = room_left facts told
+room_counted facts None = []
+
+-- whether there is room, and how much
+abbrev pub room : Facts → Option Answered → List ℕ
+room facts answered =
+    joined
+    (check (codes "room") (has_room facts answered)
+    ∷ codes ",\"data\":{"
+    ∷ measured (codes "bytes") (facts.most_bytes - facts.bytes)
+    ∷ codes ","
+    ∷ measured (codes "entries") (facts.most_entries - facts.entries)
+    ∷ room_counted facts answered
+    ∷ codes "}}"
+    ∷ []
+    )
+
+-- whether it has begun: that is so where anything is told
+abbrev pub started : List ℕ
+started = joined (check (codes "started") true ∷ codes "}" ∷ [])
+
+-- the checks of whether it should be started anew
+abbrev pub live : Facts → Option Answered → List ℕ
+live facts answered = joined (journal facts ∷ codes "," ∷ lock answered ∷ [])
+
+-- those of whether it can be sent requests
+abbrev pub ready : Facts → Option Answered → List ℕ
+ready facts answered = joined (live facts answered ∷ codes "," ∷ room facts answered ∷ [])
+
+-- the checks of a probe
+abbrev pub checks : Probe → Facts → Option Answered → List ℕ
+checks probe.Whole facts answered = ready facts answered
+checks probe.Live facts answered = live facts answered
+checks probe.Ready facts answered = ready facts answered
+checks probe.Started facts answered = started
+
+-- the health of a service, as a probe asks for it
+unfoldable pub health : Probe → Facts → Option Answered → List ℕ
+health p facts answered =
+    joined (codes "{\"status\":\"" ∷ word (is_up p facts answered) ∷ codes "\",\"checks\":[" ∷ checks p facts answered ∷ codes "]}\n" ∷ [])

@@ -1,0 +1,7 @@
+pub mod Orders
+pub mod Health
+pub mod Laying
+pub mod Pictures
+pub mod Pages
+pub mod Lists
+pub mod Marks

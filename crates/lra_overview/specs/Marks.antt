@@ -1,0 +1,59 @@
+-- That no text from elsewhere is read as markup.
+use Rattle.std.specs.Prelude.{◌≡◌, ℕ, ◌==◌, Bool, true, false, ◌&&◌, if◌then◌else◌, List, [], ◌∷◌, codes, filter, Option}
+use Rattle.std.specs.List.{list_any}
+use Rattle.lra_escape.specs.Escapes.{is_bare}
+use Rattle.lra_overview.specs.declared.shares.Share.{Share}
+use Rattle.lra_overview.specs.declared.gather.Waiting.{Waiting}
+use Rattle.lra_overview.specs.declared.tree.Node.{Node}
+use Rattle.lra_overview.specs.Pages as pages
+
+-- the marks of a text, in order: each `<`, `>`, `"` and `'`, by which HTML tells tags and quoted values
+abbrev pub marks : List ℕ → List ℕ
+marks text = filter is_bare text
+
+-- the first page has the same marks whatever the base is, and the token of its forms
+abbrev pub HomeKeepsMarks : Type 0
+HomeKeepsMarks = (i : ℕ) (base other token word : List ℕ) (have_key : Bool) (shares : List Share) (rows : List Waiting) (next : Option ℕ)
+    → marks (pages.home i base token have_key shares rows next) ≡ marks (pages.home i other word have_key shares rows next)
+
+-- so does an action's page
+abbrev pub ActionKeepsMarks : Type 0
+ActionKeepsMarks = (i : ℕ) (base other token word : List ℕ) (have_key : Bool) (w : Waiting) (nodes : List Node)
+    → marks (pages.action i base token have_key w nodes) ≡ marks (pages.action i other word have_key w nodes)
+
+-- and a page of one sentence, whatever text it tells
+abbrev pub PlainKeepsMarks : Type 0
+PlainKeepsMarks = (base other sentence text told : List ℕ) → marks (pages.plain base sentence text) ≡ marks (pages.plain other sentence told)
+
+-- whether a text begins with another
+abbrev pub begins : List ℕ → List ℕ → Bool
+begins [] text = true
+begins (c ∷ front) [] = false
+begins (c ∷ front) (b ∷ text) = (b == c) && begins front text
+
+-- what stands behind the `&` of each of the five references
+abbrev pub references : List (List ℕ)
+references = codes "lt;" ∷ codes "gt;" ∷ codes "amp;" ∷ codes "quot;" ∷ codes "#39;" ∷ []
+
+-- whether one of them goes on so
+abbrev pub goes_on : List ℕ → Bool
+goes_on text = list_any (λ name. begins name text) references
+
+-- whether each `&` of a text begins one of the five references
+abbrev pub refers : List ℕ → Bool
+refers [] = true
+refers (b ∷ text) = (if b == 38 then goes_on text else true) && refers text
+
+-- each `&` of the first page begins a reference, whatever is told in it
+abbrev pub HomeRefers : Type 0
+HomeRefers = (i : ℕ) (base token : List ℕ) (have_key : Bool) (shares : List Share) (rows : List Waiting) (next : Option ℕ)
+    → refers (pages.home i base token have_key shares rows next) ≡ true
+
+-- so does each of an action's page
+abbrev pub ActionRefers : Type 0
+ActionRefers = (i : ℕ) (base token : List ℕ) (have_key : Bool) (w : Waiting) (nodes : List Node)
+    → refers (pages.action i base token have_key w nodes) ≡ true
+
+-- and of a page of one sentence, where that of the sentence do
+abbrev pub PlainRefers : Type 0
+PlainRefers = (base sentence text : List ℕ) → refers sentence ≡ true → refers (pages.plain base sentence text) ≡ true

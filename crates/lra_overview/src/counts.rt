@@ -1,0 +1,117 @@
+//! How many there are.
+
+ghost use Rattle.std.specs.Prelude.{◌≡◌};
+
+use crate::census::Census;
+use crate::faults::Trouble;
+use crate::overview::Overview;
+use crate::shares::{NONE, Shares, add_shares};
+use crate::unended::list_unended;
+use lra_commands::{CounterFault, Known, Query, Refusal};
+use lra_ids::Instance;
+use std::alloc::Global;
+
+/// How many bits the greatest number of an action or of a member has, at most: a journal has no more bytes than such a number says.
+const MOST_BITS: u32 = 31;
+
+/// How many there are, at some moment.
+#[derive(Clone, Copy, Debug, PartialEq, Eq)]
+pub struct Counts {
+    pub shares: Shares,
+    pub actions: u64,
+    pub members: u64,
+    /// The first action that hasn't ended.
+    pub oldest: Option<u64>,
+}
+
+impl Counts {
+    /// There is nothing.
+    pub fn none() -> Counts {
+        Counts {
+            shares: NONE,
+            actions: 0,
+            members: 0,
+            oldest: None,
+        }
+    }
+
+    /// Adds as many as another journal has.
+    pub fn add(&mut self, others: &Counts) {
+        add_shares(&mut self.shares, &others.shares);
+        self.actions = self.actions.saturating_add(others.actions);
+        self.members = self.members.saturating_add(others.members);
+    }
+}
+
+/// Whether what was asked is there.
+fn is_there(asked: Result<Known, CounterFault>) -> Result<bool, Trouble> {
+    match asked {
+        Ok(_) => Ok(true),
+        Err(CounterFault::Refused(Refusal::NoSuchAction | Refusal::NoSuchMember)) => Ok(false),
+        Err(fault) => Err(Trouble::from(fault)),
+    }
+}
+
+/// How many members there are: they have the numbers from 1 on.
+fn count_members<O: Overview>(overview: &mut O, instance: Instance) -> Result<u64, Trouble>
+    ensures { O.orders overview.new ≡ O.orders overview.old }
+{
+    let mut found: u64 = 0;
+    for bit in 0..MOST_BITS {
+        let member = found | (1u64 << (MOST_BITS - 1 - bit));
+        if is_there(overview.query(instance, Query::MemberStatus { member }))? {
+            found = member;
+        }
+    }
+    Ok(found)
+}
+
+/// How many actions there are: they have the numbers from 1 on.
+fn count_actions<O: Overview>(overview: &mut O, instance: Instance) -> Result<u64, Trouble>
+    ensures { O.orders overview.new ≡ O.orders overview.old }
+{
+    let mut found: u64 = 0;
+    for bit in 0..MOST_BITS {
+        let action = found | (1u64 << (MOST_BITS - 1 - bit));
+        if is_there(overview.query(instance, Query::ActionStatus { action }))? {
+            found = action;
+        }
+    }
+    Ok(found)
+}
+
+/// The first action that hasn't ended, as a census knows where such are.
+fn oldest<O: Overview>(
+    alloc: Global,
+    overview: &mut O,
+    instance: Instance,
+    census: &Census,
+) -> Result<Option<u64>, Trouble>
+    ensures { O.orders overview.new ≡ O.orders overview.old }
+{
+    let listed = list_unended(alloc, overview, instance, census, 0, 1)?;
+    let first = listed.rows.as_slice().first().map(|row| row.action);
+    drop(listed);
+    Ok(first)
+}
+
+/// How many actions and members there are, by queries of 256 rows at most each. The census goes on from what it counted before.
+pub fn count_all<O: Overview>(
+    alloc: Global,
+    overview: &mut O,
+    instance: Instance,
+    census: &mut Census,
+) -> Result<Counts, Trouble>
+    ensures { O.orders overview.new ≡ O.orders overview.old }
+{
+    let actions = count_actions(overview, instance)?;
+    let members = count_members(overview, instance)?;
+    let shares = census.count(overview, instance)?;
+    let oldest = oldest(alloc, overview, instance, census)?;
+    Ok(Counts {
+        shares,
+        actions,
+        members,
+        oldest,
+    })
+}

@@ -1,0 +1,312 @@
+//! Gathers what is told of actions, one query after another.
+
+ghost use Rattle.std.specs.Prelude.{◌≡◌};
+
+use crate::faults::Trouble;
+use crate::overview::Overview;
+use lra_commands::{Awaited, Known, Listing, Query, Row, Want};
+use lra_ids::Instance;
+use lra_model::{ActionStatus, MemberStatus};
+use std::alloc::Global;
+
+/// How many rows of one action are shown at most.
+pub const MOST_SHOWN: usize = 1_000;
+
+/// An action of a list.
+#[derive(Clone, Copy, Debug, PartialEq, Eq)]
+pub struct ActionRow {
+    pub action: u64,
+    pub status: ActionStatus,
+    pub parent: Option<u64>,
+}
+
+/// A member of a list.
+#[derive(Clone, Copy, Debug, PartialEq, Eq)]
+pub struct MemberRow {
+    pub member: u64,
+    pub status: MemberStatus,
+    /// The ask of it that is outstanding.
+    pub ask: Option<u64>,
+    /// What it is to be asked next.
+    pub want: Option<Want>,
+}
+
+/// Actions of a list, and the action to go on from, where there may be more.
+#[derive(Debug, Drop)]
+pub struct Listed {
+    pub rows: Vec<ActionRow>,
+    pub next: Option<u64>,
+}
+
+/// An action that hasn't ended, and what it waits for.
+#[derive(Clone, Copy, Debug, PartialEq, Eq)]
+pub struct Waiting {
+    pub row: ActionRow,
+    pub awaited: Option<Awaited>,
+}
+
+/// An action with its members and the actions that are nested directly in it, and what it waits for.
+#[derive(Debug, Drop)]
+pub struct Shown {
+    pub row: ActionRow,
+    pub members: Vec<MemberRow>,
+    pub nested: Vec<ActionRow>,
+    pub awaited: Option<Awaited>,
+    /// Whether there are more members or nested actions than are shown.
+    pub is_cut: bool,
+}
+
+/// A row, and its place.
+#[derive(Clone, Copy, Debug, PartialEq, Eq)]
+pub(crate) struct Placed {
+    pub place: u64,
+    pub row: Row,
+}
+
+/// The next row of a listing, from a place on.
+fn next_row<O: Overview>(
+    overview: &mut O,
+    instance: Instance,
+    of: Listing,
+    from: u64,
+) -> Result<Option<Placed>, Trouble>
+    ensures { O.orders overview.new ≡ O.orders overview.old }
+{
+    let mut from = from;
+    for _part in 0..u64::MAX {
+        let known = overview.query(instance, Query::Row { of, place: from })?;
+        match known {
+            Known::Row { place, row } => return Ok(Some(Placed { place, row })),
+            Known::Further(next) => from = next,
+            _ => return Ok(None),
+        }
+    }
+    Ok(None)
+}
+
+/// The action at a place of the list of all.
+pub(crate) fn action_at(place: Option<u64>) -> Option<u64> {
+    match place {
+        Some(place) => Some(place.saturating_add(1)),
+        None => None,
+    }
+}
+
+/// The action of a row.
+pub(crate) fn action_in(row: Row) -> Option<ActionRow> {
+    match row {
+        Row::Action {
+            action,
+            status,
+            parent,
+        } => Some(ActionRow {
+            action,
+            status,
+            parent,
+        }),
+        Row::Member { .. } => None,
+    }
+}
+
+/// The member of a row.
+fn member_in(row: Row) -> Option<MemberRow> {
+    match row {
+        Row::Member {
+            member,
+            status,
+            ask,
+            want,
+        } => Some(MemberRow {
+            member,
+            status,
+            ask,
+            want,
+        }),
+        Row::Action { .. } => None,
+    }
+}
+
+/// Adds so many actions of a listing, from a place on. Tells the place to go on from, where there may be more.
+fn add_actions<O: Overview>(
+    overview: &mut O,
+    instance: Instance,
+    of: Listing,
+    from: u64,
+    most: usize,
+    rows: &mut Vec<ActionRow>,
+) -> Result<Option<u64>, Trouble>
+    ensures { O.orders overview.new ≡ O.orders overview.old }
+{
+    let mut from = from;
+    for _row in 0..most {
+        let Some(placed) = next_row(overview, instance, of, from)? else {
+            return Ok(None);
+        };
+        if let Some(row) = action_in(placed.row) {
+            rows.push(row)?;
+        }
+        from = placed.place.saturating_add(1);
+    }
+    Ok(Some(from))
+}
+
+/// Adds so many members of an action. Tells whether there may be more.
+fn add_members<O: Overview>(
+    overview: &mut O,
+    instance: Instance,
+    action: u64,
+    most: usize,
+    rows: &mut Vec<MemberRow>,
+) -> Result<bool, Trouble>
+    ensures { O.orders overview.new ≡ O.orders overview.old }
+{
+    let of = Listing::Members { action };
+    let mut from = 0;
+    for _row in 0..most {
+        let Some(placed) = next_row(overview, instance, of, from)? else {
+            return Ok(false);
+        };
+        if let Some(row) = member_in(placed.row) {
+            rows.push(row)?;
+        }
+        from = placed.place.saturating_add(1);
+    }
+    Ok(true)
+}
+
+/// So many actions, or those alone that have a status, those that were started first before the others, from a place on.
+pub fn list_actions<O: Overview>(
+    alloc: Global,
+    overview: &mut O,
+    instance: Instance,
+    status: Option<ActionStatus>,
+    from: u64,
+    most: usize,
+) -> Result<Listed, Trouble>
+    ensures { O.orders overview.new ≡ O.orders overview.old }
+{
+    let mut rows = Vec::new(alloc);
+    let of = Listing::Actions { status };
+    match add_actions(overview, instance, of, from, most, &mut rows) {
+        Ok(next) => Ok(Listed {
+            rows,
+            next: action_at(next),
+        }),
+        Err(trouble) => Err(trouble),
+    }
+}
+
+/// What an action waits for, if anything.
+pub fn waits_for<O: Overview>(
+    overview: &mut O,
+    instance: Instance,
+    action: u64,
+) -> Result<Option<Awaited>, Trouble>
+    ensures { O.orders overview.new ≡ O.orders overview.old }
+{
+    let mut from = 0;
+    for _part in 0..u64::MAX {
+        let known = overview.query(
+            instance,
+            Query::Awaited {
+                action,
+                place: from,
+            },
+        )?;
+        match known {
+            Known::Awaits { place: _, awaited } => return Ok(Some(awaited)),
+            Known::Further(next) => from = next,
+            _ => return Ok(None),
+        }
+    }
+    Ok(None)
+}
+
+/// Adds what each of some actions waits for.
+fn add_waiting<O: Overview>(
+    overview: &mut O,
+    instance: Instance,
+    rows: &[ActionRow],
+    waiting: &mut Vec<Waiting>,
+) -> Result<(), Trouble>
+    ensures { O.orders overview.new ≡ O.orders overview.old }
+{
+    for row in rows {
+        let awaited = waits_for(overview, instance, row.action)?;
+        waiting.push(Waiting { row: *row, awaited })?;
+    }
+    Ok(())
+}
+
+/// What each of some actions waits for.
+pub fn all_waiting<O: Overview>(
+    alloc: Global,
+    overview: &mut O,
+    instance: Instance,
+    rows: &[ActionRow],
+) -> Result<Vec<Waiting>, Trouble>
+    ensures { O.orders overview.new ≡ O.orders overview.old }
+{
+    let mut waiting = Vec::new(alloc);
+    match add_waiting(overview, instance, rows, &mut waiting) {
+        Ok(()) => Ok(waiting),
+        Err(trouble) => Err(trouble),
+    }
+}
+
+/// The row of an action.
+fn row_of<O: Overview>(
+    overview: &mut O,
+    instance: Instance,
+    action: u64,
+) -> Result<ActionRow, Trouble>
+    ensures { O.orders overview.new ≡ O.orders overview.old }
+{
+    let of = Listing::Actions { status: None };
+    let placed = next_row(overview, instance, of, action.saturating_sub(1))?;
+    match placed.and_then(|placed| action_in(placed.row)) {
+        Some(row) if row.action == action => Ok(row),
+        _ => Err(Trouble::Refused(lra_commands::Refusal::NoSuchAction)),
+    }
+}
+
+/// Adds what is shown of an action to lists that are empty.
+fn fill<O: Overview>(
+    overview: &mut O,
+    instance: Instance,
+    action: u64,
+    members: &mut Vec<MemberRow>,
+    nested: &mut Vec<ActionRow>,
+) -> Result<bool, Trouble>
+    ensures { O.orders overview.new ≡ O.orders overview.old }
+{
+    let cut = add_members(overview, instance, action, MOST_SHOWN, members)?;
+    let of = Listing::Nested { action };
+    let next = add_actions(overview, instance, of, 0, MOST_SHOWN, nested)?;
+    Ok(cut || next.is_some())
+}
+
+/// An action with its members, its nested actions and what it waits for.
+pub fn show_action<O: Overview>(
+    alloc: Global,
+    overview: &mut O,
+    instance: Instance,
+    action: u64,
+) -> Result<Shown, Trouble>
+    ensures { O.orders overview.new ≡ O.orders overview.old }
+{
+    let row = row_of(overview, instance, action)?;
+    let awaited = waits_for(overview, instance, action)?;
+    let mut members = Vec::new(alloc);
+    let mut nested = Vec::new(alloc);
+    match fill(overview, instance, action, &mut members, &mut nested) {
+        Ok(is_cut) => Ok(Shown {
+            row,
+            members,
+            nested,
+            awaited,
+            is_cut,
+        }),
+        Err(trouble) => Err(trouble),
+    }
+}

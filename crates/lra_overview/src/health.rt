@@ -1,0 +1,231 @@
+//! Whether a service is well (MicroProfile Health 4.0).
+
+ghost use Rattle.std.specs.Prelude.{◌≡◌, ◌++◌, OnOk};
+ghost use Rattle.lra_overview.specs.Health as spec;
+
+use crate::laying::{put, put_number};
+use crate::overview::Facts;
+use lra_model::Memory;
+
+/// What is asked of a service's health.
+#[derive(Clone, Copy, Debug, PartialEq, Eq)]
+pub enum Probe {
+    /// All of it.
+    Whole,
+    /// Whether it should be started anew.
+    Live,
+    /// Whether it can be sent requests.
+    Ready,
+    /// Whether it has begun.
+    Started,
+}
+
+/// How many actions and members there are, where the coordinator told it.
+#[derive(Clone, Copy, Debug, PartialEq, Eq)]
+pub struct Answered {
+    pub actions: u64,
+    pub members: u64,
+}
+
+/// Whether the journal takes and keeps what is written.
+fn keeps(facts: &Facts) -> bool
+    ensures { result ≡ spec.keeps facts.now }
+{
+    !facts.has_failed
+}
+
+/// Whether the journal has room, and so the coordinator for what there may be too much of.
+fn has_room(facts: &Facts, answered: &Option<Answered>) -> bool
+    ensures { result ≡ spec.has_room facts.now answered.now }
+{
+    let bytes = facts.bytes < facts.most_bytes;
+    let entries = facts.entries < facts.most_entries;
+    let counted = match answered {
+        Some(told) => told.actions < facts.most_actions && told.members < facts.most_members,
+        None => true,
+    };
+    bytes && entries && counted
+}
+
+/// Whether all checks of a probe came out well.
+pub fn is_up(probe: Probe, facts: &Facts, answered: &Option<Answered>) -> bool
+    ensures { result ≡ spec.is_up probe facts.now answered.now }
+{
+    match probe {
+        Probe::Started => true,
+        Probe::Live => keeps(facts) && answered.is_some(),
+        Probe::Ready | Probe::Whole => {
+            keeps(facts) && answered.is_some() && has_room(facts, answered)
+        }
+    }
+}
+
+/// The word for what came of a check.
+fn word(up: bool) -> &'static str
+    ensures { result.now ≡ spec.word up }
+{
+    if up { "UP" } else { "DOWN" }
+}
+
+/// Adds a check's beginning: its name and what came of it.
+fn begin_check(page: &mut Vec<u8>, name: &'static str, up: bool) -> Result<(), Memory>
+    ensures { OnOk result (page.new.items ≡ page.old.items ++ spec.check name.now up) }
+{
+    put(page, "{\"name\":\"")?;
+    put(page, name)?;
+    put(page, "\",\"status\":\"")?;
+    put(page, word(up))?;
+    put(page, "\"")
+}
+
+/// Adds a number of a check's data.
+fn put_data(page: &mut Vec<u8>, name: &'static str, number: u64) -> Result<(), Memory>
+    ensures { OnOk result (page.new.items ≡ page.old.items ++ spec.measured name.now number) }
+{
+    put(page, "\"")?;
+    put(page, name)?;
+    put(page, "\":")?;
+    put_number(page, number)
+}
+
+/// Adds whether the journal takes and keeps what is written.
+fn put_journal(page: &mut Vec<u8>, facts: &Facts) -> Result<(), Memory>
+    ensures { OnOk result (page.new.items ≡ page.old.items ++ spec.journal facts.now) }
+{
+    begin_check(page, "journal", keeps(facts))?;
+    put(page, ",\"data\":{")?;
+    put_data(page, "bytes", facts.bytes)?;
+    put(page, ",")?;
+    put_data(page, "entries", facts.entries)?;
+    put(page, "}}")
+}
+
+/// Adds that the coordinator answers, and what it told.
+fn put_answer(page: &mut Vec<u8>, told: Answered) -> Result<(), Memory>
+    ensures { OnOk result (page.new.items ≡ page.old.items ++ spec.answer told) }
+{
+    begin_check(page, "lock", true)?;
+    put(page, ",\"data\":{")?;
+    put_data(page, "actions", told.actions)?;
+    put(page, ",")?;
+    put_data(page, "members", told.members)?;
+    put(page, "}}")
+}
+
+/// Adds that the coordinator doesn't answer.
+fn put_silence(page: &mut Vec<u8>) -> Result<(), Memory>
+    ensures { OnOk result (page.new.items ≡ page.old.items ++ spec.silence) }
+{
+    begin_check(page, "lock", false)?;
+    put(page, "}")
+}
+
+/// Adds whether the coordinator answers.
+fn put_lock(page: &mut Vec<u8>, answered: &Option<Answered>) -> Result<(), Memory>
+    ensures { OnOk result (page.new.items ≡ page.old.items ++ spec.lock answered.now) }
+{
+    match answered {
+        Some(told) => put_answer(page, *told),
+        None => put_silence(page),
+    }
+}
+
+/// Adds the room for actions and members, where it is known how many there are.
+fn put_room_left(page: &mut Vec<u8>, facts: &Facts, told: Answered) -> Result<(), Memory>
+    ensures { OnOk result (page.new.items ≡ page.old.items ++ spec.room_left facts.now told) }
+{
+    let actions = facts.most_actions.saturating_sub(told.actions);
+    let members = facts.most_members.saturating_sub(told.members);
+    put(page, ",")?;
+    put_data(page, "actions", actions)?;
+    put(page, ",")?;
+    put_data(page, "members", members)
+}
+
+/// Adds the same, or nothing.
+fn put_room_counted(
+    page: &mut Vec<u8>,
+    facts: &Facts,
+    answered: &Option<Answered>,
+) -> Result<(), Memory>
+    ensures { OnOk result (page.new.items ≡ page.old.items ++ spec.room_counted facts.now answered.now) }
+{
+    match answered {
+        Some(told) => put_room_left(page, facts, *told),
+        None => Ok(()),
+    }
+}
+
+/// Adds whether there is room.
+fn put_room(page: &mut Vec<u8>, facts: &Facts, answered: &Option<Answered>) -> Result<(), Memory>
+    ensures { OnOk result (page.new.items ≡ page.old.items ++ spec.room facts.now answered.now) }
+{
+    let bytes = facts.most_bytes.saturating_sub(facts.bytes);
+    let entries = facts.most_entries.saturating_sub(facts.entries);
+    begin_check(page, "room", has_room(facts, answered))?;
+    put(page, ",\"data\":{")?;
+    put_data(page, "bytes", bytes)?;
+    put(page, ",")?;
+    put_data(page, "entries", entries)?;
+    put_room_counted(page, facts, answered)?;
+    put(page, "}}")
+}
+
+/// Adds the check of whether it has begun: that is so where anything is told.
+fn put_started(page: &mut Vec<u8>) -> Result<(), Memory>
+    ensures { OnOk result (page.new.items ≡ page.old.items ++ spec.started) }
+{
+    begin_check(page, "started", true)?;
+    put(page, "}")
+}
+
+/// Adds the checks of whether it should be started anew.
+fn put_live(page: &mut Vec<u8>, facts: &Facts, answered: &Option<Answered>) -> Result<(), Memory>
+    ensures { OnOk result (page.new.items ≡ page.old.items ++ spec.live facts.now answered.now) }
+{
+    put_journal(page, facts)?;
+    put(page, ",")?;
+    put_lock(page, answered)
+}
+
+/// Adds the checks of whether it can be sent requests.
+fn put_ready(page: &mut Vec<u8>, facts: &Facts, answered: &Option<Answered>) -> Result<(), Memory>
+    ensures { OnOk result (page.new.items ≡ page.old.items ++ spec.ready facts.now answered.now) }
+{
+    put_live(page, facts, answered)?;
+    put(page, ",")?;
+    put_room(page, facts, answered)
+}
+
+/// Adds the checks of a probe.
+fn put_checks(
+    page: &mut Vec<u8>,
+    probe: Probe,
+    facts: &Facts,
+    answered: &Option<Answered>,
+) -> Result<(), Memory>
+    ensures { OnOk result (page.new.items ≡ page.old.items ++ spec.checks probe facts.now answered.now) }
+{
+    match probe {
+        Probe::Started => put_started(page),
+        Probe::Live => put_live(page, facts, answered),
+        Probe::Ready => put_ready(page, facts, answered),
+        Probe::Whole => put_ready(page, facts, answered),
+    }
+}
+
+/// Adds the health of a service, as a probe asks for it.
+pub fn put_health(
+    page: &mut Vec<u8>,
+    probe: Probe,
+    facts: &Facts,
+    answered: &Option<Answered>,
+) -> Result<(), Memory>
+    ensures { OnOk result (page.new.items ≡ page.old.items ++ spec.health probe facts.now answered.now) }
+{
+    put(page, "{\"status\":\"")?;
+    put(page, word(is_up(probe, facts, answered)))?;
+    put(page, "\",\"checks\":[")?;
+    put_checks(page, probe, facts, answered)?;
+    put(page, "]}\n")
+}

@@ -1,0 +1,599 @@
+//! Pages for a browser: no script, and nothing of another place. All that is known from elsewhere is added by `Piece::Told`, and so escaped.
+
+ghost use Rattle.std.specs.Prelude.{◌≡◌, ◌++◌, OnOk};
+ghost use Rattle.std.specs.List.{flat_map};
+ghost use Rattle.lra_overview.specs.Pages as pages;
+
+use crate::gather::{ActionRow, MemberRow, Waiting};
+use crate::names::Names;
+use crate::pieces::Piece;
+use crate::shares::Share;
+use crate::svg::put_tree;
+use crate::tree::{Node, NodeOf};
+use lra_commands::{Awaited, Want};
+use lra_model::{ActionStatus, MemberStatus, Memory};
+
+/// What forms need to be taken.
+#[derive(Clone, Copy)]
+pub struct Forms<'a> {
+    /// The word by which it is known that a form is one of these pages.
+    pub token: &'a str,
+    /// A key has to be given for each order.
+    pub have_key: bool,
+}
+
+/// The field of a form for the key.
+const KEY: &str =
+    "<input type=\"password\" name=\"key\" placeholder=\"key\" aria-label=\"key\" autocomplete=\"off\">";
+
+/// What each page begins with.
+const HEAD: &str =
+    "<!DOCTYPE html>\n<html lang=\"en\"><head><meta charset=\"utf-8\"><meta name=\"viewport\" content=\"width=device-width\"><title>Raxunto</title><style>\n";
+
+/// How a page looks, by day.
+const LOOKS: &str =
+    ":root{color-scheme:light dark;--ink:#1c2430;--dim:#5b6675;--paper:#fbfbf9;--card:#fff;--line:#d9dde3;--go:#1f6f43;--wait:#9a5b00;--bad:#b3261e;--link:#1a5fb4}
+body{margin:0;background:var(--paper);color:var(--ink);font:15px/1.5 system-ui,sans-serif}
+header,main{max-width:70rem;margin:0 auto;padding:1rem 1.5rem}
+h1{font-size:1.4rem;margin:0}h2{font-size:1.05rem;margin:1.6rem 0 .6rem}
+a{color:var(--link);text-decoration:none}a:hover{text-decoration:underline}
+p{color:var(--dim);margin:.4rem 0}
+.counts{display:flex;flex-wrap:wrap;gap:.6rem;padding:0;list-style:none}
+.counts li{background:var(--card);border:1px solid var(--line);border-radius:.5rem;padding:.5rem .9rem;min-width:6.5rem}
+.counts b{display:block;font-size:1.3rem;font-variant-numeric:tabular-nums}
+";
+
+/// How tables, forms and pictures look.
+const TABLES: &str =
+    "table{border-collapse:collapse;width:100%;background:var(--card);border:1px solid var(--line)}
+th,td{text-align:left;padding:.4rem .7rem;border-bottom:1px solid var(--line);vertical-align:middle}
+th{font-weight:600;color:var(--dim);font-size:.85rem}
+code,svg text{font:13px ui-monospace,monospace}
+form{display:inline-flex;gap:.4rem;margin:0}
+input,button{font:inherit;font-size:.85rem;padding:.15rem .6rem;border:1px solid var(--line);border-radius:.35rem;background:var(--paper);color:var(--ink)}
+input{width:7rem}button{cursor:pointer}button:hover{border-color:var(--bad);color:var(--bad)}
+.Active,.Closing,.Cancelling,.Completing,.Compensating{color:var(--wait)}
+.Closed,.Completed{color:var(--go)}.Cancelled,.Compensated,.Left{color:var(--dim)}
+.FailedToClose,.FailedToCancel,.FailedToComplete,.FailedToCompensate{color:var(--bad)}
+.tree{overflow-x:auto;background:var(--card);border:1px solid var(--line);padding:.5rem}
+svg text{fill:var(--ink)}svg circle,svg rect{fill:currentColor}svg .branch{fill:none;stroke:var(--line);stroke-width:2}
+";
+
+/// How a page looks by night.
+const NIGHT: &str =
+    "@media(prefers-color-scheme:dark){:root{--ink:#e4e7ec;--dim:#98a2b1;--paper:#14171c;--card:#1b2027;--line:#333b47;--go:#6fcf97;--wait:#e8b45a;--bad:#ff8a80;--link:#8ab4f8}}
+</style></head><body><header><h1><a href=\"/\">Raxunto</a></h1>";
+
+/// Adds what a page begins with.
+fn begin(page: &mut Vec<u8>, names: &Names<'_>) -> Result<(), Memory>
+    ensures { OnOk result (page.new.items ≡ page.old.items ++ pages.begin names.now.base.now) }
+{
+    let pieces = [
+        Piece::Own(HEAD),
+        Piece::Own(LOOKS),
+        Piece::Own(TABLES),
+        Piece::Own(NIGHT),
+        Piece::Own("<p>The coordinator at <code>"),
+        Piece::Told(names.base.as_str()),
+        Piece::Own("</code></p></header><main>\n"),
+    ];
+    names.put_all(page, &pieces)
+}
+
+/// Adds how many actions have a status.
+fn put_share(page: &mut Vec<u8>, names: &Names<'_>, share: &Share) -> Result<(), Memory>
+    ensures { OnOk result (page.new.items ≡ page.old.items ++ pages.share share.now) }
+{
+    let pieces = [
+        Piece::Own("<li><b>"),
+        Piece::Number(share.count),
+        Piece::Own("</b><span class=\""),
+        Piece::Action(share.status),
+        Piece::Own("\">"),
+        Piece::Action(share.status),
+        Piece::Own("</span></li>\n"),
+    ];
+    names.put_all(page, &pieces)
+}
+
+/// Adds how many actions have each status.
+fn put_shares(page: &mut Vec<u8>, names: &Names<'_>, shares: &[Share]) -> Result<(), Memory>
+    ensures { OnOk result (page.new.items ≡ page.old.items ++ flat_map pages.share shares.now) }
+{
+    for share in shares {
+        put_share(page, names, share)?;
+    }
+    Ok(())
+}
+
+/// Adds the fields of a form that has it taken.
+fn put_fields(
+    page: &mut Vec<u8>,
+    names: &Names<'_>,
+    token: &str,
+    needs_key: bool,
+) -> Result<(), Memory>
+    ensures { OnOk result (page.new.items ≡ page.old.items ++ pages.fields token.now needs_key) }
+{
+    if needs_key {
+        let pieces = [
+            Piece::Own("<input type=\"hidden\" name=\"token\" value=\""),
+            Piece::Told(token),
+            Piece::Own("\">"),
+            Piece::Own(KEY),
+        ];
+        return names.put_all(page, &pieces);
+    }
+    let pieces = [
+        Piece::Own("<input type=\"hidden\" name=\"token\" value=\""),
+        Piece::Told(token),
+        Piece::Own("\">"),
+    ];
+    names.put_all(page, &pieces)
+}
+
+/// Adds a form that cancels an action.
+fn put_cancel_form(
+    page: &mut Vec<u8>,
+    names: &Names<'_>,
+    forms: &Forms<'_>,
+    action: u64,
+) -> Result<(), Memory>
+    ensures { OnOk result (page.new.items ≡ page.old.items ++ pages.cancel_form names.now.instance forms.now.token.now forms.now.have_key action) }
+{
+    let opening = [
+        Piece::Own("<form method=\"post\" action=\"/actions/"),
+        Piece::Id(action),
+        Piece::Own("/cancel\">"),
+    ];
+    names.put_all(page, &opening)?;
+    put_fields(page, names, forms.token, forms.have_key)?;
+    names.put_all(page, &[Piece::Own("<button>Cancel</button></form>")])
+}
+
+/// Adds a form that cancels an action, where it is one that may be.
+fn put_cancel(
+    page: &mut Vec<u8>,
+    names: &Names<'_>,
+    forms: &Forms<'_>,
+    row: ActionRow,
+) -> Result<(), Memory>
+    ensures { OnOk result (page.new.items ≡ page.old.items ++ pages.cancel names.now.instance forms.now.token.now forms.now.have_key row) }
+{
+    match row.status {
+        ActionStatus::Active => put_cancel_form(page, names, forms, row.action),
+        _ => Ok(()),
+    }
+}
+
+/// Adds a form that has a member end so.
+fn put_give_up_form(
+    page: &mut Vec<u8>,
+    names: &Names<'_>,
+    token: &str,
+    member: u64,
+    ending: &'static str,
+) -> Result<(), Memory>
+    ensures { OnOk result (page.new.items ≡ page.old.items ++ pages.give_up_form names.now.instance token.now member ending.now) }
+{
+    let opening = [
+        Piece::Own("<form method=\"post\" action=\"/members/"),
+        Piece::Id(member),
+        Piece::Own("/give-up\">"),
+    ];
+    names.put_all(page, &opening)?;
+    put_fields(page, names, token, true)?;
+    let closing = [
+        Piece::Own("<input type=\"hidden\" name=\"status\" value=\""),
+        Piece::Own(ending),
+        Piece::Own("\"><button>Give up</button></form>"),
+    ];
+    names.put_all(page, &closing)
+}
+
+/// Adds a form that gives a member up, where it is being asked to end.
+fn put_give_up_where_asked(
+    page: &mut Vec<u8>,
+    names: &Names<'_>,
+    token: &str,
+    row: MemberRow,
+) -> Result<(), Memory>
+    ensures { OnOk result (page.new.items ≡ page.old.items ++ pages.give_up_where_asked names.now.instance token.now row) }
+{
+    match row.status {
+        MemberStatus::Completing => {
+            put_give_up_form(page, names, token, row.member, "FailedToComplete")
+        }
+        MemberStatus::Compensating => {
+            put_give_up_form(page, names, token, row.member, "FailedToCompensate")
+        }
+        _ => Ok(()),
+    }
+}
+
+/// Adds a form that gives a member up, where there is a key.
+fn put_give_up(
+    page: &mut Vec<u8>,
+    names: &Names<'_>,
+    forms: &Forms<'_>,
+    row: MemberRow,
+) -> Result<(), Memory>
+    ensures { OnOk result (page.new.items ≡ page.old.items ++ pages.give_up names.now.instance forms.now.token.now forms.now.have_key row) }
+{
+    if forms.have_key {
+        put_give_up_where_asked(page, names, forms.token, row)
+    } else {
+        Ok(())
+    }
+}
+
+/// Adds the member that an action waits for.
+fn put_awaited_member(
+    page: &mut Vec<u8>,
+    names: &Names<'_>,
+    member: u64,
+    ask: Option<u64>,
+) -> Result<(), Memory>
+    ensures { OnOk result (page.new.items ≡ page.old.items ++ pages.awaited_member names.now.instance member ask) }
+{
+    match ask {
+        None => {
+            let pieces = [
+                Piece::Own("member <code>"),
+                Piece::Id(member),
+                Piece::Own("</code>"),
+            ];
+            names.put_all(page, &pieces)
+        }
+        Some(_) => {
+            let pieces = [
+                Piece::Own("member <code>"),
+                Piece::Id(member),
+                Piece::Own("</code>, asked"),
+            ];
+            names.put_all(page, &pieces)
+        }
+    }
+}
+
+/// Adds what an action waits for.
+fn put_awaited(
+    page: &mut Vec<u8>,
+    names: &Names<'_>,
+    awaited: &Option<Awaited>,
+) -> Result<(), Memory>
+    ensures { OnOk result (page.new.items ≡ page.old.items ++ pages.awaited names.now.instance awaited.now) }
+{
+    match awaited {
+        None => names.put_all(page, &[Piece::Own("its end")]),
+        Some(Awaited::Action { action }) => {
+            let pieces = [
+                Piece::Own("action <a href=\"/page/actions/"),
+                Piece::Id(*action),
+                Piece::Own("\"><code>"),
+                Piece::Id(*action),
+                Piece::Own("</code></a>"),
+            ];
+            names.put_all(page, &pieces)
+        }
+        Some(Awaited::Member { member, ask }) => put_awaited_member(page, names, *member, *ask),
+    }
+}
+
+/// Adds an action that hasn't ended.
+fn put_waiting(
+    page: &mut Vec<u8>,
+    names: &Names<'_>,
+    forms: &Forms<'_>,
+    waiting: &Waiting,
+) -> Result<(), Memory>
+    ensures { OnOk result (page.new.items ≡ page.old.items ++ pages.waiting names.now.instance forms.now.token.now forms.now.have_key waiting.now) }
+{
+    let opening = [
+        Piece::Own("<tr><td><a href=\"/page/actions/"),
+        Piece::Id(waiting.row.action),
+        Piece::Own("\"><code>"),
+        Piece::Id(waiting.row.action),
+        Piece::Own("</code></a></td><td><span class=\""),
+        Piece::Action(waiting.row.status),
+        Piece::Own("\">"),
+        Piece::Action(waiting.row.status),
+        Piece::Own("</span></td><td>"),
+    ];
+    names.put_all(page, &opening)?;
+    put_awaited(page, names, &waiting.awaited)?;
+    names.put_all(page, &[Piece::Own("</td><td>")])?;
+    put_cancel(page, names, forms, waiting.row)?;
+    names.put_all(page, &[Piece::Own("</td></tr>\n")])
+}
+
+/// Adds actions that haven't ended.
+fn put_rows(
+    page: &mut Vec<u8>,
+    names: &Names<'_>,
+    forms: &Forms<'_>,
+    rows: &[Waiting],
+) -> Result<(), Memory>
+    ensures { OnOk result (page.new.items ≡ page.old.items ++ flat_map (pages.waiting names.now.instance forms.now.token.now forms.now.have_key) rows.now) }
+{
+    for row in rows {
+        put_waiting(page, names, forms, row)?;
+    }
+    Ok(())
+}
+
+/// Adds a table of actions that haven't ended, of which there are some.
+fn put_full_table(
+    page: &mut Vec<u8>,
+    names: &Names<'_>,
+    forms: &Forms<'_>,
+    rows: &[Waiting],
+) -> Result<(), Memory>
+    ensures { OnOk result (page.new.items ≡ page.old.items ++ pages.full_table names.now.instance forms.now.token.now forms.now.have_key rows.now) }
+{
+    names.put_all(
+        page,
+        &[Piece::Own(
+            "<table><thead><tr><th>Action</th><th>Status</th><th>Waits for</th><th></th></tr></thead><tbody>\n",
+        )],
+    )?;
+    put_rows(page, names, forms, rows)?;
+    names.put_all(page, &[Piece::Own("</tbody></table>\n")])
+}
+
+/// Adds a table of actions that haven't ended, or that there are none.
+fn put_table(
+    page: &mut Vec<u8>,
+    names: &Names<'_>,
+    forms: &Forms<'_>,
+    rows: &[Waiting],
+) -> Result<(), Memory>
+    ensures { OnOk result (page.new.items ≡ page.old.items ++ pages.table names.now.instance forms.now.token.now forms.now.have_key rows.now) }
+{
+    if rows.is_empty() {
+        names.put_all(page, &[Piece::Own("<p>All actions have ended.</p>\n")])
+    } else {
+        put_full_table(page, names, forms, rows)
+    }
+}
+
+/// Adds a link to the actions that follow, where there may be more.
+fn put_next(page: &mut Vec<u8>, names: &Names<'_>, next: Option<u64>) -> Result<(), Memory>
+    ensures { OnOk result (page.new.items ≡ page.old.items ++ pages.next names.now.instance next) }
+{
+    match next {
+        None => Ok(()),
+        Some(action) => {
+            let pieces = [
+                Piece::Own("<p><a href=\"/?from="),
+                Piece::Id(action),
+                Piece::Own("\">Those after these</a></p>\n"),
+            ];
+            names.put_all(page, &pieces)
+        }
+    }
+}
+
+/// Adds the first page: counts by status, and the actions that haven't ended, the oldest first, with the action to go on from, if there may be more.
+pub fn put_home(
+    page: &mut Vec<u8>,
+    names: &Names<'_>,
+    forms: &Forms<'_>,
+    shares: &[Share],
+    rows: &[Waiting],
+    next: Option<u64>,
+) -> Result<(), Memory>
+    ensures { OnOk result (page.new.items ≡ page.old.items ++ pages.home names.now.instance names.now.base.now forms.now.token.now forms.now.have_key shares.now rows.now next) }
+{
+    begin(page, names)?;
+    names.put_all(page, &[Piece::Own("<ul class=\"counts\">\n")])?;
+    put_shares(page, names, shares)?;
+    names.put_all(
+        page,
+        &[Piece::Own("</ul>\n<h2>Not ended, the oldest first</h2>\n")],
+    )?;
+    put_table(page, names, forms, rows)?;
+    put_next(page, names, next)?;
+    names.put_all(page, &[Piece::Own("</main></body></html>\n")])
+}
+
+/// Adds what a member is to be asked next.
+fn put_want(page: &mut Vec<u8>, names: &Names<'_>, want: Want) -> Result<(), Memory>
+    ensures { OnOk result (page.new.items ≡ page.old.items ++ pages.want want) }
+{
+    let pieces = [
+        Piece::Kind(want.kind),
+        Piece::Own(", in vain "),
+        Piece::Number(want.repeats),
+        Piece::Own(" times"),
+    ];
+    names.put_all(page, &pieces)
+}
+
+/// Adds what a member is being asked, or is to be asked next.
+fn put_next_ask(page: &mut Vec<u8>, names: &Names<'_>, row: MemberRow) -> Result<(), Memory>
+    ensures { OnOk result (page.new.items ≡ page.old.items ++ pages.next_ask row.ask row.want) }
+{
+    match (row.ask, row.want) {
+        (Some(_), _) => names.put_all(page, &[Piece::Own("is being asked")]),
+        (None, Some(want)) => put_want(page, names, want),
+        (None, None) => Ok(()),
+    }
+}
+
+/// Adds a member's line in the table of members.
+fn put_member(
+    page: &mut Vec<u8>,
+    names: &Names<'_>,
+    forms: &Forms<'_>,
+    row: MemberRow,
+) -> Result<(), Memory>
+    ensures { OnOk result (page.new.items ≡ page.old.items ++ pages.member names.now.instance forms.now.token.now forms.now.have_key row) }
+{
+    let opening = [
+        Piece::Own("<tr><td><code>"),
+        Piece::Id(row.member),
+        Piece::Own("</code></td><td><span class=\""),
+        Piece::Member(row.status),
+        Piece::Own("\">"),
+        Piece::Member(row.status),
+        Piece::Own("</span></td><td>"),
+    ];
+    names.put_all(page, &opening)?;
+    put_next_ask(page, names, row)?;
+    names.put_all(page, &[Piece::Own("</td><td>")])?;
+    put_give_up(page, names, forms, row)?;
+    names.put_all(page, &[Piece::Own("</td></tr>\n")])
+}
+
+/// Adds the line of a node in the table of members, if it is one.
+fn put_node_line(
+    page: &mut Vec<u8>,
+    names: &Names<'_>,
+    forms: &Forms<'_>,
+    node: Node,
+) -> Result<(), Memory>
+    ensures { OnOk result (page.new.items ≡ page.old.items ++ pages.line names.now.instance forms.now.token.now forms.now.have_key node) }
+{
+    match node.of {
+        NodeOf::Action(_) => Ok(()),
+        NodeOf::Member(row) => put_member(page, names, forms, row),
+    }
+}
+
+/// Adds the lines of a tree's members.
+fn put_lines(
+    page: &mut Vec<u8>,
+    names: &Names<'_>,
+    forms: &Forms<'_>,
+    nodes: &[Node],
+) -> Result<(), Memory>
+    ensures { OnOk result (page.new.items ≡ page.old.items ++ flat_map (pages.line names.now.instance forms.now.token.now forms.now.have_key) nodes.now) }
+{
+    for node in nodes {
+        put_node_line(page, names, forms, *node)?;
+    }
+    Ok(())
+}
+
+/// Adds a table of the members of a tree, behind its picture, and the page's end.
+fn put_members(
+    page: &mut Vec<u8>,
+    names: &Names<'_>,
+    forms: &Forms<'_>,
+    nodes: &[Node],
+) -> Result<(), Memory>
+    ensures { OnOk result (page.new.items ≡ page.old.items ++ pages.members names.now.instance forms.now.token.now forms.now.have_key nodes.now) }
+{
+    names.put_all(
+        page,
+        &[Piece::Own(
+            "</div>\n<h2>Members</h2>\n<table><thead><tr><th>Member</th><th>Status</th><th>Next ask</th><th></th></tr></thead><tbody>\n",
+        )],
+    )?;
+    put_lines(page, names, forms, nodes)?;
+    names.put_all(
+        page,
+        &[Piece::Own("</tbody></table>\n</main></body></html>\n")],
+    )
+}
+
+/// Adds what an action waits for, behind its status.
+fn put_open_end(
+    page: &mut Vec<u8>,
+    names: &Names<'_>,
+    awaited: &Option<Awaited>,
+) -> Result<(), Memory>
+    ensures { OnOk result (page.new.items ≡ page.old.items ++ pages.open_end names.now.instance awaited.now) }
+{
+    names.put_all(page, &[Piece::Own(", waits for ")])?;
+    put_awaited(page, names, awaited)
+}
+
+/// Adds what an action waits for, where it hasn't ended.
+fn put_wait(page: &mut Vec<u8>, names: &Names<'_>, waiting: &Waiting) -> Result<(), Memory>
+    ensures { OnOk result (page.new.items ≡ page.old.items ++ pages.wait names.now.instance waiting.now) }
+{
+    match waiting.row.status {
+        ActionStatus::Active | ActionStatus::Closing | ActionStatus::Cancelling => {
+            put_open_end(page, names, &waiting.awaited)
+        }
+        _ => Ok(()),
+    }
+}
+
+/// Adds which action it is and how it stands.
+fn put_heading(page: &mut Vec<u8>, names: &Names<'_>, waiting: &Waiting) -> Result<(), Memory>
+    ensures { OnOk result (page.new.items ≡ page.old.items ++ pages.heading names.now.instance waiting.now) }
+{
+    let opening = [
+        Piece::Own("<h2>Action <code>"),
+        Piece::Id(waiting.row.action),
+        Piece::Own("</code></h2>\n<p><span class=\""),
+        Piece::Action(waiting.row.status),
+        Piece::Own("\">"),
+        Piece::Action(waiting.row.status),
+        Piece::Own("</span>"),
+    ];
+    names.put_all(page, &opening)?;
+    put_wait(page, names, waiting)?;
+    names.put_all(page, &[Piece::Own("</p>\n")])
+}
+
+/// Adds which action it is nested in, if it is.
+fn put_parent(page: &mut Vec<u8>, names: &Names<'_>, parent: Option<u64>) -> Result<(), Memory>
+    ensures { OnOk result (page.new.items ≡ page.old.items ++ pages.parent names.now.instance parent) }
+{
+    match parent {
+        None => Ok(()),
+        Some(parent) => {
+            let pieces = [
+                Piece::Own("<p>Nested in <a href=\"/page/actions/"),
+                Piece::Id(parent),
+                Piece::Own("\"><code>"),
+                Piece::Id(parent),
+                Piece::Own("</code></a></p>\n"),
+            ];
+            names.put_all(page, &pieces)
+        }
+    }
+}
+
+/// Adds an action's page: how it stands, its tree, and the members of all that is shown.
+pub fn put_action_page(
+    page: &mut Vec<u8>,
+    names: &Names<'_>,
+    forms: &Forms<'_>,
+    waiting: &Waiting,
+    nodes: &[Node],
+) -> Result<(), Memory>
+    ensures { OnOk result (page.new.items ≡ page.old.items ++ pages.action names.now.instance names.now.base.now forms.now.token.now forms.now.have_key waiting.now nodes.now) }
+{
+    begin(page, names)?;
+    put_heading(page, names, waiting)?;
+    put_parent(page, names, waiting.row.parent)?;
+    put_cancel(page, names, forms, waiting.row)?;
+    names.put_all(page, &[Piece::Own("<h2>Tree</h2>\n<div class=\"tree\">")])?;
+    put_tree(page, names, nodes)?;
+    put_members(page, names, forms, nodes)
+}
+
+/// Adds a page that tells one sentence of this program, and a text from elsewhere.
+pub fn put_plain_page(
+    page: &mut Vec<u8>,
+    names: &Names<'_>,
+    sentence: &'static str,
+    text: &str,
+) -> Result<(), Memory>
+    ensures { OnOk result (page.new.items ≡ page.old.items ++ pages.plain names.now.base.now sentence.now text.now) }
+{
+    begin(page, names)?;
+    let pieces = [
+        Piece::Own("<h2>"),
+        Piece::Own(sentence),
+        Piece::Own("</h2>\n<p><code>"),
+        Piece::Told(text),
+        Piece::Own("</code></p>\n</main></body></html>\n"),
+    ];
+    names.put_all(page, &pieces)
+}

@@ -1,0 +1,41 @@
+//! What operators see of a service, over whatever tells of its histories: the texts of its health, its metrics, its lists and its pages.
+#![tactic(auto)]
+
+mod census;
+mod counts;
+mod faults;
+mod gather;
+mod health;
+mod html;
+mod json;
+mod laws;
+mod laying;
+mod metrics;
+mod names;
+mod overview;
+mod pieces;
+mod shares;
+mod svg;
+mod tree;
+#[cfg(test)]
+mod trials;
+mod unended;
+
+pub use census::Census;
+pub use counts::{Counts, count_all};
+pub use faults::Trouble;
+pub use gather::{
+    ActionRow, Listed, MemberRow, Shown, Waiting, all_waiting, list_actions, show_action, waits_for,
+};
+pub use health::{Answered, Probe, is_up, put_health};
+pub use html::{Forms, put_action_page, put_home, put_plain_page};
+pub use json::{put_action, put_actions, put_text};
+pub use laws::{pages_keep_marks, pages_refer};
+pub use laying::{put, put_number};
+pub use metrics::{Kind, describe, put_metrics, put_parts, whole};
+pub use names::Names;
+pub use overview::{Facts, Overview};
+pub use pieces::Piece;
+pub use shares::{Share, Shares};
+pub use tree::{Node, NodeOf, tree_of};
+pub use unended::list_unended;

@@ -1,0 +1,264 @@
+//! What is measured of a service, in the text format 0.0.4 of Prometheus.
+
+use crate::counts::Counts;
+use crate::laying::{put, put_number};
+use crate::overview::Facts;
+use lra_model::Memory;
+
+/// What kind of number a measure is.
+#[derive(Clone, Copy, Debug, PartialEq, Eq)]
+pub enum Kind {
+    Gauge,
+    Counter,
+    Histogram,
+}
+
+/// How many parts of a whole are told.
+const PARTS: u64 = 1_000_000;
+
+/// Adds what a measure is, before its lines.
+pub fn describe(page: &mut Vec<u8>, name: &str, kind: Kind, help: &str) -> Result<(), Memory> {
+    put(page, "# HELP ")?;
+    put(page, name)?;
+    put(page, " ")?;
+    put(page, help)?;
+    put(page, "\n# TYPE ")?;
+    put(page, name)?;
+    match kind {
+        Kind::Gauge => put(page, " gauge\n"),
+        Kind::Counter => put(page, " counter\n"),
+        Kind::Histogram => put(page, " histogram\n"),
+    }
+}
+
+/// Adds a measure that is a whole number.
+pub fn whole(
+    page: &mut Vec<u8>,
+    name: &str,
+    kind: Kind,
+    help: &str,
+    number: u64,
+) -> Result<(), Memory> {
+    describe(page, name, kind, help)?;
+    put(page, name)?;
+    put(page, " ")?;
+    put_number(page, number)?;
+    put(page, "\n")
+}
+
+/// Adds a number below ten, with as many digits behind its point as are wanted.
+fn put_digits(page: &mut Vec<u8>, number: u64, whole: u64) -> Result<(), Memory> {
+    let mut scale = whole / 10;
+    for _digit in 0..6 {
+        if scale == 0 {
+            return Ok(());
+        }
+        put_number(page, number / scale % 10)?;
+        scale /= 10;
+    }
+    Ok(())
+}
+
+/// Adds a number of so many parts of one, which is a power of ten up to a million.
+pub fn put_parts(page: &mut Vec<u8>, number: u64, parts: u64) -> Result<(), Memory> {
+    put_number(page, number.checked_div(parts).unwrap_or(0))?;
+    put(page, ".")?;
+    put_digits(page, number.checked_rem(parts).unwrap_or(0), parts)
+}
+
+/// Adds a measure of so many parts of one.
+fn parts(
+    page: &mut Vec<u8>,
+    name: &str,
+    kind: Kind,
+    help: &str,
+    number: u64,
+    of: u64,
+) -> Result<(), Memory> {
+    describe(page, name, kind, help)?;
+    put(page, name)?;
+    put(page, " ")?;
+    put_parts(page, number, of)?;
+    put(page, "\n")
+}
+
+/// Adds a line of a measure that has a label. The label's value is a word of this program.
+fn labelled(page: &mut Vec<u8>, name: &str, label: &str, value: &str) -> Result<(), Memory> {
+    put(page, name)?;
+    put(page, "{")?;
+    put(page, label)?;
+    put(page, "=\"")?;
+    put(page, value)?;
+    put(page, "\"} ")
+}
+
+/// Adds how many actions have each status, and how many there are.
+fn put_counts(page: &mut Vec<u8>, counts: &Counts) -> Result<(), Memory> {
+    describe(page, "lra_actions", Kind::Gauge, "Actions by their status.")?;
+    for share in &counts.shares {
+        labelled(page, "lra_actions", "state", share.status.name())?;
+        put_number(page, share.count)?;
+        put(page, "\n")?;
+    }
+    whole(
+        page,
+        "lra_actions_started_total",
+        Kind::Counter,
+        "Actions that were started since the journals that are served began.",
+        counts.actions,
+    )?;
+    whole(
+        page,
+        "lra_members_joined_total",
+        Kind::Counter,
+        "Members that joined since the journals that are served began.",
+        counts.members,
+    )
+}
+
+/// How many millionths of a limit are left.
+fn left(count: u64, most: u64) -> u64 {
+    let room = most.saturating_sub(count);
+    room.saturating_mul(PARTS).checked_div(most).unwrap_or(0)
+}
+
+/// Adds which part of a limit is left.
+fn put_left(page: &mut Vec<u8>, limit: &str, count: u64, most: u64) -> Result<(), Memory> {
+    labelled(page, "lra_journal_room_ratio", "limit", limit)?;
+    put_parts(page, left(count, most), PARTS)?;
+    put(page, "\n")
+}
+
+/// Adds which part of each limit of the newest journal is left.
+fn put_room(page: &mut Vec<u8>, facts: &Facts, newest: &Counts) -> Result<(), Memory> {
+    describe(
+        page,
+        "lra_journal_room_ratio",
+        Kind::Gauge,
+        "Which part of a limit of the newest journal is left.",
+    )?;
+    put_left(page, "actions", newest.actions, facts.most_actions)?;
+    put_left(page, "bytes", facts.bytes, facts.most_bytes)?;
+    put_left(page, "entries", facts.entries, facts.most_entries)?;
+    put_left(page, "members", newest.members, facts.most_members)
+}
+
+/// Adds what is measured of the journal.
+fn put_journal(page: &mut Vec<u8>, facts: &Facts) -> Result<(), Memory> {
+    whole(
+        page,
+        "lra_journal_bytes",
+        Kind::Gauge,
+        "Bytes that the newest journal has.",
+        facts.bytes,
+    )?;
+    whole(
+        page,
+        "lra_journal_entries",
+        Kind::Gauge,
+        "Entries that the newest journal has.",
+        facts.entries,
+    )?;
+    whole(
+        page,
+        "lra_journal_failed",
+        Kind::Gauge,
+        "Whether the disk of the journals has failed.",
+        u64::from(facts.has_failed),
+    )?;
+    whole(
+        page,
+        "lra_journals",
+        Kind::Gauge,
+        "Journals that are served.",
+        facts.journals,
+    )
+}
+
+/// Adds what is measured of connections and callbacks.
+fn put_traffic(page: &mut Vec<u8>, facts: &Facts) -> Result<(), Memory> {
+    whole(
+        page,
+        "lra_connections",
+        Kind::Gauge,
+        "Connections of services that are open.",
+        facts.connections,
+    )?;
+    whole(
+        page,
+        "lra_callbacks_in_flight",
+        Kind::Gauge,
+        "Callbacks to members that are under way.",
+        facts.callbacks,
+    )
+}
+
+/// Adds what is measured of the process's memory, where the system tells it.
+fn put_memory(page: &mut Vec<u8>, facts: &Facts) -> Result<(), Memory> {
+    if let Some(bytes) = facts.resident_bytes {
+        whole(
+            page,
+            "process_resident_memory_bytes",
+            Kind::Gauge,
+            "Resident memory size in bytes.",
+            bytes,
+        )?;
+    }
+    if let Some(bytes) = facts.virtual_bytes {
+        whole(
+            page,
+            "process_virtual_memory_bytes",
+            Kind::Gauge,
+            "Virtual memory size in bytes.",
+            bytes,
+        )?;
+    }
+    Ok(())
+}
+
+/// Adds what is measured of the process.
+fn put_process(page: &mut Vec<u8>, facts: &Facts) -> Result<(), Memory> {
+    parts(
+        page,
+        "process_start_time_seconds",
+        Kind::Gauge,
+        "Start time of the process since unix epoch in seconds.",
+        facts.began,
+        1_000,
+    )?;
+    if let Some(ticks) = facts.processor_ticks {
+        parts(
+            page,
+            "process_cpu_seconds_total",
+            Kind::Counter,
+            "Total user and system CPU time spent in seconds.",
+            ticks,
+            100,
+        )?;
+    }
+    put_memory(page, facts)
+}
+
+/// Adds what is measured of a service; of counts what was told last, of all journals and of the newest, and how long, in milliseconds, the oldest action that
+/// hasn't ended is known of.
+pub fn put_metrics(
+    page: &mut Vec<u8>,
+    facts: &Facts,
+    counts: &Counts,
+    newest: &Counts,
+    oldest: u64,
+) -> Result<(), Memory> {
+    put_counts(page, counts)?;
+    parts(
+        page,
+        "lra_oldest_unended_seconds",
+        Kind::Gauge,
+        "How long the oldest action that has not ended is known to be there; 0 where none is.",
+        oldest,
+        1_000,
+    )?;
+    put_journal(page, facts)?;
+    put_room(page, facts, newest)?;
+    put_traffic(page, facts)?;
+    put_process(page, facts)
+}

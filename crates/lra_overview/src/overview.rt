@@ -1,0 +1,76 @@
+//! Whom operators ask and give orders.
+
+use lra_commands::{CounterFault, Known, Order, Query, Told};
+use lra_ids::{Base, Instance};
+use lra_model::Memory;
+
+/// What is known of a service beside its histories. Times are in milliseconds.
+#[derive(Clone, Copy, Debug, PartialEq, Eq)]
+pub struct Facts {
+    /// The moment at which this was so.
+    pub moment: u64,
+    /// The moment at which the service began.
+    pub began: u64,
+    /// A sync of the journal has failed, or bytes that don't count stand in it.
+    pub has_failed: bool,
+    /// The service is to end.
+    pub is_ending: bool,
+    /// How many journals are served.
+    pub journals: u64,
+    /// How many bytes the newest journal has, and how many it may have.
+    pub bytes: u64,
+    pub most_bytes: u64,
+    /// How many entries it has, as lines behind its first one, and how many it may have.
+    pub entries: u64,
+    pub most_entries: u64,
+    /// How many actions and members there may be.
+    pub most_actions: u64,
+    pub most_members: u64,
+    /// How many connections of services there are.
+    pub connections: u64,
+    /// How many callbacks are under way.
+    pub callbacks: u64,
+    /// How many bytes of memory the process has, in all and in place, where the system tells it.
+    pub virtual_bytes: Option<u64>,
+    pub resident_bytes: Option<u64>,
+    /// How much processor time it took, in hundredths of a second, where the system tells it.
+    pub processor_ticks: Option<u64>,
+}
+
+/// Where operators' questions are asked and their orders given: one office, or those of several journals, each known by its instance.
+///
+/// Contracts see of it which orders were given there.
+pub trait Overview {
+    ghost use Rattle.std.specs.Prelude.{ℕ, ◌≡◌, List};
+    ghost use Rattle.lra_commands.specs.declared.counter.Order.{Order};
+    ghost use Rattle.lra_overview.specs.Orders.{Gives};
+
+    // The orders that were given, each with the journal that it was given to.
+    ghost orders: { Self → List (ℕ × Order) };
+
+    /// The instance of a journal, the oldest first, where there is one at that place.
+    fn instance(&self, place: u64) -> Option<Instance>;
+
+    /// What the URIs of the journals begin with.
+    fn base(&self) -> &Base;
+
+    /// Has the journals join that are new, and those leave that were put away.
+    fn catch_up(&mut self)
+        ensures { orders self.new ≡ orders self.old };
+
+    /// What is known beside the histories.
+    fn facts(&mut self) -> Facts
+        ensures { orders self.new ≡ orders self.old };
+
+    /// Adds what was tallied beside, as measures in the text format 0.0.4 of Prometheus.
+    fn put_tallies(&mut self, page: &mut Vec<u8>) -> Result<(), Memory>
+        ensures { orders self.new ≡ orders self.old };
+
+    /// What a query is told of a journal's history. It gives no order.
+    fn query(&mut self, instance: Instance, query: Query) -> Result<Known, CounterFault>
+        ensures { orders self.new ≡ orders self.old };
+
+    /// Gives an order to a journal's coordinator, now.
+    fn give(&mut self, instance: Instance, order: &Order<'_>) -> Result<Told, CounterFault>
+        ensures { Gives instance order.now (orders self.old) (orders self.new) };
+}

@@ -1,0 +1,80 @@
+//! How many actions have each status.
+
+use lra_model::ActionStatus;
+
+/// How many actions have a status.
+#[derive(Clone, Copy, Debug, PartialEq, Eq)]
+pub struct Share {
+    pub status: ActionStatus,
+    pub count: u64,
+}
+
+/// How many actions have each status, in the order in which that is told.
+pub type Shares = [Share; 7];
+
+/// There are no actions.
+pub const NONE: Shares = [
+    Share {
+        status: ActionStatus::Active,
+        count: 0,
+    },
+    Share {
+        status: ActionStatus::Closing,
+        count: 0,
+    },
+    Share {
+        status: ActionStatus::Cancelling,
+        count: 0,
+    },
+    Share {
+        status: ActionStatus::Closed,
+        count: 0,
+    },
+    Share {
+        status: ActionStatus::Cancelled,
+        count: 0,
+    },
+    Share {
+        status: ActionStatus::FailedToClose,
+        count: 0,
+    },
+    Share {
+        status: ActionStatus::FailedToCancel,
+        count: 0,
+    },
+];
+
+/// Adds so many of a status.
+pub(crate) fn add(shares: &mut Shares, status: ActionStatus, count: u64) {
+    for share in shares.iter_mut() {
+        if share.status.is_same(status) {
+            share.count = share.count.saturating_add(count);
+        }
+    }
+}
+
+/// Adds as many as others are.
+pub fn add_shares(shares: &mut Shares, others: &Shares) {
+    for other in others {
+        add(shares, other.status, other.count);
+    }
+}
+
+/// Whether an action of that status has ended.
+fn has_ended(status: ActionStatus) -> bool {
+    !matches!(
+        status,
+        ActionStatus::Active | ActionStatus::Closing | ActionStatus::Cancelling
+    )
+}
+
+/// How many have ended.
+pub(crate) fn count_ended(shares: &Shares) -> u64 {
+    let mut all: u64 = 0;
+    for share in shares {
+        if has_ended(share.status) {
+            all = all.saturating_add(share.count);
+        }
+    }
+    all
+}

@@ -1,0 +1,209 @@
+//! What hasn't ended, the oldest first.
+
+ghost use Rattle.std.specs.Prelude.{◌≡◌};
+
+use crate::census::Census;
+use crate::faults::Trouble;
+use crate::gather::{ActionRow, Listed, Placed, action_at, action_in};
+use crate::overview::Overview;
+use lra_commands::{Known, Listing, Query};
+use lra_ids::Instance;
+use lra_model::ActionStatus;
+use std::alloc::Global;
+
+/// What comes next of a status.
+#[derive(Clone, Copy, Debug, PartialEq, Eq)]
+enum Ahead {
+    /// It is to be looked for from this place on.
+    From(u64),
+    /// This row was found.
+    Found(Placed),
+    /// No more rows have the status.
+    Nothing,
+}
+
+/// How far the actions of a status were gone through.
+#[derive(Clone, Copy, Debug, PartialEq, Eq)]
+struct Cursor {
+    status: ActionStatus,
+    ahead: Ahead,
+}
+
+/// A cursor before the first action of a status from a place on.
+fn begin(status: ActionStatus, from: u64) -> Cursor {
+    Cursor {
+        status,
+        ahead: Ahead::From(from),
+    }
+}
+
+/// How far the actions of each status were gone through that haven't ended.
+#[derive(Clone, Copy, Debug, PartialEq, Eq)]
+struct Search {
+    active: Cursor,
+    closing: Cursor,
+    cancelling: Cursor,
+}
+
+impl Cursor {
+    /// The place that is looked at next, if one is.
+    fn place(&self) -> Option<u64> {
+        match self.ahead {
+            Ahead::From(place) => Some(place),
+            Ahead::Found(placed) => Some(placed.place),
+            Ahead::Nothing => None,
+        }
+    }
+
+    /// Whether it comes before another.
+    fn is_before(&self, other: &Cursor) -> bool {
+        match (self.place(), other.place()) {
+            (Some(own), Some(place)) => own <= place,
+            (own, None) => own.is_some(),
+            (None, Some(_)) => false,
+        }
+    }
+
+    /// Looks for its next row, where none was found yet: at so many rows as one query does. Gives the row that was found before.
+    fn step<O: Overview>(
+        &mut self,
+        overview: &mut O,
+        instance: Instance,
+        census: &Census,
+    ) -> Result<Option<Placed>, Trouble>
+        ensures { O.orders overview.new ≡ O.orders overview.old }
+    {
+        match self.ahead {
+            Ahead::Found(placed) => {
+                self.ahead = Ahead::From(placed.place.saturating_add(1));
+                Ok(Some(placed))
+            }
+            Ahead::From(from) => {
+                self.ahead = look(overview, instance, self.status, census.first_open(from))?;
+                Ok(None)
+            }
+            Ahead::Nothing => Ok(None),
+        }
+    }
+}
+
+/// Looks for the next row of a status.
+fn look<O: Overview>(
+    overview: &mut O,
+    instance: Instance,
+    status: ActionStatus,
+    place: u64,
+) -> Result<Ahead, Trouble>
+    ensures { O.orders overview.new ≡ O.orders overview.old }
+{
+    let of = Listing::Actions {
+        status: Some(status),
+    };
+    match overview.query(instance, Query::Row { of, place })? {
+        Known::Row { place, row } => Ok(Ahead::Found(Placed { place, row })),
+        Known::Further(next) => Ok(Ahead::From(next)),
+        _ => Ok(Ahead::Nothing),
+    }
+}
+
+impl Search {
+    /// Before all actions from a place on.
+    fn new(from: u64) -> Search {
+        Search {
+            active: begin(ActionStatus::Active, from),
+            closing: begin(ActionStatus::Closing, from),
+            cancelling: begin(ActionStatus::Cancelling, from),
+        }
+    }
+
+    /// Whether no row comes any more.
+    fn is_over(&self) -> bool {
+        let closed = self.closing.place().is_none() && self.cancelling.place().is_none();
+        closed && self.active.place().is_none()
+    }
+
+    /// The cursor that is behind the others.
+    fn first(&mut self) -> &mut Cursor {
+        if self.active.is_before(&self.closing) && self.active.is_before(&self.cancelling) {
+            return &mut self.active;
+        }
+        if self.closing.is_before(&self.cancelling) {
+            return &mut self.closing;
+        }
+        &mut self.cancelling
+    }
+
+    /// The next row of all. Each is looked for where the last one was found, and not from the beginning again.
+    fn next<O: Overview>(
+        &mut self,
+        overview: &mut O,
+        instance: Instance,
+        census: &Census,
+    ) -> Result<Option<Placed>, Trouble>
+        ensures { O.orders overview.new ≡ O.orders overview.old }
+    {
+        for _part in 0..u64::MAX {
+            if self.is_over() {
+                return Ok(None);
+            }
+            let found = self.first().step(overview, instance, census)?;
+            if found.is_some() {
+                return Ok(found);
+            }
+        }
+        Ok(None)
+    }
+}
+
+/// Adds so many actions that haven't ended, from a place on. Tells the place to go on from, where there may be more.
+fn add_unended<O: Overview>(
+    overview: &mut O,
+    instance: Instance,
+    census: &Census,
+    from: u64,
+    most: usize,
+    rows: &mut Vec<ActionRow>,
+) -> Result<Option<u64>, Trouble>
+    ensures { O.orders overview.new ≡ O.orders overview.old }
+{
+    let mut search = Search::new(from);
+    let mut from = from;
+    for _row in 0..u64::MAX {
+        if rows.len() >= most {
+            return Ok(Some(from));
+        }
+        let Some(placed) = search.next(overview, instance, census)? else {
+            return Ok(None);
+        };
+        // One whose status changes meanwhile may be found again.
+        if placed.place < from {
+            continue;
+        }
+        if let Some(row) = action_in(placed.row) {
+            rows.push(row)?;
+        }
+        from = placed.place.saturating_add(1);
+    }
+    Ok(Some(from))
+}
+
+/// So many actions that haven't ended, the oldest first, from a place on. Where all have ended, as a census knows, none is looked for.
+pub fn list_unended<O: Overview>(
+    alloc: Global,
+    overview: &mut O,
+    instance: Instance,
+    census: &Census,
+    from: u64,
+    most: usize,
+) -> Result<Listed, Trouble>
+    ensures { O.orders overview.new ≡ O.orders overview.old }
+{
+    let mut rows = Vec::new(alloc);
+    match add_unended(overview, instance, census, from, most, &mut rows) {
+        Ok(next) => Ok(Listed {
+            rows,
+            next: action_at(next),
+        }),
+        Err(trouble) => Err(trouble),
+    }
+}

@@ -1,0 +1,107 @@
+//! What carries errands, which are tallied.
+
+ghost use Rattle.std.specs.Prelude.{◌≡◌};
+
+use crate::tallies::Tallies;
+use lra_core::Errand;
+use lra_courier::Carriage;
+use lra_model::{AskKind, Outcome};
+use std::alloc::Global;
+use std::time::{Clock, Instant};
+
+/// An errand that is under way, and since when.
+#[derive(Clone, Copy)]
+struct Begun {
+    ask: u64,
+    since: Instant,
+}
+
+/// What carries errands as another carriage does, and tallies what comes of them.
+#[derive(Drop)]
+pub struct CountedCarriage<'a, C, R> {
+    inner: C,
+    rt: &'a R,
+    tallies: &'a Tallies,
+    begun: Vec<Begun>,
+}
+
+impl<'a, C, R> CountedCarriage<'a, C, R> {
+    /// One that carries as another does, with which nothing is under way yet.
+    pub fn new(
+        alloc: Global,
+        inner: C,
+        rt: &'a R,
+        tallies: &'a Tallies,
+    ) -> CountedCarriage<'a, C, R>
+        ensures { result.inner ≡ inner }
+    {
+        CountedCarriage {
+            inner,
+            rt,
+            tallies,
+            begun: Vec::new(alloc),
+        }
+    }
+}
+
+impl<C, R: Clock> CountedCarriage<'_, C, R> {
+    /// Notes that an errand is under way. Where that can't be noted its time isn't tallied.
+    fn begin(&mut self, ask: u64)
+        ensures { self.new.inner ≡ self.old.inner }
+    {
+        if let Ok(since) = Instant::now(self.rt) {
+            let _ = self.begun.push(Begun { ask, since });
+        }
+    }
+
+    /// Takes down what came of an errand.
+    fn end(&mut self, ask: u64, kind: AskKind, outcome: Outcome)
+        ensures { self.new.inner ≡ self.old.inner }
+    {
+        let place = self.begun.iter().position(|begun| begun.ask == ask);
+        let began = match place {
+            Some(place) if place < self.begun.len() => Some(self.begun.swap_remove(place).since),
+            _ => None,
+        };
+        self.tallies.add_callback(self.rt, kind, outcome, began);
+    }
+}
+
+impl<C: Carriage, R: Clock> Carriage for CountedCarriage<'_, C, R> {
+    ghost held = { λ c. C.held c.inner };
+
+    ghost gives = { C.gives };
+
+    fn has_room(&self) -> bool {
+        self.inner.has_room()
+    }
+
+    fn take(&mut self, errand: Errand) -> Result<(), Errand> {
+        let ask = errand.ask();
+        match self.inner.take(errand) {
+            Ok(()) => {
+                self.begin(ask);
+                Ok(())
+            }
+            Err(errand) => Err(errand),
+        }
+    }
+
+    fn carry(&mut self, next: Option<u64>) {
+        self.inner.carry(next);
+    }
+
+    fn done(&mut self) -> Option<(Errand, Outcome)> {
+        match self.inner.done() {
+            Some((errand, outcome)) => {
+                self.end(errand.ask(), errand.kind(), outcome);
+                Some((errand, outcome))
+            }
+            None => None,
+        }
+    }
+
+    ghost suits = { C.suits };
+
+    ghost silent = { C.silent };
+}

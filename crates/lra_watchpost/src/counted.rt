@@ -1,0 +1,84 @@
+//! Who answers requests, which are tallied.
+
+ghost use Rattle.std.specs.Prelude.{◌≡◌};
+
+use crate::tallies::Tallies;
+use lra_commands::Refusal;
+use lra_front::{Answer, Denial, Routes};
+use lra_ids::{Base, Instance};
+use lra_steps::{Answered, Responder};
+use lra_wire::RequestRead;
+use std::alloc::Global;
+use std::time::{Clock, Instant};
+
+/// Who answers requests as another does, and tallies them.
+#[derive(Drop)]
+pub struct CountedResponder<'a, A, R> {
+    inner: A,
+    rt: &'a R,
+    tallies: &'a Tallies,
+}
+
+/// Whether an answer tells that the coordinator has stopped.
+fn has_stopped(answer: Answer) -> bool {
+    matches!(answer, Answer::Denied(Denial::Refused(Refusal::Stopped)))
+}
+
+impl<'a, A, R> CountedResponder<'a, A, R> {
+    /// One that answers as another does.
+    pub fn new(inner: A, rt: &'a R, tallies: &'a Tallies) -> CountedResponder<'a, A, R>
+        ensures { result.inner ≡ inner }
+    {
+        CountedResponder { inner, rt, tallies }
+    }
+
+    /// That other.
+    pub fn into_inner(self) -> A
+        ensures { result ≡ self.entry.inner }
+    {
+        let CountedResponder {
+            inner,
+            rt: _,
+            tallies: _,
+        } = self;
+        inner
+    }
+}
+
+impl<A: Responder, R: Clock> Responder for CountedResponder<'_, A, R> {
+    ghost State = { A.State };
+
+    ghost sight = { λ c. A.sight c.inner };
+
+    ghost base_of = { A.base_of };
+
+    ghost responds = { A.responds };
+
+    fn base(&self) -> &Base {
+        self.inner.base()
+    }
+
+    fn instance(&self) -> Instance {
+        self.inner.instance()
+    }
+
+    fn respond(
+        &mut self,
+        alloc: Global,
+        routes: &Routes,
+        moment: u64,
+        request: &RequestRead,
+    ) -> Answered {
+        let began = Instant::now(self.rt).ok();
+        let answered = self.inner.respond(alloc, routes, moment, request);
+        let route = routes.route(request.method.as_str(), request.target.as_str());
+        self.tallies
+            .add_request(self.rt, route, answered.answer.status(), began);
+        if has_stopped(answered.answer) {
+            self.tallies.stop(answered.instance);
+        }
+        answered
+    }
+
+    ghost stays = { λ before after moment request answered h. A.stays before after moment request answered h };
+}

@@ -1,0 +1,26 @@
+//! The operators' port over sockets: its listener, who answers there, what is tallied, and what the system tells of the process.
+#![tactic(auto)]
+
+mod attending;
+mod carried;
+mod counted;
+mod fault;
+mod given;
+mod histogram;
+mod key;
+mod post;
+mod table;
+mod tallies;
+mod token;
+mod visitor;
+mod vitals;
+
+pub use attending::{Ends, attend};
+pub use carried::CountedCarriage;
+pub use counted::CountedResponder;
+pub use fault::{PortFault, port_line};
+pub use given::{Given, operators_order};
+pub use key::read_key;
+pub use post::Watchpost;
+pub use tallies::Tallies;
+pub use vitals::Vitals;

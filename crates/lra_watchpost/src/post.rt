@@ -1,0 +1,92 @@
+//! Where operators come in.
+
+ghost use Rattle.std.specs.Prelude.{◌≡◌, IfOk, string_bytes, option_map};
+ghost use Rattle.lra_operators.specs.Access as spec;
+
+use crate::fault::PortFault;
+use crate::token::token;
+use crate::vitals::{Gauges, Vitals};
+use lra_operators::Access;
+use std::alloc::Global;
+use std::fs::File;
+use std::net::{Net, TcpListener, TcpStream};
+use std::rt::Files;
+
+/// Where operators come in: a listener, the key that they have to give, if there is one, the word that the forms of the pages have, and the files in which the
+/// system tells of the process.
+#[derive(Drop)]
+pub struct Watchpost {
+    pub(crate) listener: TcpListener,
+    key: Option<String>,
+    token: String,
+    gauges: Gauges,
+}
+
+/// Whether a listener can be reached from this machine alone.
+fn is_own(listener: &TcpListener) -> bool {
+    match listener.local_addr() {
+        Ok(address) => address.ip().is_loopback(),
+        Err(_) => false,
+    }
+}
+
+/// A listener at an address, which has to be one of the machine's own where no key is asked for.
+fn listen<R: Net<Stream = TcpStream, Listener = TcpListener>>(
+    rt: &R,
+    address: &str,
+    have_key: bool,
+) -> Result<TcpListener, PortFault> {
+    let Ok(listener) = TcpListener::bind(rt, address) else {
+        return Err(PortFault::Address);
+    };
+    if !have_key && !is_own(&listener) {
+        drop(listener);
+        return Err(PortFault::NoKey);
+    }
+    match listener.set_nonblocking(true) {
+        Ok(()) => Ok(listener),
+        Err(_) => {
+            drop(listener);
+            Err(PortFault::Address)
+        }
+    }
+}
+
+impl Watchpost {
+    /// One at a host and port, which asks for that key, if there is one. Without a key it has to be an address of the machine's own.
+    pub fn open<R: Net<Stream = TcpStream, Listener = TcpListener> + Files<File = File>>(
+        rt: &R,
+        alloc: Global,
+        address: &str,
+        key: Option<String>,
+    ) -> Result<Watchpost, PortFault>
+        ensures { IfOk result (λ post. post.key ≡ key) }
+    {
+        let token = token(rt, alloc)?;
+        match listen(rt, address, key.is_some()) {
+            Ok(listener) => Ok(Watchpost {
+                listener,
+                key,
+                token,
+                gauges: Gauges::open(rt),
+            }),
+            Err(fault) => Err(fault),
+        }
+    }
+
+    /// What the system tells of the process now.
+    pub fn vitals(&self) -> Vitals {
+        self.gauges.read()
+    }
+
+    /// What requests need to be taken.
+    pub(crate) fn access(&self) -> Access<'_>
+        ensures key { spec.key_of result ≡ option_map string_bytes self.now.key }
+        ensures token { result.token.now ≡ string_bytes self.now.token }
+    {
+        Access {
+            key: self.key.as_deref(),
+            token: self.token.as_str(),
+        }
+    }
+}

@@ -1,0 +1,115 @@
+//! How often something of two kinds was.
+
+use lra_model::Memory;
+use lra_overview::{Kind, describe, put, put_number};
+use std::alloc::Global;
+use std::sync::atomic::{AtomicU64, Ordering};
+
+/// What a table counts: the names of its two labels, and the words that each may have. No word needs to be escaped.
+#[derive(Clone, Copy)]
+pub(crate) struct Words {
+    pub(crate) name: &'static str,
+    pub(crate) help: &'static str,
+    pub(crate) row: &'static str,
+    pub(crate) rows: &'static [&'static str],
+    pub(crate) column: &'static str,
+    pub(crate) columns: &'static [&'static str],
+}
+
+/// A count for each pair of words, row by row.
+#[derive(Drop)]
+pub(crate) struct Table {
+    cells: Vec<AtomicU64>,
+}
+
+/// The place of a word among some, or behind them.
+fn place_of(words: &[&'static str], word: &str) -> usize {
+    for (place, other) in words.iter().enumerate() {
+        if *other == word {
+            return place;
+        }
+    }
+    words.len()
+}
+
+/// Adds the line of a pair of words.
+fn put_line(
+    words: &Words,
+    page: &mut Vec<u8>,
+    row: &str,
+    column: &str,
+    count: u64,
+) -> Result<(), Memory> {
+    put(page, words.name)?;
+    put(page, "{")?;
+    put(page, words.row)?;
+    put(page, "=\"")?;
+    put(page, row)?;
+    put(page, "\",")?;
+    put(page, words.column)?;
+    put(page, "=\"")?;
+    put(page, column)?;
+    put(page, "\"} ")?;
+    put_number(page, count)?;
+    put(page, "\n")
+}
+
+impl Table {
+    /// Nothing was counted of these words.
+    pub(crate) fn new(alloc: Global, words: &Words) -> Result<Table, Memory> {
+        let mut cells = Vec::new(alloc);
+        for _row in words.rows {
+            for _column in words.columns {
+                cells.push(AtomicU64::new(0))?;
+            }
+        }
+        Ok(Table { cells })
+    }
+
+    /// The count of a pair of words, by their places.
+    fn cell(&self, words: &Words, row: usize, column: usize) -> Option<&AtomicU64> {
+        let wide = words.columns.len();
+        if column >= wide {
+            return None;
+        }
+        self.cells.get(row.checked_mul(wide)?.checked_add(column)?)
+    }
+
+    /// Counts one of a pair of words.
+    pub(crate) fn add(&self, words: &Words, row: &str, column: &str) {
+        let row = place_of(words.rows, row);
+        let column = place_of(words.columns, column);
+        if let Some(cell) = self.cell(words, row, column) {
+            cell.fetch_add(1, Ordering::SeqCst);
+        }
+    }
+
+    /// Adds the lines of a row, of those pairs that were counted.
+    fn put_row(
+        &self,
+        words: &Words,
+        page: &mut Vec<u8>,
+        row: usize,
+        word: &str,
+    ) -> Result<(), Memory> {
+        for (place, column) in words.columns.iter().enumerate() {
+            let count = match self.cell(words, row, place) {
+                Some(cell) => cell.load(Ordering::SeqCst),
+                None => 0,
+            };
+            if count > 0 {
+                put_line(words, page, word, column, count)?;
+            }
+        }
+        Ok(())
+    }
+
+    /// Adds it as a measure.
+    pub(crate) fn put(&self, words: &Words, page: &mut Vec<u8>) -> Result<(), Memory> {
+        describe(page, words.name, Kind::Counter, words.help)?;
+        for (place, row) in words.rows.iter().enumerate() {
+            self.put_row(words, page, place, row)?;
+        }
+        Ok(())
+    }
+}

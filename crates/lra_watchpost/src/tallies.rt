@@ -1,0 +1,170 @@
+//! What is tallied of a service while it runs.
+
+use crate::histogram::Histogram;
+use crate::table::{Table, Words};
+use http::StatusCode;
+use lra_front::{Denial, Route};
+use lra_ids::Instance;
+use lra_model::{AskKind, Memory, Outcome};
+use std::alloc::Global;
+use std::sync::atomic::{AtomicU64, Ordering};
+use std::time::{Clock, Instant};
+
+/// The requests of services, by what they ask for and what they are answered.
+const REQUESTS: Words = Words {
+    name: "lra_requests_total",
+    help: "Requests of services that were answered, by what they asked for and the status code.",
+    row: "route",
+    rows: &[
+        "start", "status", "join", "close", "cancel", "remove", "renew", "member", "report", "none",
+    ],
+    column: "code",
+    columns: &[
+        "200", "201", "202", "204", "400", "404", "405", "409", "410", "412", "413", "500", "501",
+        "503", "other",
+    ],
+};
+
+/// The callbacks to members, by what they ask and what came of them.
+const CALLBACKS: Words = Words {
+    name: "lra_callbacks_total",
+    help: "Callbacks to members that came to something, by what they ask and what it was.",
+    row: "kind",
+    rows: &["complete", "compensate", "status", "forget", "after"],
+    column: "outcome",
+    columns: &["done", "accepted", "failed", "silent"],
+};
+
+/// What is tallied of a service while it runs.
+#[derive(Drop)]
+pub struct Tallies {
+    requests: Table,
+    request_times: Histogram,
+    callbacks: Table,
+    callback_times: Histogram,
+    /// The number behind that of the journal whose coordinator answered last that it has stopped, or 0.
+    stopped: AtomicU64,
+}
+
+/// The word for what a request asks for.
+fn route_word(route: Result<Route, Denial>) -> &'static str {
+    match route {
+        Ok(Route::Start) => "start",
+        Ok(Route::Status) => "status",
+        Ok(Route::Join) => "join",
+        Ok(Route::Close) => "close",
+        Ok(Route::Cancel) => "cancel",
+        Ok(Route::Remove) => "remove",
+        Ok(Route::Renew) => "renew",
+        Ok(Route::MemberStatus) => "member",
+        Ok(Route::Report) => "report",
+        Err(_) => "none",
+    }
+}
+
+/// The digits of a status code.
+fn code_word(status: StatusCode) -> &'static str {
+    match status.as_u16() {
+        200 => "200",
+        201 => "201",
+        202 => "202",
+        204 => "204",
+        400 => "400",
+        404 => "404",
+        405 => "405",
+        409 => "409",
+        410 => "410",
+        412 => "412",
+        413 => "413",
+        500 => "500",
+        501 => "501",
+        503 => "503",
+        _ => "other",
+    }
+}
+
+/// The word for what came of a callback.
+fn outcome_word(outcome: Outcome) -> &'static str {
+    match outcome {
+        Outcome::Done => "done",
+        Outcome::Accepted => "accepted",
+        Outcome::Failed => "failed",
+        Outcome::Silent => "silent",
+    }
+}
+
+/// How many microseconds have passed since a moment, where that can be told.
+fn micros_since<R: Clock>(rt: &R, began: Option<Instant>) -> Option<u64> {
+    let passed = Instant::now(rt).ok()?.saturating_duration_since(began?);
+    u64::try_from(passed.as_micros()).ok()
+}
+
+impl Tallies {
+    /// Nothing was.
+    pub fn new(alloc: Global) -> Result<Tallies, Memory> {
+        Ok(Tallies {
+            requests: Table::new(alloc, &REQUESTS)?,
+            request_times: Histogram::new(alloc)?,
+            callbacks: Table::new(alloc, &CALLBACKS)?,
+            callback_times: Histogram::new(alloc)?,
+            stopped: AtomicU64::new(0),
+        })
+    }
+
+    /// A journal's coordinator has stopped: nothing more is written to it.
+    pub fn stop(&self, instance: Instance) {
+        let number = instance.number().saturating_add(1);
+        self.stopped.store(number, Ordering::SeqCst);
+    }
+
+    /// Whether it is known of a journal's coordinator that it has stopped.
+    pub fn has_stopped(&self, instance: Instance) -> bool {
+        self.stopped.load(Ordering::SeqCst) == instance.number().saturating_add(1)
+    }
+
+    /// A request was answered that was begun with at that moment.
+    pub(crate) fn add_request<R: Clock>(
+        &self,
+        rt: &R,
+        route: Result<Route, Denial>,
+        status: StatusCode,
+        began: Option<Instant>,
+    ) {
+        self.requests
+            .add(&REQUESTS, route_word(route), code_word(status));
+        if let Some(micros) = micros_since(rt, began) {
+            self.request_times.add(micros);
+        }
+    }
+
+    /// Something came of a callback that was begun with at that moment.
+    pub(crate) fn add_callback<R: Clock>(
+        &self,
+        rt: &R,
+        kind: AskKind,
+        outcome: Outcome,
+        began: Option<Instant>,
+    ) {
+        self.callbacks
+            .add(&CALLBACKS, kind.name(), outcome_word(outcome));
+        if let Some(micros) = micros_since(rt, began) {
+            self.callback_times.add(micros);
+        }
+    }
+
+    /// Adds all of it, as measures in the text format 0.0.4 of Prometheus.
+    pub fn put(&self, page: &mut Vec<u8>) -> Result<(), Memory> {
+        self.requests.put(&REQUESTS, page)?;
+        self.request_times.put(
+            page,
+            "lra_request_seconds",
+            "How long the coordinator took to answer a request of a service, without the wait for the disk.",
+        )?;
+        self.callbacks.put(&CALLBACKS, page)?;
+        self.callback_times.put(
+            page,
+            "lra_callback_seconds",
+            "How long a callback took from when it was due until something came of it.",
+        )
+    }
+}
