@@ -1,6 +1,8 @@
-"""What identifiers begin with: a base of a proxy's, on the line and in a file, at a file and at a folder; and texts that are none."""
+"""What identifiers begin with: a base of a proxy's, on the line and in a file, at a file and at a folder; older bases, paths that a proxy passes on, and texts that are no bases."""
 import os
 
+import journal
+from folders import Folder
 from options import config, serve_by, told_of
 from participant import Participant
 from service import HOST, Service, check, equal, id_of
@@ -40,6 +42,11 @@ class Based(Service):
             self.address = f"{socket}:{self.port}"
             self.words[-3] = self.address
 
+    def first_line(self):
+        """A folder tells first where its base has changed."""
+        line = super().first_line()
+        return super().first_line() if line.startswith("lra: identifiers began with ") else line
+
 
 def check_identifiers(service, base):
     """Everything that a service gives begins with its base, and is read by it."""
@@ -76,6 +83,68 @@ def test_a_folder_has_a_base(setting):
     os.makedirs(place)
     with Based(setting, place, "--base", BASE) as service:
         check_identifiers(service, BASE)
+
+
+def check_older(setting, place):
+    """Identifiers under older bases are those under the base of now, in bodies too, and the path of the base may be passed on."""
+    with Participant() as member:
+        with Service(setting.program, place) as service, service.client() as client:
+            old = f"http://{service.address}/"
+            parent = client.start()
+            recovery = client.join(parent, compensate=member.uri("compensate"))
+        olders = ("--also-base", "http://other.test/", "--also-base", old)
+        with Based(setting, place, "--base", BASE, *olders) as service, service.client() as client:
+            action = client.start(parent=parent)
+            check(f"the action is {action}", action.startswith(BASE + "lra-coordinator/"))
+            equal("a parent under no base", client.call("POST", "/lra-coordinator", parent=parent.replace(old, "http://elsewhere.test/")).code, 404)
+            reply = client.call("POST", "/shop/lra-coordinator", parent=parent.replace(old, "http://other.test/"))
+            equal("a start with the base's path", reply.code, 201)
+            equal("an action with the base's path", client.call("GET", f"/shop/lra-coordinator/{id_of(action)}").body["status"], "Active")
+            equal("another path", client.call("GET", f"/shops/lra-coordinator/{id_of(action)}").code, 404)
+            reply = client.call("PUT", f"/shop/lra-coordinator/{id_of(parent)}/remove", recovery=recovery)
+            equal("a member that leaves", reply.code, 200)
+
+
+def test_older_bases_and_paths_that_are_passed_on(setting):
+    check_older(setting, setting.journal)
+
+
+def test_older_bases_of_a_folder(setting):
+    place = setting.folder + "/journals"
+    os.makedirs(place)
+    check_older(setting, place)
+
+
+def test_older_bases_are_told(setting):
+    first, second = "http://one.test/", "http://two.test/"
+    told = told_of(setting, "--also-base", first, "--also-base", "HTTP://two.test:80")
+    equal("the line's", told["also-base"], f'["{first}", "{second}"]')
+    path = config(setting, f'also-base = ["{first}", "{second}"]\n')
+    equal("a file's", told_of(setting, "--config", path)["also-base"], f'["{first}", "{second}"]')
+    equal("the line's, in its place", told_of(setting, "--config", path, "--also-base", second)["also-base"], f'["{second}"]')
+    check("there are older ones", "also-base" not in told_of(setting))
+    for text, why in (("7", "no list"), ("[7]", "no text"), ('["x"]', "no base: x")):
+        path = config(setting, f"also-base = {text}\n")
+        told = serve_by(setting, "--check", "--config", path)
+        equal(f"what is told of {text}", (told.status, told.told), (2, f"lra: {path}: also-base: {why}\n"))
+    told = serve_by(setting, "--check", "--also-base", "x")
+    equal("no base on the line", (told.status, told.told), (2, "lra: --also-base: no base: x\n"))
+
+
+def test_a_folder_tells_that_its_base_is_another(setting):
+    other, said = "http://other.test/", []
+    for options in (["--base", BASE], ["--base", other], ["--base", other], ["--base", BASE, "--also-base", other]):
+        with Folder(setting, *options) as folder:
+            said.append(folder.told())
+            base = options[1]
+            equal("what is noted", journal.read(folder.path("base")), base.encode() + b"\n")
+    changed = f"lra: identifiers began with {BASE}, and begin with {other} now: those are unknown in a request's body unless --also-base names it\n"
+    equal("what is told", said, ["", changed, "", f"lra: identifiers began with {other}, and begin with {BASE} now\n"])
+    for text in (b"", b"\x1b[31m\n", b"\xff\n", b"http://x.test/?\n", 100 * BASE.encode()):
+        journal.write(folder.path("base"), text)
+        with Folder(setting, "--base", BASE) as folder:
+            equal(f"what is told of {text[:20]!r}", folder.told(), "")
+            equal("what is noted", journal.read(folder.path("base")), BASE.encode() + b"\n")
 
 
 def test_with_a_base_all_addresses_of_the_machine_can_be_served(setting):

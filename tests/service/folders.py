@@ -24,6 +24,10 @@ IN_USE = 0.2
 # What is said of a folder so that its journals roll and are put away soon.
 SOON = ("--roll-after", "3", "--remember", "1")
 FAR = ("--roll-after", "3", "--remember", "3600")
+# How many entries a journal may have.
+ENTRIES = 4_000_000
+# The first identifier of the journal that is nearly full.
+NEAR = "/lra-coordinator/00000000-0000-8007-8000-000000000001"
 
 
 def instance_of(uri):
@@ -135,11 +139,11 @@ def test_a_first_start_makes_the_first_journal(setting):
 def test_a_check_tells_what_would_be_served_and_makes_nothing(setting):
     put(setting, SEVENTH + ".journal", SOUND)
     folder = Folder(setting)
-    told = refused(folder, "--check", "--site", "3")
+    told = refused(folder, "--check", "--site", "3", "--operators", "127.0.0.1:9090")
     equal("the status, and what is told", (told.status, told.told), (0, ""))
     lines = told.output.splitlines()
     equal("what is served", lines[:6], [f'address = "{folder.address}"', f'base = "http://{folder.address}/"', f'folder = "{folder.folder}"', "workers = 2", "journals = 1", "entries = 5"])
-    check(f"the settings: {lines}", "site = 3" in lines)
+    check(f"the settings: {lines}", "site = 3" in lines and lines[-1] == 'operators = "127.0.0.1:9090"')
     equal("what is there", os.listdir(folder.folder), [SEVENTH + ".journal"])
 
 
@@ -490,6 +494,58 @@ def test_a_full_disk_stops_the_newest_journal_and_no_reads(setting):
                 equal("its end", client.end(action, "close"), "Closed")
             folder.kill()
         check_sound(folder)
+
+
+def nearly_full(setting, port, entries):
+    """A journal of so many entries, with an action that has a member at a port."""
+    begun = b"lra-journal 2 7\n1 0 enrol\n1 5 start 1 * 0\n1 6 join 1 1 http://%s:%d/compensate * * * *\n" % (HOST.encode(), port)
+    put(setting, SEVENTH + ".journal", begun + b"1 7 restart\n" * (entries - 3))
+
+
+def line_of(folder, said):
+    """What is told of the journal that is nearly full."""
+    return f"lra: {folder.path(SEVENTH)}.journal has {said}\n"
+
+
+def test_from_three_quarters_on_a_silent_member_is_asked_once(setting):
+    """It is in the journal that is nearly full, where the same member of another is asked again and again."""
+    with Participant(lambda _: (500, b"")) as member:
+        nearly_full(setting, member.port, ENTRIES * 3 // 4)
+        with Folder(setting, "--retry-last", "200", "--remember", "3600") as folder, folder.client() as client:
+            wait_until("it is told", lambda: folder.told() == line_of(folder, "3/4 of its entries: silent members are asked once in ten minutes"))
+            client.end(NEAR, "cancel")
+            other = client.start()
+            client.join(other, **member.addresses("complete", "compensate"))
+            client.end(other, "close")
+            time.sleep(3)
+            equal("how often it was asked", len(member.at("compensate")), 1)
+            asked = len(member.at("complete"))
+            check(f"the other was asked {asked} times", asked > 5)
+            folder.kill()
+            return f"{asked} asks of the other; {check_sound(folder)} journals"
+
+
+def test_from_fifteen_sixteenths_on_nothing_is_begun_and_what_was_begun_ends(setting):
+    full = (503, {"error": "Full", "which": "Entries"})
+    with Participant() as member:
+        nearly_full(setting, member.port, ENTRIES * 15 // 16)
+        with Folder(setting, "--remember", "3600") as folder, folder.client() as client:
+            wait_until("it is told", lambda: folder.told() == line_of(folder, "15/16 of its entries: silent members aren't asked again, and nothing new is begun in it"))
+            folder.wait_for(2)
+            path = folder.path(SEVENTH + ".journal")
+            before = len(journal.read(path))
+            reply = client.call("PUT", NEAR, compensate=member.uri("late"))
+            equal("a join", (reply.code, reply.body), full)
+            reply = client.call("POST", "/lra-coordinator", parent=f"http://{folder.address}{NEAR}")
+            equal("a nested start", (reply.code, reply.body), full)
+            equal("what was added", journal.read(path)[before:], b"")
+            equal("its status", client.status(NEAR), "Active")
+            check("an outermost start isn't the newest's", instance_of(client.start()) != SEVENTH)
+            client.end(NEAR, "cancel")
+            wait_until("its end", lambda: client.status(NEAR) == "Cancelled")
+            equal("how often its member was asked", len(member.at("compensate")), 1)
+            folder.kill()
+            return f"{check_sound(folder)} journals"
 
 
 def test_a_folder_moves(setting):

@@ -142,6 +142,9 @@ def test_a_file_that_is_no_table_of_settings_is_refused(setting):
         refused(setting, f"{path}: callbacks: no number", "--config", path)
     path = config(setting, "stop-at-eof = 1\n")
     refused(setting, f"{path}: stop-at-eof: neither true nor false", "--config", path)
+    for key in ("operators", "operators-key"):
+        path = config(setting, f"{key} = 9090\n")
+        refused(setting, f"{path}: {key}: no text", "--config", path)
     for text in ("callbacks = \n", "callbacks = 1\ncallbacks = 2\n", b"callbacks = 1 # \xff\n", "callbacks\n"):
         path = config(setting, text)
         refused_beginning(setting, f"lra: {path}: ", "--config", path)
@@ -149,10 +152,19 @@ def test_a_file_that_is_no_table_of_settings_is_refused(setting):
     refused(setting, f"{path}: too long", "--config", path)
 
 
+def test_the_operators_address_and_key_are_told_and_the_line_wins(setting):
+    """A check tells them behind the settings, where they are said."""
+    for name in ("operators", "operators-key"):
+        check(f"{name} is there", name not in told_of(setting))
+        path = config(setting, f'{name} = "127.0.0.1:9090"\n')
+        equal(f"{name} of a file", told_of(setting, "--config", path)[name], '"127.0.0.1:9090"')
+        equal(f"{name} of the line", told_of(setting, "--config", path, f"--{name}", "[::1]:9091")[name], '"[::1]:9091"')
+
+
 def test_help_is_told(setting):
     told = setting.run("serve", "--help")
     equal("the status, and what is told", (told.status, told.told), (0, ""))
-    for name in list(USUAL) + ["config", "check"]:
+    for name in list(USUAL) + ["config", "check", "operators", "operators-key"]:
         check(f"--{name} is missing", f"--{name}" in told.output)
     check("the words are missing", "lra serve [OPTIONS] <ADDRESS> <FILE> <WORKERS>" in told.output)
 

@@ -17,20 +17,27 @@ use std::thread::{Threads, join};
 use std::time::{Clock, Duration, Instant};
 
 /// How long a callback may take.
-const PATIENCE: Patience = Patience {
+pub const PATIENCE: Patience = Patience {
     connect: 5_000,
     reply: 30_000,
 };
 
 /// How many errands were done, and how many came to something else.
 #[derive(Clone, Copy)]
-struct Count {
+pub struct Count {
     done: u64,
     other: u64,
 }
 
+impl Count {
+    /// Of how many something has come.
+    pub fn all(self) -> u64 {
+        self.done.saturating_add(self.other)
+    }
+}
+
 /// Takes what there is memory for.
-fn take_all<C: Carriage>(carriage: &mut C, errands: Vec<Held>) {
+pub fn take_all<C: Carriage>(carriage: &mut C, errands: Vec<Held>) {
     for held in errands {
         if let Some(errand) = held.take() {
             if let Err(errand) = carriage.take(errand) {
@@ -55,8 +62,13 @@ fn count_done<C: Carriage>(carriage: &mut C, count: &mut Count) {
     }
 }
 
-/// Carries until something has come of so many, or 20 seconds have passed.
-fn carry_until<R: Clock, C: Carriage>(rt: &R, carriage: &mut C, wanted: u64) -> Count {
+/// Carries until something has come of so many, or that time has passed.
+pub fn carry_within<R: Clock, C: Carriage>(
+    rt: &R,
+    carriage: &mut C,
+    wanted: u64,
+    time: Duration,
+) -> Count {
     let mut count = Count { done: 0, other: 0 };
     let Ok(start) = Instant::now(rt) else {
         return count;
@@ -65,7 +77,7 @@ fn carry_until<R: Clock, C: Carriage>(rt: &R, carriage: &mut C, wanted: u64) -> 
         carriage.carry(None);
         count_done(carriage, &mut count);
         let passed = start.elapsed(rt).unwrap_or(Duration::MAX);
-        if count.done.saturating_add(count.other) >= wanted || passed > Duration::from_secs(20) {
+        if count.all() >= wanted || passed > time {
             break;
         }
     }
@@ -87,16 +99,25 @@ fn carry<R: Wait + Net + Clock>(
     let Ok(progress) = Progress::<Ready>::open(&NoPen, NoSync) else {
         return count;
     };
-    let under_way = AtomicU64::new(0);
+    let (under_way, least_pause) = (AtomicU64::new(0), AtomicU64::new(0));
     let share = Share::of(1, 1_024, 64, PATIENCE);
     let clock = SystemClock::new(rt, 0);
     let bells: [Waker; 0] = [];
     let made = Callbacks::new(
-        rt, alloc, &progress, names, poll, share, &under_way, clock, &bells,
+        rt,
+        alloc,
+        &progress,
+        names,
+        poll,
+        share,
+        &under_way,
+        &least_pause,
+        clock,
+        &bells,
     );
     if let Ok(mut callbacks) = made {
         take_all(&mut callbacks, held);
-        count = carry_until(rt, &mut callbacks, wanted);
+        count = carry_within(rt, &mut callbacks, wanted, Duration::from_secs(20));
         drop(callbacks);
     }
     names.close(rt);
@@ -118,7 +139,7 @@ where
     count
 }
 
-const DONE: &str = "HTTP/1.1 204 No Content\r\n\r\n";
+pub const DONE: &str = "HTTP/1.1 204 No Content\r\n\r\n";
 
 /// The errands of so many members at one port of this host, and of so many at another.
 fn errands_at(alloc: Global, first: (u16, u64), second: (u16, u64)) -> Option<Vec<Held>> {
@@ -187,7 +208,7 @@ where
             let _ = serve(&listener, response, at_once);
         },
     );
-    if count.done.saturating_add(count.other) == 1 {
+    if count.all() == 1 {
         Some(count.done == 1)
     } else {
         None
@@ -214,7 +235,7 @@ where
     drop(listener);
     let held = errands_at(alloc, (port, 1), (port, 1))?;
     let count = carry_by_name(rt, alloc, held, 2);
-    if count.done.saturating_add(count.other) == 2 {
+    if count.all() == 2 {
         Some(count.done > 0)
     } else {
         None
@@ -231,12 +252,21 @@ fn rested<R: Wait + Net + Clock>(rt: &R, alloc: Global, millis: Option<u64>) -> 
     let (poll, _bell) = bell(rt).ok()?;
     let progress = Progress::<Ready>::open(&NoPen, NoSync).ok()?;
     let names = Names::new(alloc);
-    let under_way = AtomicU64::new(0);
+    let (under_way, least_pause) = (AtomicU64::new(0), AtomicU64::new(0));
     let bells: [Waker; 0] = [];
     let share = Share::of(1, 1_024, 64, PATIENCE);
     let clock = SystemClock::new(rt, 0);
     let made = Callbacks::new(
-        rt, alloc, &progress, &names, poll, share, &under_way, clock, &bells,
+        rt,
+        alloc,
+        &progress,
+        &names,
+        poll,
+        share,
+        &under_way,
+        &least_pause,
+        clock,
+        &bells,
     );
     let Ok(mut callbacks) = made else {
         return None;

@@ -7,3 +7,5 @@ mod callbacks;
 mod members;
 #[cfg(test)]
 mod setting;
+#[cfg(test)]
+mod spared;

@@ -168,3 +168,30 @@ pub fn errands(alloc: Global, first: (&str, u64), second: (&str, u64)) -> Option
     asked?;
     Some(errands)
 }
+
+/// How an action ends.
+#[derive(Clone, Copy, Debug, PartialEq, Eq)]
+pub enum End {
+    Close,
+    Cancel,
+}
+
+/// The errand of the first member of an action, at a host and port, that is ended.
+fn ask_one(alloc: Global, coordinator: &mut Coordinator, socket: &str, end: End) -> Option<Held> {
+    begin(coordinator).ok()?;
+    join_all(alloc, coordinator, socket, 1)?;
+    match end {
+        End::Close => coordinator.close(1, 0, 1).ok()?,
+        End::Cancel => coordinator.cancel(1, 0, 1).ok()?,
+    };
+    let errand = coordinator.next_ask(1, 1_000_000).ok()??;
+    Some(Held(Some(errand)))
+}
+
+/// The same of a coordinator of its own: whoever asks for another has one of the same member.
+pub fn errand(alloc: Global, socket: &str, end: End) -> Option<Held> {
+    let mut coordinator = coordinator(alloc)?;
+    let asked = ask_one(alloc, &mut coordinator, socket, end);
+    drop(coordinator);
+    asked
+}

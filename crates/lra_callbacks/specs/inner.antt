@@ -1,3 +1,4 @@
 -- Words that private functions and proofs alone use.
 pub mod Attempts
 pub mod Resting
+pub mod Silences

@@ -124,6 +124,13 @@ impl<D: Disk> Attempt<D> {
         }
     }
 
+    /// The errand.
+    pub(crate) fn errand(&self) -> Option<&Errand>
+        ensures { option_map (λ errand. errand.now) result ≡ self.now.errand }
+    {
+        self.errand.get()
+    }
+
     /// What the disk has to keep before it leaves.
     pub(crate) fn due(&self) -> &Due<D> {
         self.noted.due()
@@ -133,7 +140,7 @@ impl<D: Disk> Attempt<D> {
     fn callback(&self, alloc: Global) -> Option<(Carrying, String)>
         ensures { IfSome result (λ made. ForSome self.now.errand (Goes made.0 made.1)) }
     {
-        match self.errand.get() {
+        match self.errand() {
             Some(errand) => callback_of(alloc, errand),
             None => None,
         }

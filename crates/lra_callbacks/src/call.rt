@@ -71,9 +71,21 @@ impl<D: Disk> Call<D> {
         self.attempt.begin(rt, alloc, progress)
     }
 
+    /// The errand.
+    pub(crate) fn errand(&self) -> Option<&Errand>
+        ensures { option_map (λ errand. errand.now) result ≡ self.now.attempt.errand }
+    {
+        self.attempt.errand()
+    }
+
     /// What the disk has to keep before it leaves.
     pub(crate) fn due(&self) -> &Due<D> {
         self.attempt.due()
+    }
+
+    /// Whether the disk keeps that.
+    pub(crate) fn is_kept<R: Wait>(&self, rt: &R, progress: &Progress<D>) -> bool {
+        matches!(progress.kept(rt, self.due()), Ok(Some(_)))
     }
 
     /// The errand, and what came of it.

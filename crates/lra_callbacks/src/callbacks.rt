@@ -9,8 +9,9 @@ use crate::attempt::Leave;
 use crate::call::{Call, Seen};
 use crate::hosts::Next;
 use crate::names::Names;
-use crate::resting::{SHORT_REST_MS, rest_for};
+use crate::resting::{SHORT_REST_MS, rest_before, rest_for};
 use crate::share::Share;
+use crate::sparing::Sparing;
 use crate::traffic::{Traffic, ring};
 use lra_clocks::{Clock, SystemClock};
 use lra_core::Errand;
@@ -30,7 +31,7 @@ use std::time;
 const PAUSE_MS: u64 = 2;
 
 /// Callbacks to members, many at once. The request of each is made once the disk keeps all that it had taken when the errand was given; it waits
-/// while as many go to its host, or in all, as may. A contract sees which errand is under way at each place.
+/// while as many go to its host, or in all, as may, and while its member is spared, since it was silent. A contract sees which errand is under way at each place.
 #[derive(Drop)]
 pub struct Callbacks<'a, R, D: Disk> {
     rt: &'a R,
@@ -42,6 +43,7 @@ pub struct Callbacks<'a, R, D: Disk> {
     under_way: &'a AtomicU64,
     calls: Slab<Call<D>>,
     traffic: Traffic,
+    sparing: Sparing<'a>,
     /// When it looked at its office last.
     looked: u64,
     /// The office's clock.
@@ -50,6 +52,30 @@ pub struct Callbacks<'a, R, D: Disk> {
     bells: &'a [Waker],
     /// When it woke them last, by the office's clock.
     rang: u64,
+}
+
+/// Those go on that wait no longer at a moment.
+fn go_on(sparing: &mut Sparing<'_>, traffic: &mut Traffic, now: u64) {
+    for _ in 0..u64::MAX {
+        let Some(key) = sparing.release(now) else {
+            return;
+        };
+        traffic.go_on(key);
+    }
+}
+
+/// Notes what came of an errand, if anything, where members that are silent are spared.
+fn note<R: time::Clock>(
+    rt: &R,
+    traffic: &mut Traffic,
+    sparing: &mut Sparing<'_>,
+    came: &Option<(Errand, Outcome)>,
+) {
+    if let Some((errand, outcome)) = came
+        && sparing.is_on()
+    {
+        sparing.note(errand, *outcome, traffic.moment(rt));
+    }
 }
 
 impl<'a, R, D: Disk> Model for Callbacks<'a, R, D> {
@@ -64,7 +90,8 @@ impl<'a, R, D: Disk> Model for Callbacks<'a, R, D> {
 
 impl<'a, R: Wait + Net + time::Clock, D: Disk> Callbacks<'a, R, D> {
     /// None is under way. The poll is one that [`bell`](crate::bell) gave, as the bells of all who carry. How many are is told there whenever one is taken or done.
-    /// The clock is the one by which its office's moments are given.
+    /// A member that was silent isn't asked again in the same stage until the least pause has passed, in milliseconds: 0 spares none, and `u64::MAX` never ends. Others may change
+    /// it at any time; what came before it was told isn't known. Who waits so isn't counted as under way. The clock is the one by which its office's moments are given.
     pub fn new(
         rt: &'a R,
         alloc: Global,
@@ -73,6 +100,7 @@ impl<'a, R: Wait + Net + time::Clock, D: Disk> Callbacks<'a, R, D> {
         poll: Poll,
         share: Share,
         under_way: &'a AtomicU64,
+        least_pause: &'a AtomicU64,
         clock: SystemClock<'a, R>,
         bells: &'a [Waker],
     ) -> Result<Callbacks<'a, R, D>, Memory>
@@ -90,6 +118,7 @@ impl<'a, R: Wait + Net + time::Clock, D: Disk> Callbacks<'a, R, D> {
             under_way,
             calls: Slab::new(alloc),
             traffic,
+            sparing: Sparing::new(alloc, least_pause),
             looked: 0,
             clock,
             bells,
@@ -97,10 +126,44 @@ impl<'a, R: Wait + Net + time::Clock, D: Disk> Callbacks<'a, R, D> {
         })
     }
 
+    /// Those go on whose members are spared no longer.
+    fn go_on_all(&mut self)
+        ensures { self.new ≡ self.old }
+    {
+        if self.sparing.count() == 0 {
+            return;
+        }
+        let now = self.traffic.moment(self.rt);
+        go_on(&mut self.sparing, &mut self.traffic, now);
+        self.tell();
+    }
+
+    /// Has one wait whose member is spared, once the disk keeps what it has to. Tells whether it does.
+    fn holds(&mut self, key: usize) -> bool
+        ensures { self.new ≡ self.old }
+    {
+        if !self.sparing.is_on() {
+            return false;
+        }
+        let now = self.traffic.moment(self.rt);
+        let Some(call) = self.calls.get(key) else {
+            return false;
+        };
+        let Some(errand) = call.errand() else {
+            return false;
+        };
+        if !call.is_kept(self.rt, self.progress) || !self.sparing.holds(key, errand, now) {
+            return false;
+        }
+        self.tell();
+        true
+    }
+
     /// Those leave the disk that may.
     fn depart_all(&mut self)
         ensures { self.new ≡ self.old }
     {
+        self.go_on_all();
         for _ in 0..self.traffic.unkept.len() {
             let Some(key) = self.traffic.unkept.front().copied() else {
                 return;
@@ -112,10 +175,13 @@ impl<'a, R: Wait + Net + time::Clock, D: Disk> Callbacks<'a, R, D> {
         }
     }
 
-    /// Has one wait for its host, where the disk keeps what it has to. Tells whether it waits for the disk no longer.
+    /// Has one wait for its time or its host, where the disk keeps what it has to. Tells whether it waits for the disk no longer.
     fn depart(&mut self, key: usize) -> bool
         ensures { self.new ≡ self.old }
     {
+        if self.holds(key) {
+            return true;
+        }
         let Some(call) = self.calls.get_mut(key) else {
             return true;
         };
@@ -245,7 +311,9 @@ impl<'a, R: Wait + Net + time::Clock, D: Disk> Callbacks<'a, R, D> {
             return None;
         };
         self.tell();
-        call.finish()
+        let came = call.finish();
+        note(self.rt, &mut self.traffic, &mut self.sparing, &came);
+        came
     }
 
     /// Looks at all whose sockets were reported.
@@ -271,9 +339,14 @@ impl<'a, R: Wait + Net + time::Clock, D: Disk> Callbacks<'a, R, D> {
         }
     }
 
+    /// How many are under way: those that wait for their time aren't.
+    fn count(&self) -> usize {
+        self.calls.len().saturating_sub(self.sparing.count())
+    }
+
     /// Tells how many are under way.
     fn tell(&self) {
-        let count = self.calls.len() as u64;
+        let count = self.count() as u64;
         self.under_way.store(count, Ordering::SeqCst);
     }
 
@@ -302,12 +375,16 @@ impl<'a, R: Wait + Net + time::Clock, D: Disk> Callbacks<'a, R, D> {
         if !self.traffic.unkept.is_empty() || !self.traffic.ended.is_empty() {
             return 0;
         }
-        rest_for(next, now, self.is_roomy(), self.traffic.has_to_look())
+        let rest = rest_for(next, now, self.is_roomy(), self.traffic.has_to_look());
+        match self.sparing.first() {
+            Some(moment) => rest_before(rest, moment, self.traffic.moment(self.rt)),
+            None => rest,
+        }
     }
 
     /// Whether one more is taken. None is while all sockets are taken, or will be once the disk keeps what is waited for.
     fn is_roomy(&self) -> bool {
-        self.calls.len() < self.share.held as usize
+        self.count() < self.share.held as usize
             && self.traffic.moving() < self.share.sockets as usize
     }
 

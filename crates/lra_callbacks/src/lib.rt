@@ -11,6 +11,8 @@ mod names;
 mod pumping;
 mod resting;
 mod share;
+mod silences;
+mod sparing;
 mod traffic;
 
 pub use callbacks::Callbacks;

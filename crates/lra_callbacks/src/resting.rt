@@ -1,7 +1,7 @@
 //! How long a carrier rests.
 
 ghost use Rattle.std.specs.Prelude.{◌≡◌};
-ghost use Rattle.lra_callbacks.specs.inner.Resting.{rest, most_rest};
+ghost use Rattle.lra_callbacks.specs.inner.Resting.{rest, most_rest, rest_before};
 
 /// How long a carrier waits for its sockets at most before it looks at its office again, in milliseconds.
 pub(crate) const REST_MS: u64 = 1_000;
@@ -28,4 +28,11 @@ pub(crate) fn rest_for(next: Option<u64>, now: u64, has_room: bool, is_watchful:
         Some(moment) if has_room => moment.saturating_sub(now).min(most),
         _ => most,
     }
+}
+
+/// How long it may where it may so long, and something goes on at that moment.
+pub(crate) fn rest_before(rest: u64, moment: u64, now: u64) -> u64
+    ensures { result ≡ rest_before rest moment now }
+{
+    moment.saturating_sub(now).min(rest)
 }

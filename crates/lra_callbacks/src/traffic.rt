@@ -90,6 +90,11 @@ impl Traffic {
             .ok()
     }
 
+    /// One that waited for its time waits for the disk, before all others: it keeps what that one has to, and there is room for all.
+    pub(crate) fn go_on(&mut self, key: usize) {
+        let _ = self.unkept.push_front(key);
+    }
+
     /// How many errands have a socket, or may have one as soon as the disk keeps what they wait for.
     pub(crate) fn moving(&self) -> usize {
         (self.hosts.open() as usize).saturating_add(self.unkept.len())

@@ -1,10 +1,11 @@
 //! What is served of a folder.
 
-use crate::serving::{base_of, tell_way};
+use crate::serving::{base_of, put_operators, tell_way};
 use lra_opening::{Aloud, Herald};
 use lra_options::Options;
 use lra_reports::tell;
 use lra_rolling::{FolderServed, RollingFault, check_folder, rolling_line, serve_folder};
+use lra_watchpost::Watchpost;
 use std::fs::File;
 use std::io;
 use std::marker::{Send, Sync};
@@ -48,13 +49,27 @@ pub(crate) fn check_rolling<
         rt,
         options.address,
         base,
+        &options.also_bases,
         options.file,
         options.workers,
         &options.settings,
         watcher,
         &mut io::writer(rt),
     );
-    settle_rolling(rt, outcome, options)
+    let told = match outcome {
+        Ok(FolderServed::Ended) => tell_operators(rt, options),
+        other => other,
+    };
+    settle_rolling(rt, told, options)
+}
+
+/// Writes where operators would look and act, behind what would be served.
+fn tell_operators<R: AllocGlobal + Print>(
+    rt: &R,
+    options: &Options<'_>,
+) -> Result<FolderServed, RollingFault> {
+    put_operators(rt.alloc(), options, &mut io::writer(rt))?;
+    Ok(FolderServed::Ended)
 }
 
 /// Serves a folder, until an input has ended if there is one, and answers the program's status. The watcher is told how far journals have been read.
@@ -72,7 +87,13 @@ pub(crate) fn serve_rolling<
         + Clone
         + Drop,
     H: Herald + Sync,
->(rt: &R, options: &Options<'_>, input: Option<ChildStdout>, watcher: &H) -> u8 {
+>(
+    rt: &R,
+    options: &Options<'_>,
+    post: Option<&Watchpost>,
+    input: Option<ChildStdout>,
+    watcher: &H,
+) -> u8 {
     let base = match base_of(options) {
         Ok(base) => base,
         Err(fault) => return settle_rolling(rt, Err(RollingFault::Here(fault)), options),
@@ -81,9 +102,11 @@ pub(crate) fn serve_rolling<
         rt,
         options.address,
         base,
+        &options.also_bases,
         options.file,
         options.workers,
         options.settings,
+        post,
         input,
         watcher,
         &Aloud { rt },

@@ -8,8 +8,11 @@ use lra_options::{Options, OptionsFault, read_options};
 use lra_reports::{RunFault, error_line, hint_line, put, settle, tell, tell_usage};
 use lra_service::{Aloud, Herald, ServeFault, Served, check_place, fault_line, serve_with};
 use lra_settings::Settings;
+use lra_watchpost::{PortFault, Watchpost, port_line, read_key};
+use std::alloc::Global;
 use std::fs::{File, OpenOptions};
 use std::io;
+use std::io::Write;
 use std::marker::{Send, Sync};
 use std::net::{Net, TcpListener, TcpStream};
 use std::os::fd::AsFd;
@@ -93,6 +96,35 @@ pub(crate) fn base_of(options: &Options<'_>) -> Result<Option<Base>, ServeFault>
     }
 }
 
+/// Writes a line of a word and a text, if there is one.
+fn put_named<W: Write>(
+    alloc: Global,
+    word: &str,
+    text: Option<&str>,
+    writer: &mut W,
+) -> Result<(), ServeFault> {
+    let Some(text) = text else {
+        return Ok(());
+    };
+    let line = format!(in alloc; "{word} = \"{text}\"\n")?;
+    Ok(put(writer, line.as_bytes())?)
+}
+
+/// Writes where operators would look and act, behind what would be served.
+pub(crate) fn put_operators<W: Write>(
+    alloc: Global,
+    options: &Options<'_>,
+    writer: &mut W,
+) -> Result<(), ServeFault> {
+    put_named(alloc, "operators", options.operators.as_deref(), writer)?;
+    put_named(
+        alloc,
+        "operators-key",
+        options.operators_key.as_deref(),
+        writer,
+    )
+}
+
 /// Tells what would be served. The watcher is told how far the journal has been read.
 fn answer_check<
     R: AllocGlobal + Files<File = File> + Clock + Print + Eprint + Clone + Drop,
@@ -109,13 +141,46 @@ fn answer_check<
         rt.alloc(),
         options.address,
         base,
+        &options.also_bases,
         options.file,
         &NamedFile::told(rt, options.file, watcher),
         options.workers,
         &options.settings,
         &mut io::writer(rt),
     );
-    settle_serving(rt, outcome, options)
+    let told = match outcome {
+        Ok(0) => put_operators(rt.alloc(), options, &mut io::writer(rt)).map(|_| 0),
+        other => other,
+    };
+    settle_serving(rt, told, options)
+}
+
+/// The key that operators have to give, if a file of one is named.
+fn key_of<R: AllocGlobal + Files<File = File>>(
+    rt: &R,
+    path: Option<&str>,
+) -> Result<Option<String>, PortFault> {
+    match path {
+        Some(path) => Ok(Some(read_key(rt, rt.alloc(), path)?)),
+        None => Ok(None),
+    }
+}
+
+/// Where operators come in, if an address for them is named.
+fn operators_of<
+    R: AllocGlobal + Files<File = File> + Net<Stream = TcpStream, Listener = TcpListener>,
+>(rt: &R, options: &Options<'_>) -> Result<Option<Watchpost>, PortFault> {
+    let Some(address) = options.operators.as_deref() else {
+        return Ok(None);
+    };
+    let key = key_of(rt, options.operators_key.as_deref())?;
+    Ok(Some(Watchpost::open(rt, rt.alloc(), address, key)?))
+}
+
+/// Tells why there is no port for operators. The answer is the program's status.
+fn tell_port<R: AllocGlobal + Eprint>(rt: &R, fault: PortFault, options: &Options<'_>) -> u8 {
+    let address = options.operators.as_deref().unwrap_or("-");
+    tell(rt, port_line(rt.alloc(), fault, address))
 }
 
 /// Serves, until an input has ended if there is one, and answers the program's status. The watcher is told how far the journal has been read.
@@ -134,8 +199,12 @@ fn answer_until<
         + Drop,
     H: Herald + Sync,
 >(rt: &R, options: &Options<'_>, input: Option<ChildStdout>, watcher: &H) -> u8 {
+    let post = match operators_of(rt, options) {
+        Ok(post) => post,
+        Err(fault) => return tell_port(rt, fault, options),
+    };
     if is_folder(rt, options.file) {
-        return serve_rolling(rt, options, input, watcher);
+        return serve_rolling(rt, options, post.as_ref(), input, watcher);
     }
     let base = match base_of(options) {
         Ok(base) => base,
@@ -145,9 +214,11 @@ fn answer_until<
         rt,
         options.address,
         base,
+        &options.also_bases,
         &NamedFile::told(rt, options.file, watcher),
         options.workers,
         options.settings,
+        post.as_ref(),
         input,
         &Aloud { rt },
         &mut io::writer(rt),
@@ -183,6 +254,9 @@ pub(crate) fn answer_serve<
         workers,
         settings: Settings::usual(),
         base: None,
+        operators: None,
+        operators_key: None,
+        also_bases: Vec::new(rt.alloc()),
         is_check: false,
     };
     answer_until(rt, &options, None, watcher)

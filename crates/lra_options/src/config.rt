@@ -19,6 +19,12 @@ pub(crate) struct Config {
     pub(crate) given: Given,
     /// What identifiers begin with, if it is said.
     pub(crate) base: Option<String>,
+    /// The address of the operators' port, if it is said.
+    pub(crate) operators: Option<String>,
+    /// The file with the key that the port asks for, if it is said.
+    pub(crate) operators_key: Option<String>,
+    /// What else they may begin with, if that is said.
+    pub(crate) also_bases: Option<Vec<String>>,
 }
 
 impl Config {
@@ -27,6 +33,9 @@ impl Config {
         Config {
             given: Given::nothing(),
             base: None,
+            operators: None,
+            operators_key: None,
+            also_bases: None,
         }
     }
 }
@@ -83,6 +92,18 @@ fn text_of(alloc: Global, place: &str, value: &Value) -> Result<String, OptionsF
     }
 }
 
+/// The texts of the list that a value is. A place says whose it is.
+fn texts_of(alloc: Global, place: &str, value: &Value) -> Result<Vec<String>, OptionsFault> {
+    let Some(values) = value.as_array() else {
+        return Err(wrong(format!(in alloc; "{place}: no list")));
+    };
+    let mut texts = Vec::new(alloc);
+    for value in values {
+        texts.push(text_of(alloc, place, value)?)?;
+    }
+    Ok(texts)
+}
+
 /// What is true or false by a value. A place says whose it is.
 fn truth_of(alloc: Global, place: &str, value: &Value) -> Result<bool, OptionsFault> {
     match value.as_bool() {
@@ -103,6 +124,12 @@ fn note_other(
         config.given.stop_at_eof = Some(truth_of(alloc, place, value)?);
     } else if key == "base" {
         config.base = Some(text_of(alloc, place, value)?);
+    } else if key == "operators" {
+        config.operators = Some(text_of(alloc, place, value)?);
+    } else if key == "operators-key" {
+        config.operators_key = Some(text_of(alloc, place, value)?);
+    } else if key == "also-base" {
+        config.also_bases = Some(texts_of(alloc, place, value)?);
     } else {
         return Err(wrong(format!(in alloc; "{place}: no such setting")));
     }

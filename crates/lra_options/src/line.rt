@@ -12,7 +12,7 @@ use std::alloc::{AllocError, Global};
 const MOST_WORKERS: u64 = 16;
 
 /// What the words say.
-#[derive(Clone, Copy)]
+#[derive(Drop)]
 pub(crate) struct Line<'a> {
     pub(crate) address: &'a str,
     pub(crate) file: &'a str,
@@ -21,6 +21,12 @@ pub(crate) struct Line<'a> {
     pub(crate) config: Option<&'a str>,
     /// What identifiers begin with, if it is said.
     pub(crate) base: Option<&'a str>,
+    /// The address of the operators' port, if it is said.
+    pub(crate) operators: Option<&'a str>,
+    /// The file with the key that the port asks for, if it is said.
+    pub(crate) operators_key: Option<&'a str>,
+    /// What else they may begin with.
+    pub(crate) also_bases: Vec<&'a str>,
     /// It is only told what would be served.
     pub(crate) is_check: bool,
     pub(crate) given: Given,
@@ -112,6 +118,23 @@ fn with_words(alloc: Global, command: Command<'_>) -> Result<Command<'_>, AllocE
     command.arg(address)?.arg(file)?.arg(workers)
 }
 
+/// With the options of the operators' port.
+fn with_port(alloc: Global, command: Command<'_>) -> Result<Command<'_>, AllocError> {
+    let operators = value_arg(
+        alloc,
+        "operators",
+        "ADDRESS",
+        "Host and port where operators look and act [none]",
+    );
+    let key = value_arg(
+        alloc,
+        "operators-key",
+        "FILE",
+        "The file with the key that operators give [none]",
+    );
+    command.arg(operators)?.arg(key)
+}
+
 /// With the options that are no parameters.
 fn with_flags(alloc: Global, command: Command<'_>) -> Result<Command<'_>, AllocError> {
     let config = value_arg(
@@ -131,8 +154,20 @@ fn with_flags(alloc: Global, command: Command<'_>) -> Result<Command<'_>, AllocE
         "URL",
         "What identifiers begin with [http://ADDRESS/]",
     );
+    let also = value_arg(
+        alloc,
+        "also-base",
+        "URL",
+        "An older base, which identifiers may begin with as well; any number of them",
+    )
+    .action(ArgAction::Append);
     let check = flag_arg(alloc, "check", "Tells what would be served, and ends");
-    command.arg(base)?.arg(stop)?.arg(config)?.arg(check)
+    command
+        .arg(base)?
+        .arg(also)?
+        .arg(stop)?
+        .arg(config)?
+        .arg(check)
 }
 
 /// What the words are read by.
@@ -142,7 +177,7 @@ fn command_of<'a>(alloc: Global) -> Result<Command<'a>, AllocError> {
         let (name, unit, help) = (parameter.name(), unit_of(*parameter), help_of(*parameter));
         command = with_value(alloc, command, name, unit, help)?;
     }
-    with_words(alloc, with_flags(alloc, command)?)
+    with_words(alloc, with_flags(alloc, with_port(alloc, command)?)?)
 }
 
 /// Why the words can't be read.
@@ -199,6 +234,18 @@ fn word_in<'a>(matches: &ArgMatches<'a>, name: &str) -> &'a str {
     }
 }
 
+/// All that is said by an option.
+fn texts_in<'a>(
+    alloc: Global,
+    matches: &ArgMatches<'a>,
+    name: &str,
+) -> Result<Vec<&'a str>, AllocError> {
+    match matches.get_strs(name) {
+        Some(texts) => Vec::from_slice(alloc, texts),
+        None => Ok(Vec::new(alloc)),
+    }
+}
+
 /// What the matches say.
 fn line_of<'a>(alloc: Global, matches: &ArgMatches<'a>) -> Result<Line<'a>, OptionsFault> {
     let given = given_in(alloc, matches)?;
@@ -209,6 +256,9 @@ fn line_of<'a>(alloc: Global, matches: &ArgMatches<'a>) -> Result<Line<'a>, Opti
         workers,
         config: matches.get_str("config"),
         base: matches.get_str("base"),
+        operators: matches.get_str("operators"),
+        operators_key: matches.get_str("operators-key"),
+        also_bases: texts_in(alloc, matches, "also-base")?,
         is_check: matches.get_flag("check"),
         given,
     })

@@ -22,6 +22,12 @@ pub struct Options<'a> {
     pub settings: Settings,
     /// What identifiers begin with, if that isn't `http://`, the address and `/`.
     pub base: Option<Base>,
+    /// The address of the operators' port, if there is to be one.
+    pub operators: Option<String>,
+    /// The file with the key that the port asks for, if it is to ask for one.
+    pub operators_key: Option<String>,
+    /// What they may begin with as well where clients send them: older bases, of which the first counts that begins one.
+    pub also_bases: Vec<Base>,
     /// It is only told what would be served.
     pub is_check: bool,
 }
@@ -51,6 +57,18 @@ fn config_of<R: Files>(
     }
 }
 
+/// A text of the line, or else of the file.
+fn chosen(
+    alloc: Global,
+    line: Option<&str>,
+    file: Option<String>,
+) -> Result<Option<String>, OptionsFault> {
+    match line {
+        Some(text) => Ok(Some(String::from_str(alloc, text)?)),
+        None => Ok(file),
+    }
+}
+
 /// The base that a text is. A place says whose it is.
 fn base_in(alloc: Global, place: &str, text: &str) -> Result<Base, OptionsFault> {
     match Base::read(alloc, text) {
@@ -76,6 +94,26 @@ fn base_of(
     Ok(Some(base_in(alloc, place.as_str(), text)?))
 }
 
+/// The older bases that the line names, or else the file.
+fn also_bases_of(
+    alloc: Global,
+    line: &Line<'_>,
+    config: Option<&[String]>,
+) -> Result<Vec<Base>, OptionsFault> {
+    let mut bases = Vec::new(alloc);
+    for text in &line.also_bases {
+        bases.push(base_in(alloc, "--also-base", text)?)?;
+    }
+    let (Some(texts), Some(name), true) = (config, line.config, bases.is_empty()) else {
+        return Ok(bases);
+    };
+    let place = format!(in alloc; "{name}: also-base")?;
+    for text in texts {
+        bases.push(base_in(alloc, place.as_str(), text.as_str())?)?;
+    }
+    Ok(bases)
+}
+
 /// What a line says is to be served.
 fn options_of<'a, R: Files>(
     rt: &R,
@@ -87,12 +125,16 @@ fn options_of<'a, R: Files>(
     let file = config_of(rt, alloc, line.config)?;
     let settings = fit_settings(alloc, &line.given, &file.given)?;
     let base = base_of(alloc, line, file.base.as_deref())?;
+    let also_bases = also_bases_of(alloc, line, file.also_bases.as_deref())?;
     Ok(Options {
         address: line.address,
         file: line.file,
         workers: line.workers,
         settings,
         base,
+        operators: chosen(alloc, line.operators, file.operators)?,
+        operators_key: chosen(alloc, line.operators_key, file.operators_key)?,
+        also_bases,
         is_check: line.is_check,
     })
 }

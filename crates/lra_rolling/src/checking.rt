@@ -4,7 +4,7 @@ use crate::running::FolderServed;
 use lra_ids::Base;
 use lra_journal_folder::{Folder, RollingFault, Sound, Unsound, audit_all};
 use lra_opening::{Herald, ServeFault};
-use lra_service::{Site, put_number, put_settings, put_text, site_at};
+use lra_service::{Site, put_number, put_olders, put_settings, put_text, site_at};
 use lra_settings::Settings;
 use std::alloc::Global;
 use std::fs::File;
@@ -17,6 +17,7 @@ fn tell<W: Write>(
     alloc: Global,
     address: &str,
     site: &Site,
+    olders: &[Base],
     path: &str,
     sounds: &[Sound],
     workers: u32,
@@ -29,6 +30,7 @@ fn tell<W: Write>(
     }
     put_text(alloc, "address", address, writer)?;
     put_text(alloc, "base", site.base.as_str(), writer)?;
+    put_olders(alloc, olders, writer)?;
     put_text(alloc, "folder", path, writer)?;
     put_number(alloc, "workers", u64::from(workers), writer)?;
     put_number(alloc, "journals", sounds.len() as u64, writer)?;
@@ -47,6 +49,7 @@ pub fn check_folder<
     rt: &R,
     address: &str,
     base: Option<Base>,
+    olders: &[Base],
     path: &str,
     workers: u32,
     settings: &Settings,
@@ -61,7 +64,7 @@ pub fn check_folder<
         Err(Unsound { status, path }) => Ok(FolderServed::Unsound { status, path }),
         Ok(sounds) => {
             tell(
-                alloc, address, &site, path, &sounds, workers, settings, writer,
+                alloc, address, &site, olders, path, &sounds, workers, settings, writer,
             )?;
             Ok(FolderServed::Ended)
         }

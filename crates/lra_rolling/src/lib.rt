@@ -4,6 +4,7 @@
 
 mod checking;
 mod crier;
+mod lookout;
 mod opening;
 mod preparing;
 mod running;

@@ -4,6 +4,7 @@ ghost use Rattle.std.specs.Prelude.{◌≡◌, true, All, None};
 ghost use Rattle.lra_opening.specs.Places.{IsRead};
 
 use crate::crier::Crier;
+use crate::lookout::Tower;
 use crate::opening::{Bench, Opener};
 use crate::preparing::Maker;
 use crate::shift::Shift;
@@ -23,7 +24,8 @@ use lra_rounds::Arrivals;
 use lra_service::{Doorway, Site, bind, end_of, limits_of, make_doorway, say, site_at};
 use lra_settings::Settings;
 use lra_shelf::Shelf;
-use std::alloc::Global;
+use lra_watchpost::{Tallies, Watchpost};
+use std::alloc::{AllocError, Global};
 use std::fs::File;
 use std::io::{Read, Write};
 use std::marker::{Send, Sync};
@@ -33,8 +35,8 @@ use std::sync::{Arc, Wait};
 use std::thread::Threads;
 use std::time::Clock;
 
-/// How many bytes a journal has at most until the next one takes its place.
-const HALF_OF_BYTES: u64 = 1 << 29;
+/// How many bytes a journal may have.
+const MOST_BYTES: u64 = 1 << 30;
 
 /// How a service over a folder came to an end without a fault.
 #[derive(Debug, Drop)]
@@ -45,14 +47,24 @@ pub enum FolderServed {
     Ended,
 }
 
-/// How much a journal has of each until the next one takes its place.
-fn most_of(settings: &Settings) -> Counts {
+/// How much a journal may have of each.
+fn limit_of(settings: &Settings) -> Counts {
     let limits = limits_of(settings);
     Counts {
-        actions: settings.roll_after.min(limits.actions / 2),
-        members: limits.members / 2,
-        entries: limits.entries / 2,
-        bytes: HALF_OF_BYTES,
+        actions: limits.actions,
+        members: limits.members,
+        entries: limits.entries,
+        bytes: MOST_BYTES,
+    }
+}
+
+/// How much a journal has of each until the next one takes its place.
+fn most_of(settings: &Settings, limit: &Counts) -> Counts {
+    Counts {
+        actions: settings.roll_after.min(limit.actions / 2),
+        members: limit.members / 2,
+        entries: limit.entries / 2,
+        bytes: limit.bytes / 2,
     }
 }
 
@@ -63,12 +75,16 @@ struct Service<'a, R, V, H> {
     alloc: Global,
     address: &'a str,
     site: &'a Site,
+    /// What identifiers may begin with as well.
+    olders: &'a [Base],
     folder: &'a Folder<'a, R>,
     workers: u32,
     settings: Settings,
     /// Who is told how far journals have been read.
     watcher: &'a V,
     herald: &'a H,
+    /// Where operators come in, if any do.
+    operators: Option<&'a Watchpost>,
 }
 
 /// Where connections come in to so many threads.
@@ -81,6 +97,16 @@ fn arrivals_of<R: Net>(rt: &R, alloc: Global, workers: u32) -> Result<Vec<Arriva
         all.push(arrivals)?;
     }
     Ok(all)
+}
+
+/// The line that tells that identifiers begin otherwise than they did, and whether those of before are still read.
+fn base_line(alloc: Global, before: &str, base: &str, is_read: bool) -> Result<String, AllocError> {
+    let end = if is_read {
+        ""
+    } else {
+        ": those are unknown in a request's body unless --also-base names it"
+    };
+    format!(in alloc; "lra: identifiers began with {before}, and begin with {base} now{end}\n")
 }
 
 /// The later of the moments up to which journals go.
@@ -194,10 +220,12 @@ impl<
         maker: Maker<'a, R, O>,
         watches: Vec<Watch<B>>,
     ) -> Steward<'a, R, O, B> {
+        let limit = limit_of(&self.settings);
         Steward {
             maker,
             address: self.address,
-            most: most_of(&self.settings),
+            most: most_of(&self.settings, &limit),
+            limit,
             remember: self.settings.remember_seconds.saturating_mul(1_000),
             watches,
             idle: Vec::new(self.alloc),
@@ -206,6 +234,16 @@ impl<
             retry: 0,
             has_told: false,
         }
+    }
+
+    /// Where operators come in, and what they are told.
+    fn tower(&self) -> Result<Tower<'a>, RollingFault> {
+        Ok(Tower {
+            post: self.operators,
+            base: &self.site.base,
+            limits: limits_of(&self.settings),
+            tallies: Tallies::new(self.alloc)?,
+        })
     }
 
     /// Says that it serves, and serves until none can come any more.
@@ -223,11 +261,13 @@ impl<
         let Some(crier) = Crier::new(self.rt, self.alloc) else {
             return Err(RollingFault::Here(ServeFault::Address));
         };
+        let tower = self.tower()?;
         let shift = Shift::new(
             self.rt,
             self.alloc,
             self.herald,
             &self.settings,
+            self.olders,
             shelf,
             &ending,
             roster,
@@ -235,10 +275,12 @@ impl<
             arrivals,
             crier,
             moment,
+            &tower,
         );
         say(self.alloc, self.address, writer)?;
         work(&shift, steward, self.workers as usize);
         drop(shift);
+        drop(tower);
         let end = end_of(self.rt, shelf.progress(), &ending);
         drop(ending);
         match end {
@@ -271,11 +313,39 @@ impl<
         let mut maker = self.maker(shelf, opener, contents, now)?;
         let listener = bind(self.rt, self.site.socket.as_str())?;
         self.folder.clear(contents)?;
+        self.note_base()?;
         let watches = self.open(&mut maker, sounds, moment)?;
         let roster = self.roster(&watches)?;
         let door = make_doorway(self.rt, self.alloc, listener, input)?;
         let steward = self.steward(maker, watches);
         self.serve_roster(shelf, steward, &roster, door, moment, writer)
+    }
+
+    /// Tells that identifiers begin otherwise than they did, if what they began with is a base.
+    fn tell_base(&self, before: &str) -> Result<(), AllocError> {
+        let Some(before) = Base::read(self.alloc, before)? else {
+            return Ok(());
+        };
+        let before = before.as_str();
+        let is_read = self.olders.iter().any(|older| older.as_str() == before);
+        let line = base_line(self.alloc, before, self.site.base.as_str(), is_read)?;
+        self.herald.tell(line.as_str());
+        Ok(())
+    }
+
+    /// Notes what identifiers begin with, and tells where that isn't what they began with when the folder was served last.
+    fn note_base(&self) -> Result<(), RollingFault> {
+        let base = self.site.base.as_str();
+        if let Some(before) = self.folder.base()? {
+            if before.as_str() == base {
+                return Ok(());
+            }
+            self.tell_base(before.as_str())?;
+        }
+        match self.folder.note_base(base) {
+            Ok(()) => Ok(()),
+            Err(_) => Err(RollingFault::Here(ServeFault::File)),
+        }
     }
 
     /// Tells what is left alone in the folder.
@@ -291,7 +361,7 @@ impl<
 
 /// Serves the coordinators of a folder's journals at an address, as [`lra_service::serve_with`] does that of a file. What is begun, and names no journal,
 /// goes to the newest; once that is full, or has as many actions as it is to have, the next one takes its place. A journal that isn't the newest is put away
-/// once nothing of it is left to be done.
+/// once nothing of it is left to be done. Where there is a post for operators, one more thread answers them there, of all journals.
 pub fn serve_folder<
     R: Files<File = File>
         + AllocGlobal
@@ -311,9 +381,11 @@ pub fn serve_folder<
     rt: &R,
     address: &str,
     base: Option<Base>,
+    olders: &[Base],
     path: &str,
     workers: u32,
     settings: Settings,
+    operators: Option<&Watchpost>,
     input: Option<I>,
     watcher: &V,
     herald: &H,
@@ -331,11 +403,13 @@ pub fn serve_folder<
         alloc,
         address,
         site: &site,
+        olders,
         folder: &folder,
         workers,
         settings,
         watcher,
         herald,
+        operators,
     };
     service.tell_others(&contents);
     match audit_all(rt, &folder, &contents, watcher, writer)? {

@@ -3,19 +3,24 @@
 ghost use Rattle.std.specs.Prelude.{◌≡◌, [], IfSome};
 
 use crate::crier::Crier;
+use crate::lookout::{Lookout, Tower};
 use lra_branch::Clerkship;
 use lra_callbacks::{Callbacks, Names, Share};
 use lra_clocks::{Clock, SystemClock};
 use lra_durable::Progress;
 use lra_family_front::Household;
+use lra_ids::Base;
 use lra_opening::Herald;
-use lra_roster::{Journal, Kin, Roster};
-use lra_rounds::{Arrivals, Rounds, Times};
+use lra_proxied::{Proxied, copy_bases};
+use lra_reserve::Reserved;
+use lra_roster::{Journal, Kin, Reservations, Roster};
+use lra_rounds::{Arrivals, Rounds, RoundsEnd, Times};
 use lra_service::{
     CarrierGate, Ending, Entrance, Line, share_of, tell_answered, tell_carried, times_of,
 };
 use lra_settings::Settings;
 use lra_shelf::{Shelf, ShelfDisk};
+use lra_watchpost::{CountedCarriage, CountedResponder, attend};
 use lra_workers::{Gate, Go, WorkerEnd};
 use std::alloc::Global;
 use std::net::{Net, TcpListener, TcpStream};
@@ -36,6 +41,8 @@ pub(crate) struct Shift<'s, 'a, R: Wait, H, B> {
     pub(crate) shelf: &'a Arc<Shelf>,
     pub(crate) ending: &'s Arc<Ending>,
     pub(crate) roster: &'s Roster<B>,
+    /// What identifiers may begin with as well.
+    olders: &'s [Base],
     /// The moment at which it began, in milliseconds.
     moment: u64,
     /// How many connections one who answers has at most.
@@ -49,6 +56,8 @@ pub(crate) struct Shift<'s, 'a, R: Wait, H, B> {
     names: Names,
     /// What one who carries has under way at most.
     share: Share,
+    /// Where operators come in, and what they are told.
+    pub(crate) tower: &'s Tower<'a>,
 }
 
 /// What one who carries for a journal is let do: as at a file's, until the journal is put away.
@@ -81,6 +90,7 @@ impl<'s, 'a: 's, R: Wait + time::Clock, H, B> Shift<'s, 'a, R, H, B> {
         alloc: Global,
         herald: &'s H,
         settings: &Settings,
+        olders: &'s [Base],
         shelf: &'a Arc<Shelf>,
         ending: &'s Arc<Ending>,
         roster: &'s Roster<B>,
@@ -88,6 +98,7 @@ impl<'s, 'a: 's, R: Wait + time::Clock, H, B> Shift<'s, 'a, R, H, B> {
         arrivals: Vec<Arrivals>,
         crier: Crier,
         moment: u64,
+        tower: &'s Tower<'a>,
     ) -> Shift<'s, 'a, R, H, B> {
         let workers = arrivals.len();
         let most = settings.connections.div_ceil((workers as u64).max(1));
@@ -99,6 +110,7 @@ impl<'s, 'a: 's, R: Wait + time::Clock, H, B> Shift<'s, 'a, R, H, B> {
             shelf,
             ending,
             roster,
+            olders,
             moment,
             most: most as usize,
             times: times_of(settings),
@@ -106,7 +118,29 @@ impl<'s, 'a: 's, R: Wait + time::Clock, H, B> Shift<'s, 'a, R, H, B> {
             crier,
             names: Names::new(alloc),
             share: share_of(settings, BUSY),
+            tower,
         }
+    }
+
+    /// The moment at which it began, in milliseconds.
+    pub(crate) fn began(&self) -> u64 {
+        self.moment
+    }
+
+    /// How many connections there are.
+    pub(crate) fn load(&self) -> u64 {
+        self.door.load()
+    }
+
+    /// Whether the disk has failed.
+    pub(crate) fn has_failed(&self) -> bool {
+        self.progress().has_failed(self.rt)
+    }
+
+    /// Has the disk keep all that was written. Tells whether it does.
+    pub(crate) fn keep(&self) -> bool {
+        let due = self.progress().due(self.rt);
+        self.progress().keep(self.rt, &due).is_ok()
     }
 
     /// What the journals' files have taken and keep.
@@ -149,7 +183,16 @@ impl<
             self.herald.tell("lra: a thread that answered has ended: no clerk could be enrolled\n");
             return;
         };
-        let mut household = Household::new(family, kin);
+        let Ok(olders) = copy_bases(self.alloc, self.olders) else {
+            drop(family);
+            drop(kin);
+            tell_answered(self.herald, RoundsEnd::Refused);
+            return;
+        };
+        let household = Household::new(family, kin);
+        let reserved = Reserved::new(household, Reservations::new(self.rt, self.roster));
+        let counted = CountedResponder::new(reserved, self.rt, &self.tower.tallies);
+        let mut proxied = Proxied::new(counted, olders);
         let rounds = Rounds::new(
             self.rt,
             self.alloc,
@@ -159,8 +202,8 @@ impl<
             self.most,
             self.times,
         );
-        tell_answered(self.herald, rounds.run(&mut household, &mut self.clock()));
-        drop(household);
+        tell_answered(self.herald, rounds.run(&mut proxied, &mut self.clock()));
+        drop(proxied.into_inner());
     }
 
     /// Answers connections.
@@ -196,6 +239,7 @@ impl<
             poll,
             self.share,
             &journal.stall.under_way,
+            &journal.stall.least_pause,
             self.clock(),
             &journal.bells,
         )
@@ -222,9 +266,11 @@ impl<
             return;
         };
         match self.callbacks(journal) {
-            Some(mut callbacks) => {
-                let end = branch.carry(&mut callbacks, &mut self.gate(journal), &mut self.clock());
-                drop(callbacks);
+            Some(callbacks) => {
+                let tallies = &self.tower.tallies;
+                let mut counted = CountedCarriage::new(self.alloc, callbacks, self.rt, tallies);
+                let end = branch.carry(&mut counted, &mut self.gate(journal), &mut self.clock());
+                drop(counted);
                 self.tell_end(end);
             }
             None => {
@@ -250,5 +296,16 @@ impl<
     pub(crate) fn end(&self) {
         self.names.close(self.rt);
         self.ending.finish();
+    }
+}
+
+impl<'s, 'a: 's, R: Wait + time::Clock, H, B: Clerkship + Drop> Shift<'s, 'a, R, H, B> {
+    /// Answers operators, where any come in, until no one answers any more.
+    pub(crate) fn watch(&self) {
+        if let Some(post) = self.tower.post {
+            let mut lookout = Lookout::new(self.alloc, self, self.clock());
+            attend(self.rt, self.alloc, post, &mut lookout, &**self.ending);
+            drop(lookout);
+        }
     }
 }

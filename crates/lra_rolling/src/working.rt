@@ -131,6 +131,31 @@ fn work_by_name<
     );
 }
 
+/// The same, while one more answers operators, where any come in.
+fn work_watched<
+    'a,
+    R: Files<File = File>
+        + AllocGlobal
+        + Clone
+        + Drop
+        + Threads
+        + Wait
+        + Clock
+        + Net<Stream = TcpStream, Listener = TcpListener>
+        + Sync,
+    H: Herald + Sync,
+    O: Opener<Branch = B> + Send + Drop,
+    B: Clerkship + Send + Drop,
+>(shift: &Shift<'_, 'a, R, H, B>, steward: Steward<'a, R, O, B>, workers: usize) {
+    join(
+        shift.rt,
+        move || shift.watch(),
+        move ||
+            requires { IsSync R.row × IsSync H.row × IsSend O.row × IsSend B.row }
+        { work_by_name(shift, steward, workers) },
+    );
+}
+
 /// Lets the threads of a service work until no one answers any more, while one more waits for connections.
 pub(crate) fn work<
     'a,
@@ -152,6 +177,6 @@ pub(crate) fn work<
         move || shift.admit(),
         move ||
             requires { IsSync R.row × IsSync H.row × IsSend O.row × IsSend B.row }
-        { work_by_name(shift, steward, workers) },
+        { work_watched(shift, steward, workers) },
     );
 }

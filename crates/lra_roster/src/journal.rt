@@ -27,6 +27,8 @@ pub struct Journal<B> {
     pub bells: Vec<Waker>,
     /// How many bytes it had when who carries was woken last.
     heard: AtomicU64,
+    /// Nothing new is begun in it.
+    pub(crate) is_reserved: AtomicBool,
     /// It is put away.
     is_over: AtomicBool,
 }
@@ -61,6 +63,7 @@ impl<B: Clerkship + Drop> Journal<B> {
             stall,
             bells,
             heard: AtomicU64::new(0),
+            is_reserved: AtomicBool::new(false),
             is_over: AtomicBool::new(false),
         })
     }

@@ -3,11 +3,14 @@
 
 mod journal;
 mod kin;
+mod reservations;
+mod room;
 mod roster;
 mod scanning;
 mod watching;
 
 pub use journal::Journal;
 pub use kin::Kin;
+pub use reservations::Reservations;
 pub use roster::Roster;
 pub use watching::Watch;

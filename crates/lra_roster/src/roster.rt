@@ -3,7 +3,7 @@
 use crate::journal::Journal;
 use lra_model::{Instance, Memory};
 use std::alloc::Global;
-use std::sync::atomic::{AtomicU64, Ordering};
+use std::sync::atomic::{AtomicBool, AtomicU64, Ordering};
 use std::sync::{Arc, Mutex, Wait};
 
 /// The journals that are served, the newest last. Whenever one joins or leaves, its version is another.
@@ -12,6 +12,8 @@ pub struct Roster<B> {
     alloc: Global,
     journals: Mutex<Vec<Arc<Journal<B>>>>,
     version: AtomicU64,
+    /// In one of them nothing new is begun.
+    has_reserved: AtomicBool,
 }
 
 impl<B: Drop> Roster<B> {
@@ -20,12 +22,37 @@ impl<B: Drop> Roster<B> {
             alloc,
             journals: Mutex::new(Vec::new(alloc)),
             version: AtomicU64::new(1),
+            has_reserved: AtomicBool::new(false),
         }
     }
 
     /// Changes whenever one joins or leaves.
     pub fn version(&self) -> u64 {
         self.version.load(Ordering::SeqCst)
+    }
+
+    /// Notes whether there is one in which nothing new is begun.
+    pub fn note_reserved(&self, has_reserved: bool) {
+        self.has_reserved.store(has_reserved, Ordering::SeqCst);
+    }
+
+    /// Whether there may be one in which nothing new is begun.
+    pub fn has_reserved(&self) -> bool {
+        self.has_reserved.load(Ordering::SeqCst)
+    }
+
+    /// Whether nothing new is begun in the journal of an instance.
+    pub fn is_reserved<R: Wait>(&self, rt: &R, instance: Instance) -> bool {
+        self.journals.lock(rt).iter().any(|journal| journal.instance.number() == instance.number()
+            && journal.is_reserved())
+    }
+
+    /// The newest, where nothing new is begun in it.
+    pub fn reserved_newest<R: Wait>(&self, rt: &R) -> Option<Instance> {
+        match self.journals.lock(rt).last() {
+            Some(newest) if newest.is_reserved() => Some(newest.instance),
+            _ => None,
+        }
     }
 
     /// One joins, as the newest.

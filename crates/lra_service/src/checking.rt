@@ -36,6 +36,25 @@ pub fn put_text<W: Write>(
     Ok(put(writer, line.as_bytes())?)
 }
 
+/// Writes a line of the older bases, where there are any.
+pub fn put_olders<W: Write>(
+    alloc: Global,
+    olders: &[Base],
+    writer: &mut W,
+) -> Result<(), ServeFault> {
+    if olders.is_empty() {
+        return Ok(());
+    }
+    let mut line = String::from_str(alloc, "also-base = [")?;
+    for (place, base) in olders.iter().enumerate() {
+        line.push_str(if place == 0 { "\"" } else { ", \"" })?;
+        line.push_str(base.as_str())?;
+        line.push_str("\"")?;
+    }
+    line.push_str("]\n")?;
+    Ok(put(writer, line.as_bytes())?)
+}
+
 /// Writes a line for each setting.
 pub fn put_settings<W: Write>(
     alloc: Global,
@@ -82,6 +101,7 @@ pub fn check_place<P: Place, W: Write>(
     alloc: Global,
     address: &str,
     base: Option<Base>,
+    olders: &[Base],
     file: &str,
     place: &P,
     workers: u32,
@@ -103,7 +123,7 @@ pub fn check_place<P: Place, W: Write>(
     drop(found);
     let told = match kept {
         Ok(()) => tell(
-            alloc, address, &site, file, &opening, workers, settings, writer,
+            alloc, address, &site, olders, file, &opening, workers, settings, writer,
         ),
         Err(fault) => Err(fault),
     };
@@ -120,6 +140,7 @@ fn tell<W: Write>(
     alloc: Global,
     address: &str,
     site: &Site,
+    olders: &[Base],
     file: &str,
     opening: &Opening,
     workers: u32,
@@ -128,6 +149,7 @@ fn tell<W: Write>(
 ) -> Result<(), ServeFault> {
     put_text(alloc, "address", address, writer)?;
     put_text(alloc, "base", site.base.as_str(), writer)?;
+    put_olders(alloc, olders, writer)?;
     put_text(alloc, "file", file, writer)?;
     put_number(alloc, "workers", u64::from(workers), writer)?;
     put_journal(alloc, opening, writer)?;

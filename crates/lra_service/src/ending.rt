@@ -9,6 +9,7 @@ use crate::running::Served;
 use lra_durable::{Disk, Progress};
 use lra_opening::ServeFault;
 use lra_reports::RunFault;
+use lra_watchpost::Ends;
 use mio::Waker;
 use std::alloc::Global;
 use std::io::{ErrorKind, Read, Write};
@@ -60,6 +61,12 @@ impl Ending {
     /// Whether no one answers any more.
     pub fn is_over(&self) -> bool {
         self.is_over.load(Ordering::SeqCst)
+    }
+}
+
+impl Ends for Ending {
+    fn is_over(&self) -> bool {
+        Ending::is_over(self)
     }
 }
 

@@ -104,6 +104,18 @@ impl<'a, R: Wait> Entrance<'a, R> {
         self.arrivals.get(place as usize)
     }
 
+    /// How many connections there are.
+    pub fn load(&self) -> u64 {
+        let mut all: u64 = 0;
+        for arrivals in self.arrivals.as_slice() {
+            let load = arrivals.load(self.rt);
+            if load < u64::MAX {
+                all = all.saturating_add(load);
+            }
+        }
+        all
+    }
+
     /// Hands a connection to the thread that has the fewest. One whose socket can't be set up is closed, and so is one for which there is no memory.
     fn hand_on(&self, stream: TcpStream) {
         if stream.set_nodelay(true).is_err() {

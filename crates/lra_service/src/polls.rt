@@ -19,15 +19,18 @@ pub struct Stall {
     pub poll: Mutex<Option<Poll>>,
     /// How many errands it has under way.
     pub under_way: AtomicU64,
+    /// How many milliseconds it leaves at least between two asks of a silent member.
+    pub least_pause: AtomicU64,
 }
 
 impl Stall {
-    /// One where nothing is under way, and what wakes who waits there, if they can be had.
+    /// One where nothing is under way, and no member is spared, and what wakes who waits there, if they can be had.
     pub fn new<R: Net>(rt: &R) -> Option<(Stall, Waker)> {
         let (poll, bell) = bell(rt).ok()?;
         let stall = Stall {
             poll: Mutex::new(Some(poll)),
             under_way: AtomicU64::new(0),
+            least_pause: AtomicU64::new(0),
         };
         Some((stall, bell))
     }

@@ -16,6 +16,8 @@ pub(crate) enum Duty {
     Answer(u32),
     /// To let limits fire and carry errands, at that place.
     Carry(u32),
+    /// To answer operators.
+    Watch,
 }
 
 /// Gives a clerk its duty, and enrols another beside it.
@@ -68,7 +70,29 @@ fn add_all<V: Serving, R: Wait>(
     Ok(())
 }
 
-/// The clerks of a service, of which one is there already: so many to answer and as many to carry errands.
+/// Adds the clerks of a service, and one who answers operators, where any come in.
+fn add_each<V: Serving, R: Wait>(
+    rt: &R,
+    office: &OfficeOf<V>,
+    first: Clerk<V>,
+    moment: u64,
+    workers: u32,
+    is_watched: bool,
+    jobs: &mut Vec<(Duty, Clerk<V>)>,
+) -> Result<(), ServeFault>
+    requires first { IsAt V.setting office.now first }
+    requires hired { All (λ job. IsAt V.setting office.now job.1) jobs.old.items }
+    ensures hired { OnOk result (All (λ job. IsAt V.setting office.now job.1) jobs.new.items) }
+    ensures fault { IfErr result IsOfNoScript }
+{
+    if is_watched {
+        let next = engage(rt, office, first, Duty::Watch, moment, jobs)?;
+        return add_all(rt, office, next, moment, workers, jobs);
+    }
+    add_all(rt, office, first, moment, workers, jobs)
+}
+
+/// The clerks of a service, of which one is there already: so many to answer and as many to carry errands, and one who answers operators, where any come in.
 pub(crate) fn hire_all<V: Serving, R: Wait>(
     rt: &R,
     alloc: Global,
@@ -76,13 +100,14 @@ pub(crate) fn hire_all<V: Serving, R: Wait>(
     first: Clerk<V>,
     moment: u64,
     workers: u32,
+    is_watched: bool,
 ) -> Result<Vec<(Duty, Clerk<V>)>, ServeFault>
     requires { IsAt V.setting office.now first }
     ensures hired { IfOk result (λ jobs. All (λ job. IsAt V.setting office.now job.1) jobs.items) }
     ensures fault { IfErr result IsOfNoScript }
 {
     let mut jobs = Vec::new(alloc);
-    match add_all(rt, office, first, moment, workers, &mut jobs) {
+    match add_each(rt, office, first, moment, workers, is_watched, &mut jobs) {
         Ok(()) => Ok(jobs),
         Err(fault) => {
             drop(jobs);

@@ -16,6 +16,8 @@ use crate::base::{Site, bind, site_at};
 use crate::disk::{FilePen, JournalFile};
 use crate::doorway::{Doorway, make_doorway};
 use crate::ending::{end_of, say};
+use crate::grown::Grown;
+use crate::measure::{Begun, Measure, begun_from};
 use crate::polls::{Polls, polls_of};
 use crate::post::hire_all;
 use crate::shares::limits_of;
@@ -23,7 +25,7 @@ use crate::shift::{Shift, work};
 use lra_clocks::milliseconds;
 use lra_core::Opening;
 use lra_durable::{Keeper, Progress};
-use lra_ids::{Address, Base};
+use lra_ids::Base;
 use lra_office::{Clerk, Desk, Office};
 use lra_opening::{
     Found, Herald, NamedFile, Place, ServeFault, Silence, find_journal, open_office, ready_file,
@@ -31,6 +33,7 @@ use lra_opening::{
 };
 use lra_reports::RunFault;
 use lra_settings::Settings;
+use lra_watchpost::{Tallies, Watchpost};
 use std::alloc::Global;
 use std::fs::File;
 use std::io::{Read, Write};
@@ -58,10 +61,14 @@ struct Service<'a, R, P, H> {
     herald: &'a H,
     address: &'a str,
     site: &'a Site,
+    /// What identifiers may begin with as well.
+    olders: &'a [Base],
     /// Where the journal is kept.
     place: &'a P,
     workers: u32,
     settings: Settings,
+    /// Where operators come in, if any do.
+    operators: Option<&'a Watchpost>,
 }
 
 /// A journal's file as a disk, what adds to it, what the threads wait with, and the moment from which their clocks go on.
@@ -72,31 +79,74 @@ struct Stand {
     door: Doorway,
     polls: Polls,
     moment: u64,
+    measure: Measure,
+}
+
+/// A journal's file as a disk, and how much was added to it.
+#[derive(Drop)]
+struct OpenDisk {
+    progress: Progress<JournalFile>,
+    pen: FilePen,
+    grown: Arc<Grown>,
+}
+
+/// A journal's file as a disk, where it can be had.
+fn disk_of(alloc: Global, file: File) -> Option<OpenDisk> {
+    let (pen, syncer) = JournalFile::parts(alloc, file).ok()?;
+    let grown = pen.grown()?;
+    let progress = Progress::<JournalFile>::open(&pen, syncer).ok()?;
+    Some(OpenDisk {
+        progress,
+        pen,
+        grown,
+    })
+}
+
+/// What is tallied of a service that begins.
+fn tallies_of(alloc: Global) -> Result<Tallies, ServeFault>
+    ensures { IfErr result IsOfNoScript }
+{
+    match Tallies::new(alloc) {
+        Ok(tallies) => Ok(tallies),
+        Err(_) => Err(ServeFault::Run(RunFault::Memory)),
+    }
 }
 
 /// A journal's file as a disk, all of whose bytes are kept.
-fn stand_on(file: File, door: Doorway, polls: Polls, moment: u64) -> Result<Stand, ServeFault>
+fn stand_on(
+    alloc: Global,
+    file: File,
+    door: Doorway,
+    polls: Polls,
+    tallies: Tallies,
+    begun: Begun,
+    moment: u64,
+) -> Result<Stand, ServeFault>
     ensures { IfErr result (λ fault. fault ≡ ServeFault.File) }
 {
-    let Ok((pen, syncer)) = JournalFile::parts(file) else {
+    let Some(disk) = disk_of(alloc, file) else {
         drop(door);
         drop(polls);
+        drop(tallies);
         return Err(ServeFault::File);
     };
-    match Progress::<JournalFile>::open(&pen, syncer) {
-        Ok(progress) => Ok(Stand {
-            progress,
-            pen,
-            door,
-            polls,
-            moment,
-        }),
-        Err(_) => {
-            drop(door);
-            drop(polls);
-            Err(ServeFault::File)
-        }
-    }
+    let OpenDisk {
+        progress,
+        pen,
+        grown,
+    } = disk;
+    Ok(Stand {
+        progress,
+        pen,
+        door,
+        polls,
+        moment,
+        measure: Measure {
+            grown,
+            begun,
+            tallies,
+        },
+    })
 }
 
 impl<
@@ -123,6 +173,7 @@ impl<
             clerk,
             shift.moment,
             self.workers,
+            shift.is_watched(),
         )?;
         match say(self.alloc, self.address, writer) {
             Ok(()) => Ok(work(shift, office, jobs)?),
@@ -188,6 +239,7 @@ impl<
             door,
             polls,
             moment,
+            measure,
         } = stand;
         let Doorway { line, ending } = door;
         let room = pen.room();
@@ -197,11 +249,14 @@ impl<
             self.alloc,
             self.herald,
             &self.settings,
+            self.olders,
             &progress,
             &ending,
             line,
             polls,
             moment,
+            self.operators,
+            measure,
         );
         let served = self.serve_journal(&shift, opening, keeper, writer);
         drop(shift);
@@ -215,7 +270,13 @@ impl<
     }
 
     /// The disk of a file that has just its journal's whole lines.
-    fn stand(&self, file: File, door: Doorway, latest: u64) -> Result<Stand, ServeFault>
+    fn stand(
+        &self,
+        file: File,
+        door: Doorway,
+        begun: Begun,
+        latest: u64,
+    ) -> Result<Stand, ServeFault>
         requires { P.contents file ≡ option_map whole_lines (P.had self.now.place.now) }
         ensures { IfErr result IsOfNoScript }
     {
@@ -223,8 +284,10 @@ impl<
             return Err(ServeFault::Address);
         };
         let polls = polls_of(self.rt, self.alloc, self.workers)?;
+        let tallies = tallies_of(self.alloc)?;
         // A journal that was written to later, as by a clock that was wrong, is gone on from that moment.
-        stand_on(file, door, polls, now.max(latest))
+        let moment = now.max(latest);
+        stand_on(self.alloc, file, door, polls, tallies, begun, moment)
     }
 
     /// Where connections come in to the site's socket, and the disk of a journal that was found so.
@@ -241,7 +304,8 @@ impl<
         let listener = bind(self.rt, self.site.socket.as_str())?;
         let file = ready_file(self.place, found, opening)?;
         let door = make_doorway(self.rt, self.alloc, listener, input)?;
-        self.stand(file, door, opening.last_moment())
+        let begun = begun_from(opening, limits_of(&self.settings));
+        self.stand(file, door, begun, opening.last_moment())
     }
 
     /// Serves a sound journal that was found so.
@@ -289,11 +353,11 @@ impl<
     }
 }
 
-/// Serves the coordinator of a place's journal at an address, with identifiers that begin with a base of their own if there is one, by so many threads that answer connections and as many that carry errands,
+/// Serves the coordinator of a place's journal at an address, with identifiers that begin with a base of their own if there is one, and that clients may send under older ones, by so many threads that answer connections and as many that carry errands,
 /// until the last of the former has ended: then the answer is [`ServeFault::Address`]. Where the journal isn't sound, that is written as
 /// `lra audit` does, and the answer is the program's status. Once an input has ended, if there is one, the service ends gently: no more connections are
 /// accepted and no more requests read, replies that wait leave, what came of the callbacks under way is recorded, for 10 s at most, and all is synced.
-/// A thread that ends before that is told of at once, with why.
+/// A thread that ends before that is told of at once, with why. Where there is a post for operators, one more thread answers them there.
 ///
 /// The file that is written to has just the whole lines of what the place had, and the office that serves goes on from them
 /// ([`ready_file`], [`open_office`]).
@@ -312,9 +376,11 @@ pub fn serve_with<
     rt: &R,
     address: &str,
     base: Option<Base>,
+    olders: &[Base],
     place: &P,
     workers: u32,
     settings: Settings,
+    operators: Option<&Watchpost>,
     input: Option<I>,
     herald: &H,
     writer: &mut W,
@@ -331,9 +397,11 @@ pub fn serve_with<
         herald,
         address,
         site: &site,
+        olders,
         place,
         workers,
         settings,
+        operators,
     };
     service.serve_place(input, writer)
 }
@@ -358,9 +426,11 @@ pub fn serve_from<
         rt,
         address,
         None,
+        &[],
         place,
         workers,
         usual,
+        None,
         None::<File>,
         &Silence,
         writer,

@@ -9,16 +9,22 @@ use crate::ending::Ending;
 use crate::entrance::{Entrance, Line};
 use crate::gate::CarrierGate;
 use crate::herald::{tell_answered, tell_carried};
+use crate::lookout::Lookout;
+use crate::measure::{Measure, Now};
 use crate::polls::{Polls, Stall};
 use crate::post::Duty;
 use crate::shares::{share_of, times_of};
 use lra_callbacks::{Callbacks, Names, Share, ring};
 use lra_clocks::SystemClock;
 use lra_durable::Progress;
+use lra_ids::{Base, Instance};
 use lra_office::{Clerk, OfficeOf, Serving, WhichLock, Window};
 use lra_opening::Herald;
-use lra_rounds::{Arrivals, Rounds, Times};
+use lra_overview::Facts;
+use lra_proxied::{Proxied, copy_bases};
+use lra_rounds::{Arrivals, Rounds, RoundsEnd, Times};
 use lra_settings::Settings;
+use lra_watchpost::{CountedCarriage, CountedResponder, Vitals, Watchpost, attend};
 use lra_workers::{WorkerEnd, run_carrier};
 use mio::Waker;
 use std::alloc::{AllocError, Global};
@@ -39,6 +45,8 @@ pub(crate) struct Shift<'a, R, H> {
     door: Entrance<'a, R>,
     progress: &'a Progress<JournalFile>,
     ending: &'a Arc<Ending>,
+    /// What identifiers may begin with as well.
+    olders: &'a [Base],
     /// The moment at which it began, in milliseconds.
     pub(crate) moment: u64,
     /// How many connections one who answers has at most.
@@ -55,6 +63,10 @@ pub(crate) struct Shift<'a, R, H> {
     names: Names,
     /// What each who carries has under way at most.
     share: Share,
+    /// Where operators come in, if any do.
+    watchpost: Option<&'a Watchpost>,
+    /// What is tallied, and how much the journal has.
+    pub(crate) measure: Measure,
 }
 
 impl<'a, R: Wait + Clock, H> Shift<'a, R, H> {
@@ -64,11 +76,14 @@ impl<'a, R: Wait + Clock, H> Shift<'a, R, H> {
         alloc: Global,
         herald: &'a H,
         settings: &Settings,
+        olders: &'a [Base],
         progress: &'a Progress<JournalFile>,
         ending: &'a Arc<Ending>,
         line: Line,
         polls: Polls,
         moment: u64,
+        watchpost: Option<&'a Watchpost>,
+        measure: Measure,
     ) -> Shift<'a, R, H>
         ensures { result.moment ≡ moment }
     {
@@ -86,6 +101,7 @@ impl<'a, R: Wait + Clock, H> Shift<'a, R, H> {
             door: Entrance::new(rt, line, ending, arrivals),
             progress,
             ending,
+            olders,
             moment,
             most: most as usize,
             times: times_of(settings),
@@ -94,6 +110,80 @@ impl<'a, R: Wait + Clock, H> Shift<'a, R, H> {
             stalls,
             bells,
             names: Names::new(alloc),
+            watchpost,
+            measure,
+        }
+    }
+
+    /// Whether operators come in.
+    pub(crate) fn is_watched(&self) -> bool {
+        self.watchpost.is_some()
+    }
+
+    /// How many callbacks are under way.
+    fn under_way(&self) -> u64 {
+        let mut all: u64 = 0;
+        for stall in self.stalls.as_slice() {
+            all = all.saturating_add(stall.under_way.load(Ordering::SeqCst));
+        }
+        all
+    }
+
+    /// Has those who carry look at what was ordered, and the disk keep it. Tells whether that does.
+    pub(crate) fn keep(&self) -> bool {
+        ring(&self.bells);
+        let due = self.progress.due(self.rt);
+        self.progress.keep(self.rt, &due).is_ok()
+    }
+}
+
+impl<R: Wait + Clock, H> Shift<'_, R, H> {
+    /// What the system tells of the process, where operators come in.
+    fn vitals(&self) -> Vitals {
+        match self.watchpost {
+            Some(post) => post.vitals(),
+            None => Vitals::none(),
+        }
+    }
+
+    /// What is known of the service at a moment.
+    pub(crate) fn facts(&self, instance: Instance, moment: u64) -> Facts {
+        let has_failed = self.progress.has_failed(self.rt);
+        let now = Now {
+            moment,
+            began: self.moment,
+            has_failed: has_failed || self.measure.tallies.has_stopped(instance),
+            is_ending: self.ending.is_asked(),
+            connections: self.door.load(),
+            callbacks: self.under_way(),
+        };
+        self.measure.facts(now, self.vitals())
+    }
+
+    /// Answers operators, at an office with a lock that the type says.
+    fn watch_at<V: Serving, Q: WhichLock>(
+        &self,
+        post: &Watchpost,
+        office: &OfficeOf<V>,
+        clerk: Clerk<V>,
+    )
+        requires clerk { IsAt V.setting office.now clerk }
+        requires here { lock_id office.now.lock ≡ Q.lock }
+    {
+        let window: Window<'_, V, R, Q> = Window::new(self.rt, office, clerk);
+        let clock = SystemClock::new(self.rt, self.moment);
+        let mut lookout = Lookout::new(window, self, clock);
+        attend(self.rt, self.alloc, post, &mut lookout, &**self.ending);
+        drop(lookout.into_window().into_clerk());
+    }
+
+    /// Answers operators, where any come in.
+    fn watch<V: Serving>(&self, office: &OfficeOf<V>, clerk: Clerk<V>)
+        requires { IsAt V.setting office.now clerk }
+    {
+        match self.watchpost {
+            Some(post) => self.watch_at::<V, Brand>(post, office, clerk),
+            None => drop(clerk),
         }
     }
 }
@@ -123,8 +213,15 @@ impl<R: Wait + Clock + Net<Stream = TcpStream, Listener = TcpListener>, H: Heral
         requires clerk { IsAt V.setting office.now clerk }
         requires here { lock_id office.now.lock ≡ Q.lock }
     {
+        let Ok(olders) = copy_bases(self.alloc, self.olders) else {
+            drop(clerk);
+            tell_answered(self.herald, RoundsEnd::Refused);
+            return;
+        };
         let mut clock = self.clock();
-        let mut window: Window<'_, V, R, Q> = Window::new(self.rt, office, clerk);
+        let window: Window<'_, V, R, Q> = Window::new(self.rt, office, clerk);
+        let counted = CountedResponder::new(window, self.rt, &self.measure.tallies);
+        let mut proxied = Proxied::new(counted, olders);
         let rounds = Rounds::new(
             self.rt,
             self.alloc,
@@ -134,8 +231,8 @@ impl<R: Wait + Clock + Net<Stream = TcpStream, Listener = TcpListener>, H: Heral
             self.most,
             self.times,
         );
-        tell_answered(self.herald, rounds.run(&mut window, &mut clock));
-        drop(window.into_clerk());
+        tell_answered(self.herald, rounds.run(&mut proxied, &mut clock));
+        drop(proxied.into_inner().into_inner().into_clerk());
     }
 
     /// Answers connections.
@@ -170,6 +267,7 @@ impl<R: Wait + Clock + Net<Stream = TcpStream, Listener = TcpListener>, H: Heral
             poll,
             self.share,
             &stall.under_way,
+            &stall.least_pause,
             self.clock(),
             &self.bells,
         )
@@ -191,16 +289,18 @@ impl<R: Wait + Clock + Net<Stream = TcpStream, Listener = TcpListener>, H: Heral
             return;
         };
         match self.callbacks(stall) {
-            Some(mut callbacks) => {
+            Some(callbacks) => {
+                let tallies = &self.measure.tallies;
+                let mut counted = CountedCarriage::new(self.alloc, callbacks, self.rt, tallies);
                 let (clerk, end) = run_carrier(
                     self.rt,
                     office,
                     clerk,
-                    &mut callbacks,
+                    &mut counted,
                     &mut self.gate(stall),
                     &mut self.clock(),
                 );
-                drop(callbacks);
+                drop(counted);
                 drop(clerk);
                 self.tell_end(end);
             }
@@ -235,6 +335,7 @@ impl<R: Wait + Clock + Net<Stream = TcpStream, Listener = TcpListener>, H: Heral
         match duty {
             Duty::Answer(place) => self.answer(place, office, clerk),
             Duty::Carry(place) => self.carry(place, office, clerk),
+            Duty::Watch => self.watch(office, clerk),
         }
     }
 }

@@ -11,3 +11,7 @@ abbrev pub rest : Option ℕ → ℕ → Bool → Bool → ℕ
 rest next now has_room is_watchful =
     let most = most_rest has_room is_watchful in
     if has_room then option_map_or (λ (moment : ℕ). min (moment - now) most) next most else most
+
+-- the same where something goes on at a moment: no longer than until that one
+abbrev pub rest_before : ℕ → ℕ → ℕ → ℕ
+rest_before rest moment now = min (moment - now) rest

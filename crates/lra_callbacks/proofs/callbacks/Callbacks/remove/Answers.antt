@@ -4,11 +4,11 @@ use Rattle.lra_callbacks.proofs.callbacks.Callbacks.remove.Goals as goal
 
 pub returns-clause-some : goal.returns-clause-some
 returns-clause-some g c =
-    given_back c.self.inside.calls.slots c.try_remove.new.self.slots c.args.key c.in-Some.call (λ call. call.attempt.errand) c.args.self.now c.finish.result
+    given_back c.self.inside.calls.slots c.try_remove.new.self.slots c.args.key c.in-Some.call (λ call. call.attempt.errand) c.args.self.now c.finish-came.result
     (λ came. MayCome g.D.Disk.took g.D.Disk.keeps came.0.ask came.0.kind came.1) c.self.view_is c.in-Some.ensures.value c.in-Some.ensures.updates.changed c.in-Some.ensures.updates.others
-    c.finish.ensures.errand c.finish.ensures.came
+    c.finish-came.ensures.errand c.finish-came.ensures.came
 
 pub returns-clause-none : goal.returns-clause-none
 returns-clause-none g c =
-    let_go c.self.inside.calls.slots c.try_remove.new.self.slots c.args.key c.in-Some.call (λ call. call.attempt.errand) c.args.self.now c.finish.result
-    c.self.view_is c.in-Some.ensures.value c.in-Some.ensures.updates.changed c.in-Some.ensures.updates.others c.finish.ensures.errand
+    let_go c.self.inside.calls.slots c.try_remove.new.self.slots c.args.key c.in-Some.call (λ call. call.attempt.errand) c.args.self.now c.finish-came.result
+    c.self.view_is c.in-Some.ensures.value c.in-Some.ensures.updates.changed c.in-Some.ensures.updates.others c.finish-came.ensures.errand

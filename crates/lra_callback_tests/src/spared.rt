@@ -1,0 +1,156 @@
+//! Members that were silent, and are asked again only after a while.
+
+use crate::callbacks::{DONE, PATIENCE, carry_within, take_all};
+use crate::members::{listen, serve_all, socket_at};
+use crate::setting::{End, Held, NoPen, NoSync, Ready, errand};
+use lra_callbacks::{Callbacks, Names, Share, bell};
+use lra_clocks::SystemClock;
+use lra_courier::Carriage;
+use lra_durable::Progress;
+use mio::Waker;
+use std::alloc::Global;
+use std::net::{Net, TcpListener, TcpStream};
+use std::sync::Wait;
+use std::sync::atomic::AtomicU64;
+use std::test::Fail;
+use std::thread::{Threads, join};
+use std::time::{Clock, Duration, Instant};
+
+/// How a member is asked twice.
+#[derive(Clone, Copy)]
+struct Twice {
+    port: u16,
+    /// How many milliseconds there are at least between two asks of a silent member.
+    least_pause: u64,
+    /// How its action ends the second time.
+    end: End,
+}
+
+/// Has an errand carried, and tells how long it takes until something has come of it, if that is no more than three seconds.
+fn passed<R: Clock, C: Carriage>(
+    rt: &R,
+    alloc: Global,
+    carriage: &mut C,
+    errand: Held,
+) -> Option<Duration> {
+    let mut errands = Vec::new(alloc);
+    errands.push(errand).ok()?;
+    let start = Instant::now(rt).ok()?;
+    take_all(carriage, errands);
+    let count = carry_within(rt, carriage, 1, Duration::from_secs(3));
+    if count.all() == 1 {
+        start.elapsed(rt).ok()
+    } else {
+        None
+    }
+}
+
+/// How long it takes the second time, once something has come of the first.
+fn passed_again<R: Clock, C: Carriage>(
+    rt: &R,
+    alloc: Global,
+    carriage: &mut C,
+    twice: Twice,
+) -> Option<Duration> {
+    let socket = socket_at(alloc, "127.0.0.1", twice.port);
+    let first = errand(alloc, socket.as_str(), End::Close);
+    let second = errand(alloc, socket.as_str(), twice.end);
+    drop(socket);
+    passed(rt, alloc, carriage, first?)?;
+    passed(rt, alloc, carriage, second?)
+}
+
+/// The same of callbacks of their own.
+fn asked_twice<R: Wait + Net + Clock>(rt: &R, alloc: Global, twice: Twice) -> Option<Duration> {
+    let (poll, _bell) = bell(rt).ok()?;
+    let progress = Progress::<Ready>::open(&NoPen, NoSync).ok()?;
+    let names = Names::new(alloc);
+    let (under_way, least_pause) = (AtomicU64::new(0), AtomicU64::new(twice.least_pause));
+    let bells: [Waker; 0] = [];
+    let share = Share::of(1, 1_024, 64, PATIENCE);
+    let clock = SystemClock::new(rt, 0);
+    let made = Callbacks::new(
+        rt,
+        alloc,
+        &progress,
+        &names,
+        poll,
+        share,
+        &under_way,
+        &least_pause,
+        clock,
+        &bells,
+    );
+    let Ok(mut callbacks) = made else {
+        return None;
+    };
+    let passed = passed_again(rt, alloc, &mut callbacks, twice);
+    drop(callbacks);
+    passed
+}
+
+/// How long it takes where nobody listens.
+fn silent_twice<R>(rt: &R, alloc: Global, least_pause: u64, end: End) -> Option<Duration>
+where
+    R: Wait + Clock + Net<Listener = TcpListener, Stream = TcpStream>,
+{
+    let (listener, port) = listen(rt).ok()?;
+    drop(listener);
+    asked_twice(
+        rt,
+        alloc,
+        Twice {
+            port,
+            least_pause,
+            end,
+        },
+    )
+}
+
+#[test]
+fn a_silent_member_is_asked_again_after_the_least_pause(rt: HostRuntime) {
+    let spared = silent_twice(&rt, rt.alloc(), 1_000, End::Close).unwrap_or(Duration::ZERO);
+    assert!(rt; spared >= Duration::from_millis(950) && spared < Duration::from_millis(2_000));
+}
+
+#[test]
+fn without_a_least_pause_it_is_asked_at_once(rt: HostRuntime) {
+    let asked = silent_twice(&rt, rt.alloc(), 0, End::Close).unwrap_or(Duration::MAX);
+    assert!(rt; asked < Duration::from_millis(900));
+}
+
+#[test]
+fn it_is_asked_in_another_stage_at_once(rt: HostRuntime) {
+    let asked = silent_twice(&rt, rt.alloc(), u64::MAX, End::Cancel).unwrap_or(Duration::MAX);
+    assert!(rt; asked < Duration::from_millis(900));
+}
+
+#[test]
+fn where_the_pause_never_ends_it_is_not_asked_again(rt: HostRuntime) {
+    assert!(rt; silent_twice(&rt, rt.alloc(), u64::MAX, End::Close).is_none());
+}
+
+/// How long it takes where a member answers.
+fn answered_twice<R>(rt: &R, alloc: Global) -> Option<Duration>
+where
+    R: Wait + Clock + Threads + Net<Listener = TcpListener, Stream = TcpStream> + Sync,
+{
+    let (listener, port) = listen(rt).ok()?;
+    let twice = Twice {
+        port,
+        least_pause: u64::MAX,
+        end: End::Close,
+    };
+    let (asked, _) = join(
+        rt,
+        || asked_twice(rt, alloc, twice),
+        || serve_all(&listener, DONE, 2),
+    );
+    asked
+}
+
+#[test]
+fn a_member_that_answers_is_asked_again_at_once(rt: HostRuntime) {
+    let asked = answered_twice(&rt, rt.alloc()).unwrap_or(Duration::MAX);
+    assert!(rt; asked < Duration::from_millis(900));
+}

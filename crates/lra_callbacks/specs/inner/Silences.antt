@@ -1,0 +1,23 @@
+-- When members that were silent may be asked again.
+use Rattle.std.specs.Prelude.{◌≡◌, ◌⊎◌, ℕ, ◌+◌, ◌-◌, ◌^◌, Bool, true, Option, Some, None, if◌then◌else◌, min}
+use Rattle.lra_model.specs.declared.asks.AskKind.{AskKind}
+use Rattle.lra_model.specs.declared.asks.Outcome.{Outcome}
+use Rattle.lra_model.specs.Words.{same_kind, is_silent}
+use Rattle.lra_model.specs.Wants.{stage_of}
+use Rattle.lra_commands.specs.Errands.{Asking}
+use Rattle.lra_callbacks.specs.declared.silences.Silence.{Silence}
+
+-- an ask of a stage is one again of a member that was silent
+abbrev pub is_again : Silence → AskKind → Bool
+is_again silence stage = same_kind silence.stage stage
+
+-- from when on a member may be asked in a stage, with so many milliseconds between: where it wasn't silent in that stage at any time, and never where that is past the
+-- greatest number
+abbrev pub again : Option Silence → AskKind → ℕ → Option ℕ
+again None stage pause = None
+again (Some silence) stage pause = if is_again silence stage then Some (min (silence.moment + pause) (2 ^ 64 - 1)) else None
+
+-- what is known of a member once that came of its errand at a moment: that it was silent then, and nothing where it wasn't, or where memory is refused
+abbrev pub Notes : Asking → Outcome → ℕ → Option Silence → Type 0
+Notes errand outcome moment known =
+    (known ≡ None) ⊎ ((is_silent outcome ≡ true) × (known ≡ Some (record { stage = stage_of errand.kind errand.direction; moment = moment })))

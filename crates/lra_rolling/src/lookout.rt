@@ -1,0 +1,259 @@
+//! One who answers operators, at all journals.
+
+ghost use Rattle.std.specs.Prelude.{◌≡◌};
+
+use crate::shift::Shift;
+use lra_branch::Clerkship;
+use lra_clocks::{Clock as Moments, SystemClock};
+use lra_commands::{CounterFault, Known, Limits, Order, Query, Refusal, Told};
+use lra_ids::Base;
+use lra_model::{Instance, Memory};
+use lra_overview::{Facts, Overview};
+use lra_reports::LONGEST;
+use lra_roster::Journal;
+use lra_watchpost::{Given, Tallies, Vitals, Watchpost, operators_order};
+use std::alloc::Global;
+use std::sync::{Arc, Wait};
+use std::time::Clock;
+
+/// Where operators come in, if any do, and what they are told beside the histories.
+#[derive(Drop)]
+pub(crate) struct Tower<'a> {
+    pub(crate) post: Option<&'a Watchpost>,
+    pub(crate) base: &'a Base,
+    pub(crate) limits: Limits,
+    pub(crate) tallies: Tallies,
+}
+
+impl Tower<'_> {
+    /// What the system tells of the process, where operators come in.
+    fn vitals(&self) -> Vitals {
+        match self.post {
+            Some(post) => post.vitals(),
+            None => Vitals::none(),
+        }
+    }
+}
+
+/// A journal, with a clerk of its own.
+#[derive(Drop)]
+struct Desk<B> {
+    journal: Arc<Journal<B>>,
+    branch: B,
+}
+
+/// One who answers operators: with a clerk of each journal of the roster.
+#[derive(Drop)]
+pub(crate) struct Lookout<'b, 's, 'a, R: Wait, H, B> {
+    shift: &'b Shift<'s, 'a, R, H, B>,
+    /// The newest last.
+    desks: Vec<Desk<B>>,
+    /// The roster's version that they are known to be of.
+    seen: u64,
+    clock: SystemClock<'a, R>,
+    given: Given,
+}
+
+/// Whether a journal of that instance is among them.
+fn is_among<B: Drop>(journals: &[Arc<Journal<B>>], instance: Instance) -> bool {
+    journals.iter().any(|journal| journal.instance == instance)
+}
+
+/// The place of a journal's desk, if it is there.
+fn place_of<B: Drop>(desks: &[Desk<B>], instance: Instance) -> Option<usize> {
+    desks
+        .iter()
+        .position(|desk| desk.journal.instance == instance)
+}
+
+/// Has a clerk of a journal join, at a moment. Tells whether one has.
+fn join<R: Wait, B: Clerkship + Drop>(
+    rt: &R,
+    desks: &mut Vec<Desk<B>>,
+    journal: &Arc<Journal<B>>,
+    moment: u64,
+) -> bool {
+    let Ok(theirs) = Arc::try_clone(journal) else {
+        return false;
+    };
+    let Some(branch) = theirs.fork(rt, moment) else {
+        drop(theirs);
+        return false;
+    };
+    desks
+        .push(Desk {
+            journal: theirs,
+            branch,
+        })
+        .is_ok()
+}
+
+/// Has those join that have no clerk, at a moment. Tells whether all have one.
+fn join_all<R: Wait, B: Clerkship + Drop>(
+    rt: &R,
+    desks: &mut Vec<Desk<B>>,
+    journals: &[Arc<Journal<B>>],
+    moment: u64,
+) -> bool {
+    for journal in journals {
+        if place_of(desks, journal.instance).is_none() && !join(rt, desks, journal, moment) {
+            return false;
+        }
+    }
+    true
+}
+
+impl<'b, 's, 'a: 's, R: Wait + Clock, H, B> Lookout<'b, 's, 'a, R, H, B> {
+    /// One who has no clerk yet, and has given no order.
+    pub(crate) fn new(
+        alloc: Global,
+        shift: &'b Shift<'s, 'a, R, H, B>,
+        clock: SystemClock<'a, R>,
+    ) -> Lookout<'b, 's, 'a, R, H, B> {
+        Lookout {
+            shift,
+            desks: Vec::new(alloc),
+            seen: 0,
+            clock,
+            given: Given::new(),
+        }
+    }
+}
+
+impl<'s, 'a: 's, R: Wait + Clock, H, B: Clerkship + Drop> Lookout<'_, 's, 'a, R, H, B> {
+    /// How many callbacks are under way.
+    fn under_way(&self) -> u64 {
+        let mut all: u64 = 0;
+        for desk in self.desks.as_slice() {
+            all = all.saturating_add(desk.journal.under_way());
+        }
+        all
+    }
+
+    /// Whether it is known of a journal's coordinator that it has stopped.
+    fn has_stopped(&self) -> bool {
+        let tallies = &self.shift.tower.tallies;
+        self.desks
+            .iter()
+            .any(|desk| tallies.has_stopped(desk.journal.instance))
+    }
+
+    /// How many bytes and entries the newest journal has.
+    fn sizes(&self) -> (u64, u64) {
+        match self.desks.as_slice().last() {
+            Some(desk) => (desk.journal.bytes(), desk.journal.count_entries()),
+            None => (0, 0),
+        }
+    }
+
+    /// Gives an order to a journal. Nothing is told of it before it is on disk.
+    fn give_at(
+        &mut self,
+        place: usize,
+        moment: u64,
+        order: &Order<'static>,
+    ) -> Result<Told, CounterFault>
+        ensures { self.new.given ≡ self.old.given }
+    {
+        let Some(desk) = self.desks.get_mut(place) else {
+            return Err(CounterFault::Refused(Refusal::NoSuchAction));
+        };
+        let told = desk.branch.give(moment, order)?;
+        desk.journal.ring();
+        if self.shift.keep() {
+            Ok(told)
+        } else {
+            Err(CounterFault::Refused(Refusal::Stopped))
+        }
+    }
+
+    /// What a journal's coordinator tells.
+    fn query_at(&mut self, place: usize, query: Query) -> Result<Known, CounterFault>
+        ensures { self.new.given ≡ self.old.given }
+    {
+        let Some(desk) = self.desks.get_mut(place) else {
+            return Err(CounterFault::Refused(Refusal::NoSuchAction));
+        };
+        match desk.branch.query(query) {
+            Some(known) => Ok(known),
+            None => Err(CounterFault::Refused(Refusal::NoSuchAction)),
+        }
+    }
+}
+
+impl<'s, 'a: 's, R: Wait + Clock, H, B: Clerkship + Drop> Overview
+    for Lookout<'_, 's, 'a, R, H, B> {
+    ghost orders = { λ w. w.given.log.items };
+
+    fn instance(&self, place: u64) -> Option<Instance> {
+        let place = usize::try_from(place).ok()?;
+        Some(self.desks.get(place)?.journal.instance)
+    }
+
+    fn base(&self) -> &Base {
+        self.shift.tower.base
+    }
+
+    fn catch_up(&mut self) {
+        let version = self.shift.roster.version();
+        if version == self.seen {
+            return;
+        }
+        let Ok(journals) = self.shift.roster.all(self.shift.rt) else {
+            return;
+        };
+        self.desks
+            .retain(|desk| is_among(&journals, desk.journal.instance));
+        let moment = self.clock.now();
+        if join_all(self.shift.rt, &mut self.desks, &journals, moment) {
+            self.seen = version;
+        }
+    }
+
+    fn facts(&mut self) -> Facts {
+        let (bytes, entries) = self.sizes();
+        let limits = self.shift.tower.limits;
+        let vitals = self.shift.tower.vitals();
+        Facts {
+            moment: self.clock.now(),
+            began: self.shift.began(),
+            has_failed: self.shift.has_failed() || self.has_stopped(),
+            is_ending: self.shift.ending.is_asked(),
+            journals: self.desks.len() as u64,
+            bytes,
+            most_bytes: LONGEST as u64,
+            entries,
+            most_entries: limits.entries,
+            most_actions: limits.actions,
+            most_members: limits.members,
+            connections: self.shift.load(),
+            callbacks: self.under_way(),
+            virtual_bytes: vitals.virtual_bytes,
+            resident_bytes: vitals.resident_bytes,
+            processor_ticks: vitals.ticks,
+        }
+    }
+
+    fn put_tallies(&mut self, page: &mut Vec<u8>) -> Result<(), Memory> {
+        self.shift.tower.tallies.put(page)
+    }
+
+    fn query(&mut self, instance: Instance, query: Query) -> Result<Known, CounterFault> {
+        match place_of(&self.desks, instance) {
+            Some(place) => self.query_at(place, query),
+            None => Err(CounterFault::Refused(Refusal::NoSuchAction)),
+        }
+    }
+
+    fn give(&mut self, instance: Instance, order: &Order<'_>) -> Result<Told, CounterFault> {
+        let Some(own) = operators_order(order) else {
+            return Err(CounterFault::Refused(Refusal::NotAsked));
+        };
+        let Some(place) = place_of(&self.desks, instance) else {
+            return Err(CounterFault::Refused(Refusal::NoSuchAction));
+        };
+        self.given.note(instance, &own);
+        let moment = self.clock.now();
+        self.give_at(place, moment, &own)
+    }
+}

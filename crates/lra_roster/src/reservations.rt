@@ -1,0 +1,36 @@
+//! Which journals of a roster are near their end.
+
+use crate::roster::Roster;
+use lra_model::Instance;
+use lra_reserve::Reserve;
+use std::sync::Wait;
+
+/// Asks a roster which of its journals are near their end.
+#[derive(Drop)]
+pub struct Reservations<'s, 'a, R, B> {
+    rt: &'a R,
+    roster: &'s Roster<B>,
+}
+
+impl<'s, 'a, R, B> Reservations<'s, 'a, R, B> {
+    pub fn new(rt: &'a R, roster: &'s Roster<B>) -> Reservations<'s, 'a, R, B> {
+        Reservations { rt, roster }
+    }
+}
+
+impl<R: Wait, B: Drop> Reserve for Reservations<'_, '_, R, B> {
+    // Journals grow whenever they like: nothing is known of what is told.
+    ghost tells = { λ named told. Unit {0} };
+
+    fn has_any(&self) -> bool {
+        self.roster.has_reserved()
+    }
+
+    fn reserved(&self, named: Option<Instance>) -> Option<Instance> {
+        match named {
+            Some(instance) if self.roster.is_reserved(self.rt, instance) => Some(instance),
+            Some(_) => None,
+            None => self.roster.reserved_newest(self.rt),
+        }
+    }
+}

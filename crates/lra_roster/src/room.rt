@@ -1,0 +1,38 @@
+//! What a journal that is nearly full keeps room for: the ends of what was begun in it.
+
+use crate::journal::Journal;
+use lra_rolls::{Counts, Mark, is_near_end, least_pause};
+use std::sync::atomic::Ordering;
+
+impl<B: Drop> Journal<B> {
+    /// Has silent members asked as often as its entries let it, by how much it may have of each. Tells what that comes to, where that is another pause than before.
+    pub fn spare(&self, limit: &Counts) -> Option<Mark> {
+        let pause = least_pause(self.count_entries(), limit.entries);
+        if self.stall.least_pause.swap(pause, Ordering::SeqCst) == pause {
+            return None;
+        }
+        match pause {
+            0 => None,
+            u64::MAX => Some(Mark::Never),
+            _ => Some(Mark::Seldom),
+        }
+    }
+
+    /// Has nothing new begun in it once it is near its end, by how much it may have of each. Tells of its bytes, where they have just come to that.
+    pub fn reserve(&self, limit: &Counts) -> Option<Mark> {
+        let is_by_entries = is_near_end(self.count_entries(), limit.entries);
+        if !is_by_entries && !is_near_end(self.bytes(), limit.bytes) {
+            return None;
+        }
+        if self.is_reserved.swap(true, Ordering::SeqCst) || is_by_entries {
+            None
+        } else {
+            Some(Mark::Bytes)
+        }
+    }
+
+    /// Whether nothing new is begun in it.
+    pub fn is_reserved(&self) -> bool {
+        self.is_reserved.load(Ordering::SeqCst)
+    }
+}

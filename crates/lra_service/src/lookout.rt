@@ -1,0 +1,105 @@
+//! One who answers operators, at an office.
+
+use crate::shift::Shift;
+use lra_clocks::{Clock as Moments, SystemClock};
+use lra_commands::{Counter, CounterFault, Known, Order, Query, Refusal, Told};
+use lra_ids::{Base, Instance};
+use lra_model::Memory;
+use lra_office::{OfficeRefusal, Serving, WhichLock, Window};
+use lra_overview::{Facts, Overview};
+use lra_watchpost::{Given, operators_order};
+use std::sync::Wait;
+use std::time::Clock;
+
+/// One who answers operators: a window of the office, and what is known beside its history.
+pub(crate) struct Lookout<'w, 's, 'a, V: Serving, R, L: WhichLock, H> {
+    window: Window<'w, V, R, L>,
+    shift: &'s Shift<'a, R, H>,
+    clock: SystemClock<'a, R>,
+    given: Given,
+}
+
+/// A refusal of an office, as a counter's.
+fn fault_of(refusal: OfficeRefusal) -> CounterFault {
+    match refusal {
+        OfficeRefusal::Refused(refusal) => CounterFault::Refused(refusal),
+        OfficeRefusal::Worn => CounterFault::Worn,
+    }
+}
+
+impl<'w, 's, 'a, V: Serving, R, L: WhichLock, H> Lookout<'w, 's, 'a, V, R, L, H> {
+    /// One who has given no order.
+    pub(crate) fn new(
+        window: Window<'w, V, R, L>,
+        shift: &'s Shift<'a, R, H>,
+        clock: SystemClock<'a, R>,
+    ) -> Lookout<'w, 's, 'a, V, R, L, H> {
+        Lookout {
+            window,
+            shift,
+            clock,
+            given: Given::new(),
+        }
+    }
+
+    /// Its window.
+    pub(crate) fn into_window(self) -> Window<'w, V, R, L> {
+        let Lookout {
+            window,
+            shift: _,
+            clock,
+            given,
+        } = self;
+        drop(clock);
+        drop(given);
+        window
+    }
+}
+
+impl<V: Serving, R: Wait + Clock, L: WhichLock, H> Overview for Lookout<'_, '_, '_, V, R, L, H> {
+    ghost orders = { λ w. w.given.log.items };
+
+    fn instance(&self, place: u64) -> Option<Instance> {
+        if place == 0 {
+            Some(self.window.instance())
+        } else {
+            None
+        }
+    }
+
+    fn base(&self) -> &Base {
+        self.window.base()
+    }
+
+    fn catch_up(&mut self) {}
+
+    fn facts(&mut self) -> Facts {
+        let moment = self.clock.now();
+        self.shift.facts(self.window.instance(), moment)
+    }
+
+    fn put_tallies(&mut self, page: &mut Vec<u8>) -> Result<(), Memory> {
+        self.shift.measure.tallies.put(page)
+    }
+
+    fn query(&mut self, _instance: Instance, query: Query) -> Result<Known, CounterFault> {
+        match self.window.query(query) {
+            Ok(known) => Ok(known),
+            Err(refusal) => Err(fault_of(refusal)),
+        }
+    }
+
+    fn give(&mut self, instance: Instance, order: &Order<'_>) -> Result<Told, CounterFault> {
+        let Some(own) = operators_order(order) else {
+            return Err(CounterFault::Refused(Refusal::NotAsked));
+        };
+        self.given.note(instance, &own);
+        let moment = self.clock.now();
+        match self.window.give(moment, &own) {
+            // Nothing is told of it before it is on disk.
+            Ok(told) if self.shift.keep() => Ok(told),
+            Ok(_) => Err(CounterFault::Refused(Refusal::Stopped)),
+            Err(fault) => Err(fault),
+        }
+    }
+}

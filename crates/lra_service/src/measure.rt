@@ -1,0 +1,79 @@
+//! What is told operators of a service beside its history.
+
+use crate::grown::Grown;
+use lra_commands::Limits;
+use lra_core::Opening;
+use lra_opening::is_new;
+use lra_overview::Facts;
+use lra_reports::LONGEST;
+use lra_watchpost::{Tallies, Vitals};
+use std::sync::Arc;
+
+/// How a journal was when it was opened, and how much it may have.
+#[derive(Clone, Copy)]
+pub(crate) struct Begun {
+    entries: u64,
+    /// Its first line is yet to be written.
+    is_new: bool,
+    limits: Limits,
+}
+
+/// How an opened journal is, which may have so much.
+pub(crate) fn begun_from(opening: &Opening, limits: Limits) -> Begun {
+    Begun {
+        entries: opening.count_entries(),
+        is_new: is_new(opening),
+        limits,
+    }
+}
+
+/// What is tallied of a service, and how much its journal has.
+#[derive(Drop)]
+pub(crate) struct Measure {
+    pub(crate) grown: Arc<Grown>,
+    pub(crate) begun: Begun,
+    pub(crate) tallies: Tallies,
+}
+
+/// What is known of a running service beside its journal.
+#[derive(Clone, Copy)]
+pub(crate) struct Now {
+    pub(crate) moment: u64,
+    pub(crate) began: u64,
+    pub(crate) has_failed: bool,
+    pub(crate) is_ending: bool,
+    pub(crate) connections: u64,
+    pub(crate) callbacks: u64,
+}
+
+impl Measure {
+    /// How many entries the journal has.
+    fn count(&self) -> u64 {
+        let first = u64::from(self.begun.is_new);
+        let lines = self.grown.lines().saturating_sub(first);
+        self.begun.entries.saturating_add(lines)
+    }
+
+    /// All that is known.
+    pub(crate) fn facts(&self, now: Now, vitals: Vitals) -> Facts {
+        let limits = self.begun.limits;
+        Facts {
+            moment: now.moment,
+            began: now.began,
+            has_failed: now.has_failed,
+            is_ending: now.is_ending,
+            journals: 1,
+            bytes: self.grown.bytes(),
+            most_bytes: LONGEST as u64,
+            entries: self.count(),
+            most_entries: limits.entries,
+            most_actions: limits.actions,
+            most_members: limits.members,
+            connections: now.connections,
+            callbacks: now.callbacks,
+            virtual_bytes: vitals.virtual_bytes,
+            resident_bytes: vitals.resident_bytes,
+            processor_ticks: vitals.ticks,
+        }
+    }
+}

@@ -1,0 +1,517 @@
+"""The operators' port: health, metrics, lists, pages and orders, who may ask, and that nobody who is slow blinds it."""
+import base64
+import http.client
+import json
+import os
+import re
+import resource
+import shutil
+import socket
+import subprocess
+import threading
+import time
+import urllib.parse
+
+import crowds
+import folders
+import journal
+from participant import Participant, wait_until
+from service import HOST, LATE, PATIENCE, LeftOut, Reply, Service, check, equal, free_port, id_of
+
+KEY = "a key of the operators"
+FORM = "application/x-www-form-urlencoded"
+# A line of Prometheus' text format: a name, labels if it has some, and a number.
+SAMPLE = re.compile(r'^([a-z_:][a-z0-9_:]*)(\{[a-z_]+="[^"\\\n]*"(?:,[a-z_]+="[^"\\\n]*")*\})? ([0-9]+(?:\.[0-9]+)?)$')
+# How many actions are many: some stretches of those that are counted together.
+MANY = 1500
+# The marks of HTML, in an address of a member and in a path.
+MARKUP = "<i>&\"'"
+
+
+def key_file(setting, key=KEY + "\n", mode=0o600):
+    """A file with a key, and its path."""
+    path = setting.folder + "/key"
+    journal.write(path, key.encode())
+    os.chmod(path, mode)
+    return path
+
+
+class Port:
+    """What operators ask of a service whose words name their port."""
+
+    def open_port(self, setting, key):
+        self.operators = free_port()
+        self.key = key
+        options = ["--operators", f"{HOST}:{self.operators}"]
+        if key:
+            options += ["--operators-key", key_file(setting, key + "\n")]
+        return options
+
+    def ask(self, path, method="GET", body=None, key=..., seconds=PATIENCE, **fields):
+        """A request of an operator, and its reply, with its body as text."""
+        given = self.key if key is ... else key
+        if given and "Authorization" not in fields:
+            fields["Authorization"] = f"Bearer {given}"
+        connection = http.client.HTTPConnection(HOST, self.operators, timeout=seconds)
+        connection.request(method, path, body, {name.replace("_", "-"): value for name, value in fields.items()})
+        reply = connection.getresponse()
+        text = reply.read().decode()
+        connection.close()
+        return Reply(reply.status, reply.reason, dict(reply.getheaders()), text)
+
+    def told(self, path, code=200):
+        """The object that is told at a path."""
+        reply = self.ask(path)
+        equal(f"the code of {path}", reply.code, code)
+        return json.loads(reply.body)
+
+    def is_ready(self):
+        return self.ask("/health/ready").code == 200
+
+    def visitor(self):
+        """A bare connection to the port."""
+        return socket.create_connection((HOST, self.operators), timeout=PATIENCE)
+
+
+class Watched(Port, Service):
+    """A service of a file with a port for operators, which has a key unless it is told to have none."""
+
+    def __init__(self, setting, key=KEY):
+        super().__init__(setting.program, setting.journal)
+        self.words[2:2] = self.open_port(setting, key)
+
+
+class WatchedFolder(Port, folders.Folder):
+    """A service of a folder with a port for operators."""
+
+    def __init__(self, setting, *options, key=KEY):
+        super().__init__(setting, *options)
+        self.words[2:2] = self.open_port(setting, key)
+
+
+def path_of(service):
+    """The path of the journal that a service writes to."""
+    return service.journal if isinstance(service, Watched) else service.path(max(service.journals()) + ".journal")
+
+
+def refusal(reply, code, word):
+    """Fails the test where a reply isn't a refusal by that name."""
+    equal("the reply", (reply.code, json.loads(reply.body)), (code, {"error": word}))
+
+
+def audited(setting, path):
+    """Fails the test where a journal isn't sound."""
+    told = setting.run("audit", path)
+    check(f"the audit: {told}", told.status == 0 and told.output.startswith("sound"))
+
+
+def measures(service):
+    """The lines of the metrics, by name and labels; each is one that Prometheus reads, behind what it is."""
+    reply = service.ask("/metrics")
+    equal("the kind", reply.fields["Content-Type"], "text/plain; version=0.0.4; charset=utf-8")
+    found, kinds = {}, {}
+    for line in reply.body.splitlines():
+        if line.startswith("# TYPE "):
+            _, _, name, kind = line.split(" ")
+            check(f"{name} is told once", name not in kinds)
+            kinds[name] = kind
+        elif not line.startswith("# HELP "):
+            sample = SAMPLE.match(line)
+            check(f"a line of metrics: {line!r}", sample)
+            name = sample[1]
+            check(f"what {name} is", name in kinds or kinds.get(re.sub("_(bucket|sum|count)$", "", name)) == "histogram")
+            check(f"{line!r} is told once", name + (sample[2] or "") not in found)
+            found[name + (sample[2] or "")] = float(sample[3])
+    if shutil.which("promtool"):
+        done = subprocess.run(["promtool", "check", "metrics"], input=reply.body, text=True, capture_output=True, check=False)
+        equal("promtool", (done.returncode, done.stdout + done.stderr), (0, ""))
+    return found
+
+
+def test_health_is_up(setting):
+    for kind in (Watched, WatchedFolder):
+        with kind(setting) as service, service.client() as client:
+            client.start()
+            for probe, names in (("", ["journal", "lock", "room"]), ("/live", ["journal", "lock"]), ("/ready", ["journal", "lock", "room"]), ("/started", ["started"])):
+                told = service.told("/health" + probe)
+                equal("the status", told["status"], "UP")
+                equal("the checks", [(it["name"], it["status"]) for it in told["checks"]], [(it, "UP") for it in names])
+
+
+def test_health_is_down_on_a_full_disk(setting):
+    for kind in (Watched, WatchedFolder):
+        with kind(setting) as service, service.client() as client:
+            action = client.start()
+            check("it is ready", service.is_ready())
+            most = os.path.getsize(path_of(service))
+            resource.prlimit(service.process.pid, resource.RLIMIT_FSIZE, (most, resource.RLIM_INFINITY))
+            equal("a close", client.call("PUT", f"/lra-coordinator/{id_of(action)}/close").code, 503)
+            for probe in ("", "/live", "/ready"):
+                told = service.told("/health" + probe, 503)
+                equal("the status", (told["status"], told["checks"][0]["name"], told["checks"][0]["status"]), ("DOWN", "journal", "DOWN"))
+            equal("metrics", measures(service)["lra_journal_failed"], 1)
+            equal("an order", service.ask(f"/actions/{id_of(action)}/cancel", "POST").code, 503)
+
+
+def test_metrics_are_as_prometheus_reads_them(setting):
+    for kind in (Watched, WatchedFolder):
+        with kind(setting) as service, Participant() as member, service.client() as client:
+            action = client.start()
+            client.join(action, **member.addresses("complete", "compensate"))
+            client.end(action, "close")
+            client.start()
+            client.call("GET", "/nowhere")
+            wait_until("the action is closed", lambda: client.status(action) == "Closed")
+            found = measures(service)
+            wanted = {
+                'lra_actions{state="Active"}': 1,
+                'lra_actions{state="Closed"}': 1,
+                "lra_actions_started_total": 2,
+                "lra_members_joined_total": 1,
+                "lra_journal_failed": 0,
+                "lra_journals": 1,
+                "lra_connections": 1,
+                "lra_callbacks_in_flight": 0,
+                'lra_requests_total{route="start",code="201"}': 2,
+                'lra_requests_total{route="join",code="200"}': 1,
+                'lra_requests_total{route="none",code="404"}': 1,
+                'lra_callbacks_total{kind="complete",outcome="done"}': 1,
+                "lra_callback_seconds_count": 1,
+                'lra_callback_seconds_bucket{le="+Inf"}': 1,
+            }
+            equal("the measures", {name: found.get(name) for name in wanted}, wanted)
+            path = path_of(service)
+            equal("the bytes", found["lra_journal_bytes"], os.path.getsize(path))
+            # A folder counts the first line of a journal that it has made too.
+            check("the entries", found["lra_journal_entries"] - len(journal.entries(path)) == isinstance(service, WatchedFolder))
+            check("the memory", found["process_resident_memory_bytes"] > 10**6)
+
+
+def scraped(port, measure):
+    """What a Prometheus knows of a measure: a value each series."""
+    connection = http.client.HTTPConnection(HOST, port, timeout=PATIENCE)
+    try:
+        connection.request("GET", "/api/v1/query?query=" + urllib.parse.quote(measure))
+        told = json.loads(connection.getresponse().read())
+    except (OSError, ValueError):
+        # It hasn't begun yet.
+        return []
+    finally:
+        connection.close()
+    return [float(it["value"][1]) for it in told["data"]["result"]]
+
+
+def test_a_prometheus_scrapes_the_port(setting):
+    """By the configuration in examples/prometheus, with its rules."""
+    if not shutil.which("prometheus"):
+        raise LeftOut("there is no prometheus")
+    with Watched(setting) as service, service.client() as client:
+        client.start()
+        client.end(client.start(), "close")
+        shutil.copy(f"{setting.root}/examples/prometheus/rules.yml", setting.folder)
+        text = journal.read(f"{setting.root}/examples/prometheus/prometheus.yml").decode()
+        for old, new in (("15s", "1s"), ("/etc/lra/operators-key", setting.folder + "/key"), ("127.0.0.1:5001", f"{HOST}:{service.operators}")):
+            check(f"{old} is there", old in text)
+            text = text.replace(old, new)
+        journal.write(setting.folder + "/prometheus.yml", text.encode())
+        port = free_port()
+        words = [f"--config.file={setting.folder}/prometheus.yml", f"--storage.tsdb.path={setting.folder}/data", f"--web.listen-address={HOST}:{port}"]
+        process = subprocess.Popen(["prometheus", *words], stdin=subprocess.DEVNULL, stdout=subprocess.DEVNULL, stderr=subprocess.DEVNULL)
+        try:
+            wait_until("it is scraped", lambda: scraped(port, 'lra_actions{state="Closed"}') == [1], 2 * PATIENCE)
+            equal("it is up", scraped(port, 'up{job="lra"}'), [1])
+            equal("the rest", (scraped(port, "sum(lra_actions)"), len(scraped(port, "lra_journal_room_ratio"))), ([2], 4))
+        finally:
+            process.kill()
+            process.wait()
+
+
+def test_actions_are_listed_and_shown(setting):
+    with Watched(setting) as service, Participant(lambda request: None) as member, service.client() as client:
+        actions = [client.start() for _ in range(5)]
+        nested = client.start(parent=actions[0])
+        recovery = client.join(actions[0], **member.addresses("complete", "compensate"))
+        first = service.told("/actions?limit=4")
+        equal("the first page", [it["action"] for it in first["actions"]], [id_of(it) for it in actions[:4]])
+        rest = service.told("/actions?from=" + first["next"])
+        equal("the rest", [(it["action"], it["parent"]) for it in rest["actions"]], [(id_of(actions[4]), None), (id_of(nested), id_of(actions[0]))])
+        check("the end", rest["next"] is None)
+        shown = service.told("/actions/" + id_of(actions[0]))
+        equal("the members", [(it["member"], it["status"]) for it in shown["members"]], [(id_of(recovery), "Active")])
+        equal("the nested", [it["action"] for it in shown["nested"]], [id_of(nested)])
+        client.end(actions[1], "close")
+        equal("those of a state", [it["action"] for it in service.told("/actions?state=Closed")["actions"]], [id_of(actions[1])])
+        for query in ("state=Closd", "limit=x", "limit=-1", "journal=one", "from=nothing"):
+            code, word = (404, "NoSuchAction") if query.startswith("from") else (400, "BadQuery")
+            refusal(service.ask("/actions?" + query), code, word)
+        refusal(service.ask("/actions?journal=1"), 404, "NoSuchJournal")
+        refusal(service.ask("/actions/00000000-0000-8007-8000-000000000001"), 404, "NoSuchAction")
+
+
+def test_a_folder_s_journals_are_all_told(setting):
+    with WatchedFolder(setting, *folders.FAR) as service:
+        old = service.first(4)
+        service.wait_for(2)
+        with service.client() as client:
+            new = client.start()
+            client.end(old[1], "cancel")
+        told = [[it["action"] for it in service.told(f"/actions?journal={place}")["actions"]] for place in (0, 1)]
+        equal("the actions", sorted(told[0] + told[1]), sorted(map(id_of, [*old, new])))
+        equal("the newest", told[1][-1], id_of(new))
+        equal("one of each", [service.told("/actions/" + id_of(it))["status"] for it in (old[0], new)], ["Active", "Active"])
+        found = measures(service)
+        equal("the counts", (found["lra_journals"], found['lra_actions{state="Active"}'], found['lra_actions{state="Cancelled"}']), (2, 4, 1))
+        equal("an order to the older", json.loads(service.ask(f"/actions/{id_of(old[0])}/cancel", "POST").body), {"status": "Cancelled"})
+        equal("one to the newest", json.loads(service.ask(f"/actions/{id_of(new)}/close", "POST").body), {"status": "Closed"})
+        check("the oldest is on the page", id_of(old[2]) in service.ask("/").body)
+        check("and the newest journal on its own", id_of(new) not in service.ask("/?journal=1").body)
+    folders.check_sound(service)
+
+
+def test_a_journal_that_is_put_away_is_told_no_more(setting):
+    with WatchedFolder(setting, *folders.SOON) as service:
+        actions = service.first(3)
+        service.wait_for(2)
+        equal("the journals", measures(service)["lra_journals"], 2)
+        with service.client() as client:
+            for action in actions:
+                client.end(action, "close")
+        wait_until("it is put away", lambda: service.ended())
+        wait_until("one journal is left", lambda: measures(service)["lra_journals"] == 1)
+        refusal(service.ask("/actions/" + id_of(actions[0])), 404, "NoSuchAction")
+
+
+def test_an_action_is_cancelled_through_the_port(setting):
+    with Watched(setting) as service, service.client() as client:
+        action = client.start()
+        reply = service.ask(f"/actions/{id_of(action)}/cancel", "POST")
+        equal("the reply", (reply.code, json.loads(reply.body)), (200, {"status": "Cancelled"}))
+        equal("the status", client.status(action), "Cancelled")
+        equal("the journal", [it.deed for it in journal.entries(setting.journal) if it.deed == "cancel"], ["cancel"])
+    audited(setting, setting.journal)
+
+
+def test_a_member_that_is_given_up_ends_its_action_as_failed(setting):
+    with Watched(setting) as service, Participant(lambda request: (202, b"")) as member, service.client() as client:
+        action = client.start()
+        recovery = client.join(action, **member.addresses("complete", "compensate", "status"))
+        client.end(action, "close")
+        member.wait("complete")
+        equal("what it waits for", service.told("/actions/" + id_of(action))["awaits"], {"member": id_of(recovery)})
+        path = f"/members/{id_of(recovery)}/give-up"
+        refusal(service.ask(path, "POST", json.dumps({"status": "Completed"})), 400, "BadQuery")
+        reply = service.ask(path, "POST", json.dumps({"status": "FailedToComplete"}))
+        equal("the reply", (reply.code, json.loads(reply.body)), (200, {"status": "FailedToComplete"}))
+        wait_until("the action has failed", lambda: client.status(action) == "FailedToClose")
+    audited(setting, setting.journal)
+
+
+def test_a_give_up_needs_a_key_at_a_loopback_address_too(setting):
+    with Watched(setting, key=None) as service, Participant(lambda request: (202, b"")) as member, service.client() as client:
+        action = client.start()
+        recovery = client.join(action, **member.addresses("complete", "compensate", "status"))
+        client.end(action, "close")
+        body = json.dumps({"status": "FailedToComplete"})
+        refusal(service.ask(f"/members/{id_of(recovery)}/give-up", "POST", body, Content_Type="application/json"), 403, "NeedsKey")
+        equal("the status", client.status(action), "Closing")
+
+
+def basic(key, user="anyone"):
+    return "Basic " + base64.b64encode(f"{user}:{key}".encode()).decode()
+
+
+def test_another_key_is_refused(setting):
+    with Watched(setting) as service, service.client() as client:
+        action = client.start()
+        wrong = [f"Bearer {it}" for it in ("another key", KEY + "s", KEY[:-1], "")] + [basic(it) for it in (KEY + "s", KEY[:-1], "")]
+        for given in (None, *wrong, "Basic", "Basic ****", "Digest " + KEY, KEY):
+            fields = {"Authorization": given} if given else {}
+            for path, method in (("/health", "GET"), ("/", "GET"), (f"/actions/{id_of(action)}/cancel", "POST")):
+                reply = service.ask(path, method, key=None, **fields)
+                refusal(reply, 401, "WrongKey")
+                equal("what is asked for", reply.fields["WWW-Authenticate"], 'Basic realm="lra", charset="UTF-8"')
+        equal("the status", client.status(action), "Active")
+
+
+def test_the_key_is_taken_as_a_browser_gives_it(setting):
+    with Watched(setting) as service, service.client() as client:
+        action = client.start()
+        for user in ("", "anyone", "ä"):
+            page = service.ask("/", key=None, Authorization=basic(KEY, user))
+            equal("the page", (page.code, page.fields["Content-Type"]), (200, "text/html; charset=utf-8"))
+        path = f"/actions/{id_of(action)}/cancel"
+        refusal(service.ask(path, "POST", "key=", key=None, Authorization=basic(KEY), Content_Type=FORM), 403, "Forged")
+        token = re.search(r'name="token" value="([0-9a-f]{32})"', page.body)[1]
+        reply = service.ask(path, "POST", f"token={token}&key=", key=None, Authorization=basic(KEY), Content_Type=FORM)
+        equal("the form", (reply.code, reply.fields["Location"]), (303, "/"))
+        equal("the status", client.status(action), "Cancelled")
+
+
+def test_a_forged_form_is_refused(setting):
+    with Watched(setting, key=None) as service, service.client() as client:
+        action = client.start()
+        path = f"/actions/{id_of(action)}/cancel"
+        for body in ("", "token=", "token=0123456789abcdef0123456789abcdef"):
+            refusal(service.ask(path, "POST", body, Content_Type=FORM), 403, "Forged")
+        for host in ("lra.example.org", "localhost.example.org", "127.0.0.1.example.org"):
+            refusal(service.ask("/", Host=host), 403, "WrongHost")
+        equal("the status", client.status(action), "Active")
+        token = re.search(r'name="token" value="([0-9a-f]{32})"', service.ask("/").body)[1]
+        reply = service.ask(path, "POST", "token=" + token, Content_Type=FORM)
+        equal("the form of the page", (reply.code, reply.fields["Location"]), (303, "/"))
+        equal("the status then", client.status(action), "Cancelled")
+
+
+def test_what_is_not_served_is_refused_by_name(setting):
+    with Watched(setting) as service:
+        refusal(service.ask("/nothing"), 404, "NoSuchPath")
+        for path, method, allowed in (("/health", "POST", "GET"), ("/metrics", "DELETE", "GET"), ("/actions/1/close", "GET", "POST")):
+            reply = service.ask(path, method)
+            refusal(reply, 405, "BadMethod")
+            equal("what is allowed", reply.fields["Allow"], allowed)
+        refusal(service.ask("/actions/1/close", "POST"), 404, "NoSuchAction")
+        refusal(service.ask("/members/1/give-up", "POST"), 404, "NoSuchMember")
+
+
+def test_text_of_others_is_no_markup(setting):
+    with Watched(setting) as service, Participant(lambda request: (202, b"")) as member, service.client() as client:
+        action = client.start()
+        # Where an address with such marks is taken at all, no page has it as it stands.
+        for path in ("complete", f"complete?{MARKUP}", "complete?%3Ci%3E%26%22'"):
+            client.call("PUT", "/lra-coordinator/" + id_of(action), complete=member.uri(path), compensate=member.uri("compensate" + path[8:]))
+        client.end(action, "close")
+        reply = service.ask("/page/<script>alert('1')</script>?a&b\"")
+        equal("the code", reply.code, 404)
+        check("the text", "/page/&lt;script&gt;alert(&#39;1&#39;)&lt;/script&gt;?a&amp;b&quot;" in reply.body)
+        for path in ("/", "/page/actions/" + id_of(action)):
+            page = service.ask(path)
+            equal("the code", page.code, 200)
+            policy = page.fields["Content-Security-Policy"]
+            check("a policy", policy.startswith("default-src 'none'; style-src 'unsafe-inline'; img-src data:; form-action 'self'"))
+            check("text of others", "<i>" not in page.body and "<script" not in page.body)
+            for place in re.findall(r"&[^;]{0,6};?", page.body):
+                check(f"{place!r} is a reference", place in ("&lt;", "&gt;", "&amp;", "&quot;", "&#39;"))
+
+
+def test_a_service_without_a_key_is_the_machine_s_own(setting):
+    words = ("serve", "--operators", f"0.0.0.0:{free_port()}", f"{HOST}:{free_port()}", setting.journal, "1")
+    told = setting.run(*words)
+    equal("a port of all", (told.status, told.output, told.told), (2, "", f"lra: no operators at {words[2]}: other machines reach it, and no key is given\n"))
+    check("no journal was made", not os.path.exists(setting.journal))
+
+
+def test_a_port_that_cannot_be_had_is_told(setting):
+    def port(address, key=None):
+        options = ["--operators-key", key] if key else []
+        told = setting.run("serve", "--operators", address, *options, f"{HOST}:{free_port()}", setting.journal, "1")
+        equal("the status", (told.status, told.output), (2, ""))
+        return told.told.removeprefix(f"lra: no operators at {address}: ").strip()
+
+    equal("no address", port("nowhere"), "the address cannot be served")
+    with socket.create_server((HOST, 0)) as taken:
+        address = f"{HOST}:{taken.getsockname()[1]}"
+        equal("one that is taken", port(address), "the address cannot be served")
+    free = f"{HOST}:{free_port()}"
+    equal("no file", port(free, setting.folder + "/none"), "the file of the key cannot be read")
+    equal("one that others read", port(free, key_file(setting, mode=0o640)), "others may read the file of the key")
+    for text in ("", "\n", "two\nlines\n", "é\n", "k" * 1024):
+        equal(f"a key of {text!r}", port(free, key_file(setting, text)), "the file of the key has no key")
+
+
+def test_those_who_are_slow_hold_nobody_up(setting):
+    with Watched(setting) as service:
+        silent = [service.visitor() for _ in range(100)]
+        begun = time.monotonic()
+        for _ in range(20):
+            check("it is ready", service.is_ready())
+        looked = time.monotonic() - begun
+        check(f"twenty looks beside silent ones took {looked:.1f} s", looked < LATE)
+        slow = service.visitor()
+        text = f"GET /health HTTP/1.1\r\nHost: h\r\nAuthorization: Bearer {KEY}\r\n\r\n".encode()
+        for byte in text[:5]:
+            slow.sendall(bytes([byte]))
+            time.sleep(1)
+            check("it is ready", service.is_ready())
+        slow.sendall(text[5:])
+        check("the slow one is answered", crowds.one_reply(slow)[0].startswith(b"HTTP/1.1 200 "))
+        late = service.visitor()
+        late.settimeout(PATIENCE)
+        begun = time.monotonic()
+        equal("one who says nothing is let go", late.recv(1), b"")
+        took = time.monotonic() - begun
+        check(f"it took {took:.1f} s, wanted 10", 9 < took < 10 + LATE)
+        crowds.close_all([*silent, slow, late])
+    return f"twenty looks beside a hundred silent visitors in {looked:.2f} s"
+
+
+def test_a_request_that_is_too_long_is_refused(setting):
+    with Watched(setting) as service:
+        for head in (b"POST /actions/1/close HTTP/1.1\r\nContent-Length: 10000000\r\n\r\n", b"GET /health HTTP/1.1\r\nX: "):
+            visitor = service.visitor()
+            visitor.sendall(head)
+            for _ in range(160):
+                try:
+                    visitor.sendall(b"x" * 65536)
+                except OSError:
+                    break
+                check("it is ready", service.is_ready())
+            reply, body = crowds.one_reply(visitor)
+            check(f"{reply!r}", reply.split(b" ")[1] in (b"413", b"400") and b"error" in body)
+            visitor.close()
+
+
+def flood(service, end, counts):
+    """Asks for the status of an action again and again, over one connection."""
+    with service.client() as client:
+        while time.monotonic() < end:
+            equal("a status", client.call("GET", "/lra-coordinator/none").code, 404)
+            counts.append(1)
+
+
+def test_a_flood_at_the_front_does_not_blind_who_looks(setting):
+    with Watched(setting) as service:
+        counts, end = [], time.monotonic() + 5
+        threads = [threading.Thread(target=flood, args=(service, end, counts), daemon=True) for _ in range(8)]
+        idle = [service.connect() for _ in range(300)]
+        for thread in threads:
+            thread.start()
+        longest = 0
+        while time.monotonic() < end:
+            begun = time.monotonic()
+            check("it is ready", service.is_ready())
+            measures(service)
+            longest = max(longest, time.monotonic() - begun)
+            time.sleep(0.1)
+        for thread in threads:
+            thread.join(PATIENCE)
+        crowds.close_all(idle)
+        check(f"the longest look took {longest:.2f} s", longest < LATE)
+    return f"{len(counts) / 5:.0f} requests a second at the front, the longest look with a scrape {1000 * longest:.0f} ms"
+
+
+def test_many_actions_are_paged(setting):
+    with Watched(setting) as service, service.client() as client:
+        actions = [client.start() for _ in range(MANY)]
+        left = actions[:: MANY // 30]
+        for action in actions:
+            if action not in left:
+                client.end(action, "close")
+        begun = time.monotonic()
+        seen, path = [], "/actions?limit=1000"
+        while path:
+            told = service.told(path)
+            seen += [it["action"] for it in told["actions"]]
+            path = told["next"] and "/actions?limit=1000&from=" + told["next"]
+        listed = time.monotonic() - begun
+        equal("the actions", seen, [id_of(it) for it in actions])
+        begun = time.monotonic()
+        page = service.ask("/").body
+        paged = time.monotonic() - begun
+        equal("those that are left, the oldest first", re.findall(r'href="/page/actions/([-0-9a-f]{36})"', page), [id_of(it) for it in left])
+        counts = {name: it for name, it in measures(service).items() if name.startswith("lra_actions{") and it}
+        equal("the counts", counts, {'lra_actions{state="Active"}': len(left), 'lra_actions{state="Closed"}': MANY - len(left)})
+        client.end(left[0], "close")
+        wait_until("the next is the oldest", lambda: id_of(left[0]) not in service.ask("/").body)
+        client.end(left[1], "cancel")
+        wait_until("it is counted", lambda: measures(service)['lra_actions{state="Cancelled"}'] == 1)
+    return f"{MANY} actions listed in {listed:.2f} s, the page in {1000 * paged:.0f} ms"
