@@ -226,6 +226,24 @@ def test_a_prometheus_scrapes_the_port(setting):
             process.wait()
 
 
+def test_the_rules_and_the_dashboard_ask_for_what_is_told(setting):
+    """Each measure that examples/prometheus names is one of the port's."""
+    folder = setting.root + "/examples/prometheus"
+    asked = journal.read(folder + "/rules.yml").decode()
+    with open(folder + "/dashboard.json", encoding="utf-8") as text:
+        panels = json.load(text)["panels"]
+    asked += "".join(target["expr"] + "\n" for panel in panels for target in panel["targets"])
+    names = set(re.findall(r"\b(?:lra|process)_[a-z_]+[a-z]", asked))
+    with Watched(setting) as service, Participant() as member, service.client() as client:
+        action = client.start()
+        client.join(action, **member.addresses("complete", "compensate"))
+        client.end(action, "close")
+        wait_until("the action is closed", lambda: client.status(action) == "Closed")
+        told = {re.sub(r"\{.*", "", name) for name in measures(service)}
+    equal("what isn't told", names - told, set())
+    return f"{len(names)} measures"
+
+
 def test_actions_are_listed_and_shown(setting):
     with Watched(setting) as service, Participant(lambda request: None) as member, service.client() as client:
         actions = [client.start() for _ in range(5)]
