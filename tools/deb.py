@@ -22,6 +22,8 @@ FILES = (
     ("tools/debian/lintian-overrides", "usr/share/lintian/overrides/raxunto", False),
     ("README.md", f"{DOC}/README.md", False),
     ("docs/OPERATING.md", f"{DOC}/OPERATING.md", False),
+    ("docs/OPERATORS.md", f"{DOC}/OPERATORS.md", False),
+    ("docs/openapi.yaml", f"{DOC}/openapi.yaml", False),
     ("docs/HTTP.md", f"{DOC}/HTTP.md", False),
     ("docs/PROVED.md", f"{DOC}/PROVED.md", False),
     ("docs/HEADLINE.md", f"{DOC}/HEADLINE.md", False),
