@@ -69,6 +69,13 @@ def check_identifiers(service, base):
     return parent
 
 
+def folder_of(setting):
+    """A folder for journals."""
+    place = setting.folder + "/journals"
+    os.makedirs(place)
+    return place
+
+
 def test_identifiers_begin_with_a_base(setting):
     with Based(setting, setting.journal, "--base", BASE) as service:
         action = check_identifiers(service, BASE)
@@ -79,9 +86,7 @@ def test_identifiers_begin_with_a_base(setting):
 
 
 def test_a_folder_has_a_base(setting):
-    place = setting.folder + "/journals"
-    os.makedirs(place)
-    with Based(setting, place, "--base", BASE) as service:
+    with Based(setting, folder_of(setting), "--base", BASE) as service:
         check_identifiers(service, BASE)
 
 
@@ -110,9 +115,7 @@ def test_older_bases_and_paths_that_are_passed_on(setting):
 
 
 def test_older_bases_of_a_folder(setting):
-    place = setting.folder + "/journals"
-    os.makedirs(place)
-    check_older(setting, place)
+    check_older(setting, folder_of(setting))
 
 
 def test_older_bases_are_told(setting):

@@ -40,6 +40,11 @@ class Description:
                 return item[method.lower()]
         raise AssertionError(f"{method} {path} isn't described")
 
+    def operations(self, are_operators):
+        """The operations of one of the ports."""
+        every = [it for item in self.all["paths"].values() for it in item.values() if isinstance(it, dict)]
+        return {it["operationId"] for it in every if ("operators" in it["tags"]) == are_operators}
+
     def is_of(self, schema, value):
         """Fails where a value isn't of a schema."""
         whole = {"$ref": "#/whole", "whole": schema, "components": self.all["components"]}
@@ -89,8 +94,7 @@ def test_the_services_port_answers_as_described(setting):
         ask("POST", "/lra-coordinator", limit="soon")
         for method, other in (("GET", "/lra-coordinator/none"), ("PUT", "/lra-recovery/none")):
             ask(method, other, **({} if method == "GET" else {"status": "Completed"}))
-    wanted = {it["operationId"] for item in told.all["paths"].values() for it in item.values() if isinstance(it, dict) and "operators" not in it["tags"]}
-    equal("what was asked", set(told.codes), wanted)
+    equal("what was asked", set(told.codes), told.operations(False))
     return f"{sum(map(len, told.codes.values()))} replies"
 
 
@@ -118,8 +122,7 @@ def test_the_operators_port_answers_as_described(setting):
         ask(f"/members/{id_of(recovery)}/give-up", "POST", json.dumps({"status": "FailedToComplete"}))
         ask(f"/members/{id_of(recovery)}/give-up", "POST", json.dumps({"status": "Lost"}))
         ask(f"/actions/{id_of(action)}")
-    wanted = {it["operationId"] for item in told.all["paths"].values() for it in item.values() if isinstance(it, dict) and "operators" in it["tags"]}
-    equal("what was asked", set(told.codes), wanted)
+    equal("what was asked", set(told.codes), told.operations(True))
     return f"{sum(map(len, told.codes.values()))} replies"
 
 
