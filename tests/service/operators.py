@@ -187,6 +187,43 @@ def test_metrics_are_as_prometheus_reads_them(setting):
             check("the memory", found["process_resident_memory_bytes"] > 10**6)
 
 
+def test_syncs_are_measured(setting):
+    """One histogram has how long each took, the other how many commands each kept: five, of which each waits for the disk before the next is given."""
+    names = [f"{name}_{it}" for name in ("lra_sync_seconds", "lra_commands_per_sync") for it in ("count", "sum")]
+    for kind in (Watched, WatchedFolder):
+        with kind(setting) as service, service.client() as client:
+            before = measures(service)
+            for _ in range(5):
+                client.start()
+            found = measures(service)
+            grown = {name: found[name] - before[name] for name in names}
+            check(f"five starts: {grown}", 5 <= grown["lra_sync_seconds_count"] <= grown["lra_commands_per_sync_sum"])
+            equal("as many", grown["lra_sync_seconds_count"], grown["lra_commands_per_sync_count"])
+            check(f"the time that they took: {grown}", 0 <= grown["lra_sync_seconds_sum"] < PATIENCE)
+            # Each has one line here, as the journal's first has. A folder has begun the next journal too.
+            paths = [setting.journal] if kind is Watched else [service.path(it) for it in os.listdir(service.folder) if it.endswith((".journal", ".next"))]
+            kept, lines = found["lra_commands_per_sync_sum"], sum(len(journal.read(it).splitlines()) for it in paths)
+            check(f"a line each: {kept} and {lines}", kept == lines if kind is Watched else len(journal.read(path_of(service)).splitlines()) <= kept <= lines)
+
+
+def test_members_that_hold_up_an_end_are_counted(setting):
+    """One that nobody can reach is silent once it was asked in vain three times, and isn't any more once it is given up."""
+    with Watched(setting) as service, Participant() as member, service.client() as client:
+        gone = f"http://{HOST}:{free_port()}/"
+        action = client.start()
+        recovery = client.join(action, complete=gone + "complete", compensate=gone + "compensate")
+        client.join(action, **member.addresses("complete", "compensate"))
+        silent, waiting = 'lra_members_overdue{why="silent"}', 'lra_members_overdue{why="waiting"}'
+        found = measures(service)
+        equal("none while it is active", (found[silent], found[waiting]), (0, 0))
+        client.end(action, "close")
+        wait_until("one is silent", lambda: measures(service)[silent] == 1)
+        equal("it was asked in vain", service.told("/actions/" + id_of(action))["awaits"], {"member": id_of(recovery)})
+        reply = service.ask(f"/members/{id_of(recovery)}/give-up", "POST", json.dumps({"status": "FailedToComplete"}))
+        equal("it is given up", reply.code, 200)
+        wait_until("none is silent", lambda: measures(service)[silent] == 0)
+
+
 def scraped(port, measure):
     """What a Prometheus knows of a measure: a value each series."""
     connection = http.client.HTTPConnection(HOST, port, timeout=PATIENCE)

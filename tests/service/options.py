@@ -30,6 +30,9 @@ NUMBERS = (
     ("remember", 3600, 1, 31536000),
     ("site", 0, 0, 65535),
 )
+# Options whose values are texts, and those of them that may be said any number of times.
+WORDS = ("base", "also-base", "token", "operators", "operators-key", "key", "origin", "members", "log", "log-format")
+LISTS = ("also-base", "origin", "members")
 USUAL = {name: str(usual) for name, usual, _, _ in NUMBERS} | {"stop-at-eof": "false"}
 # How many seconds what is in flight has at a gentle end.
 PARTING = 10
@@ -142,9 +145,9 @@ def test_a_file_that_is_no_table_of_settings_is_refused(setting):
         refused(setting, f"{path}: callbacks: no number", "--config", path)
     path = config(setting, "stop-at-eof = 1\n")
     refused(setting, f"{path}: stop-at-eof: neither true nor false", "--config", path)
-    for key in ("operators", "operators-key"):
+    for key in WORDS:
         path = config(setting, f"{key} = 9090\n")
-        refused(setting, f"{path}: {key}: no text", "--config", path)
+        refused(setting, f"{path}: {key}: no {'list' if key in LISTS else 'text'}", "--config", path)
     for text in ("callbacks = \n", "callbacks = 1\ncallbacks = 2\n", b"callbacks = 1 # \xff\n", "callbacks\n"):
         path = config(setting, text)
         refused_beginning(setting, f"lra: {path}: ", "--config", path)
@@ -161,10 +164,25 @@ def test_the_operators_address_and_key_are_told_and_the_line_wins(setting):
         equal(f"{name} of the line", told_of(setting, "--config", path, f"--{name}", "[::1]:9091")[name], '"[::1]:9091"')
 
 
+def test_words_of_the_log_and_of_terms_are_told_and_faults_named(setting):
+    told = told_of(setting, "--log", "info", "--log-format", "json", "--origin", "a.test", "--origin", "b.test:80", "--members", "*")
+    equal("the log", (told["log"], told["log-format"]), ('"info"', '"json"'))
+    equal("the lists", (told["origin"], told["members"]), ('["a.test", "b.test:80"]', '["*"]'))
+    path = config(setting, 'members = ["*", "10.0.0.0/8"]\n')
+    equal("those of a file", told_of(setting, "--config", path)["members"], '["*", "10.0.0.0/8"]')
+    equal("those of the line in their place", told_of(setting, "--config", path, "--members", "h.test")["members"], '["h.test"]')
+    refused(setting, "--log: loud is not error, warn, info or debug", "--log", "loud")
+    refused(setting, "--log-format: xml is not text or json", "--log-format", "xml")
+    refused(setting, "--origin: no name: a b", "--origin", "a b")
+    refused(setting, "--members: no rule: 10.0.0.0/33", "--members", "10.0.0.0/33")
+    for word in ("key", "token"):
+        refused(setting, f"cannot read {setting.folder}/missing", f"--{word}", f"{setting.folder}/missing")
+
+
 def test_help_is_told(setting):
     told = setting.run("serve", "--help")
     equal("the status, and what is told", (told.status, told.told), (0, ""))
-    for name in list(USUAL) + ["config", "check", "operators", "operators-key"]:
+    for name in list(USUAL) + ["config", "check", *WORDS]:
         check(f"--{name} is missing", f"--{name}" in told.output)
     check("the words are missing", "lra serve [OPTIONS] <ADDRESS> <FILE> <WORKERS>" in told.output)
 

@@ -7,6 +7,7 @@ use lra_clocks::{SystemClock, milliseconds};
 use lra_courier::Carriage;
 use lra_durable::Progress;
 use lra_model::Outcome;
+use lra_rules::Rules;
 use mio::Waker;
 use std::alloc::Global;
 use std::net::{Net, TcpListener, TcpStream};
@@ -33,6 +34,11 @@ impl Count {
     /// Of how many something has come.
     pub fn all(self) -> u64 {
         self.done.saturating_add(self.other)
+    }
+
+    /// How many were done.
+    pub fn done(self) -> u64 {
+        self.done
     }
 }
 
@@ -89,6 +95,7 @@ fn carry<R: Wait + Net + Clock>(
     rt: &R,
     alloc: Global,
     names: &Names,
+    rules: &Rules,
     held: Vec<Held>,
     wanted: u64,
 ) -> Count {
@@ -108,6 +115,7 @@ fn carry<R: Wait + Net + Clock>(
         alloc,
         &progress,
         names,
+        rules,
         poll,
         share,
         &under_way,
@@ -125,7 +133,7 @@ fn carry<R: Wait + Net + Clock>(
 }
 
 /// The same while names are looked up.
-fn carry_by_name<R>(rt: &R, alloc: Global, held: Vec<Held>, wanted: u64) -> Count
+pub fn carry_under<R>(rt: &R, alloc: Global, rules: &Rules, held: Vec<Held>, wanted: u64) -> Count
 where
     R: Wait + Clock + Threads + Net<Listener = TcpListener, Stream = TcpStream> + Sync,
 {
@@ -133,16 +141,27 @@ where
     let bells: [Waker; 0] = [];
     let (count, _) = join(
         rt,
-        || carry(rt, alloc, &names, held, wanted),
+        || carry(rt, alloc, &names, rules, held, wanted),
         || names.run(rt, &bells),
     );
+    count
+}
+
+/// The same without rules.
+fn carry_by_name<R>(rt: &R, alloc: Global, held: Vec<Held>, wanted: u64) -> Count
+where
+    R: Wait + Clock + Threads + Net<Listener = TcpListener, Stream = TcpStream> + Sync,
+{
+    let rules = Rules::none(alloc);
+    let count = carry_under(rt, alloc, &rules, held, wanted);
+    drop(rules);
     count
 }
 
 pub const DONE: &str = "HTTP/1.1 204 No Content\r\n\r\n";
 
 /// The errands of so many members at one port of this host, and of so many at another.
-fn errands_at(alloc: Global, first: (u16, u64), second: (u16, u64)) -> Option<Vec<Held>> {
+pub fn errands_at(alloc: Global, first: (u16, u64), second: (u16, u64)) -> Option<Vec<Held>> {
     let one = socket_at(alloc, "127.0.0.1", first.0);
     let other = socket_at(alloc, "localhost", second.0);
     let held = errands(alloc, (one.as_str(), first.1), (other.as_str(), second.1));
@@ -252,6 +271,7 @@ fn rested<R: Wait + Net + Clock>(rt: &R, alloc: Global, millis: Option<u64>) -> 
     let (poll, _bell) = bell(rt).ok()?;
     let progress = Progress::<Ready>::open(&NoPen, NoSync).ok()?;
     let names = Names::new(alloc);
+    let rules = Rules::none(alloc);
     let (under_way, least_pause) = (AtomicU64::new(0), AtomicU64::new(0));
     let bells: [Waker; 0] = [];
     let share = Share::of(1, 1_024, 64, PATIENCE);
@@ -261,6 +281,7 @@ fn rested<R: Wait + Net + Clock>(rt: &R, alloc: Global, millis: Option<u64>) -> 
         alloc,
         &progress,
         &names,
+        &rules,
         poll,
         share,
         &under_way,

@@ -6,6 +6,8 @@ mod callbacks;
 #[cfg(test)]
 mod members;
 #[cfg(test)]
+mod ruled;
+#[cfg(test)]
 mod setting;
 #[cfg(test)]
 mod spared;

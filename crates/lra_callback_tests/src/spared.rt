@@ -7,6 +7,7 @@ use lra_callbacks::{Callbacks, Names, Share, bell};
 use lra_clocks::SystemClock;
 use lra_courier::Carriage;
 use lra_durable::Progress;
+use lra_rules::Rules;
 use mio::Waker;
 use std::alloc::Global;
 use std::net::{Net, TcpListener, TcpStream};
@@ -65,6 +66,7 @@ fn asked_twice<R: Wait + Net + Clock>(rt: &R, alloc: Global, twice: Twice) -> Op
     let (poll, _bell) = bell(rt).ok()?;
     let progress = Progress::<Ready>::open(&NoPen, NoSync).ok()?;
     let names = Names::new(alloc);
+    let rules = Rules::none(alloc);
     let (under_way, least_pause) = (AtomicU64::new(0), AtomicU64::new(twice.least_pause));
     let bells: [Waker; 0] = [];
     let share = Share::of(1, 1_024, 64, PATIENCE);
@@ -74,6 +76,7 @@ fn asked_twice<R: Wait + Net + Clock>(rt: &R, alloc: Global, twice: Twice) -> Op
         alloc,
         &progress,
         &names,
+        &rules,
         poll,
         share,
         &under_way,

@@ -1,22 +1,27 @@
 //! An errand with its socket.
 
 ghost use Rattle.std.specs.Global.{Global};
-ghost use Rattle.std.specs.Prelude.{◌≡◌, Some, IfSome, String, option_map, string_bytes};
+ghost use Rattle.std.specs.Prelude.{◌≡◌, Some, IfSome, OnSome, IsTrue, String, option_map, string_bytes};
 ghost use Rattle.std.specs.Option.{ForSome};
+ghost use Rattle.std.specs.Net.Socket.{socket_ip, socket_port};
+ghost use Rattle.lra_rules.specs.Texts.{host_in};
+ghost use Rattle.lra_rules.specs.Rules.{let_address};
 ghost use Rattle.lra_courier.specs.Sockets.{socket_text};
 ghost use Rattle.lra_callbacks.specs.Outcomes.{MayCome};
 ghost use Rattle.lra_callbacks.specs.inner.Attempts.{outcome_of};
 
 use crate::attempt::{Attempt, Leave};
+use crate::hosts::Target;
 use crate::pumping::Moved;
 use lra_core::Errand;
 use lra_durable::{Disk, Due, Noted, Progress};
 use lra_model::Outcome;
+use lra_rules::Rules;
 use mio::net::TcpStream;
 use mio::{Interest, Registry, Token};
 use std::alloc::Global;
 use std::io::ErrorKind;
-use std::net::{Net, SocketAddr};
+use std::net::Net;
 use std::sync::Wait;
 
 /// What a look at a socket found.
@@ -118,19 +123,20 @@ impl<D: Disk> Call<D> {
         self.began = now;
     }
 
-    /// Begins to connect to an address of its host, and tells whether it could.
+    /// Begins to connect to an address of its host, where the rules let that, and tells whether it could.
     pub(crate) fn connect<R: Net>(
         &mut self,
         rt: &R,
         registry: &Registry,
+        rules: &Rules,
         key: usize,
-        to: SocketAddr,
+        to: Target<'_>,
     ) -> bool
         ensures { self.new.attempt.errand ≡ self.old.attempt.errand }
     {
         self.tried = self.tried.saturating_add(1);
         self.is_connected = false;
-        let Ok(mut stream) = TcpStream::connect(rt, to) else {
+        let Some(mut stream) = dial(rt, rules, to) else {
             return false;
         };
         let interests = Interest::READABLE | Interest::WRITABLE;
@@ -174,6 +180,16 @@ impl<D: Disk> Call<D> {
             }
         }
     }
+}
+
+/// Begins to connect to a target that the rules let.
+fn dial<R: Net>(rt: &R, rules: &Rules, to: Target<'_>) -> Option<TcpStream>
+    ensures { OnSome result (IsTrue (let_address rules.now (host_in to.entry.socket.now) (socket_ip to.entry.address) (socket_port to.entry.address))) }
+{
+    if !rules.let_socket(to.socket.as_bytes(), to.address) {
+        return None;
+    }
+    TcpStream::connect(rt, to.address).ok()
 }
 
 /// Whether a socket is connected.

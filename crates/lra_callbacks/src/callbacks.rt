@@ -18,6 +18,7 @@ use lra_core::Errand;
 use lra_courier::Carriage;
 use lra_durable::{Disk, Progress};
 use lra_model::{Memory, Outcome};
+use lra_rules::Rules;
 use mio::{Poll, Waker};
 use slab::Slab;
 use std::alloc::{AllocError, Global};
@@ -38,6 +39,8 @@ pub struct Callbacks<'a, R, D: Disk> {
     alloc: Global,
     progress: &'a Progress<D>,
     names: &'a Names,
+    /// Where members may be.
+    rules: &'a Rules,
     share: Share,
     /// How many are under way, for others to see.
     under_way: &'a AtomicU64,
@@ -89,7 +92,7 @@ impl<'a, R, D: Disk> Model for Callbacks<'a, R, D> {
 }
 
 impl<'a, R: Wait + Net + time::Clock, D: Disk> Callbacks<'a, R, D> {
-    /// None is under way. The poll is one that [`bell`](crate::bell) gave, as the bells of all who carry. How many are is told there whenever one is taken or done.
+    /// None is under way. What the rules don't let is not connected to, and silent. The poll is one that [`bell`](crate::bell) gave, as the bells of all who carry. How many are is told there whenever one is taken or done.
     /// A member that was silent isn't asked again in the same stage until the least pause has passed, in milliseconds: 0 spares none, and `u64::MAX` never ends. Others may change
     /// it at any time; what came before it was told isn't known. Who waits so isn't counted as under way. The clock is the one by which its office's moments are given.
     pub fn new(
@@ -97,6 +100,7 @@ impl<'a, R: Wait + Net + time::Clock, D: Disk> Callbacks<'a, R, D> {
         alloc: Global,
         progress: &'a Progress<D>,
         names: &'a Names,
+        rules: &'a Rules,
         poll: Poll,
         share: Share,
         under_way: &'a AtomicU64,
@@ -114,6 +118,7 @@ impl<'a, R: Wait + Net + time::Clock, D: Disk> Callbacks<'a, R, D> {
             alloc,
             progress,
             names,
+            rules,
             share,
             under_way,
             calls: Slab::new(alloc),
@@ -257,8 +262,8 @@ impl<'a, R: Wait + Net + time::Clock, D: Disk> Callbacks<'a, R, D> {
         let Some(call) = self.calls.get_mut(key) else {
             return true;
         };
-        match self.traffic.hosts.address(call.host(), call.tried()) {
-            Some(to) => call.connect(self.rt, self.traffic.poll.registry(), key, to),
+        match self.traffic.hosts.target(call.host(), call.tried()) {
+            Some(to) => call.connect(self.rt, self.traffic.poll.registry(), self.rules, key, to),
             None => {
                 call.hang_up();
                 self.traffic.close(key, call.host());

@@ -33,6 +33,13 @@ struct Host {
     is_unknown: bool,
 }
 
+/// A host and port, and an address that they came to.
+#[derive(Clone, Copy)]
+pub(crate) struct Target<'h> {
+    pub(crate) socket: &'h str,
+    pub(crate) address: SocketAddr,
+}
+
 /// What is next.
 #[derive(Clone, Copy, Debug, PartialEq, Eq)]
 pub(crate) enum Next {
@@ -125,9 +132,14 @@ impl Hosts {
         self.bounds.open()
     }
 
-    /// One of a host's addresses.
-    pub(crate) fn address(&self, number: usize, place: usize) -> Option<SocketAddr> {
-        self.hosts.get(number)?.addresses.get(place).copied()
+    /// A host and port, with one of its addresses.
+    pub(crate) fn target(&self, number: usize, place: usize) -> Option<Target<'_>> {
+        let host = self.hosts.get(number)?;
+        let address = host.addresses.get(place).copied()?;
+        Some(Target {
+            socket: host.socket.as_str(),
+            address,
+        })
     }
 
     /// Whether any host's name is waited for.

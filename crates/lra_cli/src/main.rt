@@ -3,6 +3,7 @@
 #![tactic(auto)]
 
 mod asking;
+mod grounds;
 mod rolling;
 mod serving;
 mod telling;
@@ -11,10 +12,13 @@ mod texts;
 use crate::asking::read_asking;
 use crate::serving::{answer_options, answer_serve, have_options};
 use crate::telling::{answer_asking, answer_help};
+use lra_admission::KeyFiles;
 use lra_folders::answer_question;
 use lra_opening::{Herald, Watched};
 use lra_reports::{Question, System, settle, tell_usage, words_of};
 use lra_runs::{Task, play_file, read_task};
+use lra_syncs::Timed;
+use std::env::Env;
 use std::fs::File;
 use std::io;
 use std::io::IsTerminal;
@@ -37,6 +41,7 @@ fn answer_play<R: AllocGlobal + Files + Input + Print + Eprint>(rt: &R, script: 
 fn answer<
     R: AllocGlobal
         + Files<File = File>
+        + KeyFiles
         + Net<Stream = TcpStream, Listener = TcpListener>
         + Clock
         + Threads
@@ -44,6 +49,8 @@ fn answer<
         + Input
         + Print
         + Eprint
+        + Env
+        + Timed
         + Sync
         + Send
         + Clone

@@ -1,11 +1,17 @@
 //! What is served of a folder.
 
-use crate::serving::{base_of, put_operators, tell_way};
-use lra_opening::{Aloud, Herald};
+use crate::grounds::Grounds;
+use crate::serving::{put_words, tell_way};
+use lra_admission::KeyFiles;
+use lra_ids::Base;
+use lra_opening::Herald;
 use lra_options::Options;
 use lra_reports::tell;
 use lra_rolling::{FolderServed, RollingFault, check_folder, rolling_line, serve_folder};
+use lra_service::{Book, Entry};
+use lra_syncs::Timed;
 use lra_watchpost::Watchpost;
+use std::env::Env;
 use std::fs::File;
 use std::io;
 use std::marker::{Send, Sync};
@@ -40,11 +46,7 @@ fn settle_rolling<R: AllocGlobal + Eprint>(
 pub(crate) fn check_rolling<
     R: AllocGlobal + Files<File = File> + Clone + Drop + Clock + Print + Eprint,
     H: Herald + Sync,
->(rt: &R, options: &Options<'_>, watcher: &H) -> u8 {
-    let base = match base_of(options) {
-        Ok(base) => base,
-        Err(fault) => return settle_rolling(rt, Err(RollingFault::Here(fault)), options),
-    };
+>(rt: &R, options: &Options<'_>, base: Option<Base>, watcher: &H) -> u8 {
     let outcome = check_folder(
         rt,
         options.address,
@@ -57,18 +59,18 @@ pub(crate) fn check_rolling<
         &mut io::writer(rt),
     );
     let told = match outcome {
-        Ok(FolderServed::Ended) => tell_operators(rt, options),
+        Ok(FolderServed::Ended) => tell_words(rt, options),
         other => other,
     };
     settle_rolling(rt, told, options)
 }
 
-/// Writes where operators would look and act, behind what would be served.
-fn tell_operators<R: AllocGlobal + Print>(
+/// Writes what is said of the options whose values are texts, behind what would be served.
+fn tell_words<R: AllocGlobal + Print>(
     rt: &R,
     options: &Options<'_>,
 ) -> Result<FolderServed, RollingFault> {
-    put_operators(rt.alloc(), options, &mut io::writer(rt))?;
+    put_words(rt.alloc(), options, &mut io::writer(rt))?;
     Ok(FolderServed::Ended)
 }
 
@@ -76,12 +78,15 @@ fn tell_operators<R: AllocGlobal + Print>(
 pub(crate) fn serve_rolling<
     R: AllocGlobal
         + Files<File = File>
+        + KeyFiles
         + Net<Stream = TcpStream, Listener = TcpListener>
         + Clock
         + Threads
         + Wait
         + Print
         + Eprint
+        + Env
+        + Timed
         + Sync
         + Send
         + Clone
@@ -90,27 +95,28 @@ pub(crate) fn serve_rolling<
 >(
     rt: &R,
     options: &Options<'_>,
+    address: &str,
+    grounds: Grounds,
     post: Option<&Watchpost>,
-    input: Option<ChildStdout>,
+    entry: Entry<ChildStdout>,
+    book: &Book<R>,
     watcher: &H,
 ) -> u8 {
-    let base = match base_of(options) {
-        Ok(base) => base,
-        Err(fault) => return settle_rolling(rt, Err(RollingFault::Here(fault)), options),
-    };
+    let (base, grounds) = grounds.parted();
     let outcome = serve_folder(
         rt,
-        options.address,
+        address,
         base,
-        &options.also_bases,
+        grounds.terms(&options.also_bases),
         options.file,
         options.workers,
         options.settings,
         post,
-        input,
+        entry,
         watcher,
-        &Aloud { rt },
+        book,
         &mut io::writer(rt),
     );
+    book.log.close();
     settle_rolling(rt, outcome, options)
 }

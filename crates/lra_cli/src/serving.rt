@@ -1,15 +1,23 @@
 //! What is served.
 
+use crate::grounds::grounds_of;
 use crate::rolling::{check_rolling, serve_rolling};
+use lra_admission::KeyFiles;
 use lra_folders::is_folder;
 use lra_ids::Base;
+use lra_logs::{Format, LevelFilter, Logbook, has_priorities, level_named};
 use lra_opening::NamedFile;
-use lra_options::{Options, OptionsFault, read_options};
+use lra_options::{Options, OptionsFault, Said, Word, read_options};
 use lra_reports::{RunFault, error_line, hint_line, put, settle, tell, tell_usage};
-use lra_service::{Aloud, Herald, ServeFault, Served, check_place, fault_line, serve_with};
+use lra_service::{
+    Book, Entry, Herald, ServeFault, Served, Spot, check_place, fault_line, put_text, serve_with,
+    spot_at,
+};
 use lra_settings::Settings;
+use lra_syncs::Timed;
 use lra_watchpost::{PortFault, Watchpost, port_line, read_key};
 use std::alloc::Global;
+use std::env::Env;
 use std::fs::{File, OpenOptions};
 use std::io;
 use std::io::Write;
@@ -85,8 +93,48 @@ fn settle_serving<R: AllocGlobal + Eprint>(
     }
 }
 
+/// Writes a line of an option's name and all its texts, if there are any.
+fn put_list<W: Write>(
+    alloc: Global,
+    word: Word,
+    texts: &[&str],
+    writer: &mut W,
+) -> Result<(), ServeFault> {
+    if texts.is_empty() {
+        return Ok(());
+    }
+    let name = word.name();
+    let mut line = format!(in alloc; "{name} = [")?;
+    for (place, text) in texts.iter().enumerate() {
+        line.push_str(if place == 0 { "\"" } else { ", \"" })?;
+        line.push_str(text)?;
+        line.push_str("\"")?;
+    }
+    line.push_str("]\n")?;
+    Ok(put(writer, line.as_bytes())?)
+}
+
+/// Writes what is said of the options whose values are texts, but for the bases, behind what would be served.
+pub(crate) fn put_words<W: Write>(
+    alloc: Global,
+    options: &Options<'_>,
+    writer: &mut W,
+) -> Result<(), ServeFault> {
+    for word in &Word::ALL {
+        if *word == Word::Base || *word == Word::AlsoBase {
+            continue;
+        }
+        if word.is_list() {
+            put_list(alloc, *word, &options.said.texts(alloc, *word)?, writer)?;
+        } else if let Some(text) = options.said.text(*word) {
+            put_text(alloc, word.name(), text, writer)?;
+        }
+    }
+    Ok(())
+}
+
 /// The base of their own that identifiers are to begin with, if there is one.
-pub(crate) fn base_of(options: &Options<'_>) -> Result<Option<Base>, ServeFault> {
+fn copy_base(options: &Options<'_>) -> Result<Option<Base>, ServeFault> {
     match &options.base {
         Some(base) => match base.copy() {
             Ok(base) => Ok(Some(base)),
@@ -96,47 +144,33 @@ pub(crate) fn base_of(options: &Options<'_>) -> Result<Option<Base>, ServeFault>
     }
 }
 
-/// Writes a line of a word and a text, if there is one.
-fn put_named<W: Write>(
-    alloc: Global,
-    word: &str,
-    text: Option<&str>,
-    writer: &mut W,
-) -> Result<(), ServeFault> {
-    let Some(text) = text else {
-        return Ok(());
-    };
-    let line = format!(in alloc; "{word} = \"{text}\"\n")?;
-    Ok(put(writer, line.as_bytes())?)
-}
-
-/// Writes where operators would look and act, behind what would be served.
-pub(crate) fn put_operators<W: Write>(
-    alloc: Global,
+/// Finds what is wrong with options, before anything is served by them.
+fn look_over<R: AllocGlobal + Files<File = File> + KeyFiles + Env + Clone + Drop>(
+    rt: &R,
     options: &Options<'_>,
-    writer: &mut W,
-) -> Result<(), ServeFault> {
-    put_named(alloc, "operators", options.operators.as_deref(), writer)?;
-    put_named(
-        alloc,
-        "operators-key",
-        options.operators_key.as_deref(),
-        writer,
-    )
+) -> Result<(), OptionsFault> {
+    let grounds = grounds_of(rt, options, options.address)?;
+    drop(grounds);
+    let book = book_of(rt, &options.said)?;
+    drop(book);
+    Ok(())
 }
 
 /// Tells what would be served. The watcher is told how far the journal has been read.
 fn answer_check<
-    R: AllocGlobal + Files<File = File> + Clock + Print + Eprint + Clone + Drop,
+    R: AllocGlobal + Files<File = File> + KeyFiles + Clock + Print + Eprint + Env + Clone + Drop,
     H: Herald + Sync,
 >(rt: &R, options: &Options<'_>, watcher: &H) -> u8 {
-    if is_folder(rt, options.file) {
-        return check_rolling(rt, options, watcher);
+    if let Err(fault) = look_over(rt, options) {
+        return tell_fault(rt, fault);
     }
-    let base = match base_of(options) {
+    let base = match copy_base(options) {
         Ok(base) => base,
         Err(fault) => return settle_serving(rt, Err(fault), options),
     };
+    if is_folder(rt, options.file) {
+        return check_rolling(rt, options, base, watcher);
+    }
     let outcome = check_place(
         rt.alloc(),
         options.address,
@@ -149,7 +183,7 @@ fn answer_check<
         &mut io::writer(rt),
     );
     let told = match outcome {
-        Ok(0) => put_operators(rt.alloc(), options, &mut io::writer(rt)).map(|_| 0),
+        Ok(0) => put_words(rt.alloc(), options, &mut io::writer(rt)).map(|_| 0),
         other => other,
     };
     settle_serving(rt, told, options)
@@ -168,31 +202,72 @@ fn key_of<R: AllocGlobal + Files<File = File>>(
 
 /// Where operators come in, if an address for them is named.
 fn operators_of<
-    R: AllocGlobal + Files<File = File> + Net<Stream = TcpStream, Listener = TcpListener>,
+    R: AllocGlobal + Files<File = File> + Net<Stream = TcpStream, Listener = TcpListener> + Timed,
 >(rt: &R, options: &Options<'_>) -> Result<Option<Watchpost>, PortFault> {
-    let Some(address) = options.operators.as_deref() else {
+    let Some(address) = options.said.text(Word::Operators) else {
         return Ok(None);
     };
-    let key = key_of(rt, options.operators_key.as_deref())?;
+    let key = key_of(rt, options.said.text(Word::OperatorsKey))?;
     Ok(Some(Watchpost::open(rt, rt.alloc(), address, key)?))
 }
 
 /// Tells why there is no port for operators. The answer is the program's status.
 fn tell_port<R: AllocGlobal + Eprint>(rt: &R, fault: PortFault, options: &Options<'_>) -> u8 {
-    let address = options.operators.as_deref().unwrap_or("-");
+    let address = options.said.text(Word::Operators).unwrap_or("-");
     tell(rt, port_line(rt.alloc(), fault, address))
+}
+
+/// The log of a service, as its options say: one that is off, where none is asked for.
+fn book_of<R: AllocGlobal + Env + Clone + Drop>(
+    rt: &R,
+    said: &Said,
+) -> Result<Book<R>, OptionsFault> {
+    let alloc = rt.alloc();
+    let filter = match said.text(Word::Log) {
+        None => LevelFilter::Off,
+        Some(text) => match level_named(text.as_bytes()) {
+            Some(level) => level.to_level_filter(),
+            None => return Err(unknown(alloc, Word::Log, text, "error, warn, info or debug")),
+        },
+    };
+    let format = match said.text(Word::LogFormat) {
+        None => Format::Text,
+        Some(text) => match Format::from_name(text.as_bytes()) {
+            Some(format) => format,
+            None => return Err(unknown(alloc, Word::LogFormat, text, "text or json")),
+        },
+    };
+    let has_priorities = has_priorities(rt, format);
+    match rt.clone() {
+        Ok(rt) => Ok(Book {
+            log: Logbook::new(alloc, rt, filter, format, has_priorities),
+        }),
+        Err(_) => Err(OptionsFault::Memory),
+    }
+}
+
+/// That a text is none of those that an option may have.
+fn unknown(alloc: Global, word: Word, text: &str, those: &str) -> OptionsFault {
+    let name = word.name();
+    match format!(in alloc; "--{name}: {text} is not {those}") {
+        Ok(text) => OptionsFault::Wrong(text),
+        Err(_) => OptionsFault::Memory,
+    }
 }
 
 /// Serves, until an input has ended if there is one, and answers the program's status. The watcher is told how far the journal has been read.
 fn answer_until<
     R: AllocGlobal
         + Files<File = File>
+        + KeyFiles
         + Net<Stream = TcpStream, Listener = TcpListener>
         + Clock
         + Threads
         + Wait
         + Print
         + Eprint
+        + Env
+        + Timed
         + Sync
         + Send
         + Clone
@@ -203,26 +278,47 @@ fn answer_until<
         Ok(post) => post,
         Err(fault) => return tell_port(rt, fault, options),
     };
-    if is_folder(rt, options.file) {
-        return serve_rolling(rt, options, post.as_ref(), input, watcher);
-    }
-    let base = match base_of(options) {
-        Ok(base) => base,
+    let spot = match spot_at(rt, rt.alloc(), options.address) {
+        Ok(spot) => spot,
         Err(fault) => return settle_serving(rt, Err(fault), options),
     };
+    let Spot { address, listener } = spot;
+    let grounds = match grounds_of(rt, options, address.as_str()) {
+        Ok(grounds) => grounds,
+        Err(fault) => return tell_fault(rt, fault),
+    };
+    let book = match book_of(rt, &options.said) {
+        Ok(book) => book,
+        Err(fault) => return tell_fault(rt, fault),
+    };
+    let entry = Entry { listener, input };
+    if is_folder(rt, options.file) {
+        return serve_rolling(
+            rt,
+            options,
+            address.as_str(),
+            grounds,
+            post.as_ref(),
+            entry,
+            &book,
+            watcher,
+        );
+    }
+    let (base, grounds) = grounds.parted();
     let served = serve_with(
         rt,
-        options.address,
+        address.as_str(),
         base,
-        &options.also_bases,
+        grounds.terms(&options.also_bases),
         &NamedFile::told(rt, options.file, watcher),
         options.workers,
         options.settings,
         post.as_ref(),
-        input,
-        &Aloud { rt },
+        entry,
+        &book,
         &mut io::writer(rt),
     );
+    book.log.close();
     let outcome = match served {
         Ok(Served::Unsound(status)) => Ok(status),
         Ok(Served::Ended) => Ok(0),
@@ -235,12 +331,15 @@ fn answer_until<
 pub(crate) fn answer_serve<
     R: AllocGlobal
         + Files<File = File>
+        + KeyFiles
         + Net<Stream = TcpStream, Listener = TcpListener>
         + Clock
         + Threads
         + Wait
         + Print
         + Eprint
+        + Env
+        + Timed
         + Sync
         + Send
         + Clone
@@ -254,9 +353,8 @@ pub(crate) fn answer_serve<
         workers,
         settings: Settings::usual(),
         base: None,
-        operators: None,
-        operators_key: None,
         also_bases: Vec::new(rt.alloc()),
+        said: Said::nothing(rt.alloc()),
         is_check: false,
     };
     answer_until(rt, &options, None, watcher)
@@ -266,6 +364,7 @@ pub(crate) fn answer_serve<
 fn answer_serving<
     R: AllocGlobal
         + Files<File = File>
+        + KeyFiles
         + Net<Stream = TcpStream, Listener = TcpListener>
         + Clock
         + Threads
@@ -273,6 +372,8 @@ fn answer_serving<
         + Input
         + Print
         + Eprint
+        + Env
+        + Timed
         + Sync
         + Send
         + Clone
@@ -308,6 +409,7 @@ fn tell_fault<R: AllocGlobal + Print + Eprint>(rt: &R, fault: OptionsFault) -> u
 pub(crate) fn answer_options<
     R: AllocGlobal
         + Files<File = File>
+        + KeyFiles
         + Net<Stream = TcpStream, Listener = TcpListener>
         + Clock
         + Threads
@@ -315,6 +417,8 @@ pub(crate) fn answer_options<
         + Input
         + Print
         + Eprint
+        + Env
+        + Timed
         + Sync
         + Send
         + Clone

@@ -1,5 +1,5 @@
 -- Members that join and leave, and what their URIs begin with.
-use Rattle.std.proofs.Common.{◌≡◌, ◌==◌, ℕ, Bool, true, false, List, [], ◌∷◌, ◌++◌, map, Option, Some, None, Result, refl, sym, ap, ◌∙◌, subst}
+use Rattle.std.proofs.Common.{◌≡◌, ◌==◌, ℕ, Bool, true, false, true≢false, List, [], ◌∷◌, ◌++◌, map, Option, Some, None, is_some, Result, refl, sym, ap, ◌∙◌, subst}
 use Rattle.std.specs.Prelude.{◌⊎◌, IfNone, IfSome, MatchOption, if◌then◌else◌}
 use Rattle.lra_commands.specs.declared.command.Told.{Told}
 use Rattle.lra_commands.specs.declared.counter.Order.{Order}
@@ -11,7 +11,7 @@ use Rattle.lra_family.specs.Runs.{Event, Run}
 use Rattle.lra_family.specs.Runs.Event.{Turn as OneTurn, Join, Leave}
 use Rattle.lra_family_front.specs.Serving.{Turn, names, Does, Lacks, Serves}
 use Rattle.lra_family_front.specs.inner.Stays.{responds_stays}
-use Rattle.lra_family_front.specs.Households.{HaveBase, HouseholdsRun, KeepsBase, Moved, Moves, base_of, turn_of, turns_of}
+use Rattle.lra_family_front.specs.Households.{HaveBase, HouseholdsRest, HouseholdsRun, KeepsBase, Moved, Moves, base_of, turn_of, turns_of}
 
 -- ---- joins and leaves
 
@@ -74,6 +74,36 @@ member_base base i (m ∷ ms) s h e = by (name m == i) (member_base base i ms s 
   by : (b : Bool) → (member name i ms ≡ Some s → s.setting.base ≡ base) → (if b then Some m else member name i ms) ≡ Some s → s.setting.base ≡ base
   by true more e = ap (λ (u : Sight). u.setting.base) (sym (some_same m s e)) ∙ h.0
   by false more e = more e
+
+-- ---- a rest
+
+-- who leaves leaves others behind
+leaves_some : (ss : List Sight) (s : Sight) → Leaves name ss s [] → ⊥
+leaves_some [] s h = absurd (true≢false (sym (ap is_some h.there)))
+leaves_some (m ∷ []) s h = by (name m == name s) refl h.there where
+  by : (b : Bool) → (name m == name s) ≡ b → (if b then Some m else None) ≡ Some s → ⊥
+  by true same there = h.older (ap name (sym (some_same m s there)))
+  by false other there = absurd (true≢false (sym (ap is_some there)))
+leaves_some (m ∷ n ∷ ms) s h = by (name m == name s) h.left where
+  by : (b : Bool) → [] ≡ (if b then n ∷ ms else m ∷ without name (name s) (n ∷ ms)) → ⊥
+  by true left = absurd cc
+  by false left = absurd cc
+
+none_moved : (xs : List (Event Sight Turn)) (ss : List Sight) → Moves ss xs [] → ss ≡ []
+none_moved [] ss h = sym h
+none_moved (OneTurn turn ∷ xs) ss h = absurd h
+none_moved (Join s ∷ xs) ss h = absurd (joined_some ss s (sym h.1.joined ∙ none_moved xs h.0 h.2)) where
+  joined_some : (ms : List Sight) (m : Sight) → ms ++ m ∷ [] ≡ [] → ⊥
+  joined_some [] m e = absurd cc
+  joined_some (n ∷ ms) m e = absurd cc
+none_moved (Leave s ∷ xs) ss h = absurd (leaves_some ss s (subst (λ (us : List Sight). Leaves name ss s us) (none_moved xs h.0 h.2) h.1))
+
+-- joins and leaves after which all URIs begin as they did, where these begin alike
+pub rested_base : (ss ts : List Sight) → Moved ss ts → KeepsBase ss ts → HaveBase (base_of ss) ss → HaveBase (base_of ts) ts × (base_of ts ≡ base_of ss)
+rested_base ss [] moved keeps h = (tt, ap base_of (sym (none_moved moved.0 ss moved.1)))
+rested_base ss (t ∷ ts) moved keeps h =
+    let k = keeps (base_of ss) h in
+    (subst (λ (own : List ℕ). HaveBase own (t ∷ ts)) (sym k.0) k, k.0)
 
 -- ---- what is taken out
 
@@ -153,4 +183,22 @@ module _ {K : Type 0} (gives : Sight → ℕ → Order → Result Told CounterFa
         r.moved.0 ++ ys,
         moves_then ss r.met ts r.moved.0 ys r.moved.1 (c.0, r.serves, more.1),
         moves_turns ss r.met r.moved.0 ys r.moved.1 ∙ ap (λ xs. turn_of turn ∷ xs) more.2,
+      )
+
+  pub households_rest : HouseholdsRest gives tells
+  households_rest ss ts k l [] c = ([], c.0, refl)
+  households_rest ss ts k l (Some turn ∷ xs) c =
+      let r = c.3 in
+      let more = households_rest c.0 ts c.1 l xs c.4 in
+      let ys : List (Event Sight Turn) = OneTurn (turn_of turn) ∷ more.0 in (
+        r.moved.0 ++ ys,
+        moves_then ss r.met ts r.moved.0 ys r.moved.1 (c.0, r.serves, more.1),
+        moves_turns ss r.met r.moved.0 ys r.moved.1 ∙ ap (λ ys. turn_of turn ∷ ys) more.2,
+      )
+  households_rest ss ts k l (None ∷ xs) c =
+      let moved = c.1.moved in
+      let more = households_rest c.0 ts k l xs c.2 in (
+        moved.0 ++ more.0,
+        moves_then ss c.0 ts moved.0 more.0 moved.1 more.1,
+        moves_turns ss c.0 moved.0 more.0 moved.1 ∙ more.2,
       )

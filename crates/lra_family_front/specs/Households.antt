@@ -1,5 +1,5 @@
 -- A family whose members join and leave between its turns, as one that answers.
-use Rattle.std.specs.Prelude.{◌≡◌, ◌≢◌, ℕ, List, [], ◌∷◌, map, unwrap_or, Result}
+use Rattle.std.specs.Prelude.{◌≡◌, ◌≢◌, ℕ, List, [], ◌∷◌, map, Option, unwrap_or, Result}
 use Rattle.std.specs.List.{AllByRecursion}
 use Rattle.lra_wire.specs.Request.{Request}
 use Rattle.lra_commands.specs.declared.command.Told.{Told}
@@ -11,7 +11,7 @@ use Rattle.lra_front.specs.declared.denial.Denial.TheVariants as denial
 use Rattle.lra_front.specs.declared.answer.Answer.TheVariants as answer
 use Rattle.lra_steps.specs.declared.responder.Answered.{Answered}
 use Rattle.lra_steps.specs.History.{Turn as ConnectionTurn}
-use Rattle.lra_steps.specs.Pieces.{Chain}
+use Rattle.lra_steps.specs.Pieces.{Chain, Course, turns_in}
 use Rattle.lra_family.specs.Counted.{name}
 use Rattle.lra_family.specs.Families.{newest, Joins, Leaves}
 use Rattle.lra_family.specs.Runs.{Event, Run}
@@ -52,6 +52,11 @@ pub record Responds (gives : Sight → ℕ → Order → Result Told CounterFaul
   pub whose : answered.answer ≢ answer.Denied (denial.Refused refusal.Memory) → answered.instance ≡ unwrap_or (instance_of request) (newest name met)
   pub base : base_of after ≡ base_of before
 
+-- what a rest does: members join and leave
+pub record Rests (before after : List Sight) : Type 0 where
+  pub moved : Moved before after
+  pub base : base_of after ≡ base_of before
+
 -- the turns among what happened, in order
 abbrev pub turns_of : List (Event Sight Turn) → List Turn
 turns_of [] = []
@@ -67,3 +72,8 @@ turn_of turn = record { moment = turn.moment; request = turn.request; answer = t
 abbrev pub HouseholdsRun : {K : Type 0} → (Sight → ℕ → Order → Result Told CounterFault → Sight → Type 0) → (K → ℕ → K → Type 0) → Type 0
 HouseholdsRun {K} gives tells = (ss ts : List Sight) (k l : K) (turns : List ConnectionTurn) → Chain (Responds gives) tells ss k turns ts l
     → (xs : List (Event Sight Turn)) × Run name names (Does gives) Lacks ss xs ts × (turns_of xs ≡ map turn_of turns)
+
+-- The same with rests between the requests: of these there are joins and leaves alone.
+abbrev pub HouseholdsRest : {K : Type 0} → (Sight → ℕ → Order → Result Told CounterFault → Sight → Type 0) → (K → ℕ → K → Type 0) → Type 0
+HouseholdsRest {K} gives tells = (ss ts : List Sight) (k l : K) (course : List (Option ConnectionTurn)) → Course (Responds gives) Rests tells ss k course ts l
+    → (xs : List (Event Sight Turn)) × Run name names (Does gives) Lacks ss xs ts × (turns_of xs ≡ map turn_of (turns_in course))

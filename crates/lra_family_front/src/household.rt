@@ -98,7 +98,7 @@ impl<C: Counter + Drop, K: Kinship<C>> Household<C, K> {
 impl<C: Counter + Drop, K: Kinship<C>> Responder for Household<C, K> {
     ghost use Rattle.std.specs.Prelude.{◌≡◌, List};
     ghost use Rattle.lra_commands.specs.Counters.{Sight};
-    ghost use Rattle.lra_family_front.specs.Households.{base_of as base_of_family, Responds};
+    ghost use Rattle.lra_family_front.specs.Households.{base_of as base_of_family, Responds, Rests};
 
     ghost State = { List Sight };
 
@@ -107,6 +107,8 @@ impl<C: Counter + Drop, K: Kinship<C>> Responder for Household<C, K> {
     ghost base_of = { base_of_family };
 
     ghost responds = { Responds C.gives };
+
+    ghost rests = { Rests };
 
     fn base(&self) -> &Base {
         newest(&self.family).base()
@@ -127,5 +129,12 @@ impl<C: Counter + Drop, K: Kinship<C>> Responder for Household<C, K> {
         serving::respond(alloc, routes, &mut self.family, moment, request)
     }
 
+    /// Members leave that are there no more, and so nothing is held of them until the next request.
+    fn rest(&mut self) {
+        self.kinship.look(&mut self.family);
+    }
+
     ghost stays = { λ before after moment request answered h. h.base };
+
+    ghost rest_stays = { λ before after h. h.base };
 }

@@ -3,7 +3,7 @@
 ghost use Rattle.lra_family.specs.Counted.{name};
 ghost use Rattle.lra_family.specs.Laws as laws;
 ghost use Rattle.lra_family_front.specs.Laws.{AnswersAreTurns, IdentifiersName, StrangersDeny, TwoAreRefused};
-ghost use Rattle.lra_family_front.specs.Households.{HouseholdsRun};
+ghost use Rattle.lra_family_front.specs.Households.{HouseholdsRest, HouseholdsRun};
 ghost use Rattle.lra_family_front.specs.Serving.{names, Does, Lacks};
 
 use lra_commands::Counter;
@@ -34,7 +34,8 @@ pub fn each_member_answers_its_own<C: Counter>()
 {}
 
 /// Requests that a household answers one after another are turns of a run of its family, with joins and leaves between them: so what is known of such
-/// runs is known of the members of a household.
+/// runs is known of the members of a household. Rests between the requests add joins and leaves alone.
 pub fn households_are_families<C: Counter, K: Clock>()
-    ensures { HouseholdsRun C.gives K.tells }
+    ensures runs { HouseholdsRun C.gives K.tells }
+    ensures rests { HouseholdsRest C.gives K.tells }
 {}

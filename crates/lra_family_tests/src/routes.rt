@@ -4,7 +4,7 @@ use crate::counter::{Counting, NEWER, OLDER, family, orders_of};
 use lra_family::Family;
 use lra_family_front::respond;
 use lra_front::{Answer, Routes};
-use lra_wire::RequestRead;
+use lra_wire::{RequestFields, RequestRead};
 use std::alloc::Global;
 
 /// A request and its body, the word of its denial, and how many orders the older and the newer member are given, between `|`. The
@@ -74,6 +74,7 @@ fn request(alloc: Global, head: &str, body: &str) -> Option<RequestRead> {
         minor: 1,
         close: false,
         body: bytes,
+        fields: RequestFields::none(),
     })
 }
 

@@ -6,7 +6,7 @@ use crate::counter::{Counting, NEWER, OLDER, alone, newcomer, orders_of};
 use lra_clocks::Clock;
 use lra_family::Family;
 use lra_family_front::{Household, Kinship, admit};
-use lra_steps::answer_pieces;
+use lra_steps::{Responder, answer_pieces};
 use std::alloc::Global;
 
 /// Has a newer counter join at the third look.
@@ -100,11 +100,11 @@ fn are_so(alloc: Global, sent: &[u8]) -> bool {
     }
 }
 
-/// The household of the older member, whom the newer will join.
-fn household(alloc: Global) -> Option<Household<Counting, Late>> {
+/// The household of the older member, whom the newer will join, after so many looks.
+fn household(alloc: Global, looks: u64) -> Option<Household<Counting, Late>> {
     let newer = newcomer(alloc);
     let family = alone(alloc)?;
-    Some(Household::new(family, Late { looks: 0, newer }))
+    Some(Household::new(family, Late { looks, newer }))
 }
 
 /// Whether the stream is replied so at a household.
@@ -124,7 +124,7 @@ fn is_replied(
 
 /// Whether the stream is replied so, and each member is given two orders.
 fn comes_to(alloc: Global, size: usize) -> Option<bool> {
-    let mut household = household(alloc)?;
+    let mut household = household(alloc, 0)?;
     let replied = is_replied(alloc, &mut household, size);
     let (family, kinship) = household.into_parts();
     drop(kinship);
@@ -137,4 +137,21 @@ fn comes_to(alloc: Global, size: usize) -> Option<bool> {
 fn a_connection_asks_members_by_turns(rt: HostRuntime) {
     assert!(rt; comes_to(rt.alloc(), 1) == Some(true));
     assert!(rt; comes_to(rt.alloc(), 4096) == Some(true));
+}
+
+/// Whether the newer member has joined after one rest more than these looks.
+fn has_joined(alloc: Global, looks: u64) -> Option<bool> {
+    let mut household = household(alloc, looks)?;
+    household.rest();
+    let (family, kinship) = household.into_parts();
+    drop(kinship);
+    let joined = orders_of(&family, NEWER) == Some(0);
+    drop(family);
+    Some(joined)
+}
+
+#[test]
+fn members_join_while_nobody_asks(rt: HostRuntime) {
+    assert!(rt; has_joined(rt.alloc(), 1) == Some(false));
+    assert!(rt; has_joined(rt.alloc(), 2) == Some(true));
 }

@@ -38,6 +38,9 @@ refusal_code refusal.Memory = 503
 
 -- the code of what isn't done (this project's choice)
 abbrev pub denial_code : Denial → ℕ
+denial_code denial.WrongKey = 401
+denial_code denial.WrongHost = 403
+denial_code denial.WrongOrigin = 403
 denial_code denial.BadHead = 400
 denial_code denial.Chunked = 501
 denial_code denial.BadLength = 400
@@ -71,6 +74,9 @@ phrase_of code = unwrap_or (reason_phrase code) []
 
 -- the word for what isn't done
 abbrev pub denial_name : Denial → List ℕ
+denial_name denial.WrongKey = codes "WrongKey"
+denial_name denial.WrongHost = codes "WrongHost"
+denial_name denial.WrongOrigin = codes "WrongOrigin"
 denial_name denial.BadHead = codes "BadHead"
 denial_name denial.Chunked = codes "Chunked"
 denial_name denial.BadLength = codes "BadLength"
@@ -123,8 +129,9 @@ body_of uri (answer.Denied d) = denial_body d
 abbrev pub Field : Type 0
 Field = List ℕ × List ℕ
 
--- the methods that a place takes, where another was asked for (RFC 9110, section 15.5.6)
+-- how a key is given, where that was another (RFC 6750, section 3), and the methods that a place takes, where another was asked for (RFC 9110, section 15.5.6)
 abbrev pub denial_fields : Denial → List Field
+denial_fields denial.WrongKey = (codes "WWW-Authenticate", codes "Bearer realm=\"lra\"") ∷ []
 denial_fields (denial.BadMethod place) = (codes "Allow", allowed place) ∷ []
 denial_fields _ = []
 

@@ -102,6 +102,9 @@ impl Denial {
         ensures { result.now ≡ spec.denial_name self }
     {
         match self {
+            Denial::WrongKey => "WrongKey",
+            Denial::WrongHost => "WrongHost",
+            Denial::WrongOrigin => "WrongOrigin",
             Denial::BadHead => "BadHead",
             Denial::Chunked => "Chunked",
             Denial::BadLength => "BadLength",
@@ -119,6 +122,8 @@ impl Denial {
         ensures { result ≡ spec.denial_code self }
     {
         match self {
+            Denial::WrongKey => StatusCode::UNAUTHORIZED,
+            Denial::WrongHost | Denial::WrongOrigin => StatusCode::FORBIDDEN,
             Denial::BadHead | Denial::BadLength | Denial::BadBody => StatusCode::BAD_REQUEST,
             Denial::Chunked => StatusCode::NOT_IMPLEMENTED,
             Denial::TooLarge => StatusCode::PAYLOAD_TOO_LARGE,
@@ -206,6 +211,9 @@ impl Answer {
             Answer::Joined(_) => fields.push_reserved(("Long-Running-Action-Recovery", uri)),
             Answer::Denied(Denial::BadMethod(place)) => {
                 fields.push_reserved(("Allow", place.allowed()));
+            }
+            Answer::Denied(Denial::WrongKey) => {
+                fields.push_reserved(("WWW-Authenticate", "Bearer realm=\"lra\""));
             }
             _ => {}
         }

@@ -7,6 +7,15 @@ use thiserror::Error;
 /// Why a request isn't done.
 #[derive(Clone, Copy, Debug, PartialEq, Eq, Error)]
 pub enum Denial {
+    /// No key was given that is asked for, or another.
+    #[error("wrong key")]
+    WrongKey,
+    /// It came by a name of the host that isn't one of those that are served.
+    #[error("wrong host")]
+    WrongHost,
+    /// It came from a page of a place that isn't one of those that are served.
+    #[error("wrong origin")]
+    WrongOrigin,
     /// The head isn't one, or is past the limits.
     #[error("bad head")]
     BadHead,

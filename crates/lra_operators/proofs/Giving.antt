@@ -1,16 +1,34 @@
 -- What giving orders does to those that were given.
-use Rattle.std.proofs.Common.{ℕ, List, inl, inr}
+use Rattle.std.proofs.Common.{◌≡◌, ◌⊎◌, ℕ, List, drop, Ok, inl, inr}
 use Rattle.lra_commands.specs.declared.counter.Order.{Order}
 use Rattle.lra_overview.specs.Orders.{Gives}
+use Rattle.lra_wire.specs.Request.{Request}
+use Rattle.lra_operators.specs.declared.access.Access.{Access}
+use Rattle.lra_operators.specs.declared.access.Admission.TheVariants.{Admitted}
 use Rattle.lra_operators.specs.declared.route.Place.{Place}
-use Rattle.lra_operators.specs.Orders.{IsAsked, Orders, AddsOne}
+use Rattle.lra_operators.specs.declared.visiting.Came.{Came}
+use Rattle.lra_operators.specs.declared.visiting.Came.TheVariants as came
+use Rattle.lra_operators.specs.Routes.{route_of}
+use Rattle.lra_operators.specs.Access.{seen, admission_of}
+use Rattle.lra_operators.specs.Orders.{IsAsked, Answers, AnswersBytes}
+use Rattle.lra_operators.specs.inner.Targets.{Orders}
+use Rattle.lra_operators.specs.inner.Visits.{IsRead, AnswersCame}
 
 -- the order that was asked for was given
 pub asked_is_given : (target : List ℕ) (p : Place) (i : ℕ) (o : Order) (before after : List (ℕ × Order)) → IsAsked target p i o → Gives i o before after → Orders target p before after
 asked_is_given target p i o before after k (inl h) = inl h
 asked_is_given target p i o before after k (inr h) = inr (i, o, k, h)
 
--- it is one
-pub is_one : (target : List ℕ) (p : Place) (before after : List (ℕ × Order)) → Orders target p before after → AddsOne before after
-is_one target p before after (inl h) = inl h
-is_one target p before after (inr (i, o, k, h)) = inr (i, o, h)
+-- a request that has a route, and may be made there or orders nothing
+pub routed_answers : (access : Access) (request : Request) (p : Place) (before after : List (ℕ × Order)) → route_of request.method request.target ≡ Ok p
+    → (after ≡ before) ⊎ ((admission_of (seen access request p) ≡ Admitted) × Orders request.target p before after) → Answers access request before after
+routed_answers access request p before after routed (inl h) = inl h
+routed_answers access request p before after routed (inr (admitted, inl h)) = inl h
+routed_answers access request p before after routed (inr (admitted, inr (i, o, asked, h))) =
+    inr (i, o, record { at = p; routed = routed; admitted = admitted; asked = asked }, h)
+
+-- what was read of bytes does what they do
+pub read_answers : (access : Access) (bytes : List ℕ) (it : Came) (before after : List (ℕ × Order)) → IsRead bytes it → AnswersCame access it before after → AnswersBytes access bytes before after
+read_answers access bytes (came.Request front) before after is h = inr (_, drop front.len bytes, is, h)
+read_answers access bytes (came.Refused fault) before after is h = inl h
+read_answers access bytes came.TooMuch before after is h = inl h

@@ -1,5 +1,5 @@
 -- Whether a request may be made.
-use Rattle.std.specs.Prelude.{ℕ, ◌==◌, Bool, true, false, not, ◌&&◌, ◌||◌, if◌then◌else◌, List, [], length, take, codes, bytes_eq, string_bytes, Option, Some, is_some, option_map, Result, Ok, Err}
+use Rattle.std.specs.Prelude.{ℕ, ◌==◌, Bool, true, false, not, ◌&&◌, ◌||◌, if◌then◌else◌, List, [], length, take, codes, bytes_eq, Option, Some, is_some, option_map, Result, Ok, Err}
 use Rattle.std.specs.List.{before_first, after_first, list_all}
 use Rattle.std.specs.Option.{option_map_or}
 use Rattle.std.specs.Str.{str_eq_ignore_ascii_case, is_utf8}
@@ -11,7 +11,7 @@ use Rattle.lra_operators.specs.declared.access.Access.{Access}
 use Rattle.lra_operators.specs.declared.access.Admission.{Admission}
 use Rattle.lra_operators.specs.declared.access.Admission.TheVariants as admission
 use Rattle.lra_operators.specs.declared.access.Seen.{Seen}
-use Rattle.lra_operators.specs.declared.asked.Asked.{Asked}
+use Rattle.lra_wire.specs.Request.{Fields, Request}
 use Rattle.lra_operators.specs.declared.route.Place.{Place}
 use Rattle.lra_operators.specs.declared.route.Place.TheVariants as place
 use Rattle.lra_operators.specs.Routes.{is_order}
@@ -77,9 +77,16 @@ is_own_host name = bytes_eq name (codes "localhost") || is_loopback name
 abbrev pub is_own_name : List ℕ → Bool
 is_own_name host = is_own_host (before_first is_colon host) || bytes_eq host (codes "[::1]") || begins (codes "[::1]:") host
 
--- whether a request came by one of these: one with no Host didn't
+-- whether a request came by one of these: one with no Host, or with one that is no text, didn't
 abbrev pub is_own : Option (List ℕ) → Bool
-is_own host = option_map_or is_own_name host false
+is_own host = option_map_or (λ value. is_own_name (text_of value)) host false
+
+-- the keys that the head of a request gives, if it has an Authorization: one that is no text gives an empty one
+abbrev pub bearer_of : Fields → Option (List ℕ)
+bearer_of fields = option_map (λ value. bearer_in (text_of value)) fields.authorization
+
+abbrev pub password_of : Fields → Option (List ℕ)
+password_of fields = option_map (λ value. password_in (text_of value)) fields.authorization
 
 -- whether a body is said to be JSON, which no form of another place can say (Fetch Standard, safelisted values of Content-Type)
 abbrev pub is_json : Option (List ℕ) → Bool
@@ -97,19 +104,17 @@ abbrev pub key_of : Access → Option (List ℕ)
 key_of access = option_map (λ key. key.now) access.key
 
 -- what of a request for a place says whether it may be made
-abbrev pub seen : Access → Asked → Place → Seen
-seen access asked p = record {
+abbrev pub seen : Access → Request → Place → Seen
+seen access request p = record {
   wants_key = is_some access.key;
-  is_own = is_own (option_map string_bytes asked.host);
+  is_own = is_own request.fields.host;
   is_order = is_order p;
   is_give_up = is_give_up p;
-  head_has_key =
-      gives (option_map (λ value. bearer_in (string_bytes value)) asked.authorization) (key_of access)
-      || gives (option_map (λ value. password_in (string_bytes value)) asked.authorization) (key_of access);
-  bearer_has_key = gives (option_map (λ value. bearer_in (string_bytes value)) asked.authorization) (key_of access);
-  form_has_key = gives (form_value (codes "key") asked.request.body.items) (key_of access);
-  form_has_token = gives (form_value (codes "token") asked.request.body.items) (Some access.token.now);
-  is_json = is_json (option_map string_bytes asked.kind);
+  head_has_key = gives (bearer_of request.fields) (key_of access) || gives (password_of request.fields) (key_of access);
+  bearer_has_key = gives (bearer_of request.fields) (key_of access);
+  form_has_key = gives (form_value (codes "key") request.body) (key_of access);
+  form_has_token = gives (form_value (codes "token") request.body) (Some access.token.now);
+  is_json = is_json request.fields.content_type;
 }
 
 -- of an order: with the key as Bearer it may be given; else it has the key, where one is wanted, in its head or in its form, and it is a form with the token, or says that it is no form.

@@ -1,4 +1,5 @@
 pub mod Routes
-pub mod Orders
 pub mod Forms
 pub mod Access
+pub mod Orders
+pub mod inner

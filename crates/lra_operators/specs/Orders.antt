@@ -1,12 +1,16 @@
 -- Which order a request gives.
-use Rattle.std.specs.Prelude.{◌≡◌, ◌⊎◌, ℕ, List, [], ◌∷◌, ◌++◌}
+use Rattle.std.specs.Prelude.{◌≡◌, ◌⊎◌, ℕ, List, [], ◌∷◌, ◌++◌, Ok}
 use Rattle.lra_model.specs.declared.status.Ending.TheVariants as ending
 use Rattle.lra_ids.specs.Identifiers.{id_text, IsSpelling}
 use Rattle.lra_commands.specs.declared.counter.Order.{Order}
 use Rattle.lra_commands.specs.declared.counter.Order.TheVariants as order
+use Rattle.lra_wire.specs.Request.{Request, IsRequest}
+use Rattle.lra_operators.specs.declared.access.Access.{Access}
+use Rattle.lra_operators.specs.declared.access.Admission.TheVariants.{Admitted}
 use Rattle.lra_operators.specs.declared.route.Place.{Place}
 use Rattle.lra_operators.specs.declared.route.Place.TheVariants as place
-use Rattle.lra_operators.specs.Routes.{path_in, id_in}
+use Rattle.lra_operators.specs.Routes.{path_in, id_in, route_of}
+use Rattle.lra_operators.specs.Access.{seen, admission_of}
 
 -- the order of a place for a number: a close or a cancel of an action, or that a member failed, as it would tell itself; elsewhere none
 abbrev pub IsOrderAt : Place → ℕ → Order → Type 0
@@ -21,10 +25,17 @@ pub record IsAsked (target : List ℕ) (p : Place) (i : ℕ) (o : Order) : Type 
   pub names : IsSpelling (id_text i) (id_in (path_in target)) number
   pub orders : IsOrderAt p number o
 
--- what a request does to the orders that were given: nothing, or the one that it asks for is added
-abbrev pub Orders : List ℕ → Place → List (ℕ × Order) → List (ℕ × Order) → Type 0
-Orders target p before after = (after ≡ before) ⊎ ((i : ℕ) × (o : Order) × IsAsked target p i o × (after ≡ before ++ (i, o) ∷ []))
+-- a request gives an order: its route leads to where that is given, it may be made there, and it is the one that it asks for
+pub record GivesOrder (access : Access) (request : Request) (i : ℕ) (o : Order) : Type 0 where
+  pub at : Place
+  pub routed : route_of request.method request.target ≡ Ok at
+  pub admitted : admission_of (seen access request at) ≡ Admitted
+  pub asked : IsAsked request.target at i o
 
--- one order at most is added
-abbrev pub AddsOne : List (ℕ × Order) → List (ℕ × Order) → Type 0
-AddsOne before after = (after ≡ before) ⊎ ((i : ℕ) × (o : Order) × (after ≡ before ++ (i, o) ∷ []))
+-- what a request does to the orders that were given: nothing, or the one that it gives is added
+abbrev pub Answers : Access → Request → List (ℕ × Order) → List (ℕ × Order) → Type 0
+Answers access request before after = (after ≡ before) ⊎ ((i : ℕ) × (o : Order) × GivesOrder access request i o × (after ≡ before ++ (i, o) ∷ []))
+
+-- what bytes do to them: nothing, or what the request does that they begin with
+abbrev pub AnswersBytes : Access → List ℕ → List (ℕ × Order) → List (ℕ × Order) → Type 0
+AnswersBytes access bytes before after = (after ≡ before) ⊎ ((request : Request) × (rest : List ℕ) × IsRequest bytes request rest × Answers access request before after)

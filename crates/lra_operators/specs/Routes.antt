@@ -88,8 +88,3 @@ route_at method p = if bytes_eq method (method_of p) then Ok p else Err (BadMeth
 -- what a request asks for: the path first, then the method
 abbrev pub route_of : List ℕ → List ℕ → Result Place Unserved
 route_of method target = option_map_or (route_at method) (place_of target) (Err NoSuchPath)
-
--- whether a request asks for an order
-abbrev pub gives_order : Result Place Unserved → Bool
-gives_order (Ok p) = is_order p
-gives_order (Err unserved) = false

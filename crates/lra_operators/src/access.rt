@@ -1,15 +1,17 @@
 //! Whether a request may be made.
 
-ghost use Rattle.std.specs.Prelude.{◌≡◌, IfOk, bytes_eq, codes, string_bytes, option_map};
+ghost use Rattle.std.specs.Prelude.{◌≡◌, IfOk, bytes_eq, string_bytes, option_map};
 ghost use Rattle.std.specs.List.{before_first, after_first, list_all};
+ghost use Rattle.lra_wire.specs.Request.{request_of, what_fields};
 ghost use Rattle.lra_operators.specs.Access as spec;
 ghost use Rattle.lra_operators.specs.Forms.{form_value};
 
-use crate::asked::Asked;
+use crate::forms::in_form;
 use crate::route::Place;
 use base64::DecodeAllocError;
 use base64::engine::general_purpose::STANDARD;
 use lra_model::Memory;
+use lra_wire::{RequestFields, RequestRead};
 use std::alloc::Global;
 
 /// What requests need to be taken.
@@ -36,7 +38,7 @@ pub enum Admission {
 }
 
 /// What of a request says whether it may be made.
-#[derive(Clone, Copy, Debug, PartialEq, Eq)]
+#[derive(Clone, Copy)]
 pub struct Seen {
     /// Each request has to give a key.
     pub wants_key: bool,
@@ -222,21 +224,21 @@ fn is_own_name(host: &str) -> bool
 }
 
 /// Whether a request came by a name of the machine's own.
-fn is_own(host: &Option<String>) -> bool
-    ensures { result ≡ spec.is_own (option_map string_bytes host.now) }
+fn is_own(host: &Option<Vec<u8>>) -> bool
+    ensures { result ≡ spec.is_own (option_map (λ value. value.items) host.now) }
 {
     match host {
-        Some(host) => is_own_name(host.as_str()),
+        Some(host) => is_own_name(text_of(host.as_slice())),
         None => false,
     }
 }
 
 /// Whether a request says that its body is JSON.
-fn is_json(kind: &Option<String>) -> bool
-    ensures { result ≡ spec.is_json (option_map string_bytes kind.now) }
+fn is_json(kind: &Option<Vec<u8>>) -> bool
+    ensures { result ≡ spec.is_json (option_map (λ value. value.items) kind.now) }
 {
     match kind {
-        Some(kind) => kind.as_str().as_bytes().starts_with(b"application/json"),
+        Some(kind) => kind.as_slice().starts_with(b"application/json"),
         None => false,
     }
 }
@@ -248,105 +250,104 @@ fn is_give_up(place: Place) -> bool
     matches!(place, Place::GiveUp)
 }
 
-/// Whether the head of a request gives a key as `Bearer`.
-fn bearer_gives(authorization: &Option<String>, key: &str) -> bool
-    ensures { result ≡ spec.gives (option_map (λ value. spec.bearer_in (string_bytes value)) authorization.now) (Some key.now) }
+/// Whether a text is the one that is wanted, if one is.
+fn is_wanted(given: &str, wanted: Option<&str>) -> bool
+    ensures { result ≡ spec.gives (Some given.now) (option_map (λ text. text.now) wanted.entry) }
 {
-    match authorization {
-        Some(given) => is_same(bearer_in(given.as_str()).as_bytes(), key.as_bytes()),
+    match wanted {
+        Some(wanted) => is_same(given.as_bytes(), wanted.as_bytes()),
         None => false,
-    }
-}
-
-/// Whether a value of `Authorization` gives a key as the password of `Basic`.
-fn password_is(alloc: Global, authorization: &str, key: &str) -> Result<bool, Memory>
-    ensures { IfOk result (λ b. b ≡ bytes_eq (spec.password_in authorization.now) key.now) }
-{
-    let bytes = decoded(alloc, basic_in(authorization))?;
-    let password = after_colon(text_of(bytes.as_slice()));
-    Ok(is_same(password.as_bytes(), key.as_bytes()))
-}
-
-/// Whether the head of a request gives a key as the password of `Basic`.
-fn basic_gives(alloc: Global, authorization: &Option<String>, key: &str) -> Result<bool, Memory>
-    ensures { IfOk result (λ b. b ≡ spec.gives (option_map (λ value. spec.password_in (string_bytes value)) authorization.now) (Some key.now)) }
-{
-    match authorization {
-        Some(given) => password_is(alloc, given.as_str(), key),
-        None => Ok(false),
-    }
-}
-
-/// Whether the form that a request's body is gives a text under a name.
-fn form_gives(alloc: Global, asked: &Asked, name: &str, wanted: &str) -> Result<bool, Memory>
-    ensures { IfOk result (λ b. b ≡ spec.gives (form_value name.now asked.now.request.body.items) (Some wanted.now)) }
-{
-    match asked.in_form(alloc, name)? {
-        Some(given) => Ok(is_same(given.as_str().as_bytes(), wanted.as_bytes())),
-        None => Ok(false),
     }
 }
 
 /// Whether the head of a request gives the key as `Bearer`, where there is one.
-fn bearer_has_key(asked: &Asked, key: Option<&str>) -> bool
-    ensures { result ≡ spec.gives (option_map (λ value. spec.bearer_in (string_bytes value)) asked.now.authorization) (option_map (λ k. k.now) key.entry) }
+fn bearer_gives(fields: &RequestFields, key: Option<&str>) -> bool
+    ensures { result ≡ spec.gives (spec.bearer_of (what_fields fields.now)) (option_map (λ text. text.now) key.entry) }
 {
-    match key {
-        Some(key) => bearer_gives(&asked.authorization, key),
+    match &fields.authorization {
+        Some(value) => is_wanted(bearer_in(text_of(value.as_slice())), key),
         None => false,
     }
 }
 
+/// Whether a value of `Authorization` gives the key as the password of `Basic`, where there is one.
+fn is_password(alloc: Global, authorization: &str, key: Option<&str>) -> Result<bool, Memory>
+    ensures { IfOk result (λ b. b ≡ spec.gives (Some (spec.password_in authorization.now)) (option_map (λ text. text.now) key.entry)) }
+{
+    let bytes = decoded(alloc, basic_in(authorization))?;
+    let password = after_colon(text_of(bytes.as_slice()));
+    Ok(is_wanted(password, key))
+}
+
 /// Whether the head of a request gives the key as the password of `Basic`, where there is one.
-fn basic_has_key(alloc: Global, asked: &Asked, key: Option<&str>) -> Result<bool, Memory>
-    ensures { IfOk result (λ b. b ≡ spec.gives (option_map (λ value. spec.password_in (string_bytes value)) asked.now.authorization) (option_map (λ k. k.now) key.entry)) }
+fn basic_gives(alloc: Global, fields: &RequestFields, key: Option<&str>) -> Result<bool, Memory>
+    ensures { IfOk result (λ b. b ≡ spec.gives (spec.password_of (what_fields fields.now)) (option_map (λ text. text.now) key.entry)) }
 {
-    match key {
-        Some(key) => basic_gives(alloc, &asked.authorization, key),
+    match &fields.authorization {
+        Some(value) => is_password(alloc, text_of(value.as_slice()), key),
         None => Ok(false),
     }
 }
 
-/// Whether the form that a request's body is gives the key, where there is one.
-fn form_has_key(alloc: Global, asked: &Asked, key: Option<&str>) -> Result<bool, Memory>
-    ensures { IfOk result (λ b. b ≡ spec.gives (form_value (codes "key") asked.now.request.body.items) (option_map (λ k. k.now) key.entry)) }
+/// Whether a form gives the text under a name that is wanted, if one is.
+fn form_gives(alloc: Global, form: &[u8], name: &str, wanted: Option<&str>) -> Result<bool, Memory>
+    ensures { IfOk result (λ b. b ≡ spec.gives (form_value name.now form.now) (option_map (λ text. text.now) wanted.entry)) }
 {
-    match key {
-        Some(key) => form_gives(alloc, asked, "key", key),
+    match in_form(alloc, form, name)? {
+        Some(given) => Ok(is_wanted(given.as_str(), wanted)),
         None => Ok(false),
     }
 }
 
-impl Access<'_> {
-    ghost use Rattle.std.specs.Prelude.{◌≡◌, IfOk};
-    ghost use Rattle.lra_operators.specs.Access.{seen, admission_of};
+impl<'a> Access<'a> {
+    ghost use Rattle.std.specs.Prelude.{◌≡◌, string_bytes, option_map, IfOk};
+    ghost use Rattle.lra_wire.specs.Request.{request_of};
+    ghost use Rattle.lra_operators.specs.Access.{key_of, seen, admission_of};
+
+    /// What a key asks for, if there is one, and the word of the forms.
+    pub fn new(key: &'a Option<String>, token: &'a str) -> Access<'a>
+        ensures key { key_of result ≡ option_map string_bytes key.now }
+        ensures token { result.token.now ≡ token.now }
+    {
+        Access {
+            key: key.as_deref(),
+            token,
+        }
+    }
 
     /// What of a request for a place says whether it may be made.
-    fn see(&self, alloc: Global, asked: &Asked, place: Place) -> Result<Seen, Memory>
-        ensures { IfOk result (λ s. s ≡ seen self.now asked.now place) }
+    fn see(&self, alloc: Global, request: &RequestRead, place: Place) -> Result<Seen, Memory>
+        ensures { IfOk result (λ s. s ≡ seen self.now (request_of request.now) place) }
     {
-        let basic_has_key = basic_has_key(alloc, asked, self.key)?;
-        let form_has_key = form_has_key(alloc, asked, self.key)?;
-        let form_has_token = form_gives(alloc, asked, "token", self.token)?;
-        let bearer_has_key = bearer_has_key(asked, self.key);
+        let form = request.body.as_slice();
+        let fields = &request.fields;
+        let basic_gives = basic_gives(alloc, fields, self.key)?;
+        let form_has_key = form_gives(alloc, form, "key", self.key)?;
+        let form_has_token = form_gives(alloc, form, "token", Some(self.token))?;
+        let bearer_has_key = bearer_gives(fields, self.key);
         Ok(Seen {
             wants_key: self.key.is_some(),
-            is_own: is_own(&asked.host),
+            is_own: is_own(&fields.host),
             is_order: place.is_order(),
             is_give_up: is_give_up(place),
-            head_has_key: bearer_has_key || basic_has_key,
+            head_has_key: bearer_has_key || basic_gives,
             bearer_has_key,
             form_has_key,
             form_has_token,
-            is_json: is_json(&asked.kind),
+            is_json: is_json(&fields.content_type),
         })
     }
 
     /// Whether a request may be made at a place.
-    pub fn admit(&self, alloc: Global, asked: &Asked, place: Place) -> Result<Admission, Memory>
-        ensures { IfOk result (λ a. a ≡ admission_of (seen self.now asked.now place)) }
+    pub fn admit(
+        &self,
+        alloc: Global,
+        request: &RequestRead,
+        place: Place,
+    ) -> Result<Admission, Memory>
+        ensures { IfOk result (λ a. a ≡ admission_of (seen self.now (request_of request.now) place)) }
     {
-        let seen = self.see(alloc, asked, place)?;
+        let seen = self.see(alloc, request, place)?;
         Ok(seen.admission())
     }
 }

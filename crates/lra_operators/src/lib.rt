@@ -2,20 +2,17 @@
 #![tactic(auto)]
 
 mod access;
-mod asked;
+mod forms;
 mod memo;
 mod ordering;
 mod port;
 mod reply;
 mod route;
 mod telling;
-#[cfg(test)]
-mod trials;
 mod visiting;
 
 pub use access::{Access, Admission};
-pub use asked::{Asked, asked_in};
 pub use port::Port;
 pub use reply::Reply;
 pub use route::{Place, Routes, Unserved};
-pub use visiting::{is_enough, visit};
+pub use visiting::{is_enough, reply_to};

@@ -14,14 +14,14 @@ const FRESH: u64 = 1_000;
 const MOST_MARKS: usize = 256;
 
 /// That there were so many actions at a moment.
-#[derive(Clone, Copy, Debug, PartialEq, Eq)]
+#[derive(Clone, Copy)]
 struct Mark {
     actions: u64,
     moment: u64,
 }
 
 /// What was counted last of a journal.
-#[derive(Debug, Drop)]
+#[derive(Drop)]
 pub(crate) struct Counted {
     pub(crate) instance: Instance,
     pub(crate) counts: Counts,
@@ -30,7 +30,7 @@ pub(crate) struct Counted {
 }
 
 /// What was counted last of each journal, and when. Counts are remembered for a second, so that asking often holds nobody up.
-#[derive(Debug, Drop)]
+#[derive(Drop)]
 pub struct Memo {
     moment: u64,
     /// The newest last.
@@ -83,7 +83,7 @@ impl Counted {
     ) -> Result<(), Trouble>
         ensures { O.orders overview.new ≡ O.orders overview.old }
     {
-        self.counts = count_all(alloc, overview, self.instance, &mut self.census)?;
+        self.counts = count_all(alloc, overview, self.instance, &mut self.census, moment)?;
         self.mark(alloc, moment)?;
         Ok(())
     }

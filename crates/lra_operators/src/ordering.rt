@@ -3,30 +3,31 @@
 ghost use Rattle.std.specs.Prelude.{◌≡◌, string_bytes};
 ghost use Rattle.lra_overview.specs.Orders.{Gives};
 ghost use Rattle.lra_operators.specs.declared.route.Place.TheVariants as place;
-ghost use Rattle.lra_operators.specs.Orders.{Orders};
+ghost use Rattle.lra_operators.specs.inner.Targets.{Orders};
 
-use crate::asked::Asked;
+use crate::forms::in_form;
 use crate::route::{Place, id_in, path_in};
 use crate::telling::{action_named, find_named};
 use lra_commands::{Order, Refusal, Told};
 use lra_ids::Instance;
 use lra_model::{Ending, Memory};
 use lra_overview::{Overview, Trouble};
+use lra_wire::RequestRead;
 use serde_json::Value;
 use std::alloc::Global;
 
 /// How a member is given up, as the body of a request tells it: a form, or an object.
-fn ending_in(alloc: Global, asked: &Asked) -> Result<Option<Ending>, Memory> {
-    if let Some(word) = asked.in_form(alloc, "status")? {
+fn ending_in(alloc: Global, body: &[u8]) -> Result<Option<Ending>, Memory> {
+    if let Some(word) = in_form(alloc, body, "status")? {
         return Ok(Ending::from_name(word.as_str().as_bytes()));
     }
-    match Value::from_slice(alloc, asked.request.body.as_slice()) {
-        Ok(body) => {
-            let ending = match body.get("status").and_then(Value::as_str) {
+    match Value::from_slice(alloc, body) {
+        Ok(told) => {
+            let ending = match told.get("status").and_then(Value::as_str) {
                 Some(word) => Ending::from_name(word.as_bytes()),
                 None => None,
             };
-            drop(body);
+            drop(told);
             Ok(ending)
         }
         Err(error) if error.is_memory() => Err(Memory),
@@ -112,11 +113,11 @@ fn order_of<O: Overview>(
 pub(crate) fn order_at<O: Overview>(
     alloc: Global,
     overview: &mut O,
-    asked: &Asked,
+    request: &RequestRead,
     place: Place,
 ) -> Result<Told, Trouble>
-    ensures { Orders (string_bytes asked.now.request.target) place (O.orders overview.old) (O.orders overview.new) }
+    ensures { Orders (string_bytes request.now.target) place (O.orders overview.old) (O.orders overview.new) }
 {
-    let ending = ending_in(alloc, asked)?;
-    order_of(overview, asked.request.target.as_str(), place, ending)
+    let ending = ending_in(alloc, request.body.as_slice())?;
+    order_of(overview, request.target.as_str(), place, ending)
 }

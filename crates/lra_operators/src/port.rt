@@ -1,15 +1,13 @@
 //! The port: what each request does.
 
-ghost use Rattle.std.specs.Prelude.{◌≡◌, ◌≢◌, false, IfOk, string_bytes};
-ghost use Rattle.lra_operators.specs.declared.access.Admission.TheVariants as Admission;
-ghost use Rattle.lra_operators.specs.declared.route.Place.{Place};
-ghost use Rattle.lra_operators.specs.Access.{seen, admission_of};
-ghost use Rattle.lra_operators.specs.Orders.{Orders, AddsOne};
-ghost use Rattle.lra_operators.specs.Routes.{is_order, gives_order, route_of};
+ghost use Rattle.std.specs.Prelude.{◌≡◌, ◌⊎◌, IfOk, string_bytes};
 ghost use Rattle.lra_wire.specs.Request.{request_of};
+ghost use Rattle.lra_operators.specs.declared.access.Admission.TheVariants as Admission;
+ghost use Rattle.lra_operators.specs.Access.{seen, admission_of};
+ghost use Rattle.lra_operators.specs.Orders.{Answers};
+ghost use Rattle.lra_operators.specs.inner.Targets.{Orders};
 
 use crate::access::{Access, Admission};
-use crate::asked::Asked;
 use crate::memo::Memo;
 use crate::ordering::order_at;
 use crate::reply::{Kind, Reply};
@@ -19,6 +17,7 @@ use http::StatusCode;
 use lra_commands::{Refusal, Told};
 use lra_model::Memory;
 use lra_overview::{Forms, Names, Overview, Probe, Trouble, put_plain_page, put_text};
+use lra_wire::RequestRead;
 use std::alloc::Global;
 
 /// What answers operators' requests: the routes, and what was counted last.
@@ -87,11 +86,11 @@ fn status_told(told: Told) -> &'static str {
 }
 
 /// Whether a body is a form's.
-fn is_form(asked: &Asked) -> bool {
-    match &asked.kind {
+fn is_form(request: &RequestRead) -> bool {
+    match &request.fields.content_type {
         Some(kind) => kind
-            .as_str()
-            .starts_with("application/x-www-form-urlencoded"),
+            .as_slice()
+            .starts_with(b"application/x-www-form-urlencoded"),
         None => false,
     }
 }
@@ -111,7 +110,7 @@ impl Port {
     fn tell_unserved<O: Overview>(
         &self,
         overview: &O,
-        asked: &Asked,
+        request: &RequestRead,
         unserved: Unserved,
     ) -> Result<Reply, Memory> {
         match unserved {
@@ -125,7 +124,7 @@ impl Port {
                 reply.field = Some(("Allow", place.method()));
                 Ok(reply)
             }
-            Unserved::NoSuchPath => self.tell_no_path(overview, asked.request.target.as_str()),
+            Unserved::NoSuchPath => self.tell_no_path(overview, request.target.as_str()),
         }
     }
 
@@ -177,21 +176,21 @@ impl Port {
     fn order<O: Overview>(
         &self,
         overview: &mut O,
-        asked: &Asked,
+        request: &RequestRead,
         place: Place,
     ) -> Result<Reply, Trouble>
-        ensures { Orders (string_bytes asked.now.request.target) place (O.orders overview.old) (O.orders overview.new) }
+        ensures { Orders (string_bytes request.now.target) place (O.orders overview.old) (O.orders overview.new) }
     {
-        match order_at(self.alloc, overview, asked, place) {
-            Ok(told) => self.tell_done(asked, told),
+        match order_at(self.alloc, overview, request, place) {
+            Ok(told) => self.tell_done(request, told),
             Err(trouble) => Err(trouble),
         }
     }
 
     /// What an order came to: a browser is sent to the first page.
-    fn tell_done(&self, asked: &Asked, told: Told) -> Result<Reply, Trouble> {
+    fn tell_done(&self, request: &RequestRead, told: Told) -> Result<Reply, Trouble> {
         let mut reply = one_text(self.alloc, StatusCode::OK, "status", status_told(told))?;
-        if is_form(asked) {
+        if is_form(request) {
             reply.status = StatusCode::SEE_OTHER;
             reply.field = Some(("Location", "/"));
         }
@@ -203,16 +202,15 @@ impl Port {
         &mut self,
         overview: &mut O,
         access: &Access<'_>,
-        asked: &Asked,
+        request: &RequestRead,
         place: Place,
     ) -> Result<Reply, Trouble>
-        ensures asked { Orders (string_bytes asked.now.request.target) place (O.orders overview.old) (O.orders overview.new) }
-        ensures none { is_order place ≡ false → O.orders overview.new ≡ O.orders overview.old }
+        ensures { Orders (string_bytes request.now.target) place (O.orders overview.old) (O.orders overview.new) }
     {
         if place.is_order() {
-            return self.order(overview, asked, place);
+            return self.order(overview, request, place);
         }
-        self.tell(overview, access, place, asked.request.target.as_str())
+        self.tell(overview, access, place, request.target.as_str())
     }
 
     /// Why a request may not be made.
@@ -230,13 +228,12 @@ impl Port {
         &mut self,
         overview: &mut O,
         access: &Access<'_>,
-        asked: &Asked,
+        request: &RequestRead,
         place: Place,
     ) -> Result<Reply, Memory>
-        ensures asked { Orders (string_bytes asked.now.request.target) place (O.orders overview.old) (O.orders overview.new) }
-        ensures none { is_order place ≡ false → O.orders overview.new ≡ O.orders overview.old }
+        ensures { Orders (string_bytes request.now.target) place (O.orders overview.old) (O.orders overview.new) }
     {
-        match self.serve(overview, access, asked, place) {
+        match self.serve(overview, access, request, place) {
             Ok(reply) => Ok(reply),
             Err(trouble) => {
                 let (status, word) = trouble_told(trouble);
@@ -250,37 +247,34 @@ impl Port {
         &mut self,
         overview: &mut O,
         access: &Access<'_>,
-        asked: &Asked,
+        request: &RequestRead,
         place: Place,
     ) -> Result<Reply, Memory>
-        ensures asked { Orders (string_bytes asked.now.request.target) place (O.orders overview.old) (O.orders overview.new) }
-        ensures none { is_order place ≡ false → O.orders overview.new ≡ O.orders overview.old }
-        ensures denied { admission_of (seen access.now asked.now place) ≢ Admission.Admitted → O.orders overview.new ≡ O.orders overview.old }
+        ensures { (O.orders overview.new ≡ O.orders overview.old)
+            ⊎ ((admission_of (seen access.now (request_of request.now) place) ≡ Admission.Admitted)
+            × Orders (string_bytes request.now.target) place (O.orders overview.old) (O.orders overview.new)) }
     {
-        let admission = access.admit(self.alloc, asked, place)?;
+        let admission = access.admit(self.alloc, request, place)?;
         match admission {
-            Admission::Admitted => self.respond_to(overview, access, asked, place),
+            Admission::Admitted => self.respond_to(overview, access, request, place),
             denied => self.tell_denied(denied),
         }
     }
 
-    /// What a request is replied. One whose route orders nothing gives no order, nor does one that may not be made, and any other gives that of its place alone, for what its path names, or none.
+    /// What a request is replied. It gives the one order that it asks for, where its route leads to where that is given and it may be made there, or none.
     pub fn answer<O: Overview>(
         &mut self,
         overview: &mut O,
         access: &Access<'_>,
-        asked: &Asked,
+        request: &RequestRead,
     ) -> Result<Reply, Memory>
-        ensures most { AddsOne (O.orders overview.old) (O.orders overview.new) }
-        ensures asked { (place : Place) → route_of (request_of asked.now.request).method (request_of asked.now.request).target ≡ Ok place → Orders (request_of asked.now.request).target place (O.orders overview.old) (O.orders overview.new) }
-        ensures none { gives_order (route_of (request_of asked.now.request).method (request_of asked.now.request).target) ≡ false → O.orders overview.new ≡ O.orders overview.old }
-        ensures denied { (place : Place) → route_of (request_of asked.now.request).method (request_of asked.now.request).target ≡ Ok place → admission_of (seen access.now asked.now place) ≢ Admission.Admitted → O.orders overview.new ≡ O.orders overview.old }
+        ensures { Answers access.now (request_of request.now) (O.orders overview.old) (O.orders overview.new) }
     {
-        let method = asked.request.method.as_str();
-        let target = asked.request.target.as_str();
+        let method = request.method.as_str();
+        let target = request.target.as_str();
         match self.routes.route(method, target) {
-            Ok(place) => self.respond(overview, access, asked, place),
-            Err(unserved) => self.tell_unserved(overview, asked, unserved),
+            Ok(place) => self.respond(overview, access, request, place),
+            Err(unserved) => self.tell_unserved(overview, request, unserved),
         }
     }
 

@@ -4,7 +4,7 @@ ghost use Rattle.std.specs.Prelude.{◌≡◌, IfSome, IfOk};
 ghost use Rattle.lra_ids.specs.Identifiers.{id_text, IsSpelling};
 ghost use Rattle.lra_operators.specs.Routes.{path_in as path_of, id_in as id_of};
 
-use crate::asked::in_form;
+use crate::forms::in_form;
 use crate::memo::{Counted, Memo};
 use crate::reply::{Kind, Reply};
 use crate::route::{id_in, path_in, query_in};
@@ -30,7 +30,7 @@ pub(crate) fn first_of<O: Overview>(overview: &O) -> Result<Instance, Trouble> {
 }
 
 /// What an identifier names: the instance of its journal, and its number there.
-#[derive(Clone, Copy, Debug, PartialEq, Eq)]
+#[derive(Clone, Copy)]
 pub(crate) struct Named {
     pub instance: Instance,
     pub number: u64,
@@ -60,7 +60,7 @@ pub(crate) fn action_named<O: Overview>(overview: &O, target: &str) -> Result<Na
 }
 
 /// A list of actions as it is asked for.
-#[derive(Clone, Copy, Debug, PartialEq, Eq)]
+#[derive(Clone, Copy)]
 struct Wanted {
     instance: Instance,
     status: Option<ActionStatus>,
@@ -304,7 +304,7 @@ pub(crate) fn tell_action<O: Overview>(
 }
 
 /// What is waited for in a journal, from a place on, and the action to go on from.
-#[derive(Debug, Drop)]
+#[derive(Drop)]
 struct Hanging {
     waiting: Vec<Waiting>,
     next: Option<u64>,

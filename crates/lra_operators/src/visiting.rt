@@ -1,9 +1,10 @@
-//! One visit of an operator: a request that is read, and its reply.
+//! What bytes that have come are replied.
 
-ghost use Rattle.lra_operators.specs.Orders.{AddsOne};
+ghost use Rattle.std.specs.Prelude.{IfSome};
+ghost use Rattle.lra_operators.specs.Orders.{AnswersBytes};
+ghost use Rattle.lra_operators.specs.inner.Visits.{IsRead, AnswersCame};
 
 use crate::access::Access;
-use crate::asked::asked_in;
 use crate::port::Port;
 use crate::reply::Reply;
 use http::StatusCode;
@@ -11,28 +12,24 @@ use lra_model::Memory;
 use lra_overview::Overview;
 use lra_wire::{Front, WireFault, request_front};
 use std::alloc::Global;
-use std::io::{Read, Write};
 
 /// How many bytes a request may have, its head included.
 const MOST_BYTES: usize = 65_536;
 
-/// How many bytes are read at once.
-const PIECE: usize = 4_096;
-
-/// What came of reading.
-#[derive(Debug, Drop)]
+/// What has come.
+#[derive(Drop)]
 enum Came {
     Request(Front),
     Refused(WireFault),
     /// More than a request may have.
     TooMuch,
-    /// Nothing more comes.
-    Gone,
 }
 
 /// What stands at the front of what came, if it can be told yet.
-fn look(alloc: Global, bytes: &Vec<u8>) -> Option<Came> {
-    match request_front(alloc, bytes.as_slice()) {
+fn look(alloc: Global, bytes: &[u8]) -> Option<Came>
+    ensures { IfSome result (IsRead bytes.now) }
+{
+    match request_front(alloc, bytes) {
         Ok(Some(front)) => Some(Came::Request(front)),
         Ok(None) if bytes.len() >= MOST_BYTES => Some(Came::TooMuch),
         Ok(None) => None,
@@ -40,29 +37,9 @@ fn look(alloc: Global, bytes: &Vec<u8>) -> Option<Came> {
     }
 }
 
-/// Whether these bytes are enough for a visit: a request stands there that is whole, or it is known that none can.
-pub fn is_enough(alloc: Global, bytes: &Vec<u8>) -> bool {
+/// Whether these bytes are enough for a reply: a request stands there that is whole, or it is known that none can.
+pub fn is_enough(alloc: Global, bytes: &[u8]) -> bool {
     look(alloc, bytes).is_some()
-}
-
-/// Reads one request.
-fn read_one<S: Read>(alloc: Global, stream: &mut S, bytes: &mut Vec<u8>) -> Came {
-    let mut piece = [0u8; PIECE];
-    for _part in 0..MOST_BYTES {
-        let Ok(count) = stream.read(&mut piece) else {
-            return Came::Gone;
-        };
-        if count == 0 {
-            return Came::Gone;
-        }
-        if bytes.extend_from_slice(&piece[..count]).is_err() {
-            return Came::Refused(WireFault::Memory);
-        }
-        if let Some(came) = look(alloc, bytes) {
-            return came;
-        }
-    }
-    Came::TooMuch
 }
 
 /// The status code and the word of a fault of reading.
@@ -78,48 +55,45 @@ fn fault_told(fault: WireFault) -> (StatusCode, &'static str) {
     }
 }
 
-/// The reply to what came, if any.
-fn reply_to<O: Overview>(
-    alloc: Global,
+/// The reply to what stands there.
+fn reply_of<O: Overview>(
     port: &mut Port,
     overview: &mut O,
     access: &Access<'_>,
-    bytes: &Vec<u8>,
-    came: Came,
-) -> Result<Option<Reply>, Memory>
-    ensures { AddsOne (O.orders overview.old) (O.orders overview.new) }
+    came: &Came,
+) -> Result<Reply, Memory>
+    ensures { AnswersCame access.now came.now (O.orders overview.old) (O.orders overview.new) }
 {
     match came {
-        Came::Gone => Ok(None),
-        Came::TooMuch => Ok(Some(port.refuse(StatusCode::PAYLOAD_TOO_LARGE, "TooLarge")?)),
+        Came::TooMuch => port.refuse(StatusCode::PAYLOAD_TOO_LARGE, "TooLarge"),
         Came::Refused(fault) => {
-            let (status, word) = fault_told(fault);
-            Ok(Some(port.refuse(status, word)?))
+            let (status, word) = fault_told(*fault);
+            port.refuse(status, word)
         }
-        Came::Request(front) => {
-            let asked = asked_in(alloc, bytes.as_slice(), front.request)?;
-            let replied = port.answer(overview, access, &asked);
-            drop(asked);
-            Ok(Some(replied?))
-        }
+        Came::Request(front) => port.answer(overview, access, &front.request),
     }
 }
 
-/// Reads one request of a stream and replies to it. The stream is to be closed then. It gives one order at most.
-pub fn visit<S: Read + Write, O: Overview>(
+/// What bytes that have come are replied, or nothing where they aren't enough. The stream is to be closed behind it. They give the one order that the request asks for
+/// that they begin with, where it may be made, or none.
+#[tactic(auto, using(crate::proofs::Giving::read_answers))]
+pub fn reply_to<O: Overview>(
     alloc: Global,
     port: &mut Port,
     overview: &mut O,
     access: &Access<'_>,
-    stream: &mut S,
-)
-    ensures { AddsOne (O.orders overview.old) (O.orders overview.new) }
+    bytes: &[u8],
+) -> Vec<u8>
+    ensures { AnswersBytes access.now bytes.now (O.orders overview.old) (O.orders overview.new) }
 {
-    let mut bytes = Vec::new(alloc);
-    let came = read_one(alloc, stream, &mut bytes);
-    let replied = reply_to(alloc, port, overview, access, &bytes, came);
-    drop(bytes);
-    if let Ok(Some(reply)) = replied {
-        let _ = reply.write(alloc, stream);
+    let mut page = Vec::new(alloc);
+    let Some(came) = look(alloc, bytes) else {
+        return page;
+    };
+    let replied = reply_of(port, overview, access, &came);
+    drop(came);
+    if let Ok(reply) = replied {
+        let _ = reply.write(alloc, &mut page);
     }
+    page
 }

@@ -1,10 +1,10 @@
 //! A file of settings.
 
 use crate::fault::{OptionsFault, one_line, wrong};
-use crate::given::Given;
 use crate::number::value_in;
+use crate::said::{Said, Word};
 use lra_reports::{RunFault, read_input};
-use lra_settings::Parameter;
+use lra_settings::{Given, Parameter};
 use std::alloc::{AllocError, Global};
 use std::fs;
 use std::rt::Files;
@@ -17,25 +17,15 @@ const LONGEST: usize = 65_536;
 #[derive(Drop)]
 pub(crate) struct Config {
     pub(crate) given: Given,
-    /// What identifiers begin with, if it is said.
-    pub(crate) base: Option<String>,
-    /// The address of the operators' port, if it is said.
-    pub(crate) operators: Option<String>,
-    /// The file with the key that the port asks for, if it is said.
-    pub(crate) operators_key: Option<String>,
-    /// What else they may begin with, if that is said.
-    pub(crate) also_bases: Option<Vec<String>>,
+    pub(crate) said: Said,
 }
 
 impl Config {
     /// A file that says nothing.
-    pub(crate) fn nothing() -> Config {
+    pub(crate) fn nothing(alloc: Global) -> Config {
         Config {
             given: Given::nothing(),
-            base: None,
-            operators: None,
-            operators_key: None,
-            also_bases: None,
+            said: Said::nothing(alloc),
         }
     }
 }
@@ -92,16 +82,21 @@ fn text_of(alloc: Global, place: &str, value: &Value) -> Result<String, OptionsF
     }
 }
 
-/// The texts of the list that a value is. A place says whose it is.
-fn texts_of(alloc: Global, place: &str, value: &Value) -> Result<Vec<String>, OptionsFault> {
+/// Notes the texts of the list that a value is. A place says whose it is.
+fn note_texts(
+    alloc: Global,
+    place: &str,
+    word: Word,
+    value: &Value,
+    said: &mut Said,
+) -> Result<(), OptionsFault> {
     let Some(values) = value.as_array() else {
         return Err(wrong(format!(in alloc; "{place}: no list")));
     };
-    let mut texts = Vec::new(alloc);
     for value in values {
-        texts.push(text_of(alloc, place, value)?)?;
+        said.add(word, text_of(alloc, place, value)?)?;
     }
-    Ok(texts)
+    Ok(())
 }
 
 /// What is true or false by a value. A place says whose it is.
@@ -122,18 +117,16 @@ fn note_other(
 ) -> Result<(), OptionsFault> {
     if key == "stop-at-eof" {
         config.given.stop_at_eof = Some(truth_of(alloc, place, value)?);
-    } else if key == "base" {
-        config.base = Some(text_of(alloc, place, value)?);
-    } else if key == "operators" {
-        config.operators = Some(text_of(alloc, place, value)?);
-    } else if key == "operators-key" {
-        config.operators_key = Some(text_of(alloc, place, value)?);
-    } else if key == "also-base" {
-        config.also_bases = Some(texts_of(alloc, place, value)?);
-    } else {
-        return Err(wrong(format!(in alloc; "{place}: no such setting")));
+        return Ok(());
     }
-    Ok(())
+    match Word::from_name(key) {
+        Some(word) if word.is_list() => note_texts(alloc, place, word, value, &mut config.said),
+        Some(word) => {
+            let text = text_of(alloc, place, value)?;
+            Ok(config.said.add(word, text)?)
+        }
+        None => Err(wrong(format!(in alloc; "{place}: no such setting"))),
+    }
 }
 
 /// Notes what a file says under a key.
@@ -161,7 +154,7 @@ pub(crate) fn read_config<R: Files>(
 ) -> Result<Config, OptionsFault> {
     let bytes = read_file(rt, alloc, name)?;
     let table = table_of(alloc, name, bytes.as_slice())?;
-    let mut config = Config::nothing();
+    let mut config = Config::nothing(alloc);
     for (key, value) in &table {
         note(alloc, name, key.as_str(), value, &mut config)?;
     }

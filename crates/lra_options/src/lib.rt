@@ -3,11 +3,11 @@
 
 mod config;
 mod fault;
-mod given;
 mod line;
 mod number;
 mod options;
+mod said;
 
 pub use fault::OptionsFault;
-pub use given::{Given, settings_of};
 pub use options::{Options, read_options};
+pub use said::{Said, Word};

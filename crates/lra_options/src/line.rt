@@ -1,11 +1,11 @@
 //! The words of the command line.
 
 use crate::fault::{OptionsFault, one_line, wrong};
-use crate::given::Given;
 use crate::number::{number_in, out_of_range, value_in};
+use crate::said::{Said, Word};
 use clap::error::ErrorKind;
 use clap::{Arg, ArgAction, ArgMatches, Command, Error};
-use lra_settings::Parameter;
+use lra_settings::{Given, Parameter};
 use std::alloc::{AllocError, Global};
 
 /// How many threads of a kind a service may have.
@@ -19,14 +19,7 @@ pub(crate) struct Line<'a> {
     pub(crate) workers: u32,
     /// The file that has further settings, if one is named.
     pub(crate) config: Option<&'a str>,
-    /// What identifiers begin with, if it is said.
-    pub(crate) base: Option<&'a str>,
-    /// The address of the operators' port, if it is said.
-    pub(crate) operators: Option<&'a str>,
-    /// The file with the key that the port asks for, if it is said.
-    pub(crate) operators_key: Option<&'a str>,
-    /// What else they may begin with.
-    pub(crate) also_bases: Vec<&'a str>,
+    pub(crate) said: Said,
     /// It is only told what would be served.
     pub(crate) is_check: bool,
     pub(crate) given: Given,
@@ -118,21 +111,29 @@ fn with_words(alloc: Global, command: Command<'_>) -> Result<Command<'_>, AllocE
     command.arg(address)?.arg(file)?.arg(workers)
 }
 
-/// With the options of the operators' port.
-fn with_port(alloc: Global, command: Command<'_>) -> Result<Command<'_>, AllocError> {
-    let operators = value_arg(
-        alloc,
-        "operators",
-        "ADDRESS",
-        "Host and port where operators look and act [none]",
-    );
-    let key = value_arg(
-        alloc,
-        "operators-key",
-        "FILE",
-        "The file with the key that operators give [none]",
-    );
-    command.arg(operators)?.arg(key)
+/// With an option that may be said any number of times.
+fn with_list<'a>(
+    alloc: Global,
+    command: Command<'a>,
+    name: &'a str,
+    unit: &'a str,
+    help: &'a str,
+) -> Result<Command<'a>, AllocError> {
+    command.arg(value_arg(alloc, name, unit, help).action(ArgAction::Append))
+}
+
+/// With the options whose values are texts.
+fn with_texts<'a>(alloc: Global, command: Command<'a>) -> Result<Command<'a>, AllocError> {
+    let mut command = command;
+    for word in &Word::ALL {
+        let (name, unit, help) = (word.name(), word.unit(), word.help());
+        command = if word.is_list() {
+            with_list(alloc, command, name, unit, help)?
+        } else {
+            with_value(alloc, command, name, unit, help)?
+        };
+    }
+    Ok(command)
 }
 
 /// With the options that are no parameters.
@@ -148,26 +149,8 @@ fn with_flags(alloc: Global, command: Command<'_>) -> Result<Command<'_>, AllocE
         "stop-at-eof",
         "Ends gently once standard input has ended",
     );
-    let base = value_arg(
-        alloc,
-        "base",
-        "URL",
-        "What identifiers begin with [http://ADDRESS/]",
-    );
-    let also = value_arg(
-        alloc,
-        "also-base",
-        "URL",
-        "An older base, which identifiers may begin with as well; any number of them",
-    )
-    .action(ArgAction::Append);
     let check = flag_arg(alloc, "check", "Tells what would be served, and ends");
-    command
-        .arg(base)?
-        .arg(also)?
-        .arg(stop)?
-        .arg(config)?
-        .arg(check)
+    command.arg(stop)?.arg(config)?.arg(check)
 }
 
 /// What the words are read by.
@@ -177,7 +160,7 @@ fn command_of<'a>(alloc: Global) -> Result<Command<'a>, AllocError> {
         let (name, unit, help) = (parameter.name(), unit_of(*parameter), help_of(*parameter));
         command = with_value(alloc, command, name, unit, help)?;
     }
-    with_words(alloc, with_flags(alloc, with_port(alloc, command)?)?)
+    with_words(alloc, with_flags(alloc, with_texts(alloc, command)?)?)
 }
 
 /// Why the words can't be read.
@@ -234,16 +217,32 @@ fn word_in<'a>(matches: &ArgMatches<'a>, name: &str) -> &'a str {
     }
 }
 
-/// All that is said by an option.
-fn texts_in<'a>(
+/// Notes what is said by an option that may be said any number of times.
+fn note_texts(
     alloc: Global,
-    matches: &ArgMatches<'a>,
-    name: &str,
-) -> Result<Vec<&'a str>, AllocError> {
-    match matches.get_strs(name) {
-        Some(texts) => Vec::from_slice(alloc, texts),
-        None => Ok(Vec::new(alloc)),
+    matches: &ArgMatches<'_>,
+    word: Word,
+    said: &mut Said,
+) -> Result<(), AllocError> {
+    if let Some(texts) = matches.get_strs(word.name()) {
+        for text in texts {
+            said.add(word, String::from_str(alloc, text)?)?;
+        }
     }
+    Ok(())
+}
+
+/// What is said by the options whose values are texts.
+fn said_in(alloc: Global, matches: &ArgMatches<'_>) -> Result<Said, AllocError> {
+    let mut said = Said::nothing(alloc);
+    for word in &Word::ALL {
+        if word.is_list() {
+            note_texts(alloc, matches, *word, &mut said)?;
+        } else if let Some(text) = matches.get_str(word.name()) {
+            said.add(*word, String::from_str(alloc, text)?)?;
+        }
+    }
+    Ok(said)
 }
 
 /// What the matches say.
@@ -255,10 +254,7 @@ fn line_of<'a>(alloc: Global, matches: &ArgMatches<'a>) -> Result<Line<'a>, Opti
         file: word_in(matches, "FILE"),
         workers,
         config: matches.get_str("config"),
-        base: matches.get_str("base"),
-        operators: matches.get_str("operators"),
-        operators_key: matches.get_str("operators-key"),
-        also_bases: texts_in(alloc, matches, "also-base")?,
+        said: said_in(alloc, matches)?,
         is_check: matches.get_flag("check"),
         given,
     })

@@ -5,15 +5,15 @@ ghost use Rattle.lra_settings.specs.Settings.{are_fit};
 
 use crate::config::{Config, read_config};
 use crate::fault::{OptionsFault, wrong};
-use crate::given::{Given, settings_of};
 use crate::line::{Line, read_line};
+use crate::said::{Said, Word};
 use lra_ids::Base;
-use lra_settings::Settings;
-use std::alloc::Global;
+use lra_settings::{Given, Settings, settings_of};
+use std::alloc::{AllocError, Global};
 use std::rt::Files;
 
 /// What is to be served, and by which settings.
-#[derive(Debug, Drop)]
+#[derive(Drop)]
 pub struct Options<'a> {
     pub address: &'a str,
     pub file: &'a str,
@@ -22,12 +22,10 @@ pub struct Options<'a> {
     pub settings: Settings,
     /// What identifiers begin with, if that isn't `http://`, the address and `/`.
     pub base: Option<Base>,
-    /// The address of the operators' port, if there is to be one.
-    pub operators: Option<String>,
-    /// The file with the key that the port asks for, if it is to ask for one.
-    pub operators_key: Option<String>,
     /// What they may begin with as well where clients send them: older bases, of which the first counts that begins one.
     pub also_bases: Vec<Base>,
+    /// What is said of the options whose values are texts.
+    pub said: Said,
     /// It is only told what would be served.
     pub is_check: bool,
 }
@@ -53,19 +51,7 @@ fn config_of<R: Files>(
 ) -> Result<Config, OptionsFault> {
     match config {
         Some(name) => read_config(rt, alloc, name),
-        None => Ok(Config::nothing()),
-    }
-}
-
-/// A text of the line, or else of the file.
-fn chosen(
-    alloc: Global,
-    line: Option<&str>,
-    file: Option<String>,
-) -> Result<Option<String>, OptionsFault> {
-    match line {
-        Some(text) => Ok(Some(String::from_str(alloc, text)?)),
-        None => Ok(file),
+        None => Ok(Config::nothing(alloc)),
     }
 }
 
@@ -78,64 +64,78 @@ fn base_in(alloc: Global, place: &str, text: &str) -> Result<Base, OptionsFault>
     }
 }
 
-/// The base that the line names, or else the file.
-fn base_of(
-    alloc: Global,
-    line: &Line<'_>,
-    config: Option<&str>,
-) -> Result<Option<Base>, OptionsFault> {
-    if let Some(text) = line.base {
-        return Ok(Some(base_in(alloc, "--base", text)?));
+/// Whose a text is that is said of an option: the line's or the file's.
+fn place_of(alloc: Global, word: Word, config: Option<&str>) -> Result<String, AllocError> {
+    let name = word.name();
+    match config {
+        Some(file) => format!(in alloc; "{file}: {name}"),
+        None => format!(in alloc; "--{name}"),
     }
-    let (Some(text), Some(name)) = (config, line.config) else {
-        return Ok(None);
-    };
-    let place = format!(in alloc; "{name}: base")?;
-    Ok(Some(base_in(alloc, place.as_str(), text)?))
 }
 
-/// The older bases that the line names, or else the file.
-fn also_bases_of(
+/// The bases that are said of an option, on the line or in that file.
+fn bases_in(
     alloc: Global,
-    line: &Line<'_>,
-    config: Option<&[String]>,
+    said: &Said,
+    word: Word,
+    config: Option<&str>,
 ) -> Result<Vec<Base>, OptionsFault> {
+    let place = place_of(alloc, word, config)?;
     let mut bases = Vec::new(alloc);
-    for text in &line.also_bases {
-        bases.push(base_in(alloc, "--also-base", text)?)?;
-    }
-    let (Some(texts), Some(name), true) = (config, line.config, bases.is_empty()) else {
-        return Ok(bases);
-    };
-    let place = format!(in alloc; "{name}: also-base")?;
-    for text in texts {
-        bases.push(base_in(alloc, place.as_str(), text.as_str())?)?;
+    for text in said.texts(alloc, word)? {
+        bases.push(base_in(alloc, place.as_str(), text)?)?;
     }
     Ok(bases)
+}
+
+/// The bases that the line names, or else the file.
+fn bases_of(
+    alloc: Global,
+    line: &Line<'_>,
+    file: &Said,
+    word: Word,
+) -> Result<Vec<Base>, OptionsFault> {
+    let bases = bases_in(alloc, &line.said, word, None)?;
+    if !bases.is_empty() {
+        return Ok(bases);
+    }
+    bases_in(alloc, file, word, line.config)
 }
 
 /// What a line says is to be served.
 fn options_of<'a, R: Files>(
     rt: &R,
     alloc: Global,
-    line: &Line<'a>,
+    line: Line<'a>,
 ) -> Result<Options<'a>, OptionsFault>
     ensures { IfOk result (λ options. are_fit options.settings ≡ true) }
 {
     let file = config_of(rt, alloc, line.config)?;
     let settings = fit_settings(alloc, &line.given, &file.given)?;
-    let base = base_of(alloc, line, file.base.as_deref())?;
-    let also_bases = also_bases_of(alloc, line, file.also_bases.as_deref())?;
+    let base = bases_of(alloc, &line, &file.said, Word::Base)?.pop();
+    let also_bases = bases_of(alloc, &line, &file.said, Word::AlsoBase)?;
+    let Line {
+        address,
+        file: name,
+        workers,
+        config: _,
+        said,
+        is_check,
+        given: _,
+    } = line;
+    let Config {
+        given: _,
+        said: others,
+    } = file;
     Ok(Options {
-        address: line.address,
-        file: line.file,
-        workers: line.workers,
+        address,
+        file: name,
+        workers,
         settings,
         base,
-        operators: chosen(alloc, line.operators, file.operators)?,
-        operators_key: chosen(alloc, line.operators_key, file.operators_key)?,
         also_bases,
-        is_check: line.is_check,
+        said: said.or(others)?,
+        is_check,
     })
 }
 
@@ -149,7 +149,7 @@ pub fn read_options<'a, R: AllocGlobal + Files>(
 {
     let alloc = rt.alloc();
     match read_line(alloc, words) {
-        Ok(line) => options_of(rt, alloc, &line),
+        Ok(line) => options_of(rt, alloc, line),
         Err(fault) => Err(fault),
     }
 }

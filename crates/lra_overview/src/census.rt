@@ -4,14 +4,14 @@ ghost use Rattle.std.specs.Prelude.{◌≡◌};
 
 use crate::faults::Trouble;
 use crate::overview::Overview;
-use crate::shares::{NONE, Shares, add, add_shares, count_ended};
+use crate::shares::{NONE, Shares, add, add_shares, count_ended, count_ending};
 use lra_commands::{Known, Listing, Query};
 use lra_ids::Instance;
 use lra_model::ActionStatus;
 use std::alloc::Global;
 
 /// How many rows one query looks at. So many actions, one after another, are a stretch.
-const STRETCH: u64 = 256;
+pub(crate) const STRETCH: u64 = 256;
 
 /// The statuses in the order in which they are asked for: most actions of a stretch have the first of them.
 const ASKED: [ActionStatus; 7] = [
@@ -25,10 +25,12 @@ const ASKED: [ActionStatus; 7] = [
 ];
 
 /// What is known of a journal's actions. Those of a stretch in which all have ended are counted once; the others are counted again each time.
-#[derive(Debug, Drop)]
+#[derive(Drop)]
 pub struct Census {
     /// Where those stretches begin in which some haven't ended.
     open: Vec<u64>,
+    /// Where those begin in which some are closing or cancelling, as was counted last.
+    ending: Vec<u64>,
     /// From this place on no stretch is whole, or none was looked at.
     behind: u64,
     /// How many of those have each status whose stretches aren't open.
@@ -36,14 +38,14 @@ pub struct Census {
 }
 
 /// How many rows of a stretch belong to a listing, and where the next stretch begins, if there is one.
-#[derive(Clone, Copy, Debug, PartialEq, Eq)]
+#[derive(Clone, Copy)]
 struct Part {
     count: u64,
     next: Option<u64>,
 }
 
 /// How many actions of a stretch have each status, and where the next stretch begins, if there is one.
-#[derive(Clone, Copy, Debug, PartialEq, Eq)]
+#[derive(Clone, Copy)]
 struct Stretch {
     shares: Shares,
     next: Option<u64>,
@@ -119,6 +121,7 @@ impl Census {
     pub fn new(alloc: Global) -> Census {
         Census {
             open: Vec::new(alloc),
+            ending: Vec::new(alloc),
             behind: 0,
             ended: NONE,
         }
@@ -143,6 +146,7 @@ impl Census {
                 add_shares(&mut self.ended, &stretch.shares);
                 continue;
             }
+            self.note_ending(place, &stretch)?;
             add_shares(shares, &stretch.shares);
             if let Some(slot) = self.open.get_mut(kept) {
                 *slot = place;
@@ -150,6 +154,14 @@ impl Census {
             kept = kept.saturating_add(1);
         }
         self.open.truncate(kept);
+        Ok(())
+    }
+
+    /// Takes down that some of a stretch are closing or cancelling, where that is so.
+    fn note_ending(&mut self, place: u64, stretch: &Stretch) -> Result<(), Trouble> {
+        if count_ending(&stretch.shares) > 0 {
+            self.ending.push(place)?;
+        }
         Ok(())
     }
 
@@ -176,6 +188,7 @@ impl Census {
         for _part in 0..u64::MAX {
             let place = self.behind;
             let stretch = count_stretch(overview, instance, place)?;
+            self.note_ending(place, &stretch)?;
             let Some(next) = stretch.next else {
                 add_shares(shares, &stretch.shares);
                 return Ok(());
@@ -195,6 +208,7 @@ impl Census {
         ensures { O.orders overview.new ≡ O.orders overview.old }
     {
         let mut shares = NONE;
+        self.ending.clear();
         self.count_open(overview, instance, &mut shares)?;
         self.count_behind(overview, instance, &mut shares)?;
         add_shares(&mut shares, &self.ended);
@@ -216,6 +230,11 @@ impl Census {
             self.ended = NONE;
         }
         counted
+    }
+
+    /// Where those stretches begin in which some actions are closing or cancelling, as was counted last, in their order.
+    pub(crate) fn ending(&self) -> &[u64] {
+        self.ending.as_slice()
     }
 
     /// The first place from one on at which an action may be that hasn't ended.

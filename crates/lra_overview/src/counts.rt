@@ -4,6 +4,7 @@ ghost use Rattle.std.specs.Prelude.{◌≡◌};
 
 use crate::census::Census;
 use crate::faults::Trouble;
+use crate::overdue::{Overdue, count_overdue};
 use crate::overview::Overview;
 use crate::shares::{NONE, Shares, add_shares};
 use crate::unended::list_unended;
@@ -15,13 +16,15 @@ use std::alloc::Global;
 const MOST_BITS: u32 = 31;
 
 /// How many there are, at some moment.
-#[derive(Clone, Copy, Debug, PartialEq, Eq)]
+#[derive(Clone, Copy)]
 pub struct Counts {
     pub shares: Shares,
     pub actions: u64,
     pub members: u64,
     /// The first action that hasn't ended.
     pub oldest: Option<u64>,
+    /// The members that hold up ends.
+    pub overdue: Overdue,
 }
 
 impl Counts {
@@ -32,6 +35,7 @@ impl Counts {
             actions: 0,
             members: 0,
             oldest: None,
+            overdue: Overdue::none(),
         }
     }
 
@@ -40,6 +44,7 @@ impl Counts {
         add_shares(&mut self.shares, &others.shares);
         self.actions = self.actions.saturating_add(others.actions);
         self.members = self.members.saturating_add(others.members);
+        self.overdue.add(&others.overdue);
     }
 }
 
@@ -95,12 +100,13 @@ fn oldest<O: Overview>(
     Ok(first)
 }
 
-/// How many actions and members there are, by queries of 256 rows at most each. The census goes on from what it counted before.
+/// How many actions and members there are, by queries of 256 rows at most each, and how many members hold up ends at a moment. The census goes on from what it counted before.
 pub fn count_all<O: Overview>(
     alloc: Global,
     overview: &mut O,
     instance: Instance,
     census: &mut Census,
+    moment: u64,
 ) -> Result<Counts, Trouble>
     ensures { O.orders overview.new ≡ O.orders overview.old }
 {
@@ -108,10 +114,12 @@ pub fn count_all<O: Overview>(
     let members = count_members(overview, instance)?;
     let shares = census.count(overview, instance)?;
     let oldest = oldest(alloc, overview, instance, census)?;
+    let overdue = count_overdue(overview, instance, census, moment)?;
     Ok(Counts {
         shares,
         actions,
         members,
         oldest,
+        overdue,
     })
 }

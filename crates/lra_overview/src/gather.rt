@@ -13,7 +13,7 @@ use std::alloc::Global;
 pub const MOST_SHOWN: usize = 1_000;
 
 /// An action of a list.
-#[derive(Clone, Copy, Debug, PartialEq, Eq)]
+#[derive(Clone, Copy)]
 pub struct ActionRow {
     pub action: u64,
     pub status: ActionStatus,
@@ -21,7 +21,7 @@ pub struct ActionRow {
 }
 
 /// A member of a list.
-#[derive(Clone, Copy, Debug, PartialEq, Eq)]
+#[derive(Clone, Copy)]
 pub struct MemberRow {
     pub member: u64,
     pub status: MemberStatus,
@@ -32,21 +32,21 @@ pub struct MemberRow {
 }
 
 /// Actions of a list, and the action to go on from, where there may be more.
-#[derive(Debug, Drop)]
+#[derive(Drop)]
 pub struct Listed {
     pub rows: Vec<ActionRow>,
     pub next: Option<u64>,
 }
 
 /// An action that hasn't ended, and what it waits for.
-#[derive(Clone, Copy, Debug, PartialEq, Eq)]
+#[derive(Clone, Copy)]
 pub struct Waiting {
     pub row: ActionRow,
     pub awaited: Option<Awaited>,
 }
 
 /// An action with its members and the actions that are nested directly in it, and what it waits for.
-#[derive(Debug, Drop)]
+#[derive(Drop)]
 pub struct Shown {
     pub row: ActionRow,
     pub members: Vec<MemberRow>,
@@ -57,7 +57,7 @@ pub struct Shown {
 }
 
 /// A row, and its place.
-#[derive(Clone, Copy, Debug, PartialEq, Eq)]
+#[derive(Clone, Copy)]
 pub(crate) struct Placed {
     pub place: u64,
     pub row: Row,

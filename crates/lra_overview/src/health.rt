@@ -21,7 +21,7 @@ pub enum Probe {
 }
 
 /// How many actions and members there are, where the coordinator told it.
-#[derive(Clone, Copy, Debug, PartialEq, Eq)]
+#[derive(Clone, Copy)]
 pub struct Answered {
     pub actions: u64,
     pub members: u64,

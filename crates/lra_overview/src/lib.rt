@@ -12,13 +12,12 @@ mod laws;
 mod laying;
 mod metrics;
 mod names;
+mod overdue;
 mod overview;
 mod pieces;
 mod shares;
 mod svg;
 mod tree;
-#[cfg(test)]
-mod trials;
 mod unended;
 
 pub use census::Census;
@@ -34,6 +33,7 @@ pub use laws::{pages_keep_marks, pages_refer};
 pub use laying::{put, put_number};
 pub use metrics::{Kind, describe, put_metrics, put_parts, whole};
 pub use names::Names;
+pub use overdue::Overdue;
 pub use overview::{Facts, Overview};
 pub use pieces::Piece;
 pub use shares::{Share, Shares};

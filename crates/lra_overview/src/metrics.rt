@@ -2,6 +2,7 @@
 
 use crate::counts::Counts;
 use crate::laying::{put, put_number};
+use crate::overdue::Overdue;
 use crate::overview::Facts;
 use lra_model::Memory;
 
@@ -114,6 +115,23 @@ fn put_counts(page: &mut Vec<u8>, counts: &Counts) -> Result<(), Memory> {
         "Members that joined since the journals that are served began.",
         counts.members,
     )
+}
+
+/// Adds how many members hold up ends.
+fn put_overdue(page: &mut Vec<u8>, overdue: &Overdue) -> Result<(), Memory> {
+    let name = "lra_members_overdue";
+    describe(
+        page,
+        name,
+        Kind::Gauge,
+        "Members of actions that are closing or cancelling that were asked in vain three times or more, or are to be asked by now.",
+    )?;
+    labelled(page, name, "why", "silent")?;
+    put_number(page, overdue.silent)?;
+    put(page, "\n")?;
+    labelled(page, name, "why", "waiting")?;
+    put_number(page, overdue.waiting)?;
+    put(page, "\n")
 }
 
 /// How many millionths of a limit are left.
@@ -249,6 +267,7 @@ pub fn put_metrics(
     oldest: u64,
 ) -> Result<(), Memory> {
     put_counts(page, counts)?;
+    put_overdue(page, &counts.overdue)?;
     parts(
         page,
         "lra_oldest_unended_seconds",

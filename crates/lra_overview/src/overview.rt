@@ -5,7 +5,7 @@ use lra_ids::{Base, Instance};
 use lra_model::Memory;
 
 /// What is known of a service beside its histories. Times are in milliseconds.
-#[derive(Clone, Copy, Debug, PartialEq, Eq)]
+#[derive(Clone, Copy)]
 pub struct Facts {
     /// The moment at which this was so.
     pub moment: u64,

@@ -3,7 +3,7 @@
 use lra_model::{ActionStatus, AskKind, MemberStatus};
 
 /// A piece of a page, or of a list.
-#[derive(Clone, Copy, Debug)]
+#[derive(Clone, Copy)]
 pub enum Piece<'a> {
     /// What this program itself has in it, as it stands. No text from elsewhere lives so long.
     Own(&'static str),

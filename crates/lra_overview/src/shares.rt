@@ -3,7 +3,7 @@
 use lra_model::ActionStatus;
 
 /// How many actions have a status.
-#[derive(Clone, Copy, Debug, PartialEq, Eq)]
+#[derive(Clone, Copy)]
 pub struct Share {
     pub status: ActionStatus,
     pub count: u64,
@@ -73,6 +73,20 @@ pub(crate) fn count_ended(shares: &Shares) -> u64 {
     let mut all: u64 = 0;
     for share in shares {
         if has_ended(share.status) {
+            all = all.saturating_add(share.count);
+        }
+    }
+    all
+}
+
+/// How many are closing or cancelling.
+pub(crate) fn count_ending(shares: &Shares) -> u64 {
+    let mut all: u64 = 0;
+    for share in shares {
+        if matches!(
+            share.status,
+            ActionStatus::Closing | ActionStatus::Cancelling
+        ) {
             all = all.saturating_add(share.count);
         }
     }

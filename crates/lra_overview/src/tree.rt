@@ -12,14 +12,14 @@ use std::alloc::Global;
 const MOST_NODES: usize = 400;
 
 /// What a node stands for.
-#[derive(Clone, Copy, Debug, PartialEq, Eq)]
+#[derive(Clone, Copy)]
 pub enum NodeOf {
     Action(ActionRow),
     Member(MemberRow),
 }
 
 /// A node of a tree: how deep it hangs, on which line it stands and on which line the one above it.
-#[derive(Clone, Copy, Debug, PartialEq, Eq)]
+#[derive(Clone, Copy)]
 pub struct Node {
     pub depth: u32,
     pub line: u32,
@@ -28,7 +28,7 @@ pub struct Node {
 }
 
 /// An action that is still to be gone into: how deep it hangs, and on which line the one above it stands.
-#[derive(Clone, Copy, Debug, PartialEq, Eq)]
+#[derive(Clone, Copy)]
 struct Pending {
     depth: u32,
     above: Option<u32>,

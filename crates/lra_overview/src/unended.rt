@@ -12,7 +12,7 @@ use lra_model::ActionStatus;
 use std::alloc::Global;
 
 /// What comes next of a status.
-#[derive(Clone, Copy, Debug, PartialEq, Eq)]
+#[derive(Clone, Copy)]
 enum Ahead {
     /// It is to be looked for from this place on.
     From(u64),
@@ -23,7 +23,7 @@ enum Ahead {
 }
 
 /// How far the actions of a status were gone through.
-#[derive(Clone, Copy, Debug, PartialEq, Eq)]
+#[derive(Clone, Copy)]
 struct Cursor {
     status: ActionStatus,
     ahead: Ahead,
@@ -38,7 +38,7 @@ fn begin(status: ActionStatus, from: u64) -> Cursor {
 }
 
 /// How far the actions of each status were gone through that haven't ended.
-#[derive(Clone, Copy, Debug, PartialEq, Eq)]
+#[derive(Clone, Copy)]
 struct Search {
     active: Cursor,
     closing: Cursor,

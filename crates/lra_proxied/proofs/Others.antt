@@ -106,5 +106,6 @@ means base olders own target body is other = record {
   target = ap (λ t. unwrap_or t own.target) is;
   minor = refl;
   close = refl;
+  fields = refl;
   body = body_meant _ body own.body other;
 }

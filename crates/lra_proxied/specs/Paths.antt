@@ -1,5 +1,5 @@
 -- Targets that have the path of a base before them.
-use Rattle.std.specs.Prelude.{ℕ, Bool, ◌||◌, if◌then◌else◌, nat_eq, List, [], ◌∷◌, ◌++◌, length, drop, codes, Option, Some, None, option_map, option_and_then}
+use Rattle.std.specs.Prelude.{ℕ, Bool, ◌||◌, if◌then◌else◌, nat_eq, List, [], ◌∷◌, ◌++◌, length, drop, codes, Option, Some, None, is_none, option_map, option_and_then}
 use Rattle.std.specs.List.{after_first, starts_with}
 use Rattle.lra_front.specs.Routes.{is_slash}
 
@@ -23,6 +23,10 @@ path_of base = after_first is_slash (after_first is_slash (after_first is_slash 
 abbrev pub passed_on : List ℕ → List ℕ → Option (List ℕ)
 passed_on [] target = None
 passed_on (b ∷ path) target = option_and_then (served_behind (b ∷ path)) (behind (codes "/") target)
+
+-- a target isn't behind the path of the base, as a proxy passes it on
+abbrev pub is_outside : List ℕ → List ℕ → Bool
+is_outside base target = is_none (passed_on (path_of base) target)
 
 -- the target that one means, where that is another (this project's choice): the same without the path of the base, but with its slash
 abbrev pub other_target : List ℕ → List ℕ → Option (List ℕ)

@@ -17,6 +17,7 @@ pub record Means (base : List ℕ) (olders : List (List ℕ)) (request meant : R
   pub target : meant.target ≡ target_meant base request.target
   pub minor : meant.minor ≡ request.minor
   pub close : meant.close ≡ request.close
+  pub fields : meant.fields ≡ request.fields
   pub body : MatchOption (other_body base olders (route_of meant.method meant.target) request.body)
       (meant.body ≡ request.body)
       (λ members. object_in meant.body ≡ Some members)

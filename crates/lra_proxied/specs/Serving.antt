@@ -1,16 +1,18 @@
 -- Whoever answers, asked what each request means.
-use Rattle.std.specs.Prelude.{◌≡◌, ◌⊎◌, ℕ, List}
+use Rattle.std.specs.Prelude.{◌≡◌, ◌⊎◌, ℕ, Bool, ◌&&◌, List, IsTrue, IsFalse}
 use Rattle.lra_wire.specs.Request.{Request}
 use Rattle.lra_commands.specs.declared.refusal.Refusal.TheVariants as refusal
 use Rattle.lra_front.specs.declared.denial.Denial.TheVariants as denial
 use Rattle.lra_front.specs.declared.answer.Answer.TheVariants as answer
 use Rattle.lra_steps.specs.declared.responder.Answered.{Answered}
+use Rattle.lra_proxied.specs.Paths.{is_outside}
 use Rattle.lra_proxied.specs.Requests.{Means, LacksMemory}
 
--- what there is to know of who answers, and the older bases in their order
+-- what there is to know of who answers, the older bases in their order, and whether requests are let in by the path of the base alone
 pub record Served (S : Type 0) : Type 0 where
   pub inner : S
   pub olders : List (List ℕ)
+  pub is_strict : Bool
 
 module _ {S : Type 0} (base_of : S → List ℕ) (responds : S → ℕ → Request → Answered → S → Type 0) where
   -- a request that this one means is answered
@@ -25,7 +27,24 @@ module _ {S : Type 0} (base_of : S → List ℕ) (responds : S → ℕ → Reque
     pub answer : answered.answer ≡ answer.Denied (denial.Refused refusal.Memory)
     pub unchanged : after ≡ before.inner
 
-  -- What a request at a moment does: what the one does that it means, unless memory was refused in making that. The older bases stay.
+  -- a request is kept out: its target isn't behind the path of the base, and requests are let in by that alone
+  abbrev pub keeps_out : Served S → Request → Bool
+  keeps_out before request = before.is_strict && is_outside (base_of before.inner) request.target
+
+  -- it is answered as one to a path that there isn't, and nothing was done
+  pub record Denies (before : Served S) (answered : Answered) (after : S) : Type 0 where
+    pub answer : answered.answer ≡ answer.Denied denial.NoSuchPath
+    pub unchanged : after ≡ before.inner
+
+  -- What a request at a moment does: it is kept out; or what the one does that it means, unless memory was refused in making that. The older bases stay.
   pub record Responds (before : Served S) (moment : ℕ) (request : Request) (answered : Answered) (after : Served S) : Type 0 where
     pub olders : after.olders ≡ before.olders
-    pub inner : Answers before moment request answered after.inner ⊎ Refuses before request answered after.inner
+    pub is_strict : after.is_strict ≡ before.is_strict
+    pub inner : (IsTrue (keeps_out before request) × Denies before answered after.inner)
+        ⊎ (IsFalse (keeps_out before request) × (Answers before moment request answered after.inner ⊎ Refuses before request answered after.inner))
+
+-- who answers rests, and all else stays
+pub record Rests {S : Type 0} (rests : S → S → Type 0) (before after : Served S) : Type 0 where
+  pub inner : rests before.inner after.inner
+  pub olders : after.olders ≡ before.olders
+  pub is_strict : after.is_strict ≡ before.is_strict

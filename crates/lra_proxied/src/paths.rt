@@ -1,6 +1,6 @@
 //! Targets that have the path of a base before them.
 
-ghost use Rattle.std.specs.Prelude.{◌≡◌, ◌++◌, nat_eq, option_map, string_bytes, IsSome, IfOk, OnErr};
+ghost use Rattle.std.specs.Prelude.{◌≡◌, ◌++◌, bytes_eq, length, nat_eq, option_map, string_bytes, IsSome, IfOk, OnErr};
 ghost use Rattle.std.specs.List.{after_first, starts_with};
 ghost use Rattle.lra_front.specs.Routes.{is_slash};
 ghost use Rattle.lra_proxied.specs.Paths as spec;
@@ -8,11 +8,37 @@ ghost use Rattle.lra_proxied.specs.Paths as spec;
 use lra_model::Memory;
 use std::alloc::Global;
 
+/// Whether two texts of one length are the same, in a time that doesn't go with where they differ.
+fn is_same(one: &[u8], other: &[u8]) -> bool
+    requires { length one.now ≡ length other.now }
+    ensures { result ≡ bytes_eq one.now other.now }
+{
+    let mut same = true;
+    for place in 0..one.len() {
+        same &= one[place] == other[place];
+    }
+    same
+}
+
+/// Whether a text begins with a front that may be a secret, in a time that doesn't go with where it differs from that.
+fn begins_alike(text: &str, front: &str) -> bool
+    ensures { result ≡ starts_with nat_eq text.now front.now }
+{
+    match text.as_bytes().get(..front.len()) {
+        Some(head) => is_same(front.as_bytes(), head),
+        None => false,
+    }
+}
+
 /// What a text has behind a front, where it begins with that.
 fn behind<'t>(front: &str, text: &'t str) -> Option<&'t str>
     ensures { option_map (λ rest. rest.now) result ≡ spec.behind front.now text.now }
 {
-    text.strip_prefix(front)
+    if begins_alike(text, front) {
+        text.strip_prefix(front)
+    } else {
+        None
+    }
 }
 
 /// Whether a text begins with a front.
@@ -64,6 +90,13 @@ fn passed_on<'t>(path: &str, target: &'t str) -> Option<&'t str>
         return None;
     }
     served_behind(path, behind("/", target)?)
+}
+
+/// Whether a target isn't behind the path of a base, as a proxy passes it on.
+pub(crate) fn is_outside(base: &str, target: &str) -> bool
+    ensures { result ≡ spec.is_outside base.now target.now }
+{
+    passed_on(path_of(base), target).is_none()
 }
 
 /// A text of two parts.

@@ -2,6 +2,7 @@
 
 ghost use Rattle.std.specs.Prelude.{◌≡◌};
 
+use crate::paths::is_outside;
 use crate::requests::other_request;
 use lra_commands::Refusal;
 use lra_front::{Answer, Denial, Routes};
@@ -10,43 +11,56 @@ use lra_steps::{Answered, Responder};
 use lra_wire::RequestRead;
 use std::alloc::Global;
 
-/// Whoever answers, asked what each request means: behind a proxy that passes the path of the base on, and by identifiers under older bases. It can't be
-/// dropped, but gives back who answers.
+/// Whoever answers, asked what each request means: behind a proxy that passes the path of the base on, and by identifiers under older bases. A strict one
+/// lets requests in by the path of the base alone. It can't be dropped, but gives back who answers.
 pub struct Proxied<A: Responder> {
     inner: A,
     olders: Vec<Base>,
+    is_strict: bool,
 }
 
 impl<A: Responder> Proxied<A> {
-    /// That of one who answers, where identifiers may be under older bases, of which the first counts that one is under.
-    pub fn new(inner: A, olders: Vec<Base>) -> Proxied<A>
+    /// That of one who answers, where identifiers may be under older bases, of which the first counts that one is under. A strict one keeps out what isn't
+    /// behind the path of the base, which is all where that path is `/` alone.
+    pub fn new(inner: A, olders: Vec<Base>, is_strict: bool) -> Proxied<A>
         ensures inner { result.inner ≡ inner }
         ensures olders { result.olders ≡ olders }
+        ensures is_strict { result.is_strict ≡ is_strict }
     {
-        Proxied { inner, olders }
+        Proxied {
+            inner,
+            olders,
+            is_strict,
+        }
     }
 
     /// Who answers.
     pub fn into_inner(self) -> A
         ensures { result ≡ self.inner }
     {
-        let Proxied { inner, olders } = self;
+        let Proxied {
+            inner,
+            olders,
+            is_strict: _,
+        } = self;
         drop(olders);
         inner
     }
 }
 
 impl<A: Responder> Responder for Proxied<A> {
-    ghost use Rattle.lra_proxied.specs.Serving.{Served, Responds};
+    ghost use Rattle.lra_proxied.specs.Serving.{Served, Responds, Rests};
     ghost use Rattle.lra_proxied.specs.inner.Stays.{base_stays};
 
     ghost State = { Served A.State };
 
-    ghost sight = { λ p. record { inner = A.sight p.inner; olders = p.olders.items } };
+    ghost sight = { λ p. record { inner = A.sight p.inner; olders = p.olders.items; is_strict = p.is_strict } };
 
     ghost base_of = { λ s. A.base_of s.inner };
 
     ghost responds = { Responds A.base_of A.responds };
+
+    ghost rests = { Rests A.rests };
 
     fn base(&self) -> &Base {
         self.inner.base()
@@ -64,6 +78,12 @@ impl<A: Responder> Responder for Proxied<A> {
         request: &RequestRead,
     ) -> Answered {
         let base = self.inner.base();
+        if self.is_strict && is_outside(base.as_str(), request.target.as_str()) {
+            return Answered {
+                instance: self.inner.instance(),
+                answer: Answer::Denied(Denial::NoSuchPath),
+            };
+        }
         match other_request(alloc, routes, base, self.olders.as_slice(), request) {
             Ok(Some(meant)) => {
                 let answered = self.inner.respond(alloc, routes, moment, &meant);
@@ -78,5 +98,11 @@ impl<A: Responder> Responder for Proxied<A> {
         }
     }
 
+    fn rest(&mut self) {
+        self.inner.rest();
+    }
+
     ghost stays = { λ before after moment request answered h. base_stays A.base_of A.responds A.stays before after moment request answered h };
+
+    ghost rest_stays = { λ before after h. A.rest_stays before.inner after.inner h.inner };
 }

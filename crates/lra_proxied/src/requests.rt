@@ -39,6 +39,7 @@ fn with_parts(
         minor: request.minor,
         close: request.close,
         body: bytes_or(alloc, body, request.body.as_slice())?,
+        fields: request.fields.copy(alloc)?,
     })
 }
 

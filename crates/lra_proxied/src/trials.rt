@@ -1,11 +1,11 @@
-//! What requests are handed on as, to one who answers each by itself.
+//! What requests are handed on as, to one who answers each by itself, and which are kept out.
 
 use crate::proxied::Proxied;
 use lra_commands::Refusal;
 use lra_front::{Answer, Denial, Routes};
 use lra_ids::{Base, Instance};
 use lra_steps::{Answered, Responder};
-use lra_wire::RequestRead;
+use lra_wire::{RequestFields, RequestRead};
 use std::alloc::Global;
 
 /// A method, a target and a body, and the target and the body that are handed on, between `|`.
@@ -31,6 +31,22 @@ POST|/lra-coordinator|{ "parent"|/lra-coordinator|{ "parent"
 PUT|/lra-coordinator/7/remove|{"recovery":"http://h.test:1/lra-recovery/8"}|/lra-coordinator/7/remove|{"recovery":"https://lra.test/shop/lra-recovery/8"}
 PUT|/lra-coordinator/7/remove|{ "parent":"http://h.test:1/lra-coordinator/8"}|/lra-coordinator/7/remove|{ "parent":"http://h.test:1/lra-coordinator/8"}
 PUT|/lra-coordinator/7|{ "compensate":"http://h.test:1/lra-coordinator/8"}|/lra-coordinator/7|{ "compensate":"http://h.test:1/lra-coordinator/8"}"###;
+
+/// The same of a strict one. What is kept out isn't handed on, and has `-` behind its bar.
+const STRICT_ROWS: &str = r###"GET|/shop/lra-coordinator/7||/lra-coordinator/7|
+PUT|/shop/lra-recovery/7|{"status":"Completed"}|/lra-recovery/7|{"status":"Completed"}
+POST|/shop/lra-coordinator|{"parent":"http://h.test:1/lra-coordinator/7"}|/lra-coordinator|{"parent":"https://lra.test/shop/lra-coordinator/7"}
+GET|/lra-coordinator/7||-
+POST|/lra-coordinator|{"parent":"https://lra.test/shop/lra-coordinator/7"}|-
+PATCH|/lra-coordinator||-
+GET|/shop/shop/lra-coordinator/7||-
+GET|/shops/lra-coordinator||-
+GET|/Shop/lra-coordinator||-
+GET|//shop/lra-coordinator||-
+GET|shop/lra-coordinator||-
+GET|/shop||-
+GET|/||-
+GET|*||-"###;
 
 /// One who takes down what was asked.
 #[derive(Drop)]
@@ -60,6 +76,8 @@ impl Responder for Recorder {
 
     ghost responds = { λ before moment request answered after. after ≡ before };
 
+    ghost rests = { λ before after. after ≡ before };
+
     fn base(&self) -> &Base {
         &self.base
     }
@@ -82,7 +100,11 @@ impl Responder for Recorder {
         }
     }
 
+    fn rest(&mut self) {}
+
     ghost stays = { λ before after moment request answered h. h };
+
+    ghost rest_stays = { λ before after h. h };
 }
 
 fn base(alloc: Global, text: &str) -> Option<Base> {
@@ -113,20 +135,25 @@ fn request(alloc: Global, method: &str, target: &str, body: &str) -> Option<Requ
         minor: 1,
         close: false,
         body: Vec::from_slice(alloc, body.as_bytes()).ok()?,
+        fields: RequestFields::none(),
     })
 }
 
-/// What is handed on of a request.
+/// What is handed on of a request; or `-` where that is denied as one to a path that there isn't, and nothing is handed on.
 fn handed_on(
     alloc: Global,
     inner: Recorder,
-    olders: Vec<Base>,
+    is_strict: bool,
     request: &RequestRead,
 ) -> Option<String> {
     let routes = Routes::new(alloc).ok()?;
-    let mut proxied = Proxied::new(inner, olders);
-    proxied.respond(alloc, &routes, 5, request);
-    proxied.into_inner().heard
+    let mut proxied = Proxied::new(inner, olders(alloc)?, is_strict);
+    let answered = proxied.respond(alloc, &routes, 5, request);
+    let heard = proxied.into_inner().heard;
+    if heard.is_none() && answered.answer == Answer::Denied(Denial::NoSuchPath) {
+        return String::from_str(alloc, "-").ok();
+    }
+    heard
 }
 
 /// What stands before a bar, and what after it.
@@ -138,19 +165,22 @@ fn parted(text: &str) -> (&str, &str) {
 }
 
 /// Whether a row's request is handed on as it says.
-fn is_handed_on(alloc: Global, row: &str) -> Option<bool> {
+fn is_handed_on(alloc: Global, row: &str, is_strict: bool) -> Option<bool> {
     let (method, rest) = parted(row);
     let (target, rest) = parted(rest);
     let (body, wanted) = parted(rest);
     let request = request(alloc, method, target, body)?;
     let recorder = make_recorder(alloc, "https://lra.test/shop/")?;
-    let heard = handed_on(alloc, recorder, olders(alloc)?, &request)?;
+    let heard = handed_on(alloc, recorder, is_strict, &request)?;
     Some(heard.as_str() == wanted)
 }
 
 #[test]
 fn requests_are_handed_on_as_they_mean(rt: HostRuntime) {
     for row in ROWS.lines() {
-        assert!(rt; is_handed_on(rt.alloc(), row) == Some(true), "{row}");
+        assert!(rt; is_handed_on(rt.alloc(), row, false) == Some(true), "{row}");
+    }
+    for row in STRICT_ROWS.lines() {
+        assert!(rt; is_handed_on(rt.alloc(), row, true) == Some(true), "{row}");
     }
 }

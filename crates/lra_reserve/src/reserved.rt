@@ -80,6 +80,8 @@ impl<A: Responder, K: Reserve> Responder for Reserved<A, K> {
 
     ghost responds = { Responds A.responds K.tells };
 
+    ghost rests = { A.rests };
+
     fn base(&self) -> &Base {
         self.inner.base()
     }
@@ -101,5 +103,11 @@ impl<A: Responder, K: Reserve> Responder for Reserved<A, K> {
         }
     }
 
+    fn rest(&mut self) {
+        self.inner.rest();
+    }
+
     ghost stays = { λ before after moment request answered h. responds_stays A.responds K.tells A.base_of A.stays before after moment request answered h };
+
+    ghost rest_stays = { λ before after h. A.rest_stays before after h };
 }

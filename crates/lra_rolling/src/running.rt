@@ -10,18 +10,22 @@ use crate::preparing::Maker;
 use crate::shift::Shift;
 use crate::steward::{Steward, steady};
 use crate::working::work;
+use lra_admission::KeyFiles;
 use lra_branch::Clerkship;
 use lra_clocks::milliseconds;
 use lra_folders::stray_line;
 use lra_ids::Base;
 use lra_journal_folder::{Contents, Folder, RollingFault, Sound, Unsound, audit_all};
+use lra_logs::{Event, Journalist};
 use lra_model::Instance;
 use lra_opening::{Herald, ServeFault};
 use lra_reports::RunFault;
 use lra_rolls::Counts;
 use lra_roster::{Journal, Roster, Watch};
 use lra_rounds::Arrivals;
-use lra_service::{Doorway, Site, bind, end_of, limits_of, make_doorway, say, site_at};
+use lra_service::{
+    Doorway, Entry, Site, Terms, end_of, limits_of, listener_at, make_doorway, say, site_at,
+};
 use lra_settings::Settings;
 use lra_shelf::Shelf;
 use lra_watchpost::{Tallies, Watchpost};
@@ -75,16 +79,16 @@ struct Service<'a, R, V, H> {
     alloc: Global,
     address: &'a str,
     site: &'a Site,
-    /// What identifiers may begin with as well.
-    olders: &'a [Base],
+    /// By which terms requests are taken.
+    terms: Terms<'a>,
     folder: &'a Folder<'a, R>,
     workers: u32,
     settings: Settings,
     /// Who is told how far journals have been read.
     watcher: &'a V,
     herald: &'a H,
-    /// Where operators come in, if any do.
-    operators: Option<&'a Watchpost>,
+    /// Where operators come in, and what they are told.
+    tower: &'a Tower<'a>,
 }
 
 /// Where connections come in to so many threads.
@@ -109,6 +113,16 @@ fn base_line(alloc: Global, before: &str, base: &str, is_read: bool) -> Result<S
     format!(in alloc; "lra: identifiers began with {before}, and begin with {base} now{end}\n")
 }
 
+/// The same, where what they begin with is a secret.
+fn secret_line(alloc: Global, is_read: bool) -> Result<String, AllocError> {
+    let end = if is_read {
+        ""
+    } else {
+        ": those of before are unknown in a request's body unless --also-base names what they began with"
+    };
+    format!(in alloc; "lra: identifiers begin otherwise than they did{end}\n")
+}
+
 /// The later of the moments up to which journals go.
 fn latest(sounds: &[Sound]) -> u64 {
     let mut latest = 0;
@@ -121,6 +135,7 @@ fn latest(sounds: &[Sound]) -> u64 {
 impl<
     'a,
     R: Files<File = File>
+        + KeyFiles
         + AllocGlobal
         + Clone
         + Drop
@@ -130,7 +145,7 @@ impl<
         + Net<Stream = TcpStream, Listener = TcpListener>
         + Sync,
     V: Herald + Sync,
-    H: Herald + Sync,
+    H: Herald + Journalist + Sync,
 > Service<'a, R, V, H> {
     /// Who makes the next journals ready.
     fn maker<O: Opener + Drop>(
@@ -228,22 +243,13 @@ impl<
             limit,
             remember: self.settings.remember_seconds.saturating_mul(1_000),
             watches,
+            tails: Vec::new(self.alloc),
             idle: Vec::new(self.alloc),
             is_full: false,
             next: None,
             retry: 0,
             has_told: false,
         }
-    }
-
-    /// Where operators come in, and what they are told.
-    fn tower(&self) -> Result<Tower<'a>, RollingFault> {
-        Ok(Tower {
-            post: self.operators,
-            base: &self.site.base,
-            limits: limits_of(&self.settings),
-            tallies: Tallies::new(self.alloc)?,
-        })
     }
 
     /// Says that it serves, and serves until none can come any more.
@@ -261,13 +267,12 @@ impl<
         let Some(crier) = Crier::new(self.rt, self.alloc) else {
             return Err(RollingFault::Here(ServeFault::Address));
         };
-        let tower = self.tower()?;
         let shift = Shift::new(
             self.rt,
             self.alloc,
             self.herald,
             &self.settings,
-            self.olders,
+            self.terms,
             shelf,
             &ending,
             roster,
@@ -275,12 +280,18 @@ impl<
             arrivals,
             crier,
             moment,
-            &tower,
+            self.tower,
         );
         say(self.alloc, self.address, writer)?;
+        self.herald.note(&Event::Serving {
+            journals: steward.watches.len() as u64,
+            workers: u64::from(self.workers),
+        });
         work(&shift, steward, self.workers as usize);
         drop(shift);
-        drop(tower);
+        if shelf.progress().has_failed(self.rt) {
+            self.herald.note(&Event::SyncFailed);
+        }
         let end = end_of(self.rt, shelf.progress(), &ending);
         drop(ending);
         match end {
@@ -301,7 +312,7 @@ impl<
         opener: O,
         contents: &Contents,
         sounds: Vec<Sound>,
-        input: Option<I>,
+        entry: Entry<I>,
         writer: &mut W,
     ) -> Result<FolderServed, RollingFault>
         requires { All (λ sound. IsRead None sound.opening) sounds.items }
@@ -311,7 +322,8 @@ impl<
         };
         let moment = now.max(latest(&sounds));
         let mut maker = self.maker(shelf, opener, contents, now)?;
-        let listener = bind(self.rt, self.site.socket.as_str())?;
+        let Entry { listener, input } = entry;
+        let listener = listener_at(self.rt, self.site.socket.as_str(), listener)?;
         self.folder.clear(contents)?;
         self.note_base()?;
         let watches = self.open(&mut maker, sounds, moment)?;
@@ -327,8 +339,16 @@ impl<
             return Ok(());
         };
         let before = before.as_str();
-        let is_read = self.olders.iter().any(|older| older.as_str() == before);
-        let line = base_line(self.alloc, before, self.site.base.as_str(), is_read)?;
+        let is_read = self
+            .terms
+            .olders
+            .iter()
+            .any(|older| older.as_str() == before);
+        let line = if self.terms.is_strict {
+            secret_line(self.alloc, is_read)?
+        } else {
+            base_line(self.alloc, before, self.site.base.as_str(), is_read)?
+        };
         self.herald.tell(line.as_str());
         Ok(())
     }
@@ -364,6 +384,7 @@ impl<
 /// once nothing of it is left to be done. Where there is a post for operators, one more thread answers them there, of all journals.
 pub fn serve_folder<
     R: Files<File = File>
+        + KeyFiles
         + AllocGlobal
         + Clone
         + Drop
@@ -375,18 +396,18 @@ pub fn serve_folder<
         + Send,
     I: Read + Send + Drop + 'static,
     V: Herald + Sync,
-    H: Herald + Sync,
+    H: Herald + Journalist + Sync,
     W: Write,
 >(
     rt: &R,
     address: &str,
     base: Option<Base>,
-    olders: &[Base],
+    terms: Terms<'_>,
     path: &str,
     workers: u32,
     settings: Settings,
     operators: Option<&Watchpost>,
-    input: Option<I>,
+    entry: Entry<I>,
     watcher: &V,
     herald: &H,
     writer: &mut W,
@@ -395,7 +416,13 @@ pub fn serve_folder<
     let site = site_at(alloc, address, base)?;
     let folder = Folder::open(rt, path)?;
     let contents = folder.contents()?;
-    let Ok(shelf) = Shelf::open(alloc) else {
+    let tower = Tower {
+        post: operators,
+        base: &site.base,
+        limits: limits_of(&settings),
+        tallies: Tallies::new(alloc, operators)?,
+    };
+    let Ok(shelf) = Shelf::open(alloc, tower.tallies.syncs()) else {
         return Err(RollingFault::Here(ServeFault::Run(RunFault::Memory)));
     };
     let service = Service {
@@ -403,13 +430,13 @@ pub fn serve_folder<
         alloc,
         address,
         site: &site,
-        olders,
+        terms,
         folder: &folder,
         workers,
         settings,
         watcher,
         herald,
-        operators,
+        tower: &tower,
     };
     service.tell_others(&contents);
     match audit_all(rt, &folder, &contents, watcher, writer)? {
@@ -422,7 +449,7 @@ pub fn serve_folder<
                 base: &site.base,
                 limits: limits_of(&settings),
             };
-            service.serve_on(&shelf, opener, &contents, sounds, input, writer)
+            service.serve_on(&shelf, opener, &contents, sounds, entry, writer)
         }
     }
 }

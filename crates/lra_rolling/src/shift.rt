@@ -4,23 +4,24 @@ ghost use Rattle.std.specs.Prelude.{◌≡◌, [], IfSome};
 
 use crate::crier::Crier;
 use crate::lookout::{Lookout, Tower};
+use lra_admission::KeyFiles;
 use lra_branch::Clerkship;
 use lra_callbacks::{Callbacks, Names, Share};
 use lra_clocks::{Clock, SystemClock};
 use lra_durable::Progress;
 use lra_family_front::Household;
-use lra_ids::Base;
+use lra_logs::Journalist;
 use lra_opening::Herald;
-use lra_proxied::{Proxied, copy_bases};
 use lra_reserve::Reserved;
 use lra_roster::{Journal, Kin, Reservations, Roster};
 use lra_rounds::{Arrivals, Rounds, RoundsEnd, Times};
 use lra_service::{
-    CarrierGate, Ending, Entrance, Line, share_of, tell_answered, tell_carried, times_of,
+    CarrierGate, Doorman, Ending, Entrance, Line, Terms, Turnstile, dismiss, receive, share_of,
+    tell_answered, tell_carried, times_of,
 };
 use lra_settings::Settings;
 use lra_shelf::{Shelf, ShelfDisk};
-use lra_watchpost::{CountedCarriage, CountedResponder, attend};
+use lra_watchpost::{CountedCarriage, attend};
 use lra_workers::{Gate, Go, WorkerEnd};
 use std::alloc::Global;
 use std::net::{Net, TcpListener, TcpStream};
@@ -41,8 +42,8 @@ pub(crate) struct Shift<'s, 'a, R: Wait, H, B> {
     pub(crate) shelf: &'a Arc<Shelf>,
     pub(crate) ending: &'s Arc<Ending>,
     pub(crate) roster: &'s Roster<B>,
-    /// What identifiers may begin with as well.
-    olders: &'s [Base],
+    /// By which terms requests are taken.
+    terms: Terms<'s>,
     /// The moment at which it began, in milliseconds.
     moment: u64,
     /// How many connections one who answers has at most.
@@ -90,7 +91,7 @@ impl<'s, 'a: 's, R: Wait + time::Clock, H, B> Shift<'s, 'a, R, H, B> {
         alloc: Global,
         herald: &'s H,
         settings: &Settings,
-        olders: &'s [Base],
+        terms: Terms<'s>,
         shelf: &'a Arc<Shelf>,
         ending: &'s Arc<Ending>,
         roster: &'s Roster<B>,
@@ -110,7 +111,7 @@ impl<'s, 'a: 's, R: Wait + time::Clock, H, B> Shift<'s, 'a, R, H, B> {
             shelf,
             ending,
             roster,
-            olders,
+            terms,
             moment,
             most: most as usize,
             times: times_of(settings),
@@ -157,8 +158,8 @@ impl<'s, 'a: 's, R: Wait + time::Clock, H, B> Shift<'s, 'a, R, H, B> {
 impl<
     's,
     'a: 's,
-    R: Wait + time::Clock + Net<Stream = TcpStream, Listener = TcpListener>,
-    H: Herald,
+    R: KeyFiles + Wait + time::Clock + Net<Stream = TcpStream, Listener = TcpListener>,
+    H: Herald + Journalist,
     B: Clerkship + Drop,
 > Shift<'s, 'a, R, H, B> {
     /// Takes down that one who answered connections has ended: with the last one all end.
@@ -183,16 +184,18 @@ impl<
             self.herald.tell("lra: a thread that answered has ended: no clerk could be enrolled\n");
             return;
         };
-        let Ok(olders) = copy_bases(self.alloc, self.olders) else {
-            drop(family);
-            drop(kin);
-            tell_answered(self.herald, RoundsEnd::Refused);
-            return;
-        };
         let household = Household::new(family, kin);
         let reserved = Reserved::new(household, Reservations::new(self.rt, self.roster));
-        let counted = CountedResponder::new(reserved, self.rt, &self.tower.tallies);
-        let mut proxied = Proxied::new(counted, olders);
+        let tallies = &self.tower.tallies;
+        let doorman = Doorman::new(self.alloc, self.terms, self.herald, tallies);
+        let mut received = match receive(self.rt, self.alloc, self.terms, &doorman, reserved) {
+            Ok(received) => received,
+            Err(reserved) => {
+                drop(reserved);
+                tell_answered(self.herald, RoundsEnd::Refused);
+                return;
+            }
+        };
         let rounds = Rounds::new(
             self.rt,
             self.alloc,
@@ -202,8 +205,8 @@ impl<
             self.most,
             self.times,
         );
-        tell_answered(self.herald, rounds.run(&mut proxied, &mut self.clock()));
-        drop(proxied.into_inner());
+        tell_answered(self.herald, rounds.run(&mut received, &mut self.clock()));
+        drop(dismiss(received));
     }
 
     /// Answers connections.
@@ -236,6 +239,7 @@ impl<
             self.alloc,
             self.progress(),
             &self.names,
+            self.terms.rules,
             poll,
             self.share,
             &journal.stall.under_way,
@@ -299,12 +303,22 @@ impl<
     }
 }
 
-impl<'s, 'a: 's, R: Wait + time::Clock, H, B: Clerkship + Drop> Shift<'s, 'a, R, H, B> {
+impl<'s, 'a: 's, R: Wait + time::Clock, H: Journalist, B: Clerkship + Drop> Shift<'s, 'a, R, H, B> {
     /// Answers operators, where any come in, until no one answers any more.
     pub(crate) fn watch(&self) {
         if let Some(post) = self.tower.post {
             let mut lookout = Lookout::new(self.alloc, self, self.clock());
-            attend(self.rt, self.alloc, post, &mut lookout, &**self.ending);
+            let turnstile = Turnstile {
+                journalist: self.herald,
+            };
+            attend(
+                self.rt,
+                self.alloc,
+                post,
+                &mut lookout,
+                &**self.ending,
+                &turnstile,
+            );
             drop(lookout);
         }
     }

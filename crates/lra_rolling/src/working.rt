@@ -5,7 +5,9 @@ ghost use Rattle.std.specs.Thread.{IsSend, IsSync};
 use crate::opening::Opener;
 use crate::shift::Shift;
 use crate::steward::Steward;
+use lra_admission::KeyFiles;
 use lra_branch::Clerkship;
+use lra_logs::Journalist;
 use lra_opening::Herald;
 use std::fs::File;
 use std::marker::{Send, Sync};
@@ -19,8 +21,8 @@ use std::time::Clock;
 /// Answers connections by so many threads, until no one answers any more.
 fn answer_all<
     'a,
-    R: Threads + Wait + Clock + Net<Stream = TcpStream, Listener = TcpListener> + Sync,
-    H: Herald + Sync,
+    R: KeyFiles + Threads + Wait + Clock + Net<Stream = TcpStream, Listener = TcpListener> + Sync,
+    H: Herald + Journalist + Sync,
     B: Clerkship + Send + Drop,
 >(shift: &Shift<'_, 'a, R, H, B>, workers: usize) {
     let _ = thread::map_indices(
@@ -36,6 +38,7 @@ fn answer_all<
 fn tend<
     'a,
     R: Files<File = File>
+        + KeyFiles
         + AllocGlobal
         + Clone
         + Drop
@@ -44,7 +47,7 @@ fn tend<
         + Clock
         + Net<Stream = TcpStream, Listener = TcpListener>
         + Sync,
-    H: Herald + Sync,
+    H: Herald + Journalist + Sync,
     O: Opener<Branch = B> + Drop,
     B: Clerkship + Send + Drop,
 >(shift: &Shift<'_, 'a, R, H, B>, steward: Steward<'a, R, O, B>) {
@@ -77,6 +80,7 @@ fn tend<
 fn work_all<
     'a,
     R: Files<File = File>
+        + KeyFiles
         + AllocGlobal
         + Clone
         + Drop
@@ -85,7 +89,7 @@ fn work_all<
         + Clock
         + Net<Stream = TcpStream, Listener = TcpListener>
         + Sync,
-    H: Herald + Sync,
+    H: Herald + Journalist + Sync,
     O: Opener<Branch = B> + Send + Drop,
     B: Clerkship + Send + Drop,
 >(shift: &Shift<'_, 'a, R, H, B>, steward: Steward<'a, R, O, B>, workers: usize) {
@@ -102,6 +106,7 @@ fn work_all<
 fn work_by_name<
     'a,
     R: Files<File = File>
+        + KeyFiles
         + AllocGlobal
         + Clone
         + Drop
@@ -110,7 +115,7 @@ fn work_by_name<
         + Clock
         + Net<Stream = TcpStream, Listener = TcpListener>
         + Sync,
-    H: Herald + Sync,
+    H: Herald + Journalist + Sync,
     O: Opener<Branch = B> + Send + Drop,
     B: Clerkship + Send + Drop,
 >(shift: &Shift<'_, 'a, R, H, B>, steward: Steward<'a, R, O, B>, workers: usize) {
@@ -135,6 +140,7 @@ fn work_by_name<
 fn work_watched<
     'a,
     R: Files<File = File>
+        + KeyFiles
         + AllocGlobal
         + Clone
         + Drop
@@ -143,7 +149,7 @@ fn work_watched<
         + Clock
         + Net<Stream = TcpStream, Listener = TcpListener>
         + Sync,
-    H: Herald + Sync,
+    H: Herald + Journalist + Sync,
     O: Opener<Branch = B> + Send + Drop,
     B: Clerkship + Send + Drop,
 >(shift: &Shift<'_, 'a, R, H, B>, steward: Steward<'a, R, O, B>, workers: usize) {
@@ -160,6 +166,7 @@ fn work_watched<
 pub(crate) fn work<
     'a,
     R: Files<File = File>
+        + KeyFiles
         + AllocGlobal
         + Clone
         + Drop
@@ -168,7 +175,7 @@ pub(crate) fn work<
         + Clock
         + Net<Stream = TcpStream, Listener = TcpListener>
         + Sync,
-    H: Herald + Sync,
+    H: Herald + Journalist + Sync,
     O: Opener<Branch = B> + Send + Drop,
     B: Clerkship + Send + Drop,
 >(shift: &Shift<'_, 'a, R, H, B>, steward: Steward<'a, R, O, B>, workers: usize) {

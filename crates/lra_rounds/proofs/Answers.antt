@@ -1,5 +1,5 @@
 -- Requests that are answered one after another, of one connection and of many.
-use Rattle.std.proofs.Common.{◌≡◌, ℕ, List, [], ◌∷◌, ◌++◌, length, Option, Some, None, Result, Ok, Err, inl, inr, refl, sym, ap, ◌∙◌, subst, append_assoc, append-nil}
+use Rattle.std.proofs.Common.{◌≡◌, ℕ, List, [], ◌∷◌, ◌++◌, length, map, Option, Some, None, Result, Ok, Err, inl, inr, refl, sym, ap, ◌∙◌, subst, append_assoc, append-nil}
 use Rattle.std.specs.Prelude.{IfSome, IsSome}
 use Rattle.std.specs.declared.alloc.AllocError.{AllocError}
 use Rattle.lra_wire.specs.Request.{Request}
@@ -8,8 +8,9 @@ use Rattle.lra_steps.specs.declared.connection.Step.TheVariants.{Wants, Stands, 
 use Rattle.lra_steps.specs.declared.responder.Answered.{Answered}
 use Rattle.lra_steps.specs.History.{History, Turn}
 use Rattle.lra_steps.specs.Steps.{StepsTo, Tells}
-use Rattle.lra_steps.specs.Pieces.{Answers, Chain}
-use Rattle.lra_rounds.specs.Answered.{AnsweredSome, AnswersOf}
+use Rattle.lra_steps.specs.Pieces.{Answers, Chain, Course}
+use Rattle.lra_rounds.specs.Answered.{AnsweredWithRests, AnswersOf}
+use Rattle.lra_rounds.specs.inner.Stretches.{AnsweredSome, MayRest}
 
 -- what a step, or an answer without its turn, leaves as it was
 record Stays (old new : History) : Type 0 where
@@ -147,3 +148,50 @@ module _ {S K : Type 0} (base_of : S → List ℕ) (responds : S → ℕ → Req
   -- the URIs go on to begin so
   pub base_on : (base : List ℕ) (v w : S) (k l : K) → base_of v ≡ base → AnsweredSome base_of responds tells v k w l → base_of w ≡ base
   base_on base v w k l a s = s.1.base ∙ a
+
+-- ---- rounds, with rests between them
+
+module _ {S K : Type 0} (base_of : S → List ℕ) (responds : S → ℕ → Request → Answered → S → Type 0) (rests : S → S → Type 0) (tells : K → ℕ → K → Type 0) where
+  course-append : (v w x : S) (k l m : K) (xs ys : List (Option Turn)) → Course responds rests tells v k xs w l → Course responds rests tells w l ys x m
+      → Course responds rests tells v k (xs ++ ys) x m
+  course-append v w x k l m [] ys c d =
+      subst (λ (j : K). Course responds rests tells v j ys x m) c.1 (subst (λ (u : S). Course responds rests tells u l ys x m) c.0 d)
+  course-append v w x k l m (Some turn ∷ xs) ys c d = (c.0, c.1, c.2, c.3, course-append c.0 w x c.1 l m xs ys c.4 d)
+  course-append v w x k l m (None ∷ xs) ys c d = (c.0, c.1, course-append c.0 w x k l m xs ys c.2 d)
+
+  -- turns, and a rest behind them or none
+  course-chain : (v w x : S) (k l : K) (turns : List Turn) (ys : List (Option Turn)) → Chain responds tells v k turns w l → Course responds rests tells w l ys x l
+      → Course responds rests tells v k (map Some turns ++ ys) x l
+  course-chain v w x k l [] ys c d =
+      subst (λ (j : K). Course responds rests tells v j ys x l) c.1 (subst (λ (u : S). Course responds rests tells u l ys x l) c.0 d)
+  course-chain v w x k l (turn ∷ turns) ys c d = (c.0, c.1, c.2, c.3, course-chain c.0 w x c.1 l turns ys c.4 d)
+
+  pub rests_none : (v : S) (k : K) → AnsweredWithRests base_of responds rests tells v k v k
+  rests_none v k = record { turns = []; course = (refl, refl); base = refl }
+
+  pub rests_on : (v w x : S) (k l m : K) → AnsweredWithRests base_of responds rests tells v k w l → AnsweredWithRests base_of responds rests tells w l x m
+      → AnsweredWithRests base_of responds rests tells v k x m
+  rests_on v w x k l m a b = record {
+    turns = a.turns ++ b.turns;
+    course = course-append v w x k l m a.turns b.turns a.course b.course;
+    base = b.base ∙ a.base;
+  }
+
+  -- a round with no rest
+  pub rests_some : (v w : S) (k l : K) → AnsweredSome base_of responds tells v k w l → AnsweredWithRests base_of responds rests tells v k w l
+  rests_some v w k l a = record {
+    turns = map Some a.1.turns ++ [];
+    course = course-chain v w w k l a.1.turns [] a.1.chain (refl, refl);
+    base = a.1.base;
+  }
+
+  -- a round, and a rest where there is one
+  pub rests_round : ((before after : S) → rests before after → base_of after ≡ base_of before) → (v w x : S) (k l : K) → AnsweredSome base_of responds tells v k w l
+      → MayRest rests w x → AnsweredWithRests base_of responds rests tells v k x l
+  rests_round stays v w x k l a (inl rest) = record {
+    turns = map Some a.1.turns ++ None ∷ [];
+    course = course-chain v w x k l a.1.turns (None ∷ []) a.1.chain (x, rest, (refl, refl));
+    base = stays w x rest ∙ a.1.base;
+  }
+  rests_round stays v w x k l a (inr same) =
+      subst (λ (u : S). AnsweredWithRests base_of responds rests tells v k u l) (sym same) (rests_some v w k l a)

@@ -1,7 +1,7 @@
 //! The clients of a thread.
 
 ghost use Rattle.std.specs.Prelude.{◌≡◌};
-ghost use Rattle.lra_rounds.specs.Answered.{AnsweredSome};
+ghost use Rattle.lra_rounds.specs.inner.Stretches.{AnsweredSome};
 
 use crate::base::WhichBase;
 use crate::client::Client;

@@ -1,7 +1,8 @@
 //! The rounds of a thread.
 
 ghost use Rattle.std.specs.Prelude.{◌≡◌, Some, IsTrue};
-ghost use Rattle.lra_rounds.specs.Answered.{AnsweredSome};
+ghost use Rattle.lra_rounds.specs.Answered.{AnsweredWithRests};
+ghost use Rattle.lra_rounds.specs.inner.Stretches.{AnsweredSome, MayRest};
 
 use crate::arrivals::{Arrivals, Door};
 use crate::base::WhichBase;
@@ -27,7 +28,8 @@ const MOST_EVENTS: usize = 1_024;
 /// How many bytes are read of a client at once.
 const PIECE: usize = 16_384;
 
-/// How many milliseconds a thread that has nothing to do waits before it looks whether the disk has failed.
+/// How many milliseconds a thread that has nothing to do waits before it looks whether the disk has failed, and has whoever answers rest. So much lies
+/// between two rests too.
 const LOOK: u64 = 250;
 
 /// How many rounds replies wait for others to share their sync.
@@ -76,6 +78,19 @@ struct Watch<'a, R> {
     turn: usize,
     /// Until when replies wait to leave, once the thread is to end.
     until: Option<u64>,
+    /// From when on whoever answers rests again.
+    rest_from: u64,
+}
+
+/// Has whoever answers rest, where that is due after a quiet round.
+fn rest<A: Responder>(responder: &mut A, rest_from: &mut u64, now: u64)
+    ensures { MayRest A.rests (A.sight responder.old) (A.sight responder.new) }
+{
+    if now < *rest_from {
+        return;
+    }
+    *rest_from = now.saturating_add(LOOK);
+    responder.rest();
 }
 
 /// Whose turn follows, of so many.
@@ -119,6 +134,7 @@ impl<'a, R: Wait + time::Clock, D: Disk> Rounds<'a, R, D> {
             rounds: 0,
             turn: 0,
             until: None,
+            rest_from: 0,
         })
     }
 
@@ -210,7 +226,7 @@ impl<'a, R: Wait + time::Clock, D: Disk> Rounds<'a, R, D> {
         now >= until || !clients.are_owed()
     }
 
-    /// Reads what came, has the requests answered that are whole, and hands out what may leave.
+    /// Reads what came, has the requests answered that are whole, and hands out what may leave. Tells whether nothing came, and nobody was to be visited.
     fn serve<A: Responder, K: Clock, P: WhichBase>(
         &self,
         means: &Means<'_, R, D>,
@@ -219,7 +235,7 @@ impl<'a, R: Wait + time::Clock, D: Disk> Rounds<'a, R, D> {
         responder: &mut A,
         clock: &mut K,
         now: u64,
-    )
+    ) -> bool
         requires { A.base_of (A.sight responder.old) ≡ P.base }
         ensures { AnsweredSome A.base_of A.responds K.tells (A.sight responder.old) clock.old (A.sight responder.new) clock.new }
     {
@@ -230,6 +246,7 @@ impl<'a, R: Wait + time::Clock, D: Disk> Rounds<'a, R, D> {
         self.ring(&before, &mut watch.turn);
         self.hand_out(&mut watch.rounds, clients, is_quiet, now);
         clients.end_late(now);
+        is_quiet
     }
 
     /// One round. Tells why there is no other, if there is none.
@@ -242,7 +259,7 @@ impl<'a, R: Wait + time::Clock, D: Disk> Rounds<'a, R, D> {
         clock: &mut K,
     ) -> Option<RoundsEnd>
         requires { A.base_of (A.sight responder.old) ≡ P.base }
-        ensures answered { AnsweredSome A.base_of A.responds K.tells (A.sight responder.old) clock.old (A.sight responder.new) clock.new }
+        ensures answered { AnsweredWithRests A.base_of A.responds A.rests K.tells (A.sight responder.old) clock.old (A.sight responder.new) clock.new }
         ensures failed { result ≡ Some RoundsEnd.Unkept → IsTrue D.failed }
     {
         let wait = self.wait(clients, watch.moments.now());
@@ -257,7 +274,9 @@ impl<'a, R: Wait + time::Clock, D: Disk> Rounds<'a, R, D> {
             Door::Closed => Some(RoundsEnd::Closed),
             Door::Closing => self.part(watch, clients, now).then_some(RoundsEnd::Closed),
             Door::Open => {
-                self.serve(means, watch, clients, responder, clock, now);
+                if self.serve(means, watch, clients, responder, clock, now) {
+                    rest(responder, &mut watch.rest_from, now);
+                }
                 None
             }
         }
@@ -273,7 +292,7 @@ impl<'a, R: Wait + time::Clock, D: Disk> Rounds<'a, R, D> {
         clock: &mut K,
     ) -> RoundsEnd
         requires { A.base_of (A.sight responder.old) ≡ P.base }
-        ensures answered { AnsweredSome A.base_of A.responds K.tells (A.sight responder.old) clock.old (A.sight responder.new) clock.new }
+        ensures answered { AnsweredWithRests A.base_of A.responds A.rests K.tells (A.sight responder.old) clock.old (A.sight responder.new) clock.new }
         ensures failed { result ≡ RoundsEnd.Unkept → IsTrue D.failed }
     {
         for _round in self.rt.forever() {
@@ -291,7 +310,7 @@ impl<'a, R: Wait + time::Clock, D: Disk> Rounds<'a, R, D> {
         clock: &mut K,
     ) -> RoundsEnd
         requires { A.base_of (A.sight responder.old) ≡ P.base }
-        ensures answered { AnsweredSome A.base_of A.responds K.tells (A.sight responder.old) clock.old (A.sight responder.new) clock.new }
+        ensures answered { AnsweredWithRests A.base_of A.responds A.rests K.tells (A.sight responder.old) clock.old (A.sight responder.new) clock.new }
         ensures failed { result ≡ RoundsEnd.Unkept → IsTrue D.failed }
     {
         let Some(poll) = self.arrivals.take_poll(self.rt) else {
@@ -319,9 +338,9 @@ impl<'a, R: Wait + time::Clock, D: Disk> Rounds<'a, R, D> {
     }
 
     /// Answers the connections that come in, by one responder and one clock, until the disk has failed or no more connections come. Whatever
-    /// happens to one connection, the others are answered.
+    /// happens to one connection, the others are answered. After a round in which nothing came whoever answers rests, four times a second at most.
     pub fn run<A: Responder, K: Clock>(&self, responder: &mut A, clock: &mut K) -> RoundsEnd
-        ensures answered { AnsweredSome A.base_of A.responds K.tells (A.sight responder.old) clock.old (A.sight responder.new) clock.new }
+        ensures answered { AnsweredWithRests A.base_of A.responds A.rests K.tells (A.sight responder.old) clock.old (A.sight responder.new) clock.new }
         ensures failed { result ≡ RoundsEnd.Unkept → IsTrue D.failed }
     {
         self.run_at::<A, K, Brand>(responder, clock)

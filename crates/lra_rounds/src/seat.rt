@@ -1,7 +1,7 @@
 //! A client among those of a thread.
 
 ghost use Rattle.std.specs.Prelude.{◌≡◌};
-ghost use Rattle.lra_rounds.specs.Answered.{AnsweredSome};
+ghost use Rattle.lra_rounds.specs.inner.Stretches.{AnsweredSome};
 
 use crate::answering::Stage;
 use crate::base::WhichBase;

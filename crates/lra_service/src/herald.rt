@@ -1,9 +1,66 @@
-//! What a service tells of its threads.
+//! What a service tells of its threads, and who is told.
 
+use lra_logs::{Event, Journalist, Level, Logbook, Port};
 use lra_opening::Herald;
 use lra_rounds::RoundsEnd;
+use lra_watchpost::Turned;
 use lra_workers::WorkerEnd;
 use std::alloc::Global;
+use std::sync::Wait;
+use std::time::Clock;
+
+/// Who tells nobody of lines, nor of what happens.
+#[derive(Clone, Copy, Debug)]
+pub struct Quiet;
+
+impl Herald for Quiet {
+    fn tell(&self, _line: &str) {}
+}
+
+impl Journalist for Quiet {
+    fn hears(&self, _level: Level) -> bool {
+        false
+    }
+
+    fn note(&self, _event: &Event) {}
+}
+
+/// Who is told of operators' requests that may not be made.
+#[derive(Drop)]
+pub struct Turnstile<'a, J> {
+    pub journalist: &'a J,
+}
+
+impl<J: Journalist> Turned for Turnstile<'_, J> {
+    fn turned_away(&self, code: u16) {
+        self.journalist.note(&Event::Refused {
+            port: Port::Operators,
+            code,
+        });
+    }
+}
+
+/// A log, which is told the lines too that a service tells anyway.
+#[derive(Drop)]
+pub struct Book<R> {
+    pub log: Logbook<R>,
+}
+
+impl<R: Eprint + Clock + Wait> Herald for Book<R> {
+    fn tell(&self, line: &str) {
+        self.log.tell(Level::Warn, line);
+    }
+}
+
+impl<R: Eprint + Clock + Wait> Journalist for Book<R> {
+    fn hears(&self, level: Level) -> bool {
+        self.log.hears(level)
+    }
+
+    fn note(&self, event: &Event) {
+        self.log.note(event);
+    }
+}
 
 /// Why a thread that answered has ended, where the program's end doesn't say so.
 fn why_answered(end: RoundsEnd) -> Option<&'static str> {

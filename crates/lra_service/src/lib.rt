@@ -17,6 +17,8 @@ mod post;
 mod running;
 mod shares;
 mod shift;
+mod spot;
+mod terms;
 
 pub use base::{Site, bind, site_at};
 pub use checking::{check_place, put_journal, put_number, put_olders, put_settings, put_text};
@@ -25,7 +27,7 @@ pub use doorway::{Doorway, make_doorway};
 pub use ending::{Ending, end_of, say, watch};
 pub use entrance::{Entrance, Line};
 pub use gate::CarrierGate;
-pub use herald::{tell_answered, tell_carried};
+pub use herald::{Book, Quiet, Turnstile, tell_answered, tell_carried};
 pub use lra_clocks::SystemClock;
 pub use lra_opening::{
     Aloud, Found, Herald, Place, ServeFault, Silence, fault_line, find_journal, open_office,
@@ -34,3 +36,5 @@ pub use lra_opening::{
 pub use polls::Stall;
 pub use running::{Served, serve, serve_from, serve_with};
 pub use shares::{limits_of, share_of, times_of};
+pub use spot::{Entry, Spot, listener_at, spot_at};
+pub use terms::{Doorman, Received, Terms, dismiss, keys_trouble, receive};

@@ -12,27 +12,33 @@ ghost use Rattle.lra_service.specs.Outcomes.{HasSaid};
 ghost use Rattle.lra_service.specs.Limited.{limits_of};
 ghost use Rattle.lra_service.specs.inner.Opened.{IsOpenAt};
 
-use crate::base::{Site, bind, site_at};
+use crate::base::{Site, site_at};
 use crate::disk::{FilePen, JournalFile};
 use crate::doorway::{Doorway, make_doorway};
 use crate::ending::{end_of, say};
 use crate::grown::Grown;
+use crate::herald::Quiet;
 use crate::measure::{Begun, Measure, begun_from};
 use crate::polls::{Polls, polls_of};
 use crate::post::hire_all;
 use crate::shares::limits_of;
 use crate::shift::{Shift, work};
+use crate::spot::{Entry, listener_at};
+use crate::terms::Terms;
+use lra_admission::KeyFiles;
 use lra_clocks::milliseconds;
 use lra_core::Opening;
 use lra_durable::{Keeper, Progress};
 use lra_ids::Base;
+use lra_logs::{Event, Journalist};
 use lra_office::{Clerk, Desk, Office};
 use lra_opening::{
-    Found, Herald, NamedFile, Place, ServeFault, Silence, find_journal, open_office, ready_file,
-    refuse,
+    Found, Herald, NamedFile, Place, ServeFault, find_journal, open_office, ready_file, refuse,
 };
 use lra_reports::RunFault;
+use lra_rules::Rules;
 use lra_settings::Settings;
+use lra_syncs::Syncs;
 use lra_watchpost::{Tallies, Watchpost};
 use std::alloc::Global;
 use std::fs::File;
@@ -61,8 +67,8 @@ struct Service<'a, R, P, H> {
     herald: &'a H,
     address: &'a str,
     site: &'a Site,
-    /// What identifiers may begin with as well.
-    olders: &'a [Base],
+    /// By which terms requests are taken.
+    terms: Terms<'a>,
     /// Where the journal is kept.
     place: &'a P,
     workers: u32,
@@ -76,6 +82,7 @@ struct Service<'a, R, P, H> {
 struct Stand {
     progress: Progress<JournalFile>,
     pen: FilePen,
+    end: FileEnd,
     door: Doorway,
     polls: Polls,
     moment: u64,
@@ -88,25 +95,39 @@ struct OpenDisk {
     progress: Progress<JournalFile>,
     pen: FilePen,
     grown: Arc<Grown>,
+    end: FileEnd,
+}
+
+/// A journal's file once more, to be read from a place on.
+#[derive(Drop)]
+pub(crate) struct FileEnd {
+    pub(crate) file: File,
+    pub(crate) at: u64,
 }
 
 /// A journal's file as a disk, where it can be had.
-fn disk_of(alloc: Global, file: File) -> Option<OpenDisk> {
-    let (pen, syncer) = JournalFile::parts(alloc, file).ok()?;
+fn disk_of(alloc: Global, file: File, syncs: Option<Arc<Syncs>>) -> Option<OpenDisk> {
+    let at = file.metadata().ok()?.len();
+    let end = FileEnd {
+        file: file.try_clone().ok()?,
+        at,
+    };
+    let (pen, syncer) = JournalFile::parts(alloc, file, syncs).ok()?;
     let grown = pen.grown()?;
     let progress = Progress::<JournalFile>::open(&pen, syncer).ok()?;
     Some(OpenDisk {
         progress,
         pen,
         grown,
+        end,
     })
 }
 
 /// What is tallied of a service that begins.
-fn tallies_of(alloc: Global) -> Result<Tallies, ServeFault>
+fn tallies_of(alloc: Global, post: Option<&Watchpost>) -> Result<Tallies, ServeFault>
     ensures { IfErr result IsOfNoScript }
 {
-    match Tallies::new(alloc) {
+    match Tallies::new(alloc, post) {
         Ok(tallies) => Ok(tallies),
         Err(_) => Err(ServeFault::Run(RunFault::Memory)),
     }
@@ -124,7 +145,7 @@ fn stand_on(
 ) -> Result<Stand, ServeFault>
     ensures { IfErr result (λ fault. fault ≡ ServeFault.File) }
 {
-    let Some(disk) = disk_of(alloc, file) else {
+    let Some(disk) = disk_of(alloc, file, tallies.syncs()) else {
         drop(door);
         drop(polls);
         drop(tallies);
@@ -134,10 +155,12 @@ fn stand_on(
         progress,
         pen,
         grown,
+        end,
     } = disk;
     Ok(Stand {
         progress,
         pen,
+        end,
         door,
         polls,
         moment,
@@ -150,9 +173,9 @@ fn stand_on(
 }
 
 impl<
-    R: Threads + Wait + Clock + Net<Stream = TcpStream, Listener = TcpListener> + Sync,
+    R: KeyFiles + Threads + Wait + Clock + Net<Stream = TcpStream, Listener = TcpListener> + Sync,
     P: Place<File = File>,
-    H: Herald + Sync,
+    H: Herald + Journalist + Sync,
 > Service<'_, R, P, H> {
     /// Says that it serves, and serves connections until none can come any more.
     fn serve_office<K: Write + Drop + Send, W: Write>(
@@ -176,7 +199,14 @@ impl<
             shift.is_watched(),
         )?;
         match say(self.alloc, self.address, writer) {
-            Ok(()) => Ok(work(shift, office, jobs)?),
+            Ok(()) => {
+                self.herald.note(&Event::Serving {
+                    journals: 1,
+                    workers: u64::from(self.workers),
+                });
+                shift.follow(office.instance());
+                Ok(work(shift, office, jobs)?)
+            }
             Err(fault) => {
                 drop(jobs);
                 Err(fault)
@@ -236,6 +266,7 @@ impl<
         let Stand {
             progress,
             pen,
+            end: file_end,
             door,
             polls,
             moment,
@@ -249,7 +280,7 @@ impl<
             self.alloc,
             self.herald,
             &self.settings,
-            self.olders,
+            self.terms,
             &progress,
             &ending,
             line,
@@ -257,9 +288,13 @@ impl<
             moment,
             self.operators,
             measure,
+            file_end,
         );
         let served = self.serve_journal(&shift, opening, keeper, writer);
         drop(shift);
+        if progress.has_failed(self.rt) {
+            self.herald.note(&Event::SyncFailed);
+        }
         let end = end_of(self.rt, &progress, &ending);
         drop(progress);
         drop(ending);
@@ -284,7 +319,7 @@ impl<
             return Err(ServeFault::Address);
         };
         let polls = polls_of(self.rt, self.alloc, self.workers)?;
-        let tallies = tallies_of(self.alloc)?;
+        let tallies = tallies_of(self.alloc, self.operators)?;
         // A journal that was written to later, as by a clock that was wrong, is gone on from that moment.
         let moment = now.max(latest);
         stand_on(self.alloc, file, door, polls, tallies, begun, moment)
@@ -295,13 +330,14 @@ impl<
         &self,
         found: Found<File>,
         opening: &Opening,
-        input: Option<I>,
+        entry: Entry<I>,
     ) -> Result<Stand, ServeFault>
         requires found { IsFound P.contents (P.had self.now.place.now) found }
         requires journal { IsRead (P.had self.now.place.now) opening.now }
         ensures { IfErr result IsOfNoScript }
     {
-        let listener = bind(self.rt, self.site.socket.as_str())?;
+        let Entry { listener, input } = entry;
+        let listener = listener_at(self.rt, self.site.socket.as_str(), listener)?;
         let file = ready_file(self.place, found, opening)?;
         let door = make_doorway(self.rt, self.alloc, listener, input)?;
         let begun = begun_from(opening, limits_of(&self.settings));
@@ -313,7 +349,7 @@ impl<
         &self,
         found: Found<File>,
         opening: Opening,
-        input: Option<I>,
+        entry: Entry<I>,
         writer: &mut W,
     ) -> Result<Served, ServeFault>
         requires found { IsFound P.contents (P.had self.now.place.now) found }
@@ -321,7 +357,7 @@ impl<
         ensures ended { IfOk result (HasSaid (P.had self.now.place.now) self.now.address.now (W.contents writer.old) (W.contents writer.new)) }
         ensures fault { IfErr result (IsSaid self.now.address.now (W.contents writer.old) (W.contents writer.new)) }
     {
-        match self.make_ready(found, &opening, input) {
+        match self.make_ready(found, &opening, entry) {
             Ok(stand) => self.serve_at(stand, opening, writer),
             Err(fault) => {
                 drop(opening);
@@ -333,7 +369,7 @@ impl<
     /// Serves what the place has, once its lock is taken and its journal is audited.
     fn serve_place<I: Read + Send + Drop + 'static, W: Write>(
         &self,
-        input: Option<I>,
+        entry: Entry<I>,
         writer: &mut W,
     ) -> Result<Served, ServeFault>
         ensures ended { IfOk result (HasSaid (P.had self.now.place.now) self.now.address.now (W.contents writer.old) (W.contents writer.new)) }
@@ -343,13 +379,13 @@ impl<
         if let Some(told) = refuse(self.alloc, &opening, writer) {
             drop(found);
             drop(opening);
-            drop(input);
+            drop(entry);
             return match told {
                 Ok(status) => Ok(Served::Unsound(status)),
                 Err(fault) => Err(fault),
             };
         }
-        self.serve_found(found, opening, input, writer)
+        self.serve_found(found, opening, entry, writer)
     }
 }
 
@@ -362,7 +398,8 @@ impl<
 /// The file that is written to has just the whole lines of what the place had, and the office that serves goes on from them
 /// ([`ready_file`], [`open_office`]).
 pub fn serve_with<
-    R: Threads
+    R: KeyFiles
+        + Threads
         + Wait
         + Clock
         + Net<Stream = TcpStream, Listener = TcpListener>
@@ -370,18 +407,18 @@ pub fn serve_with<
         + Sync,
     P: Place<File = File>,
     I: Read + Send + Drop + 'static,
-    H: Herald + Sync,
+    H: Herald + Journalist + Sync,
     W: Write,
 >(
     rt: &R,
     address: &str,
     base: Option<Base>,
-    olders: &[Base],
+    terms: Terms<'_>,
     place: &P,
     workers: u32,
     settings: Settings,
     operators: Option<&Watchpost>,
-    input: Option<I>,
+    entry: Entry<I>,
     herald: &H,
     writer: &mut W,
 ) -> Result<Served, ServeFault>
@@ -397,18 +434,19 @@ pub fn serve_with<
         herald,
         address,
         site: &site,
-        olders,
+        terms,
         place,
         workers,
         settings,
         operators,
     };
-    service.serve_place(input, writer)
+    service.serve_place(entry, writer)
 }
 
 /// The same with the usual settings, and with no end but by a fault.
 pub fn serve_from<
-    R: Threads
+    R: KeyFiles
+        + Threads
         + Wait
         + Clock
         + Net<Stream = TcpStream, Listener = TcpListener>
@@ -422,17 +460,21 @@ pub fn serve_from<
     ensures base { IsFalse (is_base (base_text address.now)) → IsErrAnd result IsOfAddress × (W.contents writer.new ≡ W.contents writer.old) }
 {
     let usual = Settings::usual();
+    let rules = Rules::none(rt.alloc());
     match serve_with(
         rt,
         address,
         None,
-        &[],
+        Terms::usual(&rules),
         place,
         workers,
         usual,
         None,
-        None::<File>,
-        &Silence,
+        Entry {
+            listener: None,
+            input: None::<File>,
+        },
+        &Quiet,
         writer,
     ) {
         Ok(Served::Unsound(status)) => Ok(status),
@@ -449,6 +491,7 @@ pub fn serve<
         + Clock
         + Net<Stream = TcpStream, Listener = TcpListener>
         + Files<File = File>
+        + KeyFiles
         + AllocGlobal
         + Sync,
     W: Write,

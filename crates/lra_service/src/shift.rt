@@ -8,33 +8,39 @@ use crate::disk::JournalFile;
 use crate::ending::Ending;
 use crate::entrance::{Entrance, Line};
 use crate::gate::CarrierGate;
-use crate::herald::{tell_answered, tell_carried};
+use crate::herald::{Turnstile, tell_answered, tell_carried};
 use crate::lookout::Lookout;
 use crate::measure::{Measure, Now};
 use crate::polls::{Polls, Stall};
 use crate::post::Duty;
+use crate::running::FileEnd;
 use crate::shares::{share_of, times_of};
+use crate::terms::{Doorman, Terms, dismiss, receive};
+use lra_admission::KeyFiles;
 use lra_callbacks::{Callbacks, Names, Share, ring};
 use lra_clocks::SystemClock;
 use lra_durable::Progress;
-use lra_ids::{Base, Instance};
+use lra_ids::Instance;
+use lra_logs::{Journalist, Tail};
 use lra_office::{Clerk, OfficeOf, Serving, WhichLock, Window};
 use lra_opening::Herald;
 use lra_overview::Facts;
-use lra_proxied::{Proxied, copy_bases};
 use lra_rounds::{Arrivals, Rounds, RoundsEnd, Times};
 use lra_settings::Settings;
-use lra_watchpost::{CountedCarriage, CountedResponder, Vitals, Watchpost, attend};
+use lra_watchpost::{CountedCarriage, Vitals, Watchpost, attend};
 use lra_workers::{WorkerEnd, run_carrier};
 use mio::Waker;
 use std::alloc::{AllocError, Global};
 use std::marker::{Brand, Send, Sync};
 use std::net::{Net, TcpListener, TcpStream};
 use std::sync::atomic::{AtomicU64, Ordering};
-use std::sync::{Arc, Wait};
+use std::sync::{Arc, Mutex, Wait};
 use std::thread;
 use std::thread::{Threads, join};
-use std::time::Clock;
+use std::time::{Clock, Duration};
+
+/// How many milliseconds pass from one look at what the journal's file has taken to the next.
+const LOOK: u64 = 100;
 
 /// What the threads of a service share.
 #[derive(Drop)]
@@ -45,8 +51,8 @@ pub(crate) struct Shift<'a, R, H> {
     door: Entrance<'a, R>,
     progress: &'a Progress<JournalFile>,
     ending: &'a Arc<Ending>,
-    /// What identifiers may begin with as well.
-    olders: &'a [Base],
+    /// By which terms requests are taken.
+    terms: Terms<'a>,
     /// The moment at which it began, in milliseconds.
     pub(crate) moment: u64,
     /// How many connections one who answers has at most.
@@ -67,6 +73,10 @@ pub(crate) struct Shift<'a, R, H> {
     watchpost: Option<&'a Watchpost>,
     /// What is tallied, and how much the journal has.
     pub(crate) measure: Measure,
+    /// The journal's file, to be read as it grows.
+    end: Mutex<Option<FileEnd>>,
+    /// What it takes, where that is told of.
+    tail: Mutex<Option<Tail>>,
 }
 
 impl<'a, R: Wait + Clock, H> Shift<'a, R, H> {
@@ -76,7 +86,7 @@ impl<'a, R: Wait + Clock, H> Shift<'a, R, H> {
         alloc: Global,
         herald: &'a H,
         settings: &Settings,
-        olders: &'a [Base],
+        terms: Terms<'a>,
         progress: &'a Progress<JournalFile>,
         ending: &'a Arc<Ending>,
         line: Line,
@@ -84,6 +94,7 @@ impl<'a, R: Wait + Clock, H> Shift<'a, R, H> {
         moment: u64,
         watchpost: Option<&'a Watchpost>,
         measure: Measure,
+        end: FileEnd,
     ) -> Shift<'a, R, H>
         ensures { result.moment ≡ moment }
     {
@@ -101,7 +112,7 @@ impl<'a, R: Wait + Clock, H> Shift<'a, R, H> {
             door: Entrance::new(rt, line, ending, arrivals),
             progress,
             ending,
-            olders,
+            terms,
             moment,
             most: most as usize,
             times: times_of(settings),
@@ -112,6 +123,8 @@ impl<'a, R: Wait + Clock, H> Shift<'a, R, H> {
             names: Names::new(alloc),
             watchpost,
             measure,
+            end: Mutex::new(Some(end)),
+            tail: Mutex::new(None),
         }
     }
 
@@ -159,7 +172,9 @@ impl<R: Wait + Clock, H> Shift<'_, R, H> {
         };
         self.measure.facts(now, self.vitals())
     }
+}
 
+impl<R: Wait + Clock, H: Journalist> Shift<'_, R, H> {
     /// Answers operators, at an office with a lock that the type says.
     fn watch_at<V: Serving, Q: WhichLock>(
         &self,
@@ -173,7 +188,17 @@ impl<R: Wait + Clock, H> Shift<'_, R, H> {
         let window: Window<'_, V, R, Q> = Window::new(self.rt, office, clerk);
         let clock = SystemClock::new(self.rt, self.moment);
         let mut lookout = Lookout::new(window, self, clock);
-        attend(self.rt, self.alloc, post, &mut lookout, &**self.ending);
+        let turnstile = Turnstile {
+            journalist: self.herald,
+        };
+        attend(
+            self.rt,
+            self.alloc,
+            post,
+            &mut lookout,
+            &**self.ending,
+            &turnstile,
+        );
         drop(lookout.into_window().into_clerk());
     }
 
@@ -188,7 +213,10 @@ impl<R: Wait + Clock, H> Shift<'_, R, H> {
     }
 }
 
-impl<R: Wait + Clock + Net<Stream = TcpStream, Listener = TcpListener>, H: Herald> Shift<'_, R, H> {
+impl<
+    R: KeyFiles + Wait + Clock + Net<Stream = TcpStream, Listener = TcpListener>,
+    H: Herald + Journalist,
+> Shift<'_, R, H> {
     /// Takes down that one who answered connections has ended: with the last one all end.
     fn leave(&self) {
         if self.answering.fetch_sub(1, Ordering::SeqCst) <= 1 {
@@ -213,15 +241,17 @@ impl<R: Wait + Clock + Net<Stream = TcpStream, Listener = TcpListener>, H: Heral
         requires clerk { IsAt V.setting office.now clerk }
         requires here { lock_id office.now.lock ≡ Q.lock }
     {
-        let Ok(olders) = copy_bases(self.alloc, self.olders) else {
-            drop(clerk);
-            tell_answered(self.herald, RoundsEnd::Refused);
-            return;
-        };
-        let mut clock = self.clock();
         let window: Window<'_, V, R, Q> = Window::new(self.rt, office, clerk);
-        let counted = CountedResponder::new(window, self.rt, &self.measure.tallies);
-        let mut proxied = Proxied::new(counted, olders);
+        let tallies = &self.measure.tallies;
+        let doorman = Doorman::new(self.alloc, self.terms, self.herald, tallies);
+        let mut received = match receive(self.rt, self.alloc, self.terms, &doorman, window) {
+            Ok(received) => received,
+            Err(window) => {
+                drop(window.into_clerk());
+                tell_answered(self.herald, RoundsEnd::Refused);
+                return;
+            }
+        };
         let rounds = Rounds::new(
             self.rt,
             self.alloc,
@@ -231,8 +261,8 @@ impl<R: Wait + Clock + Net<Stream = TcpStream, Listener = TcpListener>, H: Heral
             self.most,
             self.times,
         );
-        tell_answered(self.herald, rounds.run(&mut proxied, &mut clock));
-        drop(proxied.into_inner().into_inner().into_clerk());
+        tell_answered(self.herald, rounds.run(&mut received, &mut self.clock()));
+        drop(dismiss(received).into_clerk());
     }
 
     /// Answers connections.
@@ -264,6 +294,7 @@ impl<R: Wait + Clock + Net<Stream = TcpStream, Listener = TcpListener>, H: Heral
             self.alloc,
             self.progress,
             &self.names,
+            self.terms.rules,
             poll,
             self.share,
             &stall.under_way,
@@ -277,6 +308,33 @@ impl<R: Wait + Clock + Net<Stream = TcpStream, Listener = TcpListener>, H: Heral
     /// What one who carries is let do.
     fn gate<'b>(&'b self, stall: &'b Stall) -> CarrierGate<'b, R, JournalFile> {
         CarrierGate::new(self.rt, self.ending, self.progress, &stall.under_way)
+    }
+
+    /// Has what the file takes told of, as that of a journal.
+    pub(crate) fn follow(&self, journal: Instance) {
+        let taken = self.end.lock(self.rt).take();
+        if let Some(FileEnd { file, at }) = taken {
+            let tail = Tail::of(self.alloc, file, at, journal, self.herald);
+            *self.tail.lock(self.rt) = tail;
+        }
+    }
+
+    /// Tells of what the file takes, until no one answers any more.
+    fn report(&self) {
+        let Some(mut tail) = self.tail.lock(self.rt).take() else {
+            return;
+        };
+        for _ in self.rt.forever() {
+            let is_over = self.ending.is_over();
+            tail.report(self.herald);
+            if self.measure.tallies.has_stopped(tail.journal()) {
+                tail.stop(self.herald);
+            }
+            if is_over {
+                return;
+            }
+            thread::sleep(self.rt, Duration::from_millis(LOOK));
+        }
     }
 
     /// Lets limits fire and carries errands, many at once. Where that can't be begun no one answers any more.
@@ -343,8 +401,8 @@ impl<R: Wait + Clock + Net<Stream = TcpStream, Listener = TcpListener>, H: Heral
 /// Lets each clerk work in a thread of its own, until no one answers connections any more.
 fn work_all<
     V: Serving + Send,
-    R: Threads + Wait + Clock + Net<Stream = TcpStream, Listener = TcpListener> + Sync,
-    H: Herald + Sync,
+    R: KeyFiles + Threads + Wait + Clock + Net<Stream = TcpStream, Listener = TcpListener> + Sync,
+    H: Herald + Journalist + Sync,
 >(
     shift: &Shift<'_, R, H>,
     office: &OfficeOf<V>,
@@ -367,8 +425,8 @@ fn work_all<
 /// The same, while two more threads look up names.
 fn work_by_name<
     V: Serving + Send,
-    R: Threads + Wait + Clock + Net<Stream = TcpStream, Listener = TcpListener> + Sync,
-    H: Herald + Sync,
+    R: KeyFiles + Threads + Wait + Clock + Net<Stream = TcpStream, Listener = TcpListener> + Sync,
+    H: Herald + Journalist + Sync,
 >(
     shift: &Shift<'_, R, H>,
     office: &OfficeOf<V>,
@@ -388,11 +446,33 @@ fn work_by_name<
     worked
 }
 
+/// The same, while one more thread tells of what the journal's file takes.
+fn work_reported<
+    V: Serving + Send,
+    R: KeyFiles + Threads + Wait + Clock + Net<Stream = TcpStream, Listener = TcpListener> + Sync,
+    H: Herald + Journalist + Sync,
+>(
+    shift: &Shift<'_, R, H>,
+    office: &OfficeOf<V>,
+    jobs: Vec<(Duty, Clerk<V>)>,
+) -> Result<(), AllocError>
+    requires { All (λ job. IsAt V.setting office.now job.1) jobs.items }
+{
+    let (_, worked) = join(
+        shift.rt,
+        move || shift.report(),
+        move || -> Result<(), AllocError>
+            requires { All (λ job. IsAt V.setting office.now job.1) jobs.items }
+        { work_by_name(shift, office, jobs) },
+    );
+    worked
+}
+
 /// The same, while one more thread waits for connections.
 pub(crate) fn work<
     V: Serving + Send,
-    R: Threads + Wait + Clock + Net<Stream = TcpStream, Listener = TcpListener> + Sync,
-    H: Herald + Sync,
+    R: KeyFiles + Threads + Wait + Clock + Net<Stream = TcpStream, Listener = TcpListener> + Sync,
+    H: Herald + Journalist + Sync,
 >(
     shift: &Shift<'_, R, H>,
     office: &OfficeOf<V>,
@@ -405,7 +485,7 @@ pub(crate) fn work<
         move || shift.admit(),
         move || -> Result<(), AllocError>
             requires { All (λ job. IsAt V.setting office.now job.1) jobs.items }
-        { work_by_name(shift, office, jobs) },
+        { work_reported(shift, office, jobs) },
     );
     worked
 }

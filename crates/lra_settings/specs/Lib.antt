@@ -1,2 +1,3 @@
 pub mod Parameters
 pub mod Settings
+pub mod Given

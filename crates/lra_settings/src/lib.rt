@@ -1,8 +1,10 @@
 //! The settings of a service: how much it has at once, how long each waits for another, when a folder's journals roll, and what each number may be.
 #![tactic(auto)]
 
+mod given;
 mod parameter;
 mod settings;
 
+pub use given::{Given, settings_of};
 pub use parameter::Parameter;
 pub use settings::Settings;

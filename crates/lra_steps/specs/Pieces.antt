@@ -1,5 +1,5 @@
 -- Connections whose requests are answered by whoever answers, and streams that come in pieces to a counter.
-use Rattle.std.specs.Prelude.{◌≡◌, ℕ, List, [], ◌∷◌, ◌++◌, map, Some, None, Result}
+use Rattle.std.specs.Prelude.{◌≡◌, ℕ, List, [], ◌∷◌, ◌++◌, map, Option, Some, None, Result}
 use Rattle.std.specs.declared.alloc.AllocError.{AllocError}
 use Rattle.lra_wire.specs.Request.{Request}
 use Rattle.lra_commands.specs.declared.command.Told.{Told}
@@ -43,6 +43,20 @@ module _ {S K : Type 0} (responds : S → ℕ → Request → Answered → S →
     pub chain : Chain v k turns w l
     pub written : new ≡ old ++ out
     pub ends : EndsAfter instance base turns rest out end
+
+module _ {S K : Type 0} (responds : S → ℕ → Request → Answered → S → Type 0) (rests : S → S → Type 0) (tells : K → ℕ → K → Type 0) where
+  -- one turn after another as in a chain, with rests between them: there is a turn, or none where whoever answers rests
+  abbrev pub Course : S → K → List (Option Turn) → S → K → Type 0
+  Course v k [] w l = (w ≡ v) × (l ≡ k)
+  Course v k (Some turn ∷ xs) w l =
+      (u : S) × (j : K) × tells k turn.moment j × responds v turn.moment turn.request turn.answered u × Course u j xs w l
+  Course v k (None ∷ xs) w l = (u : S) × rests v u × Course u k xs w l
+
+-- the turns of a course, in order
+abbrev pub turns_in : List (Option Turn) → List Turn
+turns_in [] = []
+turns_in (Some turn ∷ xs) = turn ∷ turns_in xs
+turns_in (None ∷ xs) = turns_in xs
 
 module _ {K : Type 0} (gives : Sight → ℕ → Order → Result Told CounterFault → Sight → Type 0) (tells : K → ℕ → K → Type 0) where
   -- what these bytes come to is what a stream of them does (`AreTranscripts`), where its end and what went out are known

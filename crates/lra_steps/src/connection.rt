@@ -108,6 +108,13 @@ fn note_turn(log: &mut Log<RequestRead, Reply>, request: &RequestRead, reply: &R
     *log = log.and(request, reply);
 }
 
+/// The request stands no more.
+fn let_go(stands: &mut Option<RequestRead>)
+    ensures { stands.new ≡ None }
+{
+    *stands = None;
+}
+
 /// The request at the front of what is kept. While bytes may come it is looked for only where it can be whole since what was seen.
 fn next_front(
     alloc: Global,
@@ -303,7 +310,7 @@ impl Connection {
         );
         note_turn(&mut self.turns, request, &Reply { moment, answered });
         self.left = self.left.saturating_sub(1);
-        self.stands = None;
+        let_go(&mut self.stands);
         self.ended = end_after(replied.is_ok(), close);
         replied
     }

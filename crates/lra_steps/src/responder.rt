@@ -19,8 +19,8 @@ pub struct Answered {
 
 /// Who answers requests: a counter, or several of which each request names one.
 ///
-/// Callers know of it what all its URIs begin with. What an answer does is a relation that is fixed by the type; whatever that
-/// is, it is a law that those URIs go on to begin so.
+/// Callers know of it what all its URIs begin with. What an answer does, and what a rest does, are relations that are fixed by the type;
+/// whatever these are, it is a law that those URIs go on to begin so.
 pub trait Responder {
     ghost use Rattle.std.specs.Prelude.{◌≡◌, ℕ, List};
     ghost use Rattle.lra_wire.specs.Request.{Request};
@@ -37,6 +37,9 @@ pub trait Responder {
 
     // What a request at a moment does: what is known before it, its answer, and what is known after it.
     ghost responds: { State → ℕ → Request → Answered → State → Type 0 };
+
+    // What a rest does: what is known before it and after it.
+    ghost rests: { State → State → Type 0 };
 
     /// What all its URIs begin with. This takes no memory.
     fn base(&self) -> &Base
@@ -57,14 +60,22 @@ pub trait Responder {
         // Its numbers are those that identifiers can have.
         ensures identifiers { HasIdentifiers result.answer };
 
+    /// Nobody asks for anything: what is held for nothing may be let go. This is called now and then, and so takes no long time.
+    fn rest(&mut self)
+        ensures rests { rests (sight self.old) (sight self.new) };
+
     // Whatever an answer does, the URIs go on to begin so.
     ghost stays: { (before after : State) (moment : ℕ) (request : Request) (answered : Answered)
         → responds before moment request answered after → base_of after ≡ base_of before };
+
+    // Nor does a rest change that.
+    ghost rest_stays: { (before after : State) → rests before after → base_of after ≡ base_of before };
 }
 
-/// A counter answers all requests by itself, as the front does over it.
+/// A counter answers all requests by itself, as the front does over it, and a rest does nothing.
 impl<C: Counter> Responder for C {
     ghost use Rattle.std.specs.Prelude.{◌≡◌};
+    ghost use Rattle.std.proofs.Common.{ap};
     ghost use Rattle.lra_commands.specs.Counters.{Sight};
     ghost use Rattle.lra_steps.specs.Pieces.{AnswersAlone};
     ghost use Rattle.lra_steps.specs.inner.Alone.{base_stays};
@@ -76,6 +87,8 @@ impl<C: Counter> Responder for C {
     ghost base_of = { λ s. s.setting.base };
 
     ghost responds = { AnswersAlone C.gives };
+
+    ghost rests = { λ before after. after ≡ before };
 
     fn base(&self) -> &Base {
         Counter::base(self)
@@ -97,5 +110,9 @@ impl<C: Counter> Responder for C {
         Answered { instance, answer }
     }
 
+    fn rest(&mut self) {}
+
     ghost stays = { λ before after moment request answered h. base_stays C.gives C.keeps before after moment request answered h };
+
+    ghost rest_stays = { λ before after h. ap (λ (s : Sight). s.setting.base) h };
 }

@@ -3,10 +3,9 @@
 use crate::post::Watchpost;
 use crate::visitor::{Step, Visitor};
 use lra_clocks::seconds_on;
-use lra_operators::{Access, Port, visit};
+use lra_operators::{Port, reply_to};
 use lra_overview::Overview;
 use std::alloc::Global;
-use std::io::{self, Read, Write};
 use std::net::TcpStream;
 use std::sync::Wait;
 use std::thread::sleep;
@@ -29,44 +28,19 @@ pub trait Ends {
     fn is_over(&self) -> bool;
 }
 
-/// A request that has come, and where its reply goes.
-#[derive(Drop)]
-struct Call<'a> {
-    rest: &'a [u8],
-    reply: Vec<u8>,
+/// Who is told of requests that may not be made.
+pub trait Turned {
+    /// A request was refused with that status code, for its key or for where it comes from.
+    fn turned_away(&self, code: u16);
 }
 
-impl Read for Call<'_> {
-    fn read(&mut self, piece: &mut [u8]) -> io::Result<usize> {
-        self.rest.read(piece)
+/// The status code of a reply, where that tells that a request may not be made.
+fn turned_code(reply: &[u8]) -> Option<u16> {
+    match reply.get(9..12) {
+        Some(code) if code == b"401".as_slice() => Some(401),
+        Some(code) if code == b"403".as_slice() => Some(403),
+        _ => None,
     }
-}
-
-impl Write for Call<'_> {
-    fn write(&mut self, bytes: &[u8]) -> io::Result<usize> {
-        self.reply.extend_from_slice(bytes)?;
-        Ok(bytes.len())
-    }
-
-    fn flush(&mut self) -> io::Result<()> {
-        Ok(())
-    }
-}
-
-/// What a request that has come is replied.
-fn reply_to<O: Overview>(
-    alloc: Global,
-    port: &mut Port,
-    access: &Access<'_>,
-    overview: &mut O,
-    came: &Vec<u8>,
-) -> Vec<u8> {
-    let mut call = Call {
-        rest: came.as_slice(),
-        reply: Vec::new(alloc),
-    };
-    visit(alloc, port, overview, access, &mut call);
-    call.reply
 }
 
 /// Those who ask now, and what answers them.
@@ -111,7 +85,13 @@ impl Desk {
     }
 
     /// Answers the visitor at a place, where its request is whole.
-    fn answer<O: Overview>(&mut self, post: &Watchpost, overview: &mut O, place: usize) {
+    fn answer<O: Overview, T: Turned>(
+        &mut self,
+        post: &Watchpost,
+        overview: &mut O,
+        turned: &T,
+        place: usize,
+    ) {
         let Desk {
             alloc,
             port,
@@ -120,7 +100,11 @@ impl Desk {
         if let Some(visitor) = visitors.get_mut(place)
             && visitor.is_waiting()
         {
-            visitor.reply = reply_to(*alloc, port, &post.access(), overview, &visitor.came);
+            let came = visitor.came.as_slice();
+            visitor.reply = reply_to(*alloc, port, overview, &post.access(), came);
+            if let Some(code) = turned_code(visitor.reply.as_slice()) {
+                turned.turned_away(code);
+            }
             visitor.tell();
         }
     }
@@ -143,7 +127,13 @@ impl Desk {
     }
 
     /// Looks after each visitor once. Tells whether something moved.
-    fn turn<R: Clock, O: Overview>(&mut self, rt: &R, post: &Watchpost, overview: &mut O) -> bool {
+    fn turn<R: Clock, O: Overview, T: Turned>(
+        &mut self,
+        rt: &R,
+        post: &Watchpost,
+        overview: &mut O,
+        turned: &T,
+    ) -> bool {
         overview.catch_up();
         self.admit(rt, post);
         let mut place: usize = 0;
@@ -158,7 +148,7 @@ impl Desk {
                 self.dismiss(place);
                 continue;
             }
-            self.answer(post, overview, place);
+            self.answer(post, overview, turned, place);
             place = place.saturating_add(1);
         }
         has_moved
@@ -175,13 +165,14 @@ impl Desk {
 }
 
 /// Answers those who come to the port, by an overview of the service, until that has ended. Each has 10 s for the visit. Those who are slow hold up no one: each is
-/// read and written as far as can be at once.
-pub fn attend<R: Wait + Clock, O: Overview, E: Ends>(
+/// read and written as far as can be at once. Who may not ask is told of.
+pub fn attend<R: Wait + Clock, O: Overview, E: Ends, T: Turned>(
     rt: &R,
     alloc: Global,
     post: &Watchpost,
     overview: &mut O,
     ends: &E,
+    turned: &T,
 ) {
     let Ok(port) = Port::new(alloc) else {
         return;
@@ -195,7 +186,7 @@ pub fn attend<R: Wait + Clock, O: Overview, E: Ends>(
         if ends.is_over() {
             break;
         }
-        if !desk.turn(rt, post, overview) {
+        if !desk.turn(rt, post, overview, turned) {
             let _ = sleep(rt, Duration::from_millis(desk.pause()));
         }
     }

@@ -54,6 +54,8 @@ impl<A: Responder, R: Clock> Responder for CountedResponder<'_, A, R> {
 
     ghost responds = { A.responds };
 
+    ghost rests = { A.rests };
+
     fn base(&self) -> &Base {
         self.inner.base()
     }
@@ -80,5 +82,11 @@ impl<A: Responder, R: Clock> Responder for CountedResponder<'_, A, R> {
         answered
     }
 
+    fn rest(&mut self) {
+        self.inner.rest();
+    }
+
     ghost stays = { λ before after moment request answered h. A.stays before after moment request answered h };
+
+    ghost rest_stays = { λ before after h. A.rest_stays before after h };
 }

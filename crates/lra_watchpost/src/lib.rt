@@ -4,6 +4,7 @@
 mod attending;
 mod carried;
 mod counted;
+mod denied;
 mod fault;
 mod given;
 mod histogram;
@@ -15,12 +16,13 @@ mod token;
 mod visitor;
 mod vitals;
 
-pub use attending::{Ends, attend};
+pub use attending::{Ends, Turned, attend};
 pub use carried::CountedCarriage;
 pub use counted::CountedResponder;
 pub use fault::{PortFault, port_line};
 pub use given::{Given, operators_order};
 pub use key::read_key;
+pub use lra_syncs::Timed;
 pub use post::Watchpost;
 pub use tallies::Tallies;
 pub use vitals::Vitals;

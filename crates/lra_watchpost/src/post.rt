@@ -7,19 +7,21 @@ use crate::fault::PortFault;
 use crate::token::token;
 use crate::vitals::{Gauges, Vitals};
 use lra_operators::Access;
+use lra_syncs::{Stopwatch, Timed};
 use std::alloc::Global;
 use std::fs::File;
 use std::net::{Net, TcpListener, TcpStream};
 use std::rt::Files;
 
-/// Where operators come in: a listener, the key that they have to give, if there is one, the word that the forms of the pages have, and the files in which the
-/// system tells of the process.
+/// Where operators come in: a listener, the key that they have to give, if there is one, the word that the forms of the pages have, the files in which the
+/// system tells of the process, and what syncs of the disk are timed by.
 #[derive(Drop)]
 pub struct Watchpost {
     pub(crate) listener: TcpListener,
     key: Option<String>,
     token: String,
     gauges: Gauges,
+    stopwatch: Stopwatch,
 }
 
 /// Whether a listener can be reached from this machine alone.
@@ -54,7 +56,7 @@ fn listen<R: Net<Stream = TcpStream, Listener = TcpListener>>(
 
 impl Watchpost {
     /// One at a host and port, which asks for that key, if there is one. Without a key it has to be an address of the machine's own.
-    pub fn open<R: Net<Stream = TcpStream, Listener = TcpListener> + Files<File = File>>(
+    pub fn open<R: Net<Stream = TcpStream, Listener = TcpListener> + Files<File = File> + Timed>(
         rt: &R,
         alloc: Global,
         address: &str,
@@ -69,6 +71,7 @@ impl Watchpost {
                 key,
                 token,
                 gauges: Gauges::open(rt),
+                stopwatch: rt.stopwatch(),
             }),
             Err(fault) => Err(fault),
         }
@@ -79,14 +82,16 @@ impl Watchpost {
         self.gauges.read()
     }
 
+    /// What syncs of the disk are timed by.
+    pub(crate) fn stopwatch(&self) -> Stopwatch {
+        self.stopwatch
+    }
+
     /// What requests need to be taken.
     pub(crate) fn access(&self) -> Access<'_>
         ensures key { spec.key_of result ≡ option_map string_bytes self.now.key }
         ensures token { result.token.now ≡ string_bytes self.now.token }
     {
-        Access {
-            key: self.key.as_deref(),
-            token: self.token.as_str(),
-        }
+        Access::new(&self.key, self.token.as_str())
     }
 }

@@ -1,12 +1,16 @@
 //! What is tallied of a service while it runs.
 
-use crate::histogram::Histogram;
+use crate::denied::Denied;
+use crate::histogram::{Measured, put_histogram};
+use crate::post::Watchpost;
 use crate::table::{Table, Words};
 use http::StatusCode;
 use lra_front::{Denial, Route};
 use lra_ids::Instance;
 use lra_model::{AskKind, Memory, Outcome};
-use std::alloc::Global;
+use lra_syncs::{Histogram, Stopwatch, Syncs, TIMES, WRITES};
+use std::alloc::{AllocError, Global};
+use std::sync::Arc;
 use std::sync::atomic::{AtomicU64, Ordering};
 use std::time::{Clock, Instant};
 
@@ -35,6 +39,41 @@ const CALLBACKS: Words = Words {
     columns: &["done", "accepted", "failed", "silent"],
 };
 
+/// How many microseconds a second has.
+const SECOND: u64 = 1_000_000;
+
+/// How long requests took.
+const REQUEST_TIMES: Measured = Measured {
+    name: "lra_request_seconds",
+    help: "How long the coordinator took to answer a request of a service, without the wait for the disk.",
+    ends: &TIMES,
+    parts: SECOND,
+};
+
+/// How long callbacks took.
+const CALLBACK_TIMES: Measured = Measured {
+    name: "lra_callback_seconds",
+    help: "How long a callback took from when it was due until something came of it.",
+    ends: &TIMES,
+    parts: SECOND,
+};
+
+/// How long syncs took.
+const SYNC_TIMES: Measured = Measured {
+    name: "lra_sync_seconds",
+    help: "How long a sync of the disk took that kept something new.",
+    ends: &TIMES,
+    parts: SECOND,
+};
+
+/// How much they kept.
+const SYNC_WRITES: Measured = Measured {
+    name: "lra_commands_per_sync",
+    help: "How many commands that wrote something one sync kept. The first line of a journal counts as one.",
+    ends: &WRITES,
+    parts: 1,
+};
+
 /// What is tallied of a service while it runs.
 #[derive(Drop)]
 pub struct Tallies {
@@ -42,6 +81,9 @@ pub struct Tallies {
     request_times: Histogram,
     callbacks: Table,
     callback_times: Histogram,
+    denied: Denied,
+    /// What the disk takes down of its syncs, where operators come in.
+    syncs: Option<Arc<Syncs>>,
     /// The number behind that of the journal whose coordinator answered last that it has stopped, or 0.
     stopped: AtomicU64,
 }
@@ -99,16 +141,50 @@ fn micros_since<R: Clock>(rt: &R, began: Option<Instant>) -> Option<u64> {
     u64::try_from(passed.as_micros()).ok()
 }
 
+/// What a disk takes down of its syncs from now on.
+fn new_syncs(alloc: Global, stopwatch: Stopwatch) -> Result<Arc<Syncs>, Memory> {
+    match Arc::new(alloc, Syncs::new(alloc, stopwatch)?) {
+        Ok(syncs) => Ok(syncs),
+        Err(refused) => {
+            drop(refused);
+            Err(AllocError)
+        }
+    }
+}
+
+/// The same, where operators come in.
+fn syncs_at(alloc: Global, post: Option<&Watchpost>) -> Result<Option<Arc<Syncs>>, Memory> {
+    match post {
+        Some(post) => Ok(Some(new_syncs(alloc, post.stopwatch())?)),
+        None => Ok(None),
+    }
+}
+
 impl Tallies {
-    /// Nothing was.
-    pub fn new(alloc: Global) -> Result<Tallies, Memory> {
+    /// Nothing was, of a service where operators come in there, if any do.
+    pub fn new(alloc: Global, post: Option<&Watchpost>) -> Result<Tallies, Memory> {
         Ok(Tallies {
             requests: Table::new(alloc, &REQUESTS)?,
-            request_times: Histogram::new(alloc)?,
+            request_times: Histogram::new(alloc, &TIMES)?,
             callbacks: Table::new(alloc, &CALLBACKS)?,
-            callback_times: Histogram::new(alloc)?,
+            callback_times: Histogram::new(alloc, &TIMES)?,
+            denied: Denied::new(),
+            syncs: syncs_at(alloc, post)?,
             stopped: AtomicU64::new(0),
         })
+    }
+
+    /// Where the disk takes down its syncs, if anyone wants to know of them.
+    pub fn syncs(&self) -> Option<Arc<Syncs>> {
+        match &self.syncs {
+            Some(syncs) => Arc::try_clone(syncs).ok(),
+            None => None,
+        }
+    }
+
+    /// A request was denied, for its key, its host or its origin.
+    pub fn denied(&self, denial: Denial) {
+        self.denied.add(denial);
     }
 
     /// A journal's coordinator has stopped: nothing more is written to it.
@@ -133,7 +209,7 @@ impl Tallies {
         self.requests
             .add(&REQUESTS, route_word(route), code_word(status));
         if let Some(micros) = micros_since(rt, began) {
-            self.request_times.add(micros);
+            self.request_times.add(&TIMES, micros);
         }
     }
 
@@ -148,23 +224,28 @@ impl Tallies {
         self.callbacks
             .add(&CALLBACKS, kind.name(), outcome_word(outcome));
         if let Some(micros) = micros_since(rt, began) {
-            self.callback_times.add(micros);
+            self.callback_times.add(&TIMES, micros);
+        }
+    }
+
+    /// Adds what the disk took down.
+    fn put_syncs(&self, page: &mut Vec<u8>) -> Result<(), Memory> {
+        match &self.syncs {
+            Some(syncs) => {
+                put_histogram(page, &SYNC_TIMES, syncs.times())?;
+                put_histogram(page, &SYNC_WRITES, syncs.writes())
+            }
+            None => Ok(()),
         }
     }
 
     /// Adds all of it, as measures in the text format 0.0.4 of Prometheus.
     pub fn put(&self, page: &mut Vec<u8>) -> Result<(), Memory> {
         self.requests.put(&REQUESTS, page)?;
-        self.request_times.put(
-            page,
-            "lra_request_seconds",
-            "How long the coordinator took to answer a request of a service, without the wait for the disk.",
-        )?;
+        put_histogram(page, &REQUEST_TIMES, &self.request_times)?;
+        self.denied.put(page)?;
         self.callbacks.put(&CALLBACKS, page)?;
-        self.callback_times.put(
-            page,
-            "lra_callback_seconds",
-            "How long a callback took from when it was due until something came of it.",
-        )
+        put_histogram(page, &CALLBACK_TIMES, &self.callback_times)?;
+        self.put_syncs(page)
     }
 }

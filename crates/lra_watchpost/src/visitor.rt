@@ -85,7 +85,7 @@ impl Visitor {
         if self.came.extend_from_slice(bytes).is_err() {
             return Step::Gone;
         }
-        if is_enough(alloc, &self.came) {
+        if is_enough(alloc, self.came.as_slice()) {
             self.stage = Stage::Waits;
         }
         Step::Moved

@@ -1,5 +1,5 @@
 -- The values of a name, a field at a time, and the digits of a number.
-use Rattle.std.proofs.Common.{◌≡◌, ℕ, ◌+◌, ◌-◌, ◌<◌, ◌≤◌, Bool, true, false, cond, ◌&&◌, List, [], ◌∷◌, ◌++◌, length, map, take, get_or, refl, sym, ap, subst, ◌∙◌, arith, suc, zero}
+use Rattle.std.proofs.Common.{◌≡◌, ℕ, ◌+◌, ◌-◌, ◌<◌, ◌≤◌, Bool, true, false, cond, ◌&&◌, List, [], ◌∷◌, ◌++◌, length, map, None, take, get_or, refl, sym, ap, subst, ◌∙◌, arith, suc, zero}
 use Rattle.std.specs.Char.{is_ascii_digit, digit_value}
 use Rattle.std.specs.List.{list_all}
 use Rattle.std.specs.Str.Parse.{AllDigits, digits_value}
@@ -11,6 +11,13 @@ use Rattle.httparse.specs.Spans.{header_bytes}
 use Rattle.lra_wire.specs.declared.fields.Named.{Named}
 use Rattle.lra_wire.specs.Fields.{is_alike, is_named, values_of}
 use Rattle.lra_wire.specs.inner.Fields.{Shows}
+use Rattle.lra_wire.specs.Request.{sole}
+
+-- several values are no sole one
+pub sole_several : (values : List (List ℕ)) → 1 < length values → sole values ≡ None
+sole_several [] l = refl
+sole_several (value ∷ []) l = absurd (omega (arith, l))
+sole_several (value ∷ other ∷ values) l = refl
 
 -- the value of one field, where it has the name
 abbrev pub value_if : List ℕ → List ℕ × List ℕ → List (List ℕ)

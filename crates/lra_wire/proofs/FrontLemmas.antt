@@ -169,6 +169,7 @@ request_more bytes more request rest r = record {
   target = r.target;
   minor = r.minor;
   close = r.close;
+  fields = r.fields;
 }
 
 body_more : (bytes more : List ℕ) (fault : WireFault) → RefusesBody bytes fault → RefusesBody (bytes ++ more) fault

@@ -19,7 +19,7 @@ use Rattle.lra_wire.specs.inner.Heads.{IsHeadAt, ReadsHead}
 use Rattle.lra_wire.specs.Inbox.{kept_bytes, stream_of, IsOutside, AsksAt}
 use Rattle.lra_wire.specs.inner.Growth.{Grows, FillsTo, LacksBytes}
 use Rattle.lra_wire.specs.inner.Reading.{request_at}
-use Rattle.lra_wire.specs.Request.{HasHead, NeverLawful, IsRequest, Request, request_of, fields_of, RefusesBody, RefusesRequest, EndsInBody, GivesRequest, AwaitsRequest}
+use Rattle.lra_wire.specs.Request.{HasHead, NeverLawful, IsRequest, Request, request_of, fields_of, told_by, RefusesBody, RefusesRequest, EndsInBody, GivesRequest, AwaitsRequest}
 use Rattle.lra_wire.specs.Streams.{IfBothKnown}
 use Rattle.lra_wire.proofs.InboxLemmas.{Grows_trans, asks_on}
 use Rattle.lra_wire.proofs.StreamLemmas.{on_stream, on_stream_end, known}
@@ -66,6 +66,7 @@ request_there bytes more rest headers spans size request at stated whole parts b
       minor = ap (λ (r : Request). r.minor) parts ∙ at.places.version;
       close = ap (λ (r : Request). r.close) parts ∙ ap (λ minor. (minor == 0) || lists_close (map (header_bytes bytes) (take spans.headers headers))) at.places.version
           ∙ ap (λ fields. (at.head.minor == 0) || lists_close fields) at.places.fields;
+      fields = ap (λ (r : Request). r.fields) parts ∙ ap told_by at.places.fields;
     }
 
 -- a relation of the stream that was, and the one that is left behind the first bytes

@@ -12,7 +12,7 @@ use Rattle.lra_wire.specs.declared.fault.WireFault.{WireFault}
 use Rattle.lra_wire.specs.declared.fault.WireFault.TheVariants.{BadHead, Chunked, BadLength, TooLarge, Cut, Io, Memory}
 use Rattle.lra_wire.specs.Fields.{body_length_of}
 use Rattle.lra_wire.specs.Inbox.{IsOutside}
-use Rattle.lra_wire.specs.Request.{Request, IsLawful, HasHead, IsRequest, RefusesRequest, AwaitsRequest, fields_of, closes}
+use Rattle.lra_wire.specs.Request.{Request, IsLawful, HasHead, IsRequest, RefusesRequest, AwaitsRequest, fields_of, told_by, closes}
 use Rattle.lra_wire.specs.Requests.{Requests, IsHeadFault, EndsAlike}
 
 -- what is refused behind a lawful head
@@ -68,7 +68,8 @@ same_request bytes a b r q x y =
     let target : a.target ≡ b.target = x.target ∙ ap (λ (h : RequestHead). h.target) same.0 ∙ sym y.target in
     let minor : a.minor ≡ b.minor = x.minor ∙ ap (λ (h : RequestHead). h.minor) same.0 ∙ sym y.minor in
     let close : a.close ≡ b.close = x.close ∙ ap closes same.0 ∙ sym y.close in
-    (λ i. record { method = method i; target = target i; minor = minor i; close = close i; body = body i }, rest)
+    let fields : a.fields ≡ b.fields = x.fields ∙ ap (λ h. told_by (fields_of h)) same.0 ∙ sym y.fields in
+    (λ i. record { method = method i; target = target i; minor = minor i; close = close i; body = body i; fields = fields i }, rest)
 
 -- a head has a method at least
 pub some_bytes : (head : RequestHead) (rest : List ℕ) → IsRequestHead head → print_request head ++ rest ≢ []

@@ -1,12 +1,44 @@
 -- What the bytes of a stream say of its next request (RFC 9112, sections 2 to 6).
-use Rattle.std.specs.Prelude.{◌≡◌, ◌≢◌, ◌⊎◌, ℕ, ◌<◌, ◌≤◌, Bool, ◌||◌, ◌==◌, List, [], ◌++◌, length, map, codes, Option, Some, None, Ok, Err, string_bytes, ⊤}
+use Rattle.std.specs.Prelude.{◌≡◌, ◌≢◌, ◌⊎◌, ℕ, ◌<◌, ◌≤◌, Bool, ◌||◌, ◌==◌, List, [], ◌∷◌, ◌++◌, length, map, codes, Option, Some, None, Ok, Err, option_map, string_bytes, ⊤}
 use Rattle.httparse.specs.Grammar.{RequestHead, print_request, ReadsRequest, HasNoRequest, MayBecomeRequest}
 use Rattle.httparse.specs.Spans.{name_and_value}
 use Rattle.lra_wire.specs.declared.fault.WireFault.{WireFault}
 use Rattle.lra_wire.specs.declared.fault.WireFault.TheVariants.{BadHead, Chunked, BadLength, TooLarge, Cut, Io, Memory}
 use Rattle.lra_wire.specs.declared.request.RequestRead.{RequestRead}
+use Rattle.lra_wire.specs.declared.told.RequestFields.{RequestFields}
 use Rattle.lra_wire.specs.Fields.{values_of, body_length_of, lists_close}
 use Rattle.lra_wire.specs.Streams.{UpToLine}
+
+-- the value of a field that there is just once
+abbrev pub sole : List (List ℕ) → Option (List ℕ)
+sole [] = None
+sole (value ∷ []) = Some value
+sole (value ∷ other ∷ values) = None
+
+-- by which it is told who asks, from where and with what: the values of fields that a head has just once (RFC 9110, sections 7.2, 8.3 and 11.6.2; RFC 6454, section 7)
+pub record Fields : Type 0 where
+  pub authorization : Option (List ℕ)
+  pub content_type : Option (List ℕ)
+  pub host : Option (List ℕ)
+  pub origin : Option (List ℕ)
+
+-- what these are among the fields of a head
+abbrev pub told_by : List (List ℕ × List ℕ) → Fields
+told_by fields = record {
+  authorization = sole (values_of (codes "authorization") fields);
+  content_type = sole (values_of (codes "content-type") fields);
+  host = sole (values_of (codes "host") fields);
+  origin = sole (values_of (codes "origin") fields);
+}
+
+-- what fields that were read say
+abbrev pub what_fields : RequestFields → Fields
+what_fields read = record {
+  authorization = option_map (λ value. value.items) read.authorization;
+  content_type = option_map (λ value. value.items) read.content_type;
+  host = option_map (λ value. value.items) read.host;
+  origin = option_map (λ value. value.items) read.origin;
+}
 
 -- a request without where it lies in memory
 pub record Request : Type 0 where
@@ -15,10 +47,11 @@ pub record Request : Type 0 where
   pub minor : ℕ
   pub close : Bool
   pub body : List ℕ
+  pub fields : Fields
 
 -- what a request that was read says
 abbrev pub request_of : RequestRead → Request
-request_of read = record { method = string_bytes read.method; target = string_bytes read.target; minor = read.minor; close = read.close; body = read.body.items }
+request_of read = record { method = string_bytes read.method; target = string_bytes read.target; minor = read.minor; close = read.close; body = read.body.items; fields = what_fields read.fields }
 
 -- the names and the values of a head's fields
 abbrev pub fields_of : RequestHead → List (List ℕ × List ℕ)
@@ -48,6 +81,7 @@ pub record IsRequest (bytes : List ℕ) (request : Request) (rest : List ℕ) : 
   pub target : request.target ≡ head.target
   pub minor : request.minor ≡ head.minor
   pub close : request.close ≡ closes head
+  pub fields : request.fields ≡ told_by (fields_of head)
 
 -- no lawful head begins the bytes, whatever follows them
 abbrev pub NeverLawful : List ℕ → Type 0

@@ -15,6 +15,7 @@ mod head;
 mod inbox;
 mod request;
 mod response;
+mod told;
 mod write;
 
 pub use chunks::MAX_RESPONSE;
@@ -24,4 +25,5 @@ pub use front::{Front, Seen, end_fault, one_front, request_front, request_front_
 pub use inbox::Inbox;
 pub use request::{RequestRead, one_reading, read_request};
 pub use response::{ResponseRead, read_response};
+pub use told::RequestFields;
 pub use write::{ReplyWrite, RequestWrite, write_request, write_response, write_response_in};

@@ -15,6 +15,7 @@ use crate::fault::WireFault;
 use crate::fields::{Named, Stated, has, lists_close, lookup, stated_length};
 use crate::head::{MAX_FIELDS, MAX_HEAD};
 use crate::inbox::Inbox;
+use crate::told::{RequestFields, fields_at};
 use httparse::Status;
 use httparse::spans::{EMPTY_HEADER_SPAN, HeaderSpan, RequestSpans, parse_request};
 use std::alloc::{AllocError, Global};
@@ -36,6 +37,8 @@ pub struct RequestRead {
     /// the request is one of HTTP/1.0.
     pub close: bool,
     pub body: Vec<u8>,
+    /// By which it is told who asks, from where and with what.
+    pub fields: RequestFields,
 }
 
 /// Reads the next request, or none where the stream ends with no further byte.
@@ -244,13 +247,15 @@ pub(crate) fn request_at(
     requires { IsHeadAt bytes.now headers.now head.now }
     ensures { IfOk result (λ read. request_of read ≡ request_at bytes.now headers.now head.now) }
 {
-    let close = head.version == 0 || lists_close(bytes, &headers[..head.headers]);
+    let found = &headers[..head.headers];
+    let close = head.version == 0 || lists_close(bytes, found);
     Ok(RequestRead {
         method: text(alloc, head.method.of(bytes))?,
         target: text(alloc, head.path.of(bytes))?,
         minor: head.version,
         close,
         body: Vec::new(alloc),
+        fields: fields_at(alloc, bytes, found)?,
     })
 }
 

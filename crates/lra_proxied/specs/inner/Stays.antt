@@ -1,16 +1,20 @@
 -- Whoever answers keeps what the URIs begin with, whatever requests mean.
-use Rattle.std.specs.Prelude.{◌≡◌, ◌⊎◌, ℕ, List}
+use Rattle.std.specs.Prelude.{◌≡◌, ◌⊎◌, ℕ, List, IsTrue, IsFalse}
 use Rattle.std.proofs.Common.{inl, inr, ap}
 use Rattle.lra_wire.specs.Request.{Request}
 use Rattle.lra_steps.specs.declared.responder.Answered.{Answered}
-use Rattle.lra_proxied.specs.Serving.{Served, Answers, Refuses, Responds}
+use Rattle.lra_proxied.specs.Serving.{Served, Answers, Denies, Refuses, Responds, keeps_out}
 
 module _ {S : Type 0} (base_of : S → List ℕ) (responds : S → ℕ → Request → Answered → S → Type 0)
     (stays : (before after : S) (moment : ℕ) (request : Request) (answered : Answered) → responds before moment request answered after → base_of after ≡ base_of before) where
   inner_stays : (before : Served S) (after : S) (moment : ℕ) (request : Request) (answered : Answered)
-      → (Answers base_of responds before moment request answered after ⊎ Refuses base_of responds before request answered after) → base_of after ≡ base_of before.inner
-  inner_stays before after moment request answered (inl h) = stays before.inner after moment h.meant answered h.does
-  inner_stays before after moment request answered (inr h) = ap base_of h.unchanged
+      → (IsTrue (keeps_out base_of responds before request) × Denies base_of responds before answered after)
+      ⊎ (IsFalse (keeps_out base_of responds before request)
+      × (Answers base_of responds before moment request answered after ⊎ Refuses base_of responds before request answered after))
+      → base_of after ≡ base_of before.inner
+  inner_stays before after moment request answered (inl h) = ap base_of h.1.unchanged
+  inner_stays before after moment request answered (inr (out, inl h)) = stays before.inner after moment h.meant answered h.does
+  inner_stays before after moment request answered (inr (out, inr h)) = ap base_of h.unchanged
 
   pub base_stays : (before after : Served S) (moment : ℕ) (request : Request) (answered : Answered)
       → Responds base_of responds before moment request answered after → base_of after.inner ≡ base_of before.inner

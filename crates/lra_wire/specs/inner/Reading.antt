@@ -10,7 +10,7 @@ use Rattle.lra_wire.specs.declared.request.RequestRead.{RequestRead}
 use Rattle.lra_wire.specs.Fields.{lists_close}
 use Rattle.lra_wire.specs.Inbox.{kept_bytes, stream_of}
 use Rattle.lra_wire.specs.inner.Growth.{Grows, FillsTo}
-use Rattle.lra_wire.specs.Request.{GivesRequest, RefusesRequest, Request}
+use Rattle.lra_wire.specs.Request.{GivesRequest, RefusesRequest, Request, told_by}
 use Rattle.lra_wire.specs.Streams.{IfBothKnown}
 
 -- the request that the stream begins with, and the rest of the stream, or why there is none
@@ -26,6 +26,7 @@ request_at bytes headers spans = record {
   minor = spans.version;
   close = (spans.version == 0) || lists_close (map (header_bytes bytes) (take spans.headers headers));
   body = [];
+  fields = told_by (map (header_bytes bytes) (take spans.headers headers));
 }
 
 -- a body between these places, and behind it what came early

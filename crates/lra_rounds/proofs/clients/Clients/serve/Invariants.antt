@@ -1,4 +1,4 @@
-use Rattle.lra_rounds.specs.Answered.{AnsweredSome}
+use Rattle.lra_rounds.specs.inner.Stretches.{AnsweredSome}
 use Rattle.lra_rounds.proofs.clients.Clients.serve.Given as goal
 
 -- some requests were answered

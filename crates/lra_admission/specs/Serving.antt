@@ -1,0 +1,35 @@
+-- Whoever answers, asked only what is let in.
+use Rattle.std.specs.Prelude.{◌≡◌, ℕ, is_some, MatchOption}
+use Rattle.lra_wire.specs.Request.{Request}
+use Rattle.lra_front.specs.declared.denial.Denial.{Denial}
+use Rattle.lra_front.specs.declared.answer.Answer.TheVariants as answer
+use Rattle.lra_steps.specs.declared.responder.Answered.{Answered}
+use Rattle.lra_admission.specs.Admitting.{Rules, denial_of}
+
+-- what there is to know of who answers, and what is in force
+pub record Guard (S : Type 0) : Type 0 where
+  pub inner : S
+  pub rules : Rules
+
+-- it is answered why, and nothing was done
+pub record Denies {S : Type 0} (before : S) (answered : Answered) (after : S) (d : Denial) : Type 0 where
+  pub answer : answered.answer ≡ answer.Denied d
+  pub unchanged : after ≡ before
+
+-- What a request at a moment does. First it is looked what is in force from then on; by that it is let in, and does what it does without a guard, or it is denied.
+pub record Responds {S : Type 0} (looks : Rules → Rules → Type 0) (responds : S → ℕ → Request → Answered → S → Type 0)
+    (before : Guard S) (moment : ℕ) (request : Request) (answered : Answered) (after : Guard S) : Type 0 where
+  pub looked : looks before.rules after.rules
+  pub done : MatchOption (denial_of after.rules request.fields)
+      (responds before.inner moment request answered after.inner)
+      (Denies before.inner answered after.inner)
+
+-- who answers rests, and what is in force stays so
+pub record Rests {S : Type 0} (rests : S → S → Type 0) (before after : Guard S) : Type 0 where
+  pub inner : rests before.inner after.inner
+  pub rules : after.rules ≡ before.rules
+
+-- a look at the file of the keys: other keys may be in force after it, but keys go on to be asked for where they were, and the names stay
+pub record RenewsKeys (before after : Rules) : Type 0 where
+  pub asked : is_some after.keys ≡ is_some before.keys
+  pub names : after.names ≡ before.names

@@ -1,0 +1,90 @@
+//! The file of the keys.
+
+ghost use Rattle.std.specs.Prelude.{IfOk, IfErr, IfSome};
+ghost use Rattle.lra_admission.specs.inner.Files as spec;
+
+use crate::fault::KeysFault;
+use crate::keys::Keys;
+use std::alloc::Global;
+use std::fs;
+use std::fs::File;
+use std::io::{ErrorKind, Read};
+use std::os::unix::fs::{MetadataExt, PermissionsExt};
+use std::rt::Files;
+
+/// How many bytes the file has at most.
+const LONGEST: usize = 65_536;
+
+/// Those bits of a file's mode that let others than its owner read or write it.
+const OTHERS: u32 = 0o077;
+
+/// By which it is known that the file of a name is another, or has changed.
+#[derive(Clone, Copy, Debug, PartialEq, Eq)]
+pub struct Print {
+    pub device: u64,
+    pub node: u64,
+    pub length: u64,
+    /// When it, or what is told of it, was changed last.
+    pub seconds: i64,
+    pub nanoseconds: i64,
+}
+
+/// Who has files in which keys stand: every runtime with the system's files. It names no other type, so that threads may share it.
+pub trait KeyFiles {
+    /// By which it is known whether the file of a name changes, where the name stands for a file.
+    fn print(&self, path: &str) -> Option<Print>;
+
+    /// The keys of a file, which nobody but its owner may read or write.
+    fn read_keys(&self, alloc: Global, path: &str) -> Result<Keys, KeysFault>;
+}
+
+impl<R: Files<File = File>> KeyFiles for R {
+    fn print(&self, path: &str) -> Option<Print> {
+        match fs::metadata(self, path) {
+            Ok(about) if about.is_file() => Some(Print {
+                device: about.dev(),
+                node: about.ino(),
+                length: about.len(),
+                seconds: about.ctime(),
+                nanoseconds: about.ctime_nsec(),
+            }),
+            _ => None,
+        }
+    }
+
+    fn read_keys(&self, alloc: Global, path: &str) -> Result<Keys, KeysFault> {
+        let Ok(file) = File::open(self, path) else {
+            return Err(KeysFault::File);
+        };
+        if is_shared(&file) {
+            drop(file);
+            return Err(KeysFault::Shared);
+        }
+        keys_from(alloc, file)
+    }
+}
+
+/// Whether others than its owner may read or write a file. That of which it isn't told counts as theirs.
+fn is_shared(file: &File) -> bool {
+    match file.metadata() {
+        Ok(metadata) => metadata.permissions().mode() & OTHERS != 0,
+        Err(_) => true,
+    }
+}
+
+/// The keys that a reader has, all to its end.
+pub(crate) fn keys_from<F: Read + Drop>(alloc: Global, file: F) -> Result<Keys, KeysFault>
+    ensures ok { IfSome (F.remaining file) (λ text. IfOk result (spec.Holds text)) }
+    ensures err { IfSome (F.remaining file) (λ text. IfErr result (spec.HoldsNone text)) }
+{
+    let mut text = Vec::new(alloc);
+    let mut front = file.take(LONGEST as u64 + 1);
+    let read = front.read_to_end(&mut text);
+    drop(front);
+    match read {
+        Ok(_) if text.len() > LONGEST => Err(KeysFault::TooLong),
+        Ok(_) => Keys::read(alloc, text.as_slice()),
+        Err(error) if error.kind() == ErrorKind::OutOfMemory => Err(KeysFault::Memory),
+        Err(_) => Err(KeysFault::File),
+    }
+}

@@ -1,0 +1,97 @@
+//! Who answers, but only what is let in.
+
+ghost use Rattle.std.specs.Prelude.{◌≡◌};
+
+use crate::latest::Latest;
+use crate::told::Refused;
+use lra_front::{Answer, Routes};
+use lra_ids::{Base, Instance};
+use lra_steps::{Answered, Responder};
+use lra_wire::RequestRead;
+use std::alloc::Global;
+
+/// Whoever answers, asked only what is let in; who tells what is in force; and who is told of what is denied. It can't be dropped, but gives back who answers.
+pub struct Guarded<A: Responder, L: Latest, H: Refused> {
+    inner: A,
+    latest: L,
+    herald: H,
+}
+
+impl<A: Responder, L: Latest + Drop, H: Refused + Drop> Guarded<A, L, H> {
+    /// That of one who answers.
+    pub fn new(inner: A, latest: L, herald: H) -> Guarded<A, L, H>
+        ensures inner { result.inner ≡ inner }
+        ensures latest { result.latest ≡ latest }
+    {
+        Guarded {
+            inner,
+            latest,
+            herald,
+        }
+    }
+
+    /// Who answers.
+    pub fn into_inner(self) -> A
+        ensures { result ≡ self.inner }
+    {
+        let Guarded {
+            inner,
+            latest,
+            herald,
+        } = self;
+        drop(latest);
+        drop(herald);
+        inner
+    }
+}
+
+impl<A: Responder, L: Latest, H: Refused> Responder for Guarded<A, L, H> {
+    ghost use Rattle.lra_admission.specs.Serving.{Guard, Responds, Rests};
+    ghost use Rattle.lra_admission.specs.inner.Stays.{base_stays};
+
+    ghost State = { Guard A.State };
+
+    ghost sight = { λ g. record { inner = A.sight g.inner; rules = L.in_force g.latest } };
+
+    ghost base_of = { λ s. A.base_of s.inner };
+
+    ghost responds = { Responds L.looks A.responds };
+
+    ghost rests = { Rests A.rests };
+
+    fn base(&self) -> &Base {
+        self.inner.base()
+    }
+
+    fn instance(&self) -> Instance {
+        self.inner.instance()
+    }
+
+    fn respond(
+        &mut self,
+        alloc: Global,
+        routes: &Routes,
+        moment: u64,
+        request: &RequestRead,
+    ) -> Answered {
+        self.latest.look(moment);
+        match self.latest.admission().denial(&request.fields) {
+            Some(denial) => {
+                self.herald.denied(denial);
+                Answered {
+                    instance: self.inner.instance(),
+                    answer: Answer::Denied(denial),
+                }
+            }
+            None => self.inner.respond(alloc, routes, moment, request),
+        }
+    }
+
+    fn rest(&mut self) {
+        self.inner.rest();
+    }
+
+    ghost stays = { λ before after moment request answered h. base_stays L.looks A.responds A.base_of A.stays before after moment request answered h };
+
+    ghost rest_stays = { λ before after h. A.rest_stays before.inner after.inner h.inner };
+}

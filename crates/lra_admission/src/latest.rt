@@ -1,0 +1,107 @@
+//! What is in force, and who tells it.
+
+ghost use Rattle.std.specs.Prelude.{◌≡◌, option_map};
+ghost use Rattle.lra_admission.specs.Keys.{digests_of};
+ghost use Rattle.lra_admission.specs.Admitting as spec;
+
+use crate::keys::{Keys, secret_in};
+use crate::names::{Name, is_own_host, is_own_origin};
+use lra_front::Denial;
+use lra_wire::RequestFields;
+
+/// By which it is known whether a request is let in.
+#[derive(Clone, Copy)]
+pub struct Admission<'a> {
+    /// The keys of which each has to give one, if keys are asked for.
+    pub keys: Option<&'a Keys>,
+    /// The names by which each has to come, if there are any.
+    pub names: &'a [Name],
+}
+
+/// Whether a request gives a key that is known.
+fn has_key(keys: &Keys, authorization: &Option<Vec<u8>>) -> bool
+    ensures { result ≡ spec.has_key (digests_of keys.now) (option_map (λ value. value.items) authorization.now) }
+{
+    match authorization {
+        Some(value) => match secret_in(value.as_slice()) {
+            Some(secret) => keys.admits(secret),
+            None => false,
+        },
+        None => false,
+    }
+}
+
+/// Whether keys are asked for, and a request gives none that is known.
+fn lacks_key(keys: Option<&Keys>, authorization: &Option<Vec<u8>>) -> bool
+    ensures { result ≡ spec.lacks_key (option_map (λ k. digests_of k.now) keys.entry) (option_map (λ value. value.items) authorization.now) }
+{
+    match keys {
+        Some(keys) => !has_key(keys, authorization),
+        None => false,
+    }
+}
+
+/// Whether a request came by one of the names.
+fn has_host(names: &[Name], host: &Option<Vec<u8>>) -> bool
+    ensures { result ≡ spec.has_host names.now (option_map (λ value. value.items) host.now) }
+{
+    match host {
+        Some(host) => is_own_host(names, host.as_slice()),
+        None => false,
+    }
+}
+
+/// Whether a request came from no page, or from one of a place with one of the names.
+fn has_origin(names: &[Name], origin: &Option<Vec<u8>>) -> bool
+    ensures { result ≡ spec.has_origin names.now (option_map (λ value. value.items) origin.now) }
+{
+    match origin {
+        Some(origin) => is_own_origin(names, origin.as_slice()),
+        None => true,
+    }
+}
+
+impl Admission<'_> {
+    ghost use Rattle.std.specs.Prelude.{◌≡◌};
+    ghost use Rattle.lra_wire.specs.Request.{what_fields};
+    ghost use Rattle.lra_admission.specs.Admitting.{rules_of, denial_of};
+
+    /// Why a request with these fields isn't let in, where it isn't.
+    pub fn denial(self, fields: &RequestFields) -> Option<Denial>
+        ensures { result ≡ denial_of (rules_of self.entry) (what_fields fields.now) }
+    {
+        if lacks_key(self.keys, &fields.authorization) {
+            return Some(Denial::WrongKey);
+        }
+        if self.names.is_empty() {
+            return None;
+        }
+        if !has_host(self.names, &fields.host) {
+            return Some(Denial::WrongHost);
+        }
+        if !has_origin(self.names, &fields.origin) {
+            return Some(Denial::WrongOrigin);
+        }
+        None
+    }
+}
+
+/// Who tells what is in force.
+pub trait Latest {
+    ghost use Rattle.std.specs.Prelude.{◌≡◌};
+    ghost use Rattle.lra_admission.specs.Admitting.{Rules, rules_of};
+
+    // What is in force.
+    ghost in_force: { Self → Rules };
+
+    // What a look does: what was in force before it, and what is after it.
+    ghost looks: { Rules → Rules → Type 0 };
+
+    /// Looks at a moment, in milliseconds, whether other rules come into force.
+    fn look(&mut self, moment: u64)
+        ensures { looks (in_force self.old) (in_force self.new) };
+
+    /// What is in force. This takes no time.
+    fn admission(&self) -> Admission<'_>
+        ensures { rules_of result ≡ in_force self.now };
+}

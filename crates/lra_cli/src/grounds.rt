@@ -1,0 +1,199 @@
+//! By which terms is served, as options say.
+
+use lra_admission::{KeyBook, KeyFiles, KeysFault, Name};
+use lra_ids::Base;
+use lra_options::{Options, OptionsFault, Said, Word};
+use lra_rules::{Rule, RuleFault, Rules};
+use lra_service::{Terms, keys_trouble};
+use lra_watchpost::{PortFault, read_key};
+use std::alloc::{AllocError, Global};
+use std::fs::File;
+use std::rt::Files;
+
+/// How many bytes a token has at least, and at most.
+const SHORTEST: usize = 16;
+
+const LONGEST: usize = 128;
+
+/// What the terms of a service are made of.
+#[derive(Drop)]
+pub(crate) struct Grounds {
+    /// What identifiers begin with, if that isn't `http://`, the address and `/`.
+    base: Option<Base>,
+    rest: Rest,
+}
+
+/// What they are made of beside what identifiers begin with.
+#[derive(Drop)]
+pub(crate) struct Rest {
+    is_strict: bool,
+    keys: Option<KeyBook>,
+    names: Vec<Name>,
+    rules: Rules,
+}
+
+impl Grounds {
+    /// What identifiers begin with, and the rest.
+    pub(crate) fn parted(self) -> (Option<Base>, Rest) {
+        let Grounds { base, rest } = self;
+        (base, rest)
+    }
+}
+
+impl Rest {
+    /// The terms, where identifiers may begin with older bases as well.
+    pub(crate) fn terms<'a>(&'a self, olders: &'a [Base]) -> Terms<'a> {
+        Terms {
+            olders,
+            is_strict: self.is_strict,
+            keys: self.keys.as_ref(),
+            names: &self.names,
+            rules: &self.rules,
+        }
+    }
+}
+
+/// A fault that a text tells.
+fn wrong(text: Result<String, AllocError>) -> OptionsFault {
+    match text {
+        Ok(text) => OptionsFault::Wrong(text),
+        Err(_) => OptionsFault::Memory,
+    }
+}
+
+/// Why there are no keys.
+fn keys_fault(alloc: Global, path: &str, fault: KeysFault) -> OptionsFault {
+    if fault == KeysFault::Memory {
+        return OptionsFault::Memory;
+    }
+    match keys_trouble(alloc, path, fault) {
+        Some(why) => OptionsFault::Wrong(why),
+        None => OptionsFault::Memory,
+    }
+}
+
+/// The keys of the file that is named, if one is.
+fn keys_of<R: AllocGlobal + Files<File = File> + KeyFiles>(
+    rt: &R,
+    said: &Said,
+) -> Result<Option<KeyBook>, OptionsFault> {
+    let alloc = rt.alloc();
+    let Some(path) = said.text(Word::Key) else {
+        return Ok(None);
+    };
+    match KeyBook::open(rt, alloc, path) {
+        Ok(book) => Ok(Some(book)),
+        Err(fault) => Err(keys_fault(alloc, path, fault)),
+    }
+}
+
+/// The names by which the service is called.
+fn names_of(alloc: Global, said: &Said) -> Result<Vec<Name>, OptionsFault> {
+    let mut names = Vec::new(alloc);
+    for text in said.texts(alloc, Word::Origin)? {
+        match Name::read(alloc, text) {
+            Ok(Some(name)) => names.push(name)?,
+            Ok(None) => return Err(wrong(format!(in alloc; "--origin: no name: {text}"))),
+            Err(_) => return Err(OptionsFault::Memory),
+        }
+    }
+    Ok(names)
+}
+
+/// The rules for where members may be.
+fn rules_of(alloc: Global, said: &Said) -> Result<Rules, OptionsFault> {
+    let mut rules = Vec::new(alloc);
+    for text in said.texts(alloc, Word::Members)? {
+        match Rule::read(alloc, text) {
+            Ok(rule) => rules.push(rule)?,
+            Err(RuleFault::Memory) => return Err(OptionsFault::Memory),
+            Err(_) => return Err(wrong(format!(in alloc; "--members: no rule: {text}"))),
+        }
+    }
+    Ok(Rules::new(rules))
+}
+
+/// Whether a text may be the last part of a base, and is long enough that nobody guesses it.
+fn is_token(text: &str) -> bool {
+    let is_plain = text.as_bytes().iter().all(|byte| byte.is_ascii_alphanumeric()
+        || *byte == b'-'
+        || *byte == b'_');
+    SHORTEST <= text.len() && text.len() <= LONGEST && is_plain
+}
+
+/// The token of a file.
+fn token_in<R: AllocGlobal + Files<File = File> + KeyFiles>(
+    rt: &R,
+    path: &str,
+) -> Result<String, OptionsFault> {
+    let alloc = rt.alloc();
+    match read_key(rt, alloc, path) {
+        Ok(token) if is_token(token.as_str()) => Ok(token),
+        Ok(token) => {
+            drop(token);
+            Err(wrong(format!(in alloc; "{path}: no token of 16 to 128 letters, digits, - and _")))
+        }
+        Err(PortFault::Memory) => Err(OptionsFault::Memory),
+        Err(PortFault::KeyFile) => Err(wrong(format!(in alloc; "cannot read {path}"))),
+        Err(PortFault::SharedKey) => {
+            Err(wrong(format!(in alloc; "{path}: others than its owner may read it")))
+        }
+        Err(_) => Err(wrong(format!(in alloc;
+            "{path}: no token of 16 to 128 letters, digits, - and _"
+        ))),
+    }
+}
+
+/// A base with a token behind it.
+fn base_with(alloc: Global, base: &str, token: &str) -> Result<Base, OptionsFault> {
+    let text = format!(in alloc; "{base}{token}/")?;
+    match Base::read(alloc, text.as_str()) {
+        Ok(Some(base)) => Ok(base),
+        Ok(None) => Err(wrong(format!(in alloc; "--token: no base: {base}"))),
+        Err(_) => Err(OptionsFault::Memory),
+    }
+}
+
+/// What identifiers begin with, at an address, where that isn't `http://`, the address and `/`; and whether a part of it is a secret.
+fn base_of<R: AllocGlobal + Files<File = File> + KeyFiles>(
+    rt: &R,
+    options: &Options<'_>,
+    address: &str,
+) -> Result<(Option<Base>, bool), OptionsFault> {
+    let alloc = rt.alloc();
+    let Some(path) = options.said.text(Word::Token) else {
+        return match &options.base {
+            Some(base) => Ok((Some(base.copy()?), false)),
+            None => Ok((None, false)),
+        };
+    };
+    let token = token_in(rt, path)?;
+    let base = match &options.base {
+        Some(base) => base_with(alloc, base.as_str(), token.as_str()),
+        None => {
+            let own = format!(in alloc; "http://{address}/")?;
+            base_with(alloc, own.as_str(), token.as_str())
+        }
+    };
+    drop(token);
+    Ok((Some(base?), true))
+}
+
+/// What the terms of a service at an address are made of.
+pub(crate) fn grounds_of<R: AllocGlobal + Files<File = File> + KeyFiles>(
+    rt: &R,
+    options: &Options<'_>,
+    address: &str,
+) -> Result<Grounds, OptionsFault> {
+    let alloc = rt.alloc();
+    let (base, is_strict) = base_of(rt, options, address)?;
+    Ok(Grounds {
+        base,
+        rest: Rest {
+            is_strict,
+            keys: keys_of(rt, &options.said)?,
+            names: names_of(alloc, &options.said)?,
+            rules: rules_of(alloc, &options.said)?,
+        },
+    })
+}

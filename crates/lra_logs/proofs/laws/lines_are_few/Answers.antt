@@ -1,0 +1,8 @@
+use Rattle.lra_logs.proofs.Paces.{few, counted}
+use Rattle.lra_logs.proofs.laws.lines_are_few.Goals as goal
+
+pub returns-clause-few : goal.returns-clause-few
+returns-clause-few c = few
+
+pub returns-clause-counted : goal.returns-clause-counted
+returns-clause-counted c = counted

@@ -1,0 +1,12 @@
+pub mod Levels
+pub mod Formats
+pub mod Times
+pub mod Events
+pub mod Escapes
+pub mod Lines
+pub mod Meters
+pub mod Silences
+pub mod Vigils
+pub mod inner
+pub mod Chronicles
+pub mod Logbooks

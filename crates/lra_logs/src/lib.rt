@@ -1,0 +1,31 @@
+//! What a running service tells on standard error: events as lines, in text or in JSON, by level, and no more of them in a second than can be read.
+#![tactic(auto)]
+
+mod chronicle;
+mod escaping;
+mod event;
+mod format;
+mod journalist;
+mod laws;
+mod level;
+mod line;
+mod logbook;
+mod meter;
+mod saying;
+mod tail;
+mod time;
+#[cfg(test)]
+mod trials;
+mod vigil;
+
+pub use chronicle::Chronicle;
+pub use event::{Event, Field, Key, Port, Shown, level_of};
+pub use format::Format;
+pub use journalist::{Journalist, Nobody};
+pub use laws::lines_are_few;
+pub use level::{Level, LevelFilter, level_named, level_word};
+pub use line::{line_of, told_line};
+pub use logbook::{Logbook, has_priorities};
+pub use meter::{Meter, Verdict};
+pub use tail::Tail;
+pub use time::time_text;

@@ -1,0 +1,114 @@
+//! How many lines are written in a second.
+
+ghost use Rattle.std.specs.Prelude.{◌≡◌};
+ghost use Rattle.lra_logs.specs.Meters as spec;
+
+use std::marker::Model;
+
+/// How many lines are written in a second at most.
+const MOST: u64 = 100;
+
+/// What becomes of a line.
+#[derive(Clone, Copy, Debug, PartialEq, Eq)]
+pub enum Verdict {
+    /// It is written.
+    Write,
+    /// It is written behind a line which tells that so many weren't.
+    WriteAfter { suppressed: u64 },
+    /// It isn't written, and counted.
+    Suppress,
+}
+
+/// How many lines were written in a second, and how many weren't.
+#[derive(Debug, Drop)]
+pub struct Meter {
+    second: u64,
+    written: u64,
+    suppressed: u64,
+}
+
+impl Model for Meter {
+    ghost use Rattle.lra_logs.specs.Meters.{Pace};
+
+    ghost Value = { Pace };
+
+    ghost view = { λ m. record { second = m.second; written = m.written; suppressed = m.suppressed } };
+}
+
+impl Meter {
+    /// Nothing was.
+    pub fn new() -> Meter
+        ensures { result ≡ spec.at_rest }
+    {
+        Meter {
+            second: 0,
+            written: 0,
+            suppressed: 0,
+        }
+    }
+
+    /// A moment has come.
+    fn turn(&mut self, moment: u64)
+        ensures { self.new ≡ spec.turned self.old moment }
+    {
+        let second = moment / 1000;
+        if self.second < second {
+            self.second = second;
+            self.written = 0;
+        }
+    }
+
+    /// What becomes of a line now.
+    fn verdict(&self) -> Verdict
+        ensures { result ≡ spec.verdict_at self.now }
+    {
+        if self.suppressed == 0 {
+            if self.written < MOST {
+                Verdict::Write
+            } else {
+                Verdict::Suppress
+            }
+        } else if self.written < MOST - 1 {
+            Verdict::WriteAfter {
+                suppressed: self.suppressed,
+            }
+        } else {
+            Verdict::Suppress
+        }
+    }
+
+    /// What becomes of a line at a moment, in milliseconds of a clock that doesn't go back.
+    pub fn admit(&mut self, moment: u64) -> Verdict
+        ensures verdict { result ≡ spec.verdict_at (spec.turned self.old moment) }
+        ensures pace { self.new ≡ spec.after (spec.turned self.old moment) result }
+    {
+        self.turn(moment);
+        let verdict = self.verdict();
+        match verdict {
+            Verdict::Write => self.written += 1,
+            Verdict::WriteAfter { .. } => {
+                self.written += 2;
+                self.suppressed = 0;
+            }
+            Verdict::Suppress => self.suppressed = self.suppressed.saturating_add(1),
+        }
+        verdict
+    }
+
+    /// How many lines weren't written of which nobody was told, for who tells it now.
+    pub fn settle(&mut self) -> u64
+        ensures all { result ≡ self.old.suppressed }
+        ensures none { self.new ≡ record self.old { suppressed = 0 } }
+    {
+        let suppressed = self.suppressed;
+        self.suppressed = 0;
+        suppressed
+    }
+
+    /// So many lines more weren't written.
+    pub fn owe(&mut self, lines: u64)
+        ensures { self.new ≡ spec.owing self.old lines }
+    {
+        self.suppressed = self.suppressed.saturating_add(lines);
+    }
+}

@@ -1,0 +1,209 @@
+//! A service with a history of three actions and two members: action 2 is nested in action 1, and has both members.
+
+ghost use Rattle.std.specs.Prelude.{◌≡◌, true, IfSome};
+ghost use Rattle.lra_ids.specs.Addresses.{is_base};
+
+use lra_commands::{Awaited, CounterFault, Known, Listing, Order, Query, Refusal, Row, Told, Want};
+use lra_ids::{Address, Base, Instance, base_of};
+use lra_model::{ActionStatus, AskKind, MemberStatus, Memory};
+use lra_overview::{Facts, Overview};
+use std::alloc::Global;
+
+/// How many milliseconds pass from one look at the service to the next.
+const STEP: u64 = 1_500;
+
+/// What is known beside the history, at first.
+const FACTS: Facts = Facts {
+    moment: 9_000,
+    began: 1_500,
+    has_failed: false,
+    is_ending: false,
+    journals: 1,
+    bytes: 250,
+    most_bytes: 1_000,
+    entries: 5,
+    most_entries: 10,
+    most_actions: 100,
+    most_members: 2,
+    connections: 3,
+    callbacks: 1,
+    virtual_bytes: None,
+    resident_bytes: Some(4_096),
+    processor_ticks: Some(123),
+};
+
+/// The service, and how many orders it was given.
+#[derive(Drop)]
+pub(crate) struct Toy {
+    base: Base,
+    moment: u64,
+    pub(crate) given: u64,
+}
+
+/// The base of the service.
+fn base(alloc: Global) -> Option<Address>
+    ensures { IfSome result (λ base. is_base base ≡ true) }
+{
+    match base_of(alloc, "h.test") {
+        Ok(found) => found,
+        Err(_) => None,
+    }
+}
+
+/// One that was given no order.
+pub(crate) fn new_toy(alloc: Global) -> Option<Toy> {
+    let base = Base::of(base(alloc)?);
+    Some(Toy {
+        base,
+        moment: FACTS.moment,
+        given: 0,
+    })
+}
+
+/// The status of an action, if it is there.
+fn action_status(action: u64) -> Option<ActionStatus> {
+    match action {
+        1 => Some(ActionStatus::Active),
+        2 => Some(ActionStatus::Closing),
+        3 => Some(ActionStatus::Closed),
+        _ => None,
+    }
+}
+
+fn action_row(action: u64, status: ActionStatus) -> Row {
+    Row::Action {
+        action,
+        status,
+        parent: if action == 2 { Some(1) } else { None },
+    }
+}
+
+/// The row at a place of all actions. Where it isn't of the status that is asked for, the place behind it is told.
+fn action_at(status: Option<ActionStatus>, place: u64) -> Known {
+    let action = place.saturating_add(1);
+    match (action_status(action), status) {
+        (None, _) => Known::NoMore,
+        (Some(own), Some(wanted)) if !wanted.is_same(own) => Known::Further(action),
+        (Some(own), _) => Known::Row {
+            place,
+            row: action_row(action, own),
+        },
+    }
+}
+
+/// A member that is being asked.
+const ASKED: Row = Row::Member {
+    member: 1,
+    status: MemberStatus::Completing,
+    ask: Some(7),
+    want: None,
+};
+
+/// One that was asked in vain, and is asked again later.
+const SILENT: Row = Row::Member {
+    member: 2,
+    status: MemberStatus::Active,
+    ask: None,
+    want: Some(Want {
+        kind: AskKind::Complete,
+        repeats: 3,
+        due: 90_000,
+    }),
+};
+
+/// The row of a listing at a place.
+fn row_at(of: Listing, place: u64) -> Known {
+    match (of, place) {
+        (Listing::Actions { status }, _) => action_at(status, place),
+        (Listing::Members { action: 2 }, 0) => Known::Row { place, row: ASKED },
+        (Listing::Members { action: 2 }, 1) => Known::Row { place, row: SILENT },
+        (Listing::Nested { action: 1 }, 0) => Known::Row {
+            place,
+            row: action_row(2, ActionStatus::Closing),
+        },
+        _ => Known::NoMore,
+    }
+}
+
+/// How many of the row at a place belong to a listing, and the place behind it.
+fn count_at(of: Listing, place: u64) -> Known {
+    match row_at(of, place) {
+        Known::Row { .. } => Known::Counted {
+            count: 1,
+            next: Some(place.saturating_add(1)),
+        },
+        Known::Further(next) => Known::Counted {
+            count: 0,
+            next: Some(next),
+        },
+        _ => Known::Counted {
+            count: 0,
+            next: None,
+        },
+    }
+}
+
+/// What an action waits for.
+fn awaited_by(action: u64) -> Known {
+    match action {
+        1 => Known::Awaits {
+            place: 0,
+            awaited: Awaited::Action { action: 2 },
+        },
+        2 => Known::Awaits {
+            place: 0,
+            awaited: Awaited::Member {
+                member: 1,
+                ask: Some(7),
+            },
+        },
+        _ => Known::AwaitsNothing,
+    }
+}
+
+fn told(query: Query) -> Option<Known> {
+    match query {
+        Query::ActionStatus { action } => Some(Known::ActionIs(action_status(action)?)),
+        Query::MemberStatus { member: 1 } => Some(Known::MemberIs(MemberStatus::Completing)),
+        Query::MemberStatus { member: 2 } => Some(Known::MemberIs(MemberStatus::Active)),
+        Query::MemberStatus { .. } => None,
+        Query::Awaited { action, .. } => Some(awaited_by(action)),
+        Query::Row { of, place } => Some(row_at(of, place)),
+        Query::Count { of, place } => Some(count_at(of, place)),
+    }
+}
+
+impl Overview for Toy {
+    ghost use Rattle.std.specs.Prelude.{[]};
+
+    ghost orders = { λ t. [] };
+
+    fn instance(&self, place: u64) -> Option<Instance> {
+        if place == 0 { Instance::new(7) } else { None }
+    }
+
+    fn base(&self) -> &Base {
+        &self.base
+    }
+
+    fn catch_up(&mut self) {}
+
+    fn facts(&mut self) -> Facts {
+        let moment = self.moment;
+        self.moment = moment.saturating_add(STEP);
+        Facts { moment, ..FACTS }
+    }
+
+    fn put_tallies(&mut self, _page: &mut Vec<u8>) -> Result<(), Memory> {
+        Ok(())
+    }
+
+    fn query(&mut self, _instance: Instance, query: Query) -> Result<Known, CounterFault> {
+        told(query).ok_or(CounterFault::Refused(Refusal::NoSuchAction))
+    }
+
+    fn give(&mut self, _instance: Instance, _order: &Order<'_>) -> Result<Told, CounterFault> {
+        self.given = self.given.saturating_add(1);
+        Ok(Told::Now(ActionStatus::Cancelling))
+    }
+}

@@ -1,0 +1,189 @@
+//! Options whose values are texts, and what is said of them.
+
+use std::alloc::{AllocError, Global};
+
+/// An option whose value is a text.
+#[derive(Clone, Copy, PartialEq, Eq)]
+pub enum Word {
+    /// What identifiers begin with.
+    Base,
+    /// What else they may begin with.
+    AlsoBase,
+    /// The file with the last part of what they begin with, which is a secret.
+    Token,
+    /// The address of the operators' port.
+    Operators,
+    /// The file with the key that the port asks for.
+    OperatorsKey,
+    /// The file with the keys that requests have to give.
+    Key,
+    /// By which names the service is called.
+    Origin,
+    /// Where members may be.
+    Members,
+    /// From which level on events are logged.
+    Log,
+    /// How they are written.
+    LogFormat,
+}
+
+impl Word {
+    /// All of them, in the order of the help.
+    pub const ALL: [Word; 10] = [
+        Word::Base,
+        Word::AlsoBase,
+        Word::Token,
+        Word::Operators,
+        Word::OperatorsKey,
+        Word::Key,
+        Word::Origin,
+        Word::Members,
+        Word::Log,
+        Word::LogFormat,
+    ];
+
+    /// Its name, on the line and in a file.
+    pub fn name(self) -> &'static str {
+        match self {
+            Word::Base => "base",
+            Word::AlsoBase => "also-base",
+            Word::Token => "token",
+            Word::Operators => "operators",
+            Word::OperatorsKey => "operators-key",
+            Word::Key => "key",
+            Word::Origin => "origin",
+            Word::Members => "members",
+            Word::Log => "log",
+            Word::LogFormat => "log-format",
+        }
+    }
+
+    /// Whether it may be said any number of times: its key in a file has a list then.
+    pub fn is_list(self) -> bool {
+        matches!(self, Word::AlsoBase | Word::Origin | Word::Members)
+    }
+
+    /// What stands for its value in the help.
+    pub(crate) fn unit(self) -> &'static str {
+        match self {
+            Word::Base | Word::AlsoBase => "URL",
+            Word::Token | Word::OperatorsKey | Word::Key => "FILE",
+            Word::Operators => "ADDRESS",
+            Word::Origin => "NAME",
+            Word::Members => "RULE",
+            Word::Log => "LEVEL",
+            Word::LogFormat => "FORMAT",
+        }
+    }
+
+    /// What the help says of it.
+    pub(crate) fn help(self) -> &'static str {
+        match self {
+            Word::Base => "What identifiers begin with [http://ADDRESS/]",
+            Word::AlsoBase => {
+                "An older base, which identifiers may begin with as well; any number of them"
+            }
+            Word::Token => {
+                "The file with a secret that identifiers begin with, behind the base [none]"
+            }
+            Word::Operators => "Host and port where operators look and act [none]",
+            Word::OperatorsKey => "The file with the key that operators give [none]",
+            Word::Key =>
+                "The file with the names and SHA-256 of the keys that requests give [none]",
+            Word::Origin => {
+                "A name by which the service is called, with its port or without; any number of them [any name]"
+            }
+            Word::Members => {
+                "Where members may be: a host, .suffix, address or network, with a port or without; any number of them [anywhere]"
+            }
+            Word::Log =>
+                "Events from this level on go to standard error: error, warn, info or debug [none]",
+            Word::LogFormat => "How they are written: text or json [text]",
+        }
+    }
+
+    /// The one of a name.
+    pub(crate) fn from_name(name: &str) -> Option<Word> {
+        Word::ALL.iter().copied().find(|word| word.name() == name)
+    }
+}
+
+/// A text that is said of an option.
+#[derive(Drop)]
+struct Saying {
+    word: Word,
+    text: String,
+}
+
+/// What is said of options whose values are texts, in one place.
+#[derive(Drop)]
+pub struct Said {
+    sayings: Vec<Saying>,
+}
+
+impl Said {
+    /// Nothing is said.
+    pub fn nothing(alloc: Global) -> Said {
+        Said {
+            sayings: Vec::new(alloc),
+        }
+    }
+
+    /// One more text is said of an option.
+    pub(crate) fn add(&mut self, word: Word, text: String) -> Result<(), AllocError> {
+        self.sayings.push(Saying { word, text })?;
+        Ok(())
+    }
+
+    /// Whether anything is said of an option.
+    fn has(&self, word: Word) -> bool {
+        self.sayings.iter().any(|saying| saying.word == word)
+    }
+
+    /// The first text that is said of an option.
+    pub fn text(&self, word: Word) -> Option<&str> {
+        for saying in &self.sayings {
+            if saying.word == word {
+                return Some(saying.text.as_str());
+            }
+        }
+        None
+    }
+
+    /// All texts that are said of an option, in order.
+    pub fn texts(&self, alloc: Global, word: Word) -> Result<Vec<&str>, AllocError> {
+        let mut texts = Vec::new(alloc);
+        for saying in &self.sayings {
+            if saying.word == word {
+                texts.push(saying.text.as_str())?;
+            }
+        }
+        Ok(texts)
+    }
+
+    /// Adds what another says of each option of which nothing is said here.
+    fn add_others(&mut self, other: Said) -> Result<(), AllocError> {
+        let mut missing = Said::nothing(*self.sayings.allocator());
+        for saying in other.sayings {
+            if !self.has(saying.word) {
+                missing.sayings.push(saying)?;
+            }
+        }
+        for saying in missing.sayings {
+            self.sayings.push(saying)?;
+        }
+        Ok(())
+    }
+
+    /// What is said on a line, and of the options of which nothing is said there what is said in a file.
+    pub(crate) fn or(self, file: Said) -> Result<Said, AllocError> {
+        let mut said = self;
+        match said.add_others(file) {
+            Ok(()) => Ok(said),
+            Err(fault) => {
+                drop(said);
+                Err(fault)
+            }
+        }
+    }
+}

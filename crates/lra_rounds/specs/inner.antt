@@ -1,0 +1,2 @@
+-- Words that private functions and proofs alone use.
+pub mod Stretches

@@ -1,0 +1,2 @@
+mod Hosts
+mod Joins

@@ -1,0 +1,3 @@
+-- Words that private functions and proofs alone use.
+pub mod Joined
+pub mod Stays

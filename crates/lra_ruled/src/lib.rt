@@ -1,0 +1,12 @@
+//! Joins outside the rules for where members may be: they are refused, and all else is answered as ever.
+#![tactic(auto)]
+
+mod addresses;
+mod bodies;
+mod laws;
+mod ruled;
+#[cfg(test)]
+mod trials;
+
+pub use laws::hosts_are_those_of_sockets;
+pub use ruled::Ruled;

@@ -1,0 +1,117 @@
+//! Who answers, but refuses joins outside the rules.
+
+ghost use Rattle.std.specs.Prelude.{◌≡◌, false, IfNone, IfSome};
+ghost use Rattle.lra_wire.specs.Request.{request_of};
+ghost use Rattle.lra_ruled.specs.Ruling as spec;
+
+use crate::bodies::is_outside;
+use lra_commands::Refusal;
+use lra_front::{Answer, Denial, Route, Routes};
+use lra_ids::Base;
+use lra_model::Instance;
+use lra_rules::Rules;
+use lra_steps::{Answered, Responder};
+use lra_wire::RequestRead;
+use std::alloc::Global;
+
+/// Who answers, and the rules for where members may be.
+#[derive(Drop)]
+pub struct Ruled<'r, A> {
+    inner: A,
+    rules: &'r Rules,
+}
+
+/// Whether a request asks to join.
+fn is_join(routes: &Routes, request: &RequestRead) -> bool
+    ensures { result ≡ spec.is_join (request_of request.now) }
+{
+    matches!(
+        routes.route(request.method.as_str(), request.target.as_str()),
+        Ok(Route::Join)
+    )
+}
+
+/// Why a request isn't let through, if it isn't.
+fn refusal_of(
+    alloc: Global,
+    routes: &Routes,
+    rules: &Rules,
+    request: &RequestRead,
+) -> Option<Refusal>
+    ensures none { IfNone result (spec.is_outside rules.now (request_of request.now) ≡ false) }
+    ensures some { IfSome result (spec.IsRefusedBy rules.now (request_of request.now)) }
+{
+    if rules.is_empty() || !is_join(routes, request) {
+        return None;
+    }
+    match is_outside(alloc, rules, request.body.as_slice()) {
+        Ok(true) => Some(Refusal::BadAddresses),
+        Ok(false) => None,
+        Err(_) => Some(Refusal::Memory),
+    }
+}
+
+impl<'r, A> Ruled<'r, A> {
+    /// One who answers, where members may be where these rules let them.
+    pub fn new(inner: A, rules: &'r Rules) -> Ruled<'r, A>
+        ensures inner { result.inner ≡ inner }
+        ensures rules { result.rules.now ≡ rules.now }
+    {
+        Ruled { inner, rules }
+    }
+
+    /// Who answers.
+    pub fn into_inner(self) -> A
+        ensures { result ≡ self.entry.inner }
+    {
+        let Ruled { inner, rules: _ } = self;
+        inner
+    }
+}
+
+impl<A: Responder> Responder for Ruled<'_, A> {
+    ghost use Rattle.lra_ruled.specs.Serving.{Served, Responds, Rests};
+    ghost use Rattle.lra_ruled.specs.inner.Stays.{base_stays};
+
+    ghost State = { Served A.State };
+
+    ghost sight = { λ r. record { inner = A.sight r.inner; rules = r.rules.now } };
+
+    ghost base_of = { λ s. A.base_of s.inner };
+
+    ghost responds = { Responds A.responds };
+
+    ghost rests = { Rests A.rests };
+
+    fn base(&self) -> &Base {
+        self.inner.base()
+    }
+
+    fn instance(&self) -> Instance {
+        self.inner.instance()
+    }
+
+    fn respond(
+        &mut self,
+        alloc: Global,
+        routes: &Routes,
+        moment: u64,
+        request: &RequestRead,
+    ) -> Answered {
+        match refusal_of(alloc, routes, self.rules, request) {
+            Some(refusal) => Answered {
+                instance: self.inner.instance(),
+                answer: Answer::Denied(Denial::Refused(refusal)),
+            },
+            None => self.inner.respond(alloc, routes, moment, request),
+        }
+    }
+
+    fn rest(&mut self) {
+        self.inner.rest();
+    }
+
+    ghost stays = { λ before after moment request answered h. base_stays A.base_of A.responds A.stays before after moment request answered h };
+
+    ghost rest_stays = { λ before after h. A.rest_stays before.inner after.inner h.inner };
+}

@@ -1,0 +1,3 @@
+mod Addresses
+mod Parts
+mod Worked

@@ -1,0 +1,4 @@
+pub mod inner
+pub mod Texts
+pub mod Networks
+pub mod Rules

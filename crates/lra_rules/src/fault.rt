@@ -1,0 +1,29 @@
+//! Why a text is no rule.
+
+use std::alloc::AllocError;
+use thiserror::Error;
+
+/// Why a text is no rule.
+#[derive(Clone, Copy, Debug, PartialEq, Eq, Error)]
+pub enum RuleFault {
+    /// What stands before the port, or all of it, is `*`, no name, no address and no network.
+    #[error("no host, address or network")]
+    NotHosts,
+    /// What stands behind the last colon is no number up to 65535.
+    #[error("no port")]
+    NotPort,
+    /// A growth was refused.
+    #[error("out of memory")]
+    Memory,
+}
+
+impl From<AllocError> for RuleFault {
+    ghost use Rattle.std.specs.Prelude.{◌≡◌};
+    ghost use Rattle.lra_rules.specs.declared.fault.RuleFault.TheVariants.{Memory};
+
+    ghost from_gives = { λ error fault. fault ≡ Memory };
+
+    fn from(_error: AllocError) -> RuleFault {
+        RuleFault::Memory
+    }
+}

@@ -1,0 +1,16 @@
+//! Rules for where members may be: hosts by name, addresses and networks, each at any port or at one.
+#![tactic(auto)]
+
+mod fault;
+mod network;
+mod reading;
+mod rule;
+mod rules;
+mod texts;
+#[cfg(test)]
+mod trials;
+
+pub use fault::RuleFault;
+pub use rule::Rule;
+pub use rules::Rules;
+pub use texts::host_in;

@@ -1,0 +1,189 @@
+//! Networks of IP addresses, and the addresses that are special.
+
+ghost use Rattle.std.specs.Prelude.{◌≡◌, option_map};
+ghost use Rattle.std.specs.Net.Addr.{ipv4_octets, ipv6_segments};
+ghost use Rattle.std.specs.Net.Reader.{whole_value, read_ipv4, read_ipv6};
+ghost use Rattle.lra_rules.specs.Networks as spec;
+ghost use Rattle.lra_rules.specs.inner.Octets.{own_octets, own_width};
+
+use crate::texts::{at_last, number};
+use std::net::{IpAddr, Ipv4Addr, Ipv6Addr};
+
+/// The addresses whose first bits are those of one.
+#[derive(Clone, Copy, Debug, PartialEq, Eq)]
+pub(crate) struct Network {
+    first: IpAddr,
+    bits: u16,
+}
+
+fn ipv4_in(text: &[u8]) -> Option<Ipv4Addr>
+    ensures { option_map ipv4_octets result ≡ whole_value (read_ipv4 text.now) }
+{
+    match Ipv4Addr::parse_ascii(text) {
+        Ok(ip) => Some(ip),
+        Err(_) => None,
+    }
+}
+
+fn ipv6_in(text: &[u8]) -> Option<Ipv6Addr>
+    ensures { option_map ipv6_segments result ≡ whole_value (read_ipv6 text.now) }
+{
+    match Ipv6Addr::parse_ascii(text) {
+        Ok(ip) => Some(ip),
+        Err(_) => None,
+    }
+}
+
+/// The address that a text without brackets writes.
+#[tactic(auto, unfolding(crate::specs::Networks::bare_ip_of))]
+fn bare_ip_in(text: &[u8]) -> Option<IpAddr>
+    ensures { result ≡ spec.bare_ip_of text.now }
+{
+    match ipv4_in(text) {
+        Some(ip) => Some(IpAddr::V4(ip)),
+        None => match ipv6_in(text) {
+            Some(ip) => Some(IpAddr::V6(ip)),
+            None => None,
+        },
+    }
+}
+
+/// The address that a text writes, an IPv6 address between brackets or without.
+#[tactic(auto, unfolding(crate::specs::Networks::ip_of))]
+pub(crate) fn ip_in(text: &[u8]) -> Option<IpAddr>
+    ensures { result ≡ spec.ip_of text.now }
+{
+    match text {
+        [b'[', inner @ .., b']'] => match ipv6_in(inner) {
+            Some(ip) => Some(IpAddr::V6(ip)),
+            None => None,
+        },
+        _ => bare_ip_in(text),
+    }
+}
+
+/// An address, or the IPv4 address that it is where it is an IPv4-mapped one.
+fn canonical(ip: IpAddr) -> IpAddr
+    ensures octets { spec.octets_of ip ≡ own_octets result }
+    ensures width { spec.width_of ip ≡ own_width result }
+{
+    ip.to_canonical()
+}
+
+/// How many bits an address has.
+fn width_of(ip: IpAddr) -> u16
+    ensures { result ≡ spec.width_of ip }
+{
+    match canonical(ip) {
+        IpAddr::V4(_) => 32,
+        IpAddr::V6(_) => 128,
+    }
+}
+
+/// The network that a text writes: an address alone, or with `/` and how many of its bits count.
+#[tactic(auto, unfolding(crate::specs::Networks::network_of))]
+pub(crate) fn network_in(text: &[u8]) -> Option<Network>
+    ensures { result ≡ spec.network_of text.now }
+{
+    match at_last(text, b'/') {
+        Some((ip, bits)) => {
+            let first = ip_in(ip)?;
+            let bits = number(bits, width_of(first))?;
+            Some(Network { first, bits })
+        }
+        None => {
+            let first = ip_in(text)?;
+            Some(Network {
+                first,
+                bits: width_of(first),
+            })
+        }
+    }
+}
+
+/// The first bits of an octet, of so many that are left.
+fn first_bits(bits: u16, octet: u8) -> u32
+    ensures { result ≡ spec.first_bits bits octet }
+{
+    u32::from(octet) >> 8u16.saturating_sub(bits)
+}
+
+/// Whether two addresses have as many octets, and the same first bits.
+fn agree(bits: u16, first: &[u8], other: &[u8]) -> bool
+    ensures { result ≡ spec.agree bits first.now other.now }
+{
+    if first.len() != other.len() {
+        return false;
+    }
+    let mut left = bits;
+    for place in 0..first.len() {
+        if first_bits(left, first[place]) != first_bits(left, other[place]) {
+            return false;
+        }
+        left = left.saturating_sub(8);
+    }
+    true
+}
+
+/// Whether an address has these first bits.
+fn begins(bits: u16, first: &[u8], ip: IpAddr) -> bool
+    ensures { result ≡ spec.agree bits first.now (spec.octets_of ip) }
+{
+    match canonical(ip) {
+        IpAddr::V4(ip) => agree(bits, first, &ip.octets()),
+        IpAddr::V6(ip) => agree(bits, first, &ip.octets()),
+    }
+}
+
+impl Network {
+    /// Whether an address is one of the network.
+    #[tactic(auto, unfolding(crate::specs::Networks::holds))]
+    pub(crate) fn holds(self, ip: IpAddr) -> bool
+        ensures { result ≡ spec.holds self ip }
+    {
+        match canonical(self.first) {
+            IpAddr::V4(first) => begins(self.bits, &first.octets(), ip),
+            IpAddr::V6(first) => begins(self.bits, &first.octets(), ip),
+        }
+    }
+
+    /// That of an IPv4 address.
+    const fn of_v4(octets: [u8; 4], bits: u16) -> Network
+        ensures { result ≡ spec.of_v4 octets bits }
+    {
+        Network {
+            first: IpAddr::V4(Ipv4Addr::from_octets(octets)),
+            bits,
+        }
+    }
+
+    /// That of an IPv6 address.
+    const fn of_v6(segments: [u16; 8], bits: u16) -> Network
+        ensures { result ≡ spec.of_v6 segments bits }
+    {
+        Network {
+            first: IpAddr::V6(Ipv6Addr::from_segments(segments)),
+            bits,
+        }
+    }
+}
+
+/// Whether an address is one that a rule has to name: this machine's own, one of the link, or one at which a cloud tells its machines who they are.
+#[tactic(auto, unfolding(crate::specs::Networks::is_special))]
+pub(crate) fn is_special(ip: IpAddr) -> bool
+    ensures { result ≡ spec.is_special ip }
+{
+    let special = [
+        Network::of_v4([127, 0, 0, 0], 8),
+        Network::of_v4([0, 0, 0, 0], 8),
+        Network::of_v4([169, 254, 0, 0], 16),
+        Network::of_v4([100, 100, 100, 200], 32),
+        Network::of_v4([168, 63, 129, 16], 32),
+        Network::of_v6([0, 0, 0, 0, 0, 0, 0, 1], 128),
+        Network::of_v6([0, 0, 0, 0, 0, 0, 0, 0], 128),
+        Network::of_v6([0xfe80, 0, 0, 0, 0, 0, 0, 0], 10),
+        Network::of_v6([0xfd00, 0xec2, 0, 0, 0, 0, 0, 0x254], 128),
+        Network::of_v6([0xfd20, 0xce, 0, 0, 0, 0, 0, 0x254], 128),
+    ];
+    special.iter().any(|network| network.holds(ip))
+}

@@ -1,0 +1,89 @@
+//! Where connections come in, also where the system chooses the port.
+
+ghost use Rattle.std.specs.Prelude.{◌≡◌, ◌++◌, codes, decimal, string_bytes, IfOk, IfErr, IfSome};
+ghost use Rattle.lra_opening.specs.Ends.{IsOfAddress};
+ghost use Rattle.lra_service.specs.Sited.{IsSpotOf};
+
+use crate::base::bind;
+use lra_opening::ServeFault;
+use lra_reports::RunFault;
+use std::alloc::Global;
+use std::net::{Net, TcpListener, TcpStream};
+
+/// An address that is served.
+#[derive(Drop)]
+pub struct Spot {
+    /// Host and port.
+    pub address: String,
+    /// Who listens there, where the system has chosen the port.
+    pub listener: Option<TcpListener>,
+}
+
+/// How connections come in, and until when.
+#[derive(Drop)]
+pub struct Entry<I> {
+    /// Who listens at the address, if anyone does already.
+    pub listener: Option<TcpListener>,
+    /// What ends the service gently once it has ended, if anything does.
+    pub input: Option<I>,
+}
+
+/// The host of an address whose port is 0.
+fn host_of(address: &str) -> Option<&str>
+    ensures { IfSome result (λ host. address.now ≡ host.now ++ codes ":0") }
+{
+    address.strip_suffix(":0")
+}
+
+/// Host and port, as a text.
+fn address_of(alloc: Global, host: &str, port: u16) -> Result<String, ServeFault>
+    ensures text { IfOk result (λ text. string_bytes text ≡ host.now ++ codes ":" ++ decimal port) }
+    ensures fault { IfErr result IsOfAddress }
+{
+    match format!(in alloc; "{host}:{port}") {
+        Ok(text) => Ok(text),
+        Err(_) => Err(ServeFault::Run(RunFault::Memory)),
+    }
+}
+
+/// What is served at an address as it is given: the system chooses the port where that is 0, and else the address is that which is given.
+pub fn spot_at<R: Net<Stream = TcpStream, Listener = TcpListener>>(
+    rt: &R,
+    alloc: Global,
+    address: &str,
+) -> Result<Spot, ServeFault>
+    ensures text { IfOk result (λ spot. IsSpotOf address.now (string_bytes spot.address)) }
+    ensures fault { IfErr result IsOfAddress }
+{
+    let Some(host) = host_of(address) else {
+        return match String::from_str(alloc, address) {
+            Ok(address) => Ok(Spot {
+                address,
+                listener: None,
+            }),
+            Err(_) => Err(ServeFault::Run(RunFault::Memory)),
+        };
+    };
+    let listener = bind(rt, address)?;
+    let Ok(socket) = listener.local_addr() else {
+        return Err(ServeFault::Address);
+    };
+    Ok(Spot {
+        address: address_of(alloc, host, socket.port())?,
+        listener: Some(listener),
+    })
+}
+
+/// Who listens at a socket's host and port.
+pub fn listener_at<R: Net<Stream = TcpStream, Listener = TcpListener>>(
+    rt: &R,
+    socket: &str,
+    given: Option<TcpListener>,
+) -> Result<TcpListener, ServeFault>
+    ensures { IfErr result IsOfAddress }
+{
+    match given {
+        Some(listener) => Ok(listener),
+        None => bind(rt, socket),
+    }
+}

@@ -1,0 +1,154 @@
+//! By which terms requests are taken, and members are called.
+
+ghost use Rattle.std.specs.Prelude.{◌≡◌};
+
+use lra_admission::{Guarded, KeyBook, KeyFiles, KeysFault, Name, Porter, Refused, Renewed};
+use lra_front::Denial;
+use lra_ids::Base;
+use lra_logs::{Event, Journalist, Port};
+use lra_opening::Herald;
+use lra_proxied::{Proxied, copy_bases};
+use lra_ruled::Ruled;
+use lra_rules::Rules;
+use lra_steps::Responder;
+use lra_watchpost::{CountedResponder, Tallies};
+use std::alloc::Global;
+use std::sync::Wait;
+use std::time::Clock;
+
+/// By which terms a service takes requests, and calls members.
+#[derive(Clone, Copy)]
+pub struct Terms<'a> {
+    /// What identifiers may begin with as well.
+    pub olders: &'a [Base],
+    /// Whether nothing is served but behind the path of the base.
+    pub is_strict: bool,
+    /// The keys of which each request has to give one, if they are asked for.
+    pub keys: Option<&'a KeyBook>,
+    /// The names by which requests have to come, if there are any.
+    pub names: &'a [Name],
+    /// Where members may be.
+    pub rules: &'a Rules,
+}
+
+impl<'a> Terms<'a> {
+    /// Those of a service that lets all in, and whose members may be where these rules say.
+    pub fn usual(rules: &'a Rules) -> Terms<'a> {
+        Terms {
+            olders: &[],
+            is_strict: false,
+            keys: None,
+            names: &[],
+            rules,
+        }
+    }
+}
+
+/// Who is told of what a service refuses, and of what becomes of its keys.
+#[derive(Drop)]
+pub struct Doorman<'a, H> {
+    alloc: Global,
+    herald: &'a H,
+    tallies: &'a Tallies,
+    /// The name of the file of the keys, if there is one.
+    path: &'a str,
+}
+
+/// Whoever answers, asked what requests mean that are let in, by the terms of a service, and counted.
+pub type Received<'a, R, H, A> = Guarded<
+    Proxied<CountedResponder<'a, Ruled<'a, A>, R>>,
+    Porter<'a, R, Doorman<'a, H>>,
+    Doorman<'a, H>,
+>;
+
+impl<'a, H> Doorman<'a, H> {
+    /// One of a service with these terms.
+    pub fn new(
+        alloc: Global,
+        terms: Terms<'a>,
+        herald: &'a H,
+        tallies: &'a Tallies,
+    ) -> Doorman<'a, H> {
+        let path = match terms.keys {
+            Some(book) => book.path(),
+            None => "",
+        };
+        Doorman {
+            alloc,
+            herald,
+            tallies,
+            path,
+        }
+    }
+}
+
+impl<H: Herald + Journalist> Refused for Doorman<'_, H> {
+    fn denied(&self, denial: Denial) {
+        self.tallies.denied(denial);
+        self.herald.note(&Event::Refused {
+            port: Port::Services,
+            code: denial.status().as_u16(),
+        });
+    }
+}
+
+/// Why the keys of a file stay as they were, or why there are none.
+pub fn keys_trouble(alloc: Global, path: &str, fault: KeysFault) -> Option<String> {
+    let text = match fault {
+        KeysFault::File => format!(in alloc; "cannot read {path}"),
+        KeysFault::Shared => format!(in alloc; "{path}: others than its owner may read it"),
+        KeysFault::TooLong => format!(in alloc; "{path}: too long"),
+        KeysFault::Line(line) => format!(in alloc; "{path}: line {line} is no name and SHA-256"),
+        KeysFault::Memory => format!(in alloc; "out of memory"),
+    };
+    text.ok()
+}
+
+impl<H: Herald> Renewed for Doorman<'_, H> {
+    fn renewed(&self, outcome: Result<(), KeysFault>) {
+        let path = self.path;
+        let line = match outcome {
+            Ok(()) => format!(in self.alloc; "lra: the keys of {path} were read again\n").ok(),
+            Err(fault) => match keys_trouble(self.alloc, path, fault) {
+                Some(why) => format!(in self.alloc;
+                    "lra: {why}: the keys of before stay in force\n"
+                ).ok(),
+                None => None,
+            },
+        };
+        if let Some(line) = line {
+            self.herald.tell(line.as_str());
+        }
+    }
+}
+
+/// Whoever answers, by the terms of a service. Where memory is refused they are given back.
+pub fn receive<'a, R: Wait + Clock + KeyFiles, H: Herald + Journalist, A: Responder>(
+    rt: &'a R,
+    alloc: Global,
+    terms: Terms<'a>,
+    doorman: &'a Doorman<'a, H>,
+    inner: A,
+) -> Result<Received<'a, R, H, A>, A> {
+    let Ok(olders) = copy_bases(alloc, terms.olders) else {
+        return Err(inner);
+    };
+    let Ok(porter) = Porter::new(rt, doorman, terms.keys, terms.names) else {
+        drop(olders);
+        return Err(inner);
+    };
+    let ruled = Ruled::new(inner, terms.rules);
+    let counted = CountedResponder::new(ruled, rt, doorman.tallies);
+    let proxied = Proxied::new(counted, olders, terms.is_strict);
+    let told = Doorman::new(alloc, terms, doorman.herald, doorman.tallies);
+    Ok(Guarded::new(proxied, porter, told))
+}
+
+/// Whoever answered by the terms of a service.
+pub fn dismiss<'a, R, H, A: Responder>(received: Received<'a, R, H, A>) -> A
+where
+    R: Wait + Clock + KeyFiles,
+    H: Herald + Journalist,
+{
+    received.into_inner().into_inner().into_inner().into_inner()
+}

@@ -1,0 +1,100 @@
+//! What is said of the settings.
+
+ghost use Rattle.std.specs.Prelude.{◌≡◌};
+ghost use Rattle.lra_settings.specs.Settings.{usual};
+ghost use Rattle.lra_settings.specs.Given.{applied, nothing};
+
+use crate::parameter::Parameter;
+use crate::settings::Settings;
+
+/// What is said of the settings, in one place. Of those that are `None` nothing is.
+#[derive(Clone, Copy, Debug, PartialEq, Eq)]
+pub struct Given {
+    pub connections: Option<u64>,
+    pub callbacks: Option<u64>,
+    pub host_share: Option<u64>,
+    pub idle_seconds: Option<u64>,
+    pub request_seconds: Option<u64>,
+    pub reply_seconds: Option<u64>,
+    pub connect_seconds: Option<u64>,
+    pub callback_seconds: Option<u64>,
+    pub retry_first_ms: Option<u64>,
+    pub retry_last_ms: Option<u64>,
+    pub roll_after: Option<u64>,
+    pub remember_seconds: Option<u64>,
+    pub site: Option<u64>,
+    pub stop_at_eof: Option<bool>,
+}
+
+impl Given {
+    /// Nothing is said.
+    pub fn nothing() -> Given
+        ensures { result ≡ nothing }
+    {
+        Given {
+            connections: None,
+            callbacks: None,
+            host_share: None,
+            idle_seconds: None,
+            request_seconds: None,
+            reply_seconds: None,
+            connect_seconds: None,
+            callback_seconds: None,
+            retry_first_ms: None,
+            retry_last_ms: None,
+            roll_after: None,
+            remember_seconds: None,
+            site: None,
+            stop_at_eof: None,
+        }
+    }
+
+    /// It is said what a parameter is.
+    pub fn put(&mut self, parameter: Parameter, value: u64) {
+        let place = match parameter {
+            Parameter::Connections => &mut self.connections,
+            Parameter::Callbacks => &mut self.callbacks,
+            Parameter::HostShare => &mut self.host_share,
+            Parameter::IdleTimeout => &mut self.idle_seconds,
+            Parameter::RequestTimeout => &mut self.request_seconds,
+            Parameter::ReplyTimeout => &mut self.reply_seconds,
+            Parameter::ConnectTimeout => &mut self.connect_seconds,
+            Parameter::CallbackTimeout => &mut self.callback_seconds,
+            Parameter::RetryFirst => &mut self.retry_first_ms,
+            Parameter::RetryLast => &mut self.retry_last_ms,
+            Parameter::RollAfter => &mut self.roll_after,
+            Parameter::Remember => &mut self.remember_seconds,
+            Parameter::Site => &mut self.site,
+        };
+        *place = Some(value);
+    }
+
+    /// Some settings, but for what is said.
+    fn applied(&self, settings: Settings) -> Settings
+        ensures { result ≡ applied self.now settings }
+    {
+        Settings {
+            connections: self.connections.unwrap_or(settings.connections),
+            callbacks: self.callbacks.unwrap_or(settings.callbacks),
+            host_share: self.host_share.unwrap_or(settings.host_share),
+            idle_seconds: self.idle_seconds.unwrap_or(settings.idle_seconds),
+            request_seconds: self.request_seconds.unwrap_or(settings.request_seconds),
+            reply_seconds: self.reply_seconds.unwrap_or(settings.reply_seconds),
+            connect_seconds: self.connect_seconds.unwrap_or(settings.connect_seconds),
+            callback_seconds: self.callback_seconds.unwrap_or(settings.callback_seconds),
+            retry_first_ms: self.retry_first_ms.unwrap_or(settings.retry_first_ms),
+            retry_last_ms: self.retry_last_ms.unwrap_or(settings.retry_last_ms),
+            roll_after: self.roll_after.unwrap_or(settings.roll_after),
+            remember_seconds: self.remember_seconds.unwrap_or(settings.remember_seconds),
+            site: self.site.unwrap_or(settings.site),
+            stop_at_eof: self.stop_at_eof.unwrap_or(settings.stop_at_eof),
+        }
+    }
+}
+
+/// The settings by what is said on a line and in a file: what the line says goes before what the file does, and where neither says anything they are the usual ones.
+pub fn settings_of(line: &Given, file: &Given) -> Settings
+    ensures { result ≡ applied line.now (applied file.now usual) }
+{
+    line.applied(file.applied(Settings::usual()))
+}

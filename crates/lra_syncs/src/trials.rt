@@ -1,0 +1,31 @@
+//! Tests of what is taken down of syncs.
+
+use crate::stopwatch::Timed;
+use crate::syncs::{Syncs, begin, end};
+use std::alloc::Global;
+use std::sync::Arc;
+
+/// Syncs after which so many writes are kept in all.
+const KEPT: [u64; 6] = [0, 1, 1, 3, 8, 1_009];
+
+/// The syncs that are taken down, as how many of them kept up to 1, 2, 5, 1,000 and more writes, and how many writes that were.
+fn taken_down<R: Timed>(rt: &R, alloc: Global) -> Option<[u64; 6]> {
+    let syncs = Arc::new(alloc, Syncs::new(alloc, rt.stopwatch()).ok()?).ok();
+    for writes in &KEPT {
+        end(&syncs, begin(&syncs), *writes);
+    }
+    let writes = syncs.as_ref()?.writes();
+    Some([
+        writes.count(0),
+        writes.count(1),
+        writes.count(2),
+        writes.count(9),
+        writes.count(10),
+        writes.sum(),
+    ])
+}
+
+#[test]
+fn each_sync_that_keeps_something_is_taken_down(rt: HostRuntime) {
+    assert!(rt; taken_down(&rt, rt.alloc()) == Some([1, 1, 1, 0, 1, 1_009]));
+}

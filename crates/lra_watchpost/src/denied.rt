@@ -1,0 +1,62 @@
+//! How many requests were denied before they were looked at.
+
+use lra_front::Denial;
+use lra_model::Memory;
+use lra_overview::{Kind, describe, put, put_number};
+use std::sync::atomic::{AtomicU64, Ordering};
+
+/// The measure's name.
+const NAME: &str = "lra_requests_denied_total";
+
+/// How many requests were denied, by why.
+#[derive(Drop)]
+pub(crate) struct Denied {
+    key: AtomicU64,
+    host: AtomicU64,
+    origin: AtomicU64,
+}
+
+/// Adds the line of one reason.
+fn put_why(page: &mut Vec<u8>, why: &'static str, count: &AtomicU64) -> Result<(), Memory> {
+    put(page, NAME)?;
+    put(page, "{why=\"")?;
+    put(page, why)?;
+    put(page, "\"} ")?;
+    put_number(page, count.load(Ordering::SeqCst))?;
+    put(page, "\n")
+}
+
+impl Denied {
+    /// None was.
+    pub(crate) fn new() -> Denied {
+        Denied {
+            key: AtomicU64::new(0),
+            host: AtomicU64::new(0),
+            origin: AtomicU64::new(0),
+        }
+    }
+
+    /// A request was. Other reasons than these three are those of answers.
+    pub(crate) fn add(&self, denial: Denial) {
+        let count = match denial {
+            Denial::WrongKey => &self.key,
+            Denial::WrongHost => &self.host,
+            Denial::WrongOrigin => &self.origin,
+            _ => return,
+        };
+        count.fetch_add(1, Ordering::SeqCst);
+    }
+
+    /// Adds it as a measure.
+    pub(crate) fn put(&self, page: &mut Vec<u8>) -> Result<(), Memory> {
+        describe(
+            page,
+            NAME,
+            Kind::Counter,
+            "Requests of services that were denied before they were looked at, by why.",
+        )?;
+        put_why(page, Denial::WrongKey.name(), &self.key)?;
+        put_why(page, Denial::WrongHost.name(), &self.host)?;
+        put_why(page, Denial::WrongOrigin.name(), &self.origin)
+    }
+}

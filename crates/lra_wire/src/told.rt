@@ -1,0 +1,96 @@
+//! By which it is told who asks, from where and with what.
+ghost use Rattle.std.specs.Prelude.{◌≡◌, ◌≤◌, length, map, option_map, All, IfOk};
+ghost use Rattle.httparse.specs.Spans.{IsHeaderWithin, header_bytes};
+ghost use Rattle.lra_wire.specs.Fields.{values_of};
+ghost use Rattle.lra_wire.specs.Request.{sole, told_by, what_fields};
+
+use crate::fields::{Named, lookup};
+use httparse::spans::HeaderSpan;
+use std::alloc::{AllocError, Global};
+
+/// The values of fields of a request's head, without white space round them: of each that the head has just once.
+#[derive(Debug, Drop)]
+pub struct RequestFields {
+    /// `Authorization` (RFC 9110, section 11.6.2).
+    pub authorization: Option<Vec<u8>>,
+    /// `Content-Type` (RFC 9110, section 8.3).
+    pub content_type: Option<Vec<u8>>,
+    /// `Host` (RFC 9110, section 7.2).
+    pub host: Option<Vec<u8>>,
+    /// `Origin` (RFC 6454, section 7).
+    pub origin: Option<Vec<u8>>,
+}
+
+/// A copy of a value, if there is one.
+fn copy_of(alloc: Global, value: &Option<Vec<u8>>) -> Result<Option<Vec<u8>>, AllocError>
+    ensures { IfOk result (λ copy. option_map (λ v. v.items) copy ≡ option_map (λ v. v.items) value.now) }
+{
+    match value {
+        Some(value) => Ok(Some(Vec::from_slice(alloc, value.as_slice())?)),
+        None => Ok(None),
+    }
+}
+
+/// The value of the field of a name, in any case, where there is just one.
+#[tactic(auto, using(crate::proofs::FieldLemmas::sole_several))]
+fn sole(
+    alloc: Global,
+    bytes: &[u8],
+    fields: &[HeaderSpan],
+    name: &[u8],
+) -> Result<Option<Vec<u8>>, AllocError>
+    requires { All (IsHeaderWithin (length bytes.now)) fields.now }
+    ensures { IfOk result (λ value. option_map (λ v. v.items) value ≡ sole (values_of name.now (map (header_bytes bytes.now) fields.now))) }
+{
+    match lookup(bytes, fields, name) {
+        Named::Once(value) => Ok(Some(Vec::from_slice(alloc, value)?)),
+        Named::Absent => Ok(None),
+        Named::Several => Ok(None),
+    }
+}
+
+/// What the fields at these places of a head say.
+pub(crate) fn fields_at(
+    alloc: Global,
+    bytes: &[u8],
+    fields: &[HeaderSpan],
+) -> Result<RequestFields, AllocError>
+    requires { All (IsHeaderWithin (length bytes.now)) fields.now }
+    ensures { IfOk result (λ read. what_fields read ≡ told_by (map (header_bytes bytes.now) fields.now)) }
+{
+    Ok(RequestFields {
+        authorization: sole(alloc, bytes, fields, b"authorization")?,
+        content_type: sole(alloc, bytes, fields, b"content-type")?,
+        host: sole(alloc, bytes, fields, b"host")?,
+        origin: sole(alloc, bytes, fields, b"origin")?,
+    })
+}
+
+impl RequestFields {
+    ghost use Rattle.std.specs.Prelude.{◌≡◌, [], IfOk};
+    ghost use Rattle.lra_wire.specs.Request.{told_by, what_fields};
+
+    /// Those of a head that has none of them.
+    pub fn none() -> RequestFields
+        ensures { what_fields result ≡ told_by [] }
+    {
+        RequestFields {
+            authorization: None,
+            content_type: None,
+            host: None,
+            origin: None,
+        }
+    }
+
+    /// Others that say the same.
+    pub fn copy(&self, alloc: Global) -> Result<RequestFields, AllocError>
+        ensures { IfOk result (λ copy. what_fields copy ≡ what_fields self.now) }
+    {
+        Ok(RequestFields {
+            authorization: copy_of(alloc, &self.authorization)?,
+            content_type: copy_of(alloc, &self.content_type)?,
+            host: copy_of(alloc, &self.host)?,
+            origin: copy_of(alloc, &self.origin)?,
+        })
+    }
+}
