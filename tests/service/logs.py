@@ -12,7 +12,7 @@ from files import SOUND
 from folders import SOON, Folder, instance_of, put
 from operators import KEY, Port
 from participant import Participant, wait_until
-from service import PATIENCE, Service, check, equal, number_of
+from service import PATIENCE, Service, check, equal, free_port, number_of
 
 LEVELS = ("error", "warn", "info", "debug")
 PRIORITIES = {"error": "<3>", "warn": "<4>", "info": "<6>", "debug": "<7>"}
@@ -213,8 +213,9 @@ def test_journals_that_roll_and_are_put_away_are_told_of(setting):
 
 def test_what_a_service_tells_anyway_is_told_at_each_level(setting):
     put(setting, "stray", b"")
+    port = free_port()
     for options, wanted_line in (((), "lra: {}/stray is no journal"), (("--log", "error"), "{}/stray is no journal")):
-        with Folder(setting, *options, front=["env", "-u", "JOURNAL_STREAM"]) as folder:
+        with Folder(setting, *options, port=port, front=["env", "-u", "JOURNAL_STREAM"]) as folder:
             told = folder.told()
         text = wanted_line.format(folder.folder)
         if options:
