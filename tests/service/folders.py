@@ -213,6 +213,26 @@ def test_a_journal_that_has_ended_is_put_away_and_the_newest_never_is(setting):
         equal("the journals that are sound", check_sound(folder), 2)
 
 
+def files_of(process, stem):
+    """How many files of this name a process has open."""
+    found = 0
+    for name in glob.glob(f"/proc/{process.pid}/fd/*"):
+        with contextlib.suppress(FileNotFoundError):
+            found += f"{stem}.journal" in os.readlink(name)
+    return found
+
+
+def test_a_journal_s_file_is_closed_while_nobody_asks(setting):
+    with Folder(setting, *SOON) as folder, folder.client() as client:
+        actions = folder.first(3)
+        for action in actions:
+            client.end(action, "close")
+        first = instance_of(actions[0])
+        check("its file is open", files_of(folder.process, first) > 0)
+        wait_until("it is put away", lambda: folder.ended() == [first])
+        wait_until("its file is closed", lambda: files_of(folder.process, first) == 0, 3)
+
+
 def test_a_journal_with_an_action_that_has_not_ended_stays(setting):
     with Folder(setting, *SOON) as folder, folder.client() as client:
         actions = folder.first(3)
