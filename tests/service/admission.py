@@ -7,6 +7,7 @@ import re
 
 import journal
 from bases import Based, folder_of
+from operators import WatchedFolder, measures
 from options import config, serve_by, told_of
 from participant import Participant, wait_until
 from service import HOST, PATIENCE, check, equal, id_of, is_ready
@@ -186,6 +187,20 @@ def test_a_key_is_looked_at_first_and_then_the_host(setting):
         equal("a key, by another name", answer(service, fields=evil | bearer(SHOP), host="evil.org"), NO_HOST)
         equal("a key, from another page", answer(service, fields=evil | bearer(SHOP), host="lra.example.com"), NO_ORIGIN)
         equal("a key, by its name", answer(service, fields=bearer(SHOP), host="lra.example.com"), LET_IN)
+
+
+def test_denied_requests_are_counted_by_why(setting):
+    with WatchedFolder(setting, "--key", key_file(setting), "--origin", "lra.example.com") as service:
+        for _ in range(3):
+            equal("no key", answer(service), NO_KEY)
+        for _ in range(2):
+            equal("another name", answer(service, fields=bearer(SHOP), host="evil.org"), NO_HOST)
+        evil = {"Origin": "http://evil.org"}
+        equal("another page", answer(service, fields=evil | bearer(SHOP), host="lra.example.com"), NO_ORIGIN)
+        equal("one that is let in", answer(service, fields=bearer(SHOP), host="lra.example.com"), LET_IN)
+        found = measures(service)
+    denied = {re.search('"(.*)"', name)[1]: count for name, count in found.items() if name.startswith("lra_requests_denied_total")}
+    equal("how many were denied", denied, {"WrongKey": 3, "WrongHost": 2, "WrongOrigin": 1})
 
 
 def test_keys_and_names_in_a_file_and_what_is_no_name(setting):
