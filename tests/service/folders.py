@@ -63,9 +63,8 @@ class Folder(Service):
         return super().kill(*signals)
 
     def told(self):
-        """What it has told on standard error so far."""
-        self.errors.seek(0)
-        return self.errors.read().decode()
+        """What it has told on standard error so far. The file's place is the service's, too, so that it isn't moved."""
+        return os.pread(self.errors.fileno(), os.fstat(self.errors.fileno()).st_size, 0).decode()
 
     def path(self, name):
         return f"{self.folder}/{name}"

@@ -1,6 +1,7 @@
 """What a service logs on standard error: lines of words and of JSON, by level, no more of them than can be read, and what never stands in them."""
 import datetime
 import json
+import os
 import re
 import subprocess
 import tempfile
@@ -55,9 +56,8 @@ class Logged(Port, Service):
         equal("the status", self.process.wait(PATIENCE), 0)
 
     def told(self):
-        """What it has told on standard error so far."""
-        self.errors.seek(0)
-        return self.errors.read().decode()
+        """What it has told on standard error so far. The file's place is the service's, too, so that it isn't moved."""
+        return os.pread(self.errors.fileno(), os.fstat(self.errors.fileno()).st_size, 0).decode()
 
     def wait_for(self, text):
         """Waits until that stands in a line."""
