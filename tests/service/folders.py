@@ -12,7 +12,7 @@ import uuid
 import journal
 from files import SOUND, UNSOUND
 from participant import Participant, wait_until
-from service import HOST, PATIENCE, LeftOut, Run, Service, check, equal, free_port, id_of
+from service import HOST, PATIENCE, LeftOut, Run, Telling, check, equal, free_port, id_of
 
 NAME = re.compile(r"[0-9a-f]{15}\.journal")
 # The instance of files.SOUND, as a journal's name has it.
@@ -36,7 +36,7 @@ def instance_of(uri):
     return digits[:12] + digits[13:16]
 
 
-class Folder(Service):
+class Folder(Telling):
     """The program, serving a folder of journals by options. What it tells on standard error goes to a file."""
 
     def __init__(self, setting, *options, port=None, workers=2, front=()):
@@ -46,25 +46,6 @@ class Folder(Service):
         self.words[2:2] = options
         self.words[:0] = front
         self.stops = "--stop-at-eof" in options
-
-    def __enter__(self):
-        self.errors = tempfile.TemporaryFile()
-        self.begin(subprocess.PIPE if self.stops else subprocess.DEVNULL, self.errors)
-        line = self.first_line()
-        if line != f"serving {self.address}\n":
-            told, taken = self.told(), self.seconds()
-            self.kill()
-            raise AssertionError(f"the service says {line!r} and {told!r} after {taken:.1f} s of a processor, wanted 'serving {self.address}'")
-        return self
-
-    def kill(self, *signals):
-        if self.stops and not self.process.stdin.closed:
-            self.process.stdin.close()
-        return super().kill(*signals)
-
-    def told(self):
-        """What it has told on standard error so far. The file's place is the service's, too, so that it isn't moved."""
-        return os.pread(self.errors.fileno(), os.fstat(self.errors.fileno()).st_size, 0).decode()
 
     def path(self, name):
         return f"{self.folder}/{name}"

@@ -1,10 +1,8 @@
 """What a service logs on standard error: lines of words and of JSON, by level, no more of them than can be read, and what never stands in them."""
 import datetime
 import json
-import os
 import re
 import subprocess
-import tempfile
 import threading
 import time
 
@@ -13,7 +11,7 @@ from files import SOUND
 from folders import SOON, Folder, instance_of, put
 from operators import KEY, Port
 from participant import Participant, wait_until
-from service import PATIENCE, Service, check, equal, free_port, number_of
+from service import PATIENCE, Telling, check, equal, free_port, number_of
 
 LEVELS = ("error", "warn", "info", "debug")
 PRIORITIES = {"error": "<3>", "warn": "<4>", "info": "<6>", "debug": "<7>"}
@@ -27,37 +25,20 @@ SECRETS = ("someone", "word-of-theirs", "path-of-theirs", "token-of-theirs")
 MOST = 100
 
 
-class Logged(Port, Service):
+class Logged(Port, Telling):
     """A service with a port for operators, whose standard error goes to a file. It ends with its standard input."""
+
+    stops = True
 
     def __init__(self, setting, *options, environment=()):
         super().__init__(setting.program, setting.journal)
         self.words[2:2] = ["--stop-at-eof", *self.open_port(setting, KEY), *options]
         self.words[:0] = ["env", "-u", "JOURNAL_STREAM", *environment]
 
-    def __enter__(self):
-        self.errors = tempfile.TemporaryFile()
-        self.begin(subprocess.PIPE, self.errors)
-        line = self.first_line()
-        if line != f"serving {self.address}\n":
-            told = self.told()
-            self.kill()
-            raise AssertionError(f"the service says {line!r} and {told!r}")
-        return self
-
-    def kill(self, *signals):
-        if not self.process.stdin.closed:
-            self.process.stdin.close()
-        return super().kill(*signals)
-
     def end(self):
         """Has it end gently."""
         self.process.stdin.close()
         equal("the status", self.process.wait(PATIENCE), 0)
-
-    def told(self):
-        """What it has told on standard error so far. The file's place is the service's, too, so that it isn't moved."""
-        return os.pread(self.errors.fileno(), os.fstat(self.errors.fileno()).st_size, 0).decode()
 
     def wait_for(self, text):
         """Waits until that stands in a line."""

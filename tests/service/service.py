@@ -8,6 +8,7 @@ import signal
 import socket
 import struct
 import subprocess
+import tempfile
 import threading
 import uuid
 from collections import namedtuple
@@ -202,6 +203,31 @@ class Service:
         with open(f"/proc/{self.process.pid}/stat", "rb") as it:
             fields = it.read().rsplit(b")", 1)[1].split()
         return (int(fields[11]) + int(fields[12])) / os.sysconf("SC_CLK_TCK")
+
+
+class Telling(Service):
+    """A service whose standard error goes to a file. Where it `stops` it ends with its standard input."""
+
+    stops = False
+
+    def __enter__(self):
+        self.errors = tempfile.TemporaryFile()
+        self.begin(subprocess.PIPE if self.stops else subprocess.DEVNULL, self.errors)
+        line = self.first_line()
+        if line != f"serving {self.address}\n":
+            told, taken = self.told(), self.seconds()
+            self.kill()
+            raise AssertionError(f"the service says {line!r} and {told!r} after {taken:.1f} s of a processor, wanted 'serving {self.address}'")
+        return self
+
+    def kill(self, *signals):
+        if self.stops and not self.process.stdin.closed:
+            self.process.stdin.close()
+        return super().kill(*signals)
+
+    def told(self):
+        """What it has told on standard error so far. The file's place is the service's, too, so that it isn't moved."""
+        return os.pread(self.errors.fileno(), os.fstat(self.errors.fileno()).st_size, 0).decode()
 
 
 def left_over():
