@@ -50,14 +50,34 @@ def drain(proxy, sites, load, site):
     site.kill()
 
 
-def replace(stack, proxy, sites, load, site, make):
-    """A site's folder is served at another address: first it rests, then the old coordinator ends, then the new one begins."""
+def rest(proxy, sites, site):
+    """Nothing is sent to a site any more, and its coordinator ends."""
     behind = [it.behind() for it in sites]
     proxy.change(behind)
     time.sleep(1)
     proxy.rest(behind[sites.index(site)])
     time.sleep(1)
     site.kill()
+
+
+def drain_by_itself(proxy, sites, load, site):
+    """A site is started again so that it takes no outermost starts, and ends once all in it has. The proxy is told nothing of that: it asks who is ready."""
+    rest(proxy, sites, site)
+    site.words[2:2] = ["--drain"]
+    site.words[site.words.index("--remember") + 1] = "2"
+    site.__enter__()
+    before = load.starts()[f"{site.number:04x}"]
+    proxy.change([it.behind() for it in sites])
+    equal("its end", site.process.wait(3 * PATIENCE), 0)
+    check("it says so", "is drained" in site.told())
+    sites.remove(site)
+    proxy.change([it.behind() for it in sites])
+    equal("starts that the draining site took", load.starts()[f"{site.number:04x}"], before)
+
+
+def replace(stack, proxy, sites, load, site, make):
+    """A site's folder is served at another address: first it rests, then the old coordinator ends, then the new one begins."""
+    rest(proxy, sites, site)
     other = stack.enter_context(make(site.number))
     sites[sites.index(site)] = other
     before = load.starts()[f"{site.number:04x}"]
@@ -66,10 +86,11 @@ def replace(stack, proxy, sites, load, site, make):
 
 
 def steps(stack, proxy, sites, load, make):
-    """What is done to the sites, one after another: a fourth is added, the first drained, and the second replaced."""
+    """What is done to the sites, one after another: a fourth is added, the first drained, the second replaced, and the third drains by itself."""
     yield "added", lambda: add(proxy, sites, load, sites[-1])
     yield "drained", lambda: drain(proxy, sites, load, sites[0])
     yield "replaced", lambda: replace(stack, proxy, sites, load, sites[0], make)
+    yield "drained by itself", lambda: drain_by_itself(proxy, sites, load, sites[1])
 
 
 def change(setting, kind):

@@ -56,10 +56,10 @@ def without_locks(setting):
 
 
 @contextlib.contextmanager
-def site_of_two(setting, front=(), folder=None, kind=Etcd, times=(TTL, MARGIN)):
+def site_of_two(setting, front=(), folder=None, kind=Etcd, times=(TTL, MARGIN), fenced=False):
     """A site with two machines, the first of which has the lease."""
     with kind(f"{setting.folder}/etcd") as etcd:
-        site = LeasedSite(setting, etcd, 1, BASE, front, folder, times)
+        site = LeasedSite(setting, etcd, 1, BASE, front, folder, times, fenced)
         site.etcd = etcd
         first, second = site.holders
         try:
@@ -262,6 +262,22 @@ def test_where_each_lock_is_had_a_pause_of_both_lets_two_serve(setting):
     refused = setting.run("serve", "--site", "1", f"{HOST}:{free_port()}", site.folder, "1")
     check(f"a start says {refused}", refused.status == 1 and " unsound line " in refused.output)
     return f"{twice} of {len(actions)} identifiers were given twice; {told.output.splitlines()[0]}"
+
+
+def test_where_each_lock_is_had_the_fence_keeps_them_apart(setting):
+    """The same harm, where the file that says whose turn it is is looked at: the first's coordinator ends by itself."""
+    with site_of_two(setting, without_locks(setting), fenced=True) as site:
+        first, second = site.holders
+        action, program = started(first), first.program()
+        pids = pause_all_but_the_program(site, first)
+        wait_until("the second serves", lambda: serves(second), TAKEOVER + PATIENCE)
+        check("the first's is alive", not alive(program))
+        with client_of(second) as client:
+            equal("the action", client.status(action), "Active")
+            equal("its end", client.end(action, "close"), "Closed")
+        check(f"the first says {first.told()}", "the fence is another's now" in first.told())
+        go_on(*pids)
+    audited(setting.program, site.folder)
 
 
 def test_a_machine_that_was_paused_has_its_coordinator_killed_as_it_goes_on(setting):

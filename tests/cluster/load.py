@@ -95,7 +95,10 @@ class Caller:
             self.drop()
         if reply.status in NOBODY and not text.startswith(b"{"):
             return None, reply.status in self.unsent
-        return Reply(reply.status, reply.reason, dict(reply.getheaders()), json.loads(text)), False
+        body = json.loads(text)
+        if reply.status == 503 and body.get("error") == "Full":
+            return None, True  # a site that drains has refused it: nothing was done
+        return Reply(reply.status, reply.reason, dict(reply.getheaders()), body), False
 
     def ask(self, method, path, **keys):
         """The answer. What may be repeated is, until it is answered; a start may not be."""

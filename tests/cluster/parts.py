@@ -122,13 +122,16 @@ def running(program, folder):
 class Holder:
     """One that runs a site's coordinator while it has the site's lease: a machine of the site."""
 
-    def __init__(self, setting, etcd, number, folder, base, front=(), times=(TTL, MARGIN)):
+    def __init__(self, setting, etcd, number, folder, base, front=(), times=(TTL, MARGIN), fence=None):
         self.setting, self.folder = setting, folder
         self.address, self.operators = f"{HOST}:{free_port()}", f"{HOST}:{free_port()}"
         self.name = f"lra/site/{number}"
         self.serves = [*front, setting.program, "serve", *OPTIONS, "--site", str(number), "--base", base, "--operators", self.operators, self.address, folder, "2"]
         self.lease = [f"{setting.root}/examples/cluster/lease", "--ttl", str(times[0]), "--margin", str(times[1])]
         self.lease += [word for url in etcd.urls for word in ("--etcd", url)]
+        if fence:
+            self.lease += ["--fence", fence]
+            self.serves[-3:-3] = ["--fence", fence]
         self.errors = tempfile.TemporaryFile()
         self.process = None
 
@@ -162,10 +165,11 @@ class Holder:
 class LeasedSite:
     """A site with two machines, of which one at a time has the lease."""
 
-    def __init__(self, setting, etcd, number, base, front=(), folder=None, times=(TTL, MARGIN)):
+    def __init__(self, setting, etcd, number, base, front=(), folder=None, times=(TTL, MARGIN), fenced=True):
         self.number, self.folder = number, folder or f"{setting.folder}/site-{number}"
         os.makedirs(self.folder, exist_ok=True)
-        self.holders = [Holder(setting, etcd, number, self.folder, base, front, times) for _ in range(2)]
+        fence = self.folder + ".turn" if fenced else None
+        self.holders = [Holder(setting, etcd, number, self.folder, base, front, times, fence) for _ in range(2)]
 
     def behind(self, takes_starts=True):
         return Site(self.number, [(it.address, it.operators) for it in self.holders], takes_starts)

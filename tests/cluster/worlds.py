@@ -11,7 +11,7 @@ from folders import check_sound, instance_of
 from leases import without_locks
 from load import audited, identifier
 from participant import Participant, wait_until
-from parts import PlainSite
+from parts import OPTIONS, PlainSite
 from proxies import Proxy
 from routes import caller_of, cluster
 from service import HOST, PATIENCE, LeftOut, check, equal, free_port, id_of
@@ -221,9 +221,9 @@ def backup_of(site, to):
     shutil.copy(site.path("newest"), to)
 
 
-def restored(setting, prepare):
-    """A folder from a backup is served in the place of a later one. Answers the actions of the backup, those that are lost, new ones, and whether an older
-    action's member was given an identifier again."""
+def restored(setting, *options):
+    """A folder from a backup is served in the place of a later one, with these options. Answers the actions of the backup, those that are lost, new ones, and
+    what a join of an older action and a start nested in one are answered, beside a lost member."""
     backup = setting.folder + "/backup"
     with PlainSite(setting, 1, BASE) as site, Participant() as member, site.client() as client:
         kept = site.first(2)
@@ -233,30 +233,28 @@ def restored(setting, prepare):
         site.kill()
     shutil.rmtree(site.folder)
     shutil.copytree(backup, site.folder)
-    prepare(site.folder)
-    with PlainSite(setting, 1, BASE) as other, other.client() as client:
+    with PlainSite(setting, 1, BASE, options=[*OPTIONS, *options]) as other, other.client() as client:
         found = {client.call("GET", f"/lra-coordinator/{id_of(it)}").code for it in lost}
         equal("what was lost", found, {404})
         equal("what was kept", {client.status(it) for it in kept}, {"Active"})
         new = other.first(3)
-        is_again = client.join(kept[0], compensate="http://another.test/") == joined
+        again = client.call("PUT", f"/lra-coordinator/{id_of(kept[0])}", compensate="http://another.test/")
+        nested = client.call("POST", "/lra-coordinator", parent=kept[0])
         other.kill()
     check_sound(other)
-    return kept, lost, new, is_again
+    return kept, lost, new, joined, again, nested
 
 
 def test_a_folder_from_a_backup_gives_identifiers_again(setting):
     """Nothing tells it: the journal is sound, and a client that has a lost identifier meets another's action."""
-    _, lost, new, is_again = restored(setting, lambda folder: None)
+    _, lost, new, joined, again, nested = restored(setting)
     equal("the new identifiers", new, lost)
-    check("a member's wasn't given again", is_again)
+    equal("a member's", again.body["recovery"], joined)
+    equal("a nested start", nested.code, 201)
 
 
-def test_a_restored_folder_gives_no_actions_again_once_a_journal_was_begun_in_it(setting):
-    """But in actions that are older than the backup members are given identifiers again, and so are actions nested there."""
-    prepare = lambda folder: subprocess.run([f"{setting.root}/examples/cluster/restored", folder, "1"], check=True, stdout=subprocess.DEVNULL)
-    kept, lost, new, is_again = restored(setting, prepare)
+def test_a_folder_that_is_said_to_be_restored_gives_no_identifier_again(setting):
+    kept, lost, new, _, again, nested = restored(setting, "--restored")
     equal("identifiers that were given twice", set(map(id_of, new)) & set(map(id_of, lost + kept)), set())
     check("the new ones are of a later journal", min(map(instance_of, new)) > max(map(instance_of, lost)))
-    check("a member's wasn't given again", is_again)
-
+    equal("what is begun in an older one", [(it.code, it.body["error"]) for it in (again, nested)], [(503, "Full")] * 2)

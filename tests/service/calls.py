@@ -46,7 +46,7 @@ def words_of_help(setting):
     told, serving = setting.run("--help").output, setting.run("serve", "--help").output
     verbs, calls = (set(re.findall(rf"^lra ({word}) ", told, re.M)) for word in ("[a-z]+", "--[a-z]+"))
     options = set(re.findall(r"--[a-z][a-z-]*", serving))
-    equal("how many there are", (len(verbs), len(calls), len(options)), (9, 2, 27))
+    equal("how many there are", (len(verbs), len(calls), len(options)), (9, 2, 30))
     return verbs, calls, options
 
 
@@ -75,7 +75,7 @@ def test_the_unit_s_settings_are_the_usual_ones(setting):
     equal("what would be served", told, usual)
     _, _, options = words_of_help(setting)
     named = {f"--{it}" for it in re.findall(r"^#([a-z-]+) = ", text, re.M)}
-    equal("what isn't among them", options - named, {"--stop-at-eof", "--config", "--check", "--help", *(f"--{word}" for word in WORDS)})
+    equal("what isn't among them", options - named, {"--stop-at-eof", "--drain", "--restored", "--config", "--check", "--help", *(f"--{word}" for word in WORDS)})
 
 
 def test_an_address_that_is_no_base_cannot_be_served(setting):

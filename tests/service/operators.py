@@ -132,7 +132,7 @@ def test_health_is_up(setting):
     for kind in (Watched, WatchedFolder):
         with kind(setting) as service, service.client() as client:
             client.start()
-            for probe, names in (("", ["journal", "lock", "room"]), ("/live", ["journal", "lock"]), ("/ready", ["journal", "lock", "room"]), ("/started", ["started"])):
+            for probe, names in (("", ["journal", "lock", "room", "starts"]), ("/live", ["journal", "lock"]), ("/ready", ["journal", "lock", "room", "starts"]), ("/started", ["started"])):
                 told = service.told("/health" + probe)
                 equal("the status", told["status"], "UP")
                 equal("the checks", [(it["name"], it["status"]) for it in told["checks"]], [(it, "UP") for it in names])

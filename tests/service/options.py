@@ -31,7 +31,7 @@ NUMBERS = (
     ("site", 0, 0, 65535),
 )
 # Options whose values are texts, and those of them that may be said any number of times.
-WORDS = ("base", "also-base", "token", "operators", "operators-key", "key", "origin", "members", "log", "log-format")
+WORDS = ("base", "also-base", "token", "operators", "operators-key", "key", "origin", "members", "log", "log-format", "fence")
 LISTS = ("also-base", "origin", "members")
 USUAL = {name: str(usual) for name, usual, _, _ in NUMBERS} | {"stop-at-eof": "false"}
 # How many seconds what is in flight has at a gentle end.
@@ -137,7 +137,7 @@ def test_a_file_that_is_no_table_of_settings_is_refused(setting):
     missing = setting.folder + "/missing"
     refused(setting, f"cannot read {missing}", "--config", missing)
     refused(setting, f"cannot read {setting.folder}", "--config", setting.folder)
-    for key in ("colour", "config", "check", "Callbacks"):
+    for key in ("colour", "config", "check", "drain", "restored", "Callbacks"):
         path = config(setting, f"{key} = 1\n")
         refused(setting, f"{path}: {key}: no such setting", "--config", path)
     for value in ('"7"', "7.0", "true", "[7]", "{a = 7}", "1979-05-27"):
@@ -182,7 +182,7 @@ def test_words_of_the_log_and_of_terms_are_told_and_faults_named(setting):
 def test_help_is_told(setting):
     told = setting.run("serve", "--help")
     equal("the status, and what is told", (told.status, told.told), (0, ""))
-    for name in list(USUAL) + ["config", "check", *WORDS]:
+    for name in list(USUAL) + ["config", "check", "drain", "restored", *WORDS]:
         check(f"--{name} is missing", f"--{name}" in told.output)
     check("the words are missing", "lra serve [OPTIONS] <ADDRESS> <FILE> <WORKERS>" in told.output)
 

@@ -3,6 +3,7 @@ import os
 import signal
 import subprocess
 import time
+from xml.etree import ElementTree
 
 from folders import SOON, Folder
 from participant import wait_until
@@ -113,6 +114,58 @@ def test_a_story_on_standard_input(setting):
     text = played(setting, (6100, "reply 1 done"))
     it = subprocess.run([setting.program, "explain", "-", "2"], input=text, capture_output=True, text=True)
     equal("the action", (it.returncode, it.stdout, it.stderr), (0, ENDED, ""))
+
+
+def drawn(setting, name):
+    return setting.run("explain", setting.journal, name, "--svg")
+
+
+def pieces(picture, *names):
+    """The pieces of a picture that have these names, in their order, each as its name, its class and its text."""
+    found = ((it.tag.removeprefix("{http://www.w3.org/2000/svg}"), it.get("class"), it.text) for it in ElementTree.fromstring(picture).iter())
+    return [it for it in found if it[0] in names]
+
+
+def test_a_picture_of_a_story(setting):
+    """Its texts are the lines of the story, and beside each entry's are its moment and its mark."""
+    done, failed = (6100, "reply 1 done"), (6100, "reply 1 failed")
+    for more, name, lines in (((), "2", WAITING), ((done,), ID, ENDED), ((failed,), "2", FAILED), ((done,), "1", OUTER)):
+        played(setting, *more)
+        picture = drawn(setting, name)
+        equal("the status, and what is told", (picture.status, picture.told), (0, ""))
+        texts = pieces(picture.output, "text")
+        equal("the lines", "".join(text for _, look, text in texts if look != "moment"), lines)
+        moments = [look for _, look, text in texts if look == "moment" and text.startswith("2026-11-26T22:15:0")]
+        equal("how many moments there are", len(moments), lines.count("\nline "))
+        check("it stands alone", not any(it in picture.output for it in ("<script", "href", "url(", "@import")))
+    member, nested = "rect", "path"
+    played(setting, failed)
+    wanted = [("circle", "Active"), (member, "joined"), (member, "joined"), (member, "left"), ("circle", "Cancelling")]
+    wanted += [(member, "asked"), (member, "failed"), ("circle", "FailedToCancel")]
+    marks = pieces(drawn(setting, "2").output, "circle", member, nested)
+    equal("the marks", [it[:2] for it in marks if it[1] != "lane"], wanted)
+    marks = pieces(drawn(setting, "1").output, "circle", member, nested)
+    wanted = [("circle", "Active"), (nested, "Active"), (nested, "Cancelling"), (nested, "FailedToCancel")]
+    equal("the marks of the one above it", [it[:2] for it in marks if it[1] != "lane"], wanted)
+
+
+def test_no_picture(setting):
+    """Where the action isn't there, or the journal is unsound, the same is told as without one."""
+    text = played(setting)
+    for name in ("3", "0", ID[:-1] + "9"):
+        equal(name, drawn(setting, name), (1, f"unknown action {name}\n", ""))
+    for words in (("--svg", setting.journal, "2"), (setting.journal, "--svg", "2"), (setting.journal, "--svg"), (setting.journal, "2", "--png")):
+        equal(f"explain {words}", setting.run("explain", *words), (2, "", "lra: usage\n"))
+    for words in ((setting.journal, "2", "--svg", "--svg"), (setting.journal, "2x", "--svg"), (setting.journal, "2", "")):
+        equal(f"explain {words}", setting.run("explain", *words), (2, "", "lra: usage\n"))
+    with open(setting.journal, "a") as it:
+        it.write(f"1 {AT + 9000} end 1 Closed\n")
+    equal("a rule is broken", drawn(setting, "2"), (1, "unsound line 10 unsettled\n", ""))
+    with open(setting.journal, "w") as it:
+        it.write(text[:-1])
+    equal("the last line is torn", drawn(setting, "2"), (1, "unsound line 9 grammar\n", ""))
+    os.remove(setting.journal)
+    equal("no journal", drawn(setting, "2"), (2, "", f"lra: cannot read {setting.journal}\n"))
 
 
 def test_a_listing(setting):

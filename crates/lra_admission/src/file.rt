@@ -5,18 +5,16 @@ ghost use Rattle.lra_admission.specs.inner.Files as spec;
 
 use crate::fault::KeysFault;
 use crate::keys::Keys;
+use lra_files::{SmallFault, is_shared, read_whole};
 use std::alloc::Global;
 use std::fs;
 use std::fs::File;
-use std::io::{ErrorKind, Read};
-use std::os::unix::fs::{MetadataExt, PermissionsExt};
+use std::io::Read;
+use std::os::unix::fs::MetadataExt;
 use std::rt::Files;
 
 /// How many bytes the file has at most.
-const LONGEST: usize = 65_536;
-
-/// Those bits of a file's mode that let others than its owner read or write it.
-const OTHERS: u32 = 0o077;
+const LONGEST: u32 = 65_536;
 
 /// By which it is known that the file of a name is another, or has changed.
 #[derive(Clone, Copy, Debug, PartialEq, Eq)]
@@ -64,27 +62,15 @@ impl<R: Files<File = File>> KeyFiles for R {
     }
 }
 
-/// Whether others than its owner may read or write a file. That of which it isn't told counts as theirs.
-fn is_shared(file: &File) -> bool {
-    match file.metadata() {
-        Ok(metadata) => metadata.permissions().mode() & OTHERS != 0,
-        Err(_) => true,
-    }
-}
-
 /// The keys that a reader has, all to its end.
 pub(crate) fn keys_from<F: Read + Drop>(alloc: Global, file: F) -> Result<Keys, KeysFault>
     ensures ok { IfSome (F.remaining file) (λ text. IfOk result (spec.Holds text)) }
     ensures err { IfSome (F.remaining file) (λ text. IfErr result (spec.HoldsNone text)) }
 {
-    let mut text = Vec::new(alloc);
-    let mut front = file.take(LONGEST as u64 + 1);
-    let read = front.read_to_end(&mut text);
-    drop(front);
-    match read {
-        Ok(_) if text.len() > LONGEST => Err(KeysFault::TooLong),
-        Ok(_) => Keys::read(alloc, text.as_slice()),
-        Err(error) if error.kind() == ErrorKind::OutOfMemory => Err(KeysFault::Memory),
-        Err(_) => Err(KeysFault::File),
+    match read_whole(alloc, file, LONGEST) {
+        Ok(text) => Keys::read(alloc, text.as_slice()),
+        Err(SmallFault::TooLong) => Err(KeysFault::TooLong),
+        Err(SmallFault::Memory) => Err(KeysFault::Memory),
+        Err(SmallFault::File) => Err(KeysFault::File),
     }
 }

@@ -8,6 +8,7 @@ mod reopening;
 mod sample;
 
 use anyhow::Result;
+pub use reopening::fed;
 
 /// Prints what going on from a journal takes, what memory rows take, a line for each kind of call at each size, and one for each kind
 /// of block.

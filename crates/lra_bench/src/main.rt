@@ -15,6 +15,7 @@ mod office;
 mod pieces;
 mod requests;
 mod setting;
+mod sites;
 mod stopwatch;
 mod timers;
 mod wire;
@@ -32,6 +33,7 @@ lock      handovers of the ticket lock, beside a Mutex
 office    commands a second through an office by several threads, beside a Mutex and one thread alone
 pieces    the same as front, by a connection as steps: before the journal stands a line with the sizes in which the bytes come
 requests  HTTP requests answered a second, beside reading them and beside their commands
+sites     many sites in memory, with losses and crashes by a seed, each journal audited at the end: lra_bench sites SEED SITES ACTIONS
 timers    the calls of an agenda, as its pairs grow from 1,000 to 400,000
 wire      requests read a second, whole and in small pieces";
 
@@ -47,6 +49,7 @@ fn run(rt: &HostRuntime, name: &str) -> anyhow::Result<ExitCode> {
         "ids" => ids::run(rt)?,
         "pieces" => front::run(rt, true)?,
         "requests" => requests::run(rt)?,
+        "sites" => return sites::run(rt),
         "timers" => timers::run(rt)?,
         "wire" => wire::run(rt)?,
         _ => {

@@ -2,16 +2,27 @@
 
 use lra_journal::read_number;
 use lra_model::ActionStatus;
+use lra_stories::Form;
 
 /// What these words ask for.
 #[derive(Clone, Copy)]
 pub(crate) enum Asking<'a> {
     /// What happened to an action.
-    Explain { file: &'a str, name: &'a str },
+    Explain {
+        file: &'a str,
+        form: Form,
+        name: &'a str,
+    },
     /// A line for each action.
-    List { place: &'a str, choice: Listed },
+    List {
+        place: &'a str,
+        choice: Listed,
+    },
     /// The audit of a journal, or of a folder's, as it grows.
-    Follow { place: &'a str, stop_at_eof: bool },
+    Follow {
+        place: &'a str,
+        stop_at_eof: bool,
+    },
 }
 
 /// Which actions are listed, and whether their ages count up to now.
@@ -102,6 +113,12 @@ fn read_on<'a>(verb: &str, place: &'a str, rest: &'a [String]) -> Option<Asking<
         "explain" => match rest {
             [name] => Some(Asking::Explain {
                 file: place,
+                form: Form::Text,
+                name: name.as_str(),
+            }),
+            [name, option] if option.as_str() == "--svg" => Some(Asking::Explain {
+                file: place,
+                form: Form::Svg,
                 name: name.as_str(),
             }),
             _ => None,

@@ -1,6 +1,8 @@
 //! By which terms is served, as options say.
 
 use lra_admission::{KeyBook, KeyFiles, KeysFault, Name};
+use lra_fence::{Fence, Fenced};
+use lra_files::SmallFault;
 use lra_ids::Base;
 use lra_options::{Options, OptionsFault, Said, Word};
 use lra_rules::{Rule, RuleFault, Rules};
@@ -9,6 +11,7 @@ use lra_watchpost::{PortFault, read_key};
 use std::alloc::{AllocError, Global};
 use std::fs::File;
 use std::rt::Files;
+use std::sync::Arc;
 
 /// How many bytes a token has at least, and at most.
 const SHORTEST: usize = 16;
@@ -30,6 +33,7 @@ pub(crate) struct Rest {
     keys: Option<KeyBook>,
     names: Vec<Name>,
     rules: Rules,
+    fence: Option<Arc<Fence>>,
 }
 
 impl Grounds {
@@ -51,10 +55,15 @@ impl Rest {
             rules: &self.rules,
         }
     }
+
+    /// What says whose the folder is, if anything does.
+    pub(crate) fn fence(&self) -> Option<&Arc<Fence>> {
+        self.fence.as_ref()
+    }
 }
 
 /// A fault that a text tells.
-fn wrong(text: Result<String, AllocError>) -> OptionsFault {
+pub(crate) fn wrong(text: Result<String, AllocError>) -> OptionsFault {
     match text {
         Ok(text) => OptionsFault::Wrong(text),
         Err(_) => OptionsFault::Memory,
@@ -84,6 +93,29 @@ fn keys_of<R: AllocGlobal + Files<File = File> + KeyFiles>(
     match KeyBook::open(rt, alloc, path) {
         Ok(book) => Ok(Some(book)),
         Err(fault) => Err(keys_fault(alloc, path, fault)),
+    }
+}
+
+/// What says whose the folder is, if a file that does is named.
+fn fence_of<R: AllocGlobal + Fenced>(
+    rt: &R,
+    said: &Said,
+) -> Result<Option<Arc<Fence>>, OptionsFault> {
+    let alloc = rt.alloc();
+    let Some(path) = said.text(Word::Fence) else {
+        return Ok(None);
+    };
+    match rt.fence(path) {
+        Ok(fence) => match Arc::new(alloc, fence) {
+            Ok(fence) => Ok(Some(fence)),
+            Err(refused) => {
+                drop(refused);
+                Err(OptionsFault::Memory)
+            }
+        },
+        Err(SmallFault::Memory) => Err(OptionsFault::Memory),
+        Err(SmallFault::TooLong) => Err(keys_fault(alloc, path, KeysFault::TooLong)),
+        Err(SmallFault::File) => Err(keys_fault(alloc, path, KeysFault::File)),
     }
 }
 
@@ -121,6 +153,11 @@ fn is_token(text: &str) -> bool {
     SHORTEST <= text.len() && text.len() <= LONGEST && is_plain
 }
 
+/// That a file has no token.
+fn no_token(alloc: Global, path: &str) -> OptionsFault {
+    wrong(format!(in alloc; "{path}: no token of 16 to 128 letters, digits, - and _"))
+}
+
 /// The token of a file.
 fn token_in<R: AllocGlobal + Files<File = File> + KeyFiles>(
     rt: &R,
@@ -131,16 +168,12 @@ fn token_in<R: AllocGlobal + Files<File = File> + KeyFiles>(
         Ok(token) if is_token(token.as_str()) => Ok(token),
         Ok(token) => {
             drop(token);
-            Err(wrong(format!(in alloc; "{path}: no token of 16 to 128 letters, digits, - and _")))
+            Err(no_token(alloc, path))
         }
         Err(PortFault::Memory) => Err(OptionsFault::Memory),
-        Err(PortFault::KeyFile) => Err(wrong(format!(in alloc; "cannot read {path}"))),
-        Err(PortFault::SharedKey) => {
-            Err(wrong(format!(in alloc; "{path}: others than its owner may read it")))
-        }
-        Err(_) => Err(wrong(format!(in alloc;
-            "{path}: no token of 16 to 128 letters, digits, - and _"
-        ))),
+        Err(PortFault::KeyFile) => Err(keys_fault(alloc, path, KeysFault::File)),
+        Err(PortFault::SharedKey) => Err(keys_fault(alloc, path, KeysFault::Shared)),
+        Err(_) => Err(no_token(alloc, path)),
     }
 }
 
@@ -154,6 +187,14 @@ fn base_with(alloc: Global, base: &str, token: &str) -> Result<Base, OptionsFaul
     }
 }
 
+/// What identifiers are to begin with, if the options say so.
+pub(crate) fn copy_base(options: &Options<'_>) -> Result<Option<Base>, AllocError> {
+    match &options.base {
+        Some(base) => Ok(Some(base.copy()?)),
+        None => Ok(None),
+    }
+}
+
 /// What identifiers begin with, at an address, where that isn't `http://`, the address and `/`; and whether a part of it is a secret.
 fn base_of<R: AllocGlobal + Files<File = File> + KeyFiles>(
     rt: &R,
@@ -162,10 +203,7 @@ fn base_of<R: AllocGlobal + Files<File = File> + KeyFiles>(
 ) -> Result<(Option<Base>, bool), OptionsFault> {
     let alloc = rt.alloc();
     let Some(path) = options.said.text(Word::Token) else {
-        return match &options.base {
-            Some(base) => Ok((Some(base.copy()?), false)),
-            None => Ok((None, false)),
-        };
+        return Ok((copy_base(options)?, false));
     };
     let token = token_in(rt, path)?;
     let base = match &options.base {
@@ -180,7 +218,7 @@ fn base_of<R: AllocGlobal + Files<File = File> + KeyFiles>(
 }
 
 /// What the terms of a service at an address are made of.
-pub(crate) fn grounds_of<R: AllocGlobal + Files<File = File> + KeyFiles>(
+pub(crate) fn grounds_of<R: AllocGlobal + Files<File = File> + KeyFiles + Fenced>(
     rt: &R,
     options: &Options<'_>,
     address: &str,
@@ -194,6 +232,7 @@ pub(crate) fn grounds_of<R: AllocGlobal + Files<File = File> + KeyFiles>(
             keys: keys_of(rt, &options.said)?,
             names: names_of(alloc, &options.said)?,
             rules: rules_of(alloc, &options.said)?,
+            fence: fence_of(rt, &options.said)?,
         },
     })
 }

@@ -13,6 +13,7 @@ use crate::asking::read_asking;
 use crate::serving::{answer_options, answer_serve, have_options};
 use crate::telling::{answer_asking, answer_help};
 use lra_admission::KeyFiles;
+use lra_fence::Fenced;
 use lra_folders::answer_question;
 use lra_opening::{Herald, Watched};
 use lra_reports::{Question, System, settle, tell_usage, words_of};
@@ -42,6 +43,7 @@ fn answer<
     R: AllocGlobal
         + Files<File = File>
         + KeyFiles
+        + Fenced
         + Net<Stream = TcpStream, Listener = TcpListener>
         + Clock
         + Threads

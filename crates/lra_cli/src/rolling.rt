@@ -7,7 +7,7 @@ use lra_ids::Base;
 use lra_opening::Herald;
 use lra_options::Options;
 use lra_reports::tell;
-use lra_rolling::{FolderServed, RollingFault, check_folder, rolling_line, serve_folder};
+use lra_rolling::{Conduct, FolderServed, RollingFault, check_folder, rolling_line, serve_folder};
 use lra_service::{Book, Entry};
 use lra_syncs::Timed;
 use lra_watchpost::Watchpost;
@@ -111,6 +111,11 @@ pub(crate) fn serve_rolling<
         options.file,
         options.workers,
         options.settings,
+        Conduct {
+            drains: options.drains,
+            is_restored: options.is_restored,
+            fence: grounds.fence(),
+        },
         post,
         entry,
         watcher,

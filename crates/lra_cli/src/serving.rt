@@ -1,10 +1,10 @@
 //! What is served.
 
-use crate::grounds::grounds_of;
+use crate::grounds::{Grounds, copy_base, grounds_of, wrong};
 use crate::rolling::{check_rolling, serve_rolling};
 use lra_admission::KeyFiles;
+use lra_fence::Fenced;
 use lra_folders::is_folder;
-use lra_ids::Base;
 use lra_logs::{Format, LevelFilter, Logbook, has_priorities, level_named};
 use lra_opening::NamedFile;
 use lra_options::{Options, OptionsFault, Said, Word, read_options};
@@ -130,26 +130,56 @@ pub(crate) fn put_words<W: Write>(
             put_text(alloc, word.name(), text, writer)?;
         }
     }
+    put_flag("drain = true\n", options.drains, writer)?;
+    put_flag("restored = true\n", options.is_restored, writer)
+}
+
+/// Writes the line of an option that is said.
+fn put_flag<W: Write>(line: &str, is_said: bool, writer: &mut W) -> Result<(), ServeFault> {
+    if is_said {
+        put(writer, line.as_bytes())?;
+    }
     Ok(())
 }
 
-/// The base of their own that identifiers are to begin with, if there is one.
-fn copy_base(options: &Options<'_>) -> Result<Option<Base>, ServeFault> {
-    match &options.base {
-        Some(base) => match base.copy() {
-            Ok(base) => Ok(Some(base)),
-            Err(_) => Err(ServeFault::Run(RunFault::Memory)),
-        },
-        None => Ok(None),
-    }
-}
-
-/// Finds what is wrong with options, before anything is served by them.
-fn look_over<R: AllocGlobal + Files<File = File> + KeyFiles + Env + Clone + Drop>(
+/// That what a folder alone can do isn't asked of a file.
+fn require_folder<R: AllocGlobal + Files>(
     rt: &R,
     options: &Options<'_>,
 ) -> Result<(), OptionsFault> {
-    let grounds = grounds_of(rt, options, options.address)?;
+    let option = if options.drains {
+        "drain"
+    } else if options.is_restored {
+        "restored"
+    } else if options.said.text(Word::Fence).is_some() {
+        "fence"
+    } else {
+        return Ok(());
+    };
+    let file = options.file;
+    if is_folder(rt, file) {
+        Ok(())
+    } else {
+        Err(wrong(format!(in rt.alloc(); "--{option}: {file} is no folder")))
+    }
+}
+
+/// The terms of a service at an address, of options with which nothing is wrong.
+fn sound_grounds<R: AllocGlobal + Files<File = File> + KeyFiles + Fenced>(
+    rt: &R,
+    options: &Options<'_>,
+    address: &str,
+) -> Result<Grounds, OptionsFault> {
+    require_folder(rt, options)?;
+    grounds_of(rt, options, address)
+}
+
+/// Finds what is wrong with options, before anything is served by them.
+fn look_over<R: AllocGlobal + Files<File = File> + KeyFiles + Fenced + Env + Clone + Drop>(
+    rt: &R,
+    options: &Options<'_>,
+) -> Result<(), OptionsFault> {
+    let grounds = sound_grounds(rt, options, options.address)?;
     drop(grounds);
     let book = book_of(rt, &options.said)?;
     drop(book);
@@ -158,15 +188,23 @@ fn look_over<R: AllocGlobal + Files<File = File> + KeyFiles + Env + Clone + Drop
 
 /// Tells what would be served. The watcher is told how far the journal has been read.
 fn answer_check<
-    R: AllocGlobal + Files<File = File> + KeyFiles + Clock + Print + Eprint + Env + Clone + Drop,
+    R: AllocGlobal
+        + Files<File = File>
+        + KeyFiles
+        + Fenced
+        + Clock
+        + Print
+        + Eprint
+        + Env
+        + Clone
+        + Drop,
     H: Herald + Sync,
 >(rt: &R, options: &Options<'_>, watcher: &H) -> u8 {
     if let Err(fault) = look_over(rt, options) {
         return tell_fault(rt, fault);
     }
-    let base = match copy_base(options) {
-        Ok(base) => base,
-        Err(fault) => return settle_serving(rt, Err(fault), options),
+    let Ok(base) = copy_base(options) else {
+        return tell_fault(rt, OptionsFault::Memory);
     };
     if is_folder(rt, options.file) {
         return check_rolling(rt, options, base, watcher);
@@ -249,10 +287,7 @@ fn book_of<R: AllocGlobal + Env + Clone + Drop>(
 /// That a text is none of those that an option may have.
 fn unknown(alloc: Global, word: Word, text: &str, those: &str) -> OptionsFault {
     let name = word.name();
-    match format!(in alloc; "--{name}: {text} is not {those}") {
-        Ok(text) => OptionsFault::Wrong(text),
-        Err(_) => OptionsFault::Memory,
-    }
+    wrong(format!(in alloc; "--{name}: {text} is not {those}"))
 }
 
 /// Serves, until an input has ended if there is one, and answers the program's status. The watcher is told how far the journal has been read.
@@ -260,6 +295,7 @@ fn answer_until<
     R: AllocGlobal
         + Files<File = File>
         + KeyFiles
+        + Fenced
         + Net<Stream = TcpStream, Listener = TcpListener>
         + Clock
         + Threads
@@ -283,7 +319,7 @@ fn answer_until<
         Err(fault) => return settle_serving(rt, Err(fault), options),
     };
     let Spot { address, listener } = spot;
-    let grounds = match grounds_of(rt, options, address.as_str()) {
+    let grounds = match sound_grounds(rt, options, address.as_str()) {
         Ok(grounds) => grounds,
         Err(fault) => return tell_fault(rt, fault),
     };
@@ -332,6 +368,7 @@ pub(crate) fn answer_serve<
     R: AllocGlobal
         + Files<File = File>
         + KeyFiles
+        + Fenced
         + Net<Stream = TcpStream, Listener = TcpListener>
         + Clock
         + Threads
@@ -355,6 +392,8 @@ pub(crate) fn answer_serve<
         base: None,
         also_bases: Vec::new(rt.alloc()),
         said: Said::nothing(rt.alloc()),
+        drains: false,
+        is_restored: false,
         is_check: false,
     };
     answer_until(rt, &options, None, watcher)
@@ -365,6 +404,7 @@ fn answer_serving<
     R: AllocGlobal
         + Files<File = File>
         + KeyFiles
+        + Fenced
         + Net<Stream = TcpStream, Listener = TcpListener>
         + Clock
         + Threads
@@ -410,6 +450,7 @@ pub(crate) fn answer_options<
     R: AllocGlobal
         + Files<File = File>
         + KeyFiles
+        + Fenced
         + Net<Stream = TcpStream, Listener = TcpListener>
         + Clock
         + Threads

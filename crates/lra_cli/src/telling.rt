@@ -8,7 +8,7 @@ use lra_folders::{Found, find, is_folder, open_each, tell_others, width};
 use lra_follow::{Journals, Stop, follow, pause, watch_input};
 use lra_model::Memory;
 use lra_reports::{RunFault, Sources, System, put, settle, tell, tell_usage};
-use lra_stories::{Choice, Wanted, explain_run, list_run, read_wanted};
+use lra_stories::{Choice, Form, Wanted, explain_run, list_run, read_wanted};
 use std::alloc::Global;
 use std::fs::File;
 use std::io::Read;
@@ -31,6 +31,7 @@ fn explain<R: AllocGlobal + Files + Input + Print + Eprint>(
     rt: &R,
     file: &str,
     wanted: Wanted,
+    form: Form,
     name: &str,
 ) -> Result<u8, RunFault> {
     let sources = System { rt };
@@ -39,22 +40,24 @@ fn explain<R: AllocGlobal + Files + Input + Print + Eprint>(
             rt.alloc(),
             sources.input(),
             wanted,
+            form,
             name,
             &mut io::writer(rt),
         );
     }
     let input = sources.open(file)?;
-    explain_run(rt.alloc(), input, wanted, name, &mut io::writer(rt))
+    explain_run(rt.alloc(), input, wanted, form, name, &mut io::writer(rt))
 }
 
 /// Tells what happened to an action, and answers the program's status.
 fn answer_explain<R: AllocGlobal + Files + Input + Print + Eprint>(
     rt: &R,
     file: &str,
+    form: Form,
     name: &str,
 ) -> u8 {
     match read_wanted(name) {
-        Some(wanted) => settle(rt, explain(rt, file, wanted, name), file),
+        Some(wanted) => settle(rt, explain(rt, file, wanted, form, name), file),
         None => tell_usage(rt),
     }
 }
@@ -307,7 +310,7 @@ where
     R::Reader: AsFd,
 {
     match asking {
-        Asking::Explain { file, name } => answer_explain(rt, file, name),
+        Asking::Explain { file, form, name } => answer_explain(rt, file, form, name),
         Asking::List { place, choice } => answer_list(rt, place, choice),
         Asking::Follow { place, stop_at_eof } => answer_follow(rt, place, stop_at_eof),
     }

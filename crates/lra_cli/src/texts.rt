@@ -7,7 +7,7 @@ lra audit FILE                    audits a journal, or all that a folder has
 lra show FILE                     lists a sound journal's actions and members
 lra list FILE                     lists a sound journal's actions, or those of all that a folder has, a line each:
                                   [--state STATUS] [--older-than SECONDS] [--now]
-lra explain FILE ID               tells what happened to an action, by its number, its UUID or its URI
+lra explain FILE ID               tells what happened to an action, by its number, its UUID or its URI [--svg]
 lra follow FILE                   audits a journal, or all that a folder has, as they grow [--stop-at-eof]
 lra upgrade FILE                  prints a sound journal in version 2
 lra salvage FILE                  prints what is sound of a journal, up to its first fault

@@ -15,6 +15,9 @@ pub const NEWEST: &str = "newest";
 /// The file in it that has what identifiers began with when it was served last.
 pub const BASE: &str = "base";
 
+/// The file in it that has the greatest instance of those journals in which nothing is begun any more since the folder was restored.
+pub const RESTORED: &str = "restored";
+
 /// The names of what a folder has.
 #[derive(Debug, Drop)]
 pub struct Found {
@@ -46,9 +49,9 @@ pub fn stray_line(alloc: Global, folder: &str, name: &str) -> Result<String, All
     Ok(line)
 }
 
-/// Whether a name is that of what a service keeps in its folder beside the journals: the greatest instance, its base, and a journal that is being made ready.
-fn is_kept(name: &str) -> bool {
-    name == ENDED || name == NEWEST || name == BASE || name.ends_with(".next")
+/// Whether a name is that of what a service keeps in its folder beside the journals: those that were put away, what it notes, and what is being made ready.
+pub fn is_kept(name: &str) -> bool {
+    name == ENDED || name == NEWEST || name == BASE || name == RESTORED || name.ends_with(".next")
 }
 
 /// Whether a name in a folder is that of a file, or of what can't be looked at: a pipe would be read for ever.

@@ -7,7 +7,9 @@ mod journals;
 mod program;
 mod threads;
 
-pub use finding::{BASE, ENDED, Found, NEWEST, find, is_folder, names_in, stray_line};
+pub use finding::{
+    BASE, ENDED, Found, NEWEST, RESTORED, find, is_folder, is_kept, names_in, stray_line,
+};
 pub use journals::{FolderAudit, audit_journals, list_journals};
 pub use program::{answer_question, tell_others};
 pub use threads::{open_each, width};

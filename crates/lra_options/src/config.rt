@@ -3,7 +3,7 @@
 use crate::fault::{OptionsFault, one_line, wrong};
 use crate::number::value_in;
 use crate::said::{Said, Word};
-use lra_reports::{RunFault, read_input};
+use lra_files::{SmallFault, read_whole};
 use lra_settings::{Given, Parameter};
 use std::alloc::{AllocError, Global};
 use std::fs;
@@ -11,7 +11,7 @@ use std::rt::Files;
 use toml::{Table, Value};
 
 /// How many bytes a file of settings may have.
-const LONGEST: usize = 65_536;
+const LONGEST: u32 = 65_536;
 
 /// What a file says.
 #[derive(Drop)]
@@ -32,14 +32,14 @@ impl Config {
 
 /// All that a file has.
 fn read_file<R: Files>(rt: &R, alloc: Global, name: &str) -> Result<Vec<u8>, OptionsFault> {
-    let Ok(mut file) = fs::open(rt, name) else {
+    let Ok(file) = fs::open(rt, name) else {
         return Err(wrong(format!(in alloc; "cannot read {name}")));
     };
-    match read_input(alloc, &mut file) {
-        Ok(bytes) if bytes.len() <= LONGEST => Ok(bytes),
-        Ok(_) | Err(RunFault::TooLong) => Err(wrong(format!(in alloc; "{name}: too long"))),
-        Err(RunFault::Memory) => Err(OptionsFault::Memory),
-        Err(_) => Err(wrong(format!(in alloc; "cannot read {name}"))),
+    match read_whole(alloc, file, LONGEST) {
+        Ok(bytes) => Ok(bytes),
+        Err(SmallFault::TooLong) => Err(wrong(format!(in alloc; "{name}: too long"))),
+        Err(SmallFault::Memory) => Err(OptionsFault::Memory),
+        Err(SmallFault::File) => Err(wrong(format!(in alloc; "cannot read {name}"))),
     }
 }
 

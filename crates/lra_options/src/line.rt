@@ -20,6 +20,10 @@ pub(crate) struct Line<'a> {
     /// The file that has further settings, if one is named.
     pub(crate) config: Option<&'a str>,
     pub(crate) said: Said,
+    /// A folder takes no more starts, and is served until what it has is done.
+    pub(crate) drains: bool,
+    /// A folder was restored from a copy.
+    pub(crate) is_restored: bool,
     /// It is only told what would be served.
     pub(crate) is_check: bool,
     pub(crate) given: Given,
@@ -149,8 +153,23 @@ fn with_flags(alloc: Global, command: Command<'_>) -> Result<Command<'_>, AllocE
         "stop-at-eof",
         "Ends gently once standard input has ended",
     );
+    let drain = flag_arg(
+        alloc,
+        "drain",
+        "Takes no more starts of a folder's, and ends once all that it has is done",
+    );
+    let restored = flag_arg(
+        alloc,
+        "restored",
+        "The folder was restored from a copy: nothing is begun any more in its journals",
+    );
     let check = flag_arg(alloc, "check", "Tells what would be served, and ends");
-    command.arg(stop)?.arg(config)?.arg(check)
+    command
+        .arg(stop)?
+        .arg(drain)?
+        .arg(restored)?
+        .arg(config)?
+        .arg(check)
 }
 
 /// What the words are read by.
@@ -255,6 +274,8 @@ fn line_of<'a>(alloc: Global, matches: &ArgMatches<'a>) -> Result<Line<'a>, Opti
         workers,
         config: matches.get_str("config"),
         said: said_in(alloc, matches)?,
+        drains: matches.get_flag("drain"),
+        is_restored: matches.get_flag("restored"),
         is_check: matches.get_flag("check"),
         given,
     })

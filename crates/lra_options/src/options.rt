@@ -26,6 +26,10 @@ pub struct Options<'a> {
     pub also_bases: Vec<Base>,
     /// What is said of the options whose values are texts.
     pub said: Said,
+    /// A folder takes no more starts, and is served until what it has is done.
+    pub drains: bool,
+    /// A folder was restored from a copy: nothing is begun any more in the journals that it has.
+    pub is_restored: bool,
     /// It is only told what would be served.
     pub is_check: bool,
 }
@@ -120,6 +124,8 @@ fn options_of<'a, R: Files>(
         workers,
         config: _,
         said,
+        drains,
+        is_restored,
         is_check,
         given: _,
     } = line;
@@ -135,6 +141,8 @@ fn options_of<'a, R: Files>(
         base,
         also_bases,
         said: said.or(others)?,
+        drains,
+        is_restored,
         is_check,
     })
 }

@@ -25,11 +25,13 @@ pub enum Word {
     Log,
     /// How they are written.
     LogFormat,
+    /// The file that says whose a folder is.
+    Fence,
 }
 
 impl Word {
     /// All of them, in the order of the help.
-    pub const ALL: [Word; 10] = [
+    pub const ALL: [Word; 11] = [
         Word::Base,
         Word::AlsoBase,
         Word::Token,
@@ -40,6 +42,7 @@ impl Word {
         Word::Members,
         Word::Log,
         Word::LogFormat,
+        Word::Fence,
     ];
 
     /// Its name, on the line and in a file.
@@ -55,6 +58,7 @@ impl Word {
             Word::Members => "members",
             Word::Log => "log",
             Word::LogFormat => "log-format",
+            Word::Fence => "fence",
         }
     }
 
@@ -67,7 +71,7 @@ impl Word {
     pub(crate) fn unit(self) -> &'static str {
         match self {
             Word::Base | Word::AlsoBase => "URL",
-            Word::Token | Word::OperatorsKey | Word::Key => "FILE",
+            Word::Token | Word::OperatorsKey | Word::Key | Word::Fence => "FILE",
             Word::Operators => "ADDRESS",
             Word::Origin => "NAME",
             Word::Members => "RULE",
@@ -99,6 +103,9 @@ impl Word {
             Word::Log =>
                 "Events from this level on go to standard error: error, warn, info or debug [none]",
             Word::LogFormat => "How they are written: text or json [text]",
+            Word::Fence => {
+                "The file that says whose a folder is: once it is another, nothing is written any more [none]"
+            }
         }
     }
 

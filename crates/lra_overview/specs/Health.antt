@@ -20,11 +20,15 @@ counts_fit facts None = true
 abbrev pub has_room : Facts → Option Answered → Bool
 has_room facts answered = nat_lt facts.bytes facts.most_bytes && nat_lt facts.entries facts.most_entries && counts_fit facts answered
 
+-- actions may be begun: the service isn't to end, neither now nor once its actions have
+abbrev pub takes_starts : Facts → Bool
+takes_starts facts = not facts.is_ending
+
 -- all checks of a probe come out well (MicroProfile Health 4.0, liveness, readiness and startup)
 abbrev pub is_up : Probe → Facts → Option Answered → Bool
-is_up probe.Whole facts answered = keeps facts && is_some answered && has_room facts answered
+is_up probe.Whole facts answered = keeps facts && is_some answered && has_room facts answered && takes_starts facts
 is_up probe.Live facts answered = keeps facts && is_some answered
-is_up probe.Ready facts answered = keeps facts && is_some answered && has_room facts answered
+is_up probe.Ready facts answered = keeps facts && is_some answered && has_room facts answered && takes_starts facts
 is_up probe.Started facts answered = true
 
 -- ---- texts (MicroProfile Health 4.0, the response's JSON)
@@ -106,6 +110,14 @@ room facts answered =
     ∷ []
     )
 
+-- whether actions may be begun
+abbrev pub starts : Facts → List ℕ
+starts facts = joined (check (codes "starts") (takes_starts facts) ∷ codes "}" ∷ [])
+
+-- the checks of whether anything more is taken
+abbrev pub openings : Facts → Option Answered → List ℕ
+openings facts answered = joined (room facts answered ∷ codes "," ∷ starts facts ∷ [])
+
 -- whether it has begun: that is so where anything is told
 abbrev pub started : List ℕ
 started = joined (check (codes "started") true ∷ codes "}" ∷ [])
@@ -116,7 +128,7 @@ live facts answered = joined (journal facts ∷ codes "," ∷ lock answered ∷ 
 
 -- those of whether it can be sent requests
 abbrev pub ready : Facts → Option Answered → List ℕ
-ready facts answered = joined (live facts answered ∷ codes "," ∷ room facts answered ∷ [])
+ready facts answered = joined (live facts answered ∷ codes "," ∷ openings facts answered ∷ [])
 
 -- the checks of a probe
 abbrev pub checks : Probe → Facts → Option Answered → List ℕ

@@ -47,6 +47,13 @@ fn has_room(facts: &Facts, answered: &Option<Answered>) -> bool
     bytes && entries && counted
 }
 
+/// Whether actions may be begun.
+fn takes_starts(facts: &Facts) -> bool
+    ensures { result ≡ spec.takes_starts facts.now }
+{
+    !facts.is_ending
+}
+
 /// Whether all checks of a probe came out well.
 pub fn is_up(probe: Probe, facts: &Facts, answered: &Option<Answered>) -> bool
     ensures { result ≡ spec.is_up probe facts.now answered.now }
@@ -55,7 +62,7 @@ pub fn is_up(probe: Probe, facts: &Facts, answered: &Option<Answered>) -> bool
         Probe::Started => true,
         Probe::Live => keeps(facts) && answered.is_some(),
         Probe::Ready | Probe::Whole => {
-            keeps(facts) && answered.is_some() && has_room(facts, answered)
+            keeps(facts) && answered.is_some() && has_room(facts, answered) && takes_starts(facts)
         }
     }
 }
@@ -171,6 +178,27 @@ fn put_room(page: &mut Vec<u8>, facts: &Facts, answered: &Option<Answered>) -> R
     put(page, "}}")
 }
 
+/// Adds whether actions may be begun.
+fn put_starts(page: &mut Vec<u8>, facts: &Facts) -> Result<(), Memory>
+    ensures { OnOk result (page.new.items ≡ page.old.items ++ spec.starts facts.now) }
+{
+    begin_check(page, "starts", takes_starts(facts))?;
+    put(page, "}")
+}
+
+/// Adds the checks of whether anything more is taken.
+fn put_openings(
+    page: &mut Vec<u8>,
+    facts: &Facts,
+    answered: &Option<Answered>,
+) -> Result<(), Memory>
+    ensures { OnOk result (page.new.items ≡ page.old.items ++ spec.openings facts.now answered.now) }
+{
+    put_room(page, facts, answered)?;
+    put(page, ",")?;
+    put_starts(page, facts)
+}
+
 /// Adds the check of whether it has begun: that is so where anything is told.
 fn put_started(page: &mut Vec<u8>) -> Result<(), Memory>
     ensures { OnOk result (page.new.items ≡ page.old.items ++ spec.started) }
@@ -194,7 +222,7 @@ fn put_ready(page: &mut Vec<u8>, facts: &Facts, answered: &Option<Answered>) -> 
 {
     put_live(page, facts, answered)?;
     put(page, ",")?;
-    put_room(page, facts, answered)
+    put_openings(page, facts, answered)
 }
 
 /// Adds the checks of a probe.

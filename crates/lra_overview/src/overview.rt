@@ -13,7 +13,7 @@ pub struct Facts {
     pub began: u64,
     /// A sync of the journal has failed, or bytes that don't count stand in it.
     pub has_failed: bool,
-    /// The service is to end.
+    /// The service is to end, now or once its actions have: none are begun any more.
     pub is_ending: bool,
     /// How many journals are served.
     pub journals: u64,

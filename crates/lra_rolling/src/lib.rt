@@ -3,6 +3,7 @@
 #![tactic(auto)]
 
 mod checking;
+mod conduct;
 mod crier;
 mod lookout;
 mod opening;
@@ -13,5 +14,6 @@ mod steward;
 mod working;
 
 pub use checking::check_folder;
+pub use conduct::Conduct;
 pub use lra_journal_folder::{RollingFault, rolling_line};
 pub use running::{FolderServed, serve_folder};

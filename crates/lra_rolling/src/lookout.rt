@@ -218,7 +218,7 @@ impl<'s, 'a: 's, R: Wait + Clock, H, B: Clerkship + Drop> Overview
             moment: self.clock.now(),
             began: self.shift.began(),
             has_failed: self.shift.has_failed() || self.has_stopped(),
-            is_ending: self.shift.ending.is_asked(),
+            is_ending: self.shift.ending.is_asked() || self.shift.roster.is_draining(),
             journals: self.desks.len() as u64,
             bytes,
             most_bytes: LONGEST as u64,

@@ -3,6 +3,7 @@
 ghost use Rattle.std.specs.Prelude.{◌≡◌, true, All, None};
 ghost use Rattle.lra_opening.specs.Places.{IsRead};
 
+use crate::conduct::{Conduct, first_open, retire};
 use crate::crier::Crier;
 use crate::lookout::Tower;
 use crate::opening::{Bench, Opener};
@@ -89,6 +90,7 @@ struct Service<'a, R, V, H> {
     herald: &'a H,
     /// Where operators come in, and what they are told.
     tower: &'a Tower<'a>,
+    conduct: Conduct<'a>,
 }
 
 /// Where connections come in to so many threads.
@@ -202,17 +204,18 @@ impl<
         Ok(watches)
     }
 
-    /// The journals of a folder, of which there is one at least.
+    /// The journals of a folder, of which there is one at least, and the newest takes what is begun. In those before the first of these numbers nothing is.
     fn open<O: Opener>(
         &self,
         maker: &mut Maker<'a, R, O>,
         sounds: Vec<Sound>,
+        first: u64,
         moment: u64,
     ) -> Result<Vec<Watch<O::Branch>>, RollingFault>
         requires { All (λ sound. IsRead None sound.opening) sounds.items }
     {
         let mut watches = self.open_all(&maker.opener, sounds, moment)?;
-        if watches.is_empty() {
+        if !retire(&watches, first) {
             let mut ready = maker.make(moment)?;
             maker.name(&mut ready)?;
             watches.push(Watch::new(ready.into_journal(), steady(self.rt)))?;
@@ -223,6 +226,9 @@ impl<
     /// The roster of journals.
     fn roster<B: Clerkship + Drop>(&self, watches: &[Watch<B>]) -> Result<Roster<B>, RollingFault> {
         let roster = Roster::new(self.alloc);
+        if self.conduct.drains {
+            roster.drain();
+        }
         for watch in watches {
             roster.publish(self.rt, Arc::try_clone(&watch.journal)?)?;
         }
@@ -289,7 +295,9 @@ impl<
         });
         work(&shift, steward, self.workers as usize);
         drop(shift);
-        if shelf.progress().has_failed(self.rt) {
+        if !shelf.is_own() {
+            self.herald.tell("lra: the fence is another's now: nothing is written any more\n");
+        } else if shelf.progress().has_failed(self.rt) {
             self.herald.note(&Event::SyncFailed);
         }
         let end = end_of(self.rt, shelf.progress(), &ending);
@@ -326,7 +334,8 @@ impl<
         let listener = listener_at(self.rt, self.site.socket.as_str(), listener)?;
         self.folder.clear(contents)?;
         self.note_base()?;
-        let watches = self.open(&mut maker, sounds, moment)?;
+        let first = first_open(self.conduct.restored(self.folder, contents)?);
+        let watches = self.open(&mut maker, sounds, first, moment)?;
         let roster = self.roster(&watches)?;
         let door = make_doorway(self.rt, self.alloc, listener, input)?;
         let steward = self.steward(maker, watches);
@@ -381,7 +390,8 @@ impl<
 
 /// Serves the coordinators of a folder's journals at an address, as [`lra_service::serve_with`] does that of a file. What is begun, and names no journal,
 /// goes to the newest; once that is full, or has as many actions as it is to have, the next one takes its place. A journal that isn't the newest is put away
-/// once nothing of it is left to be done. Where there is a post for operators, one more thread answers them there, of all journals.
+/// once nothing of it is left to be done. Where there is a post for operators, one more thread answers them there, of all journals. A service that drains ends
+/// gently once nothing is left to be done of any journal, for as long as that would be kept at hand.
 pub fn serve_folder<
     R: Files<File = File>
         + KeyFiles
@@ -406,6 +416,7 @@ pub fn serve_folder<
     path: &str,
     workers: u32,
     settings: Settings,
+    conduct: Conduct<'_>,
     operators: Option<&Watchpost>,
     entry: Entry<I>,
     watcher: &V,
@@ -422,7 +433,7 @@ pub fn serve_folder<
         limits: limits_of(&settings),
         tallies: Tallies::new(alloc, operators)?,
     };
-    let Ok(shelf) = Shelf::open(alloc, tower.tallies.syncs()) else {
+    let Ok(shelf) = Shelf::open(alloc, tower.tallies.syncs(), conduct.fence) else {
         return Err(RollingFault::Here(ServeFault::Run(RunFault::Memory)));
     };
     let service = Service {
@@ -437,6 +448,7 @@ pub fn serve_folder<
         watcher,
         herald,
         tower: &tower,
+        conduct,
     };
     service.tell_others(&contents);
     match audit_all(rt, &folder, &contents, watcher, writer)? {

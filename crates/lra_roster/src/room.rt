@@ -31,6 +31,11 @@ impl<B: Drop> Journal<B> {
         }
     }
 
+    /// Nothing new is begun in it from now on, however little it has.
+    pub fn retire(&self) {
+        self.is_reserved.store(true, Ordering::SeqCst);
+    }
+
     /// Whether nothing new is begun in it.
     pub fn is_reserved(&self) -> bool {
         self.is_reserved.load(Ordering::SeqCst)

@@ -14,6 +14,8 @@ pub struct Roster<B> {
     version: AtomicU64,
     /// In one of them nothing new is begun.
     has_reserved: AtomicBool,
+    /// Nothing is begun that names no journal.
+    is_draining: AtomicBool,
 }
 
 impl<B: Drop> Roster<B> {
@@ -23,7 +25,18 @@ impl<B: Drop> Roster<B> {
             journals: Mutex::new(Vec::new(alloc)),
             version: AtomicU64::new(1),
             has_reserved: AtomicBool::new(false),
+            is_draining: AtomicBool::new(false),
         }
+    }
+
+    /// Nothing is begun from now on that names no journal: what was begun is gone on with.
+    pub fn drain(&self) {
+        self.is_draining.store(true, Ordering::SeqCst);
+    }
+
+    /// Whether nothing is begun that names no journal.
+    pub fn is_draining(&self) -> bool {
+        self.is_draining.load(Ordering::SeqCst)
     }
 
     /// Changes whenever one joins or leaves.
@@ -36,9 +49,9 @@ impl<B: Drop> Roster<B> {
         self.has_reserved.store(has_reserved, Ordering::SeqCst);
     }
 
-    /// Whether there may be one in which nothing new is begun.
+    /// Whether there may be one in which nothing new is begun, or nothing is begun that names none.
     pub fn has_reserved(&self) -> bool {
-        self.has_reserved.load(Ordering::SeqCst)
+        self.has_reserved.load(Ordering::SeqCst) || self.is_draining()
     }
 
     /// Whether nothing new is begun in the journal of an instance.
@@ -47,10 +60,10 @@ impl<B: Drop> Roster<B> {
             && journal.is_reserved())
     }
 
-    /// The newest, where nothing new is begun in it.
+    /// The newest, where nothing new is begun in it that names no journal.
     pub fn reserved_newest<R: Wait>(&self, rt: &R) -> Option<Instance> {
         match self.journals.lock(rt).last() {
-            Some(newest) if newest.is_reserved() => Some(newest.instance),
+            Some(newest) if newest.is_reserved() || self.is_draining() => Some(newest.instance),
             _ => None,
         }
     }

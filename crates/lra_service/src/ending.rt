@@ -42,7 +42,7 @@ impl Ending {
     }
 
     /// It is to end gently.
-    fn ask(&self) {
+    pub fn ask(&self) {
         self.is_asked.store(true, Ordering::SeqCst);
         let _ = self.bell.wake();
     }

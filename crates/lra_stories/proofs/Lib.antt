@@ -1,4 +1,5 @@
 pub mod Hearing
 pub mod Pieces
+pub mod Rows
 pub mod Writing
 pub mod Naming

@@ -10,18 +10,31 @@ use Rattle.lra_rows.specs.Found.{found_action}
 use Rattle.lra_auditor.specs.Verdicts.{IsTextOf}
 use Rattle.lra_reports.specs.Report.{joined, line_feed, ReportsAudit}
 use Rattle.lra_stories.specs.declared.wanted.Wanted.{Wanted}
+use Rattle.lra_stories.specs.declared.facts.Told.{Told}
+use Rattle.lra_stories.specs.declared.explaining.Form.{Form}
+use Rattle.lra_stories.specs.declared.explaining.Form.TheVariants.{Text, Svg}
 use Rattle.lra_stories.specs.Facts.{told}
 use Rattle.lra_stories.specs.Sentences.{head_line, told_line}
 use Rattle.lra_stories.specs.Waits.{notes}
+use Rattle.lra_stories.specs.Drawn.{picture}
 
 -- whether an instance is the one that is asked for, where one is
 abbrev pub is_its : Option ℕ → ℕ → Bool
 is_its o i = option_map_or (λ j. j == i) o true
 
+-- a story in sentences, by its parts: how the action is now, what is told of it, and what is noted at the end
+abbrev pub lines_text : List ℕ → List Told → List (List ℕ) → List ℕ
+lines_text head ts notes = head ++ flat_map told_line ts ++ joined notes
+
+-- a story in a form
+abbrev pub shown : Form → List ℕ → List Told → List (List ℕ) → List ℕ
+shown Text head ts notes = lines_text head ts notes
+shown Svg head ts notes = picture head ts notes
+
 -- what is printed of an action that is there: how it is now; then each entry that concerns it, in order; then what it waits for, or which of those
 -- below it failed
-abbrev pub story_text : History → ℕ → ActionRow → List ℕ
-story_text J a r = head_line a r.parent r.status ++ flat_map told_line (told a J) ++ notes J (told a J) a r
+abbrev pub story_text : Form → History → ℕ → ActionRow → List ℕ
+story_text form J a r = shown form (head_line a r.parent r.status) (told a J) (notes J (told a J) a r)
 
 -- the line that says that an action isn't there, by what it was asked for
 abbrev pub missing_line : List ℕ → List ℕ
@@ -32,21 +45,21 @@ abbrev pub found : Wanted → ℕ → History → Option ActionRow
 found w i J = cond (is_its w.instance i) (found_action J w.action) None
 
 -- what is printed of the action that is asked for
-abbrev pub explained : Wanted → List ℕ → ℕ → History → List ℕ
-explained w name i J = option_map_or (story_text J w.action) (found w i J) (missing_line name)
+abbrev pub explained : Form → Wanted → List ℕ → ℕ → History → List ℕ
+explained form w name i J = option_map_or (story_text form J w.action) (found w i J) (missing_line name)
 
 -- 0 where the action is there, else 1
 abbrev pub explained_status : Wanted → ℕ → History → ℕ
 explained_status w i J = option_map_or (λ (r : ActionRow). 0) (found w i J) 1
 
 -- the input is the text of this history; what was written is the story of the action, or that it isn't there
-pub record WritesStory (w : Wanted) (name input : List ℕ) (status : ℕ) (before after : Option (List ℕ)) (v : Version) (i : ℕ) (J : History) : Type 0 where
+pub record WritesStory (form : Form) (w : Wanted) (name input : List ℕ) (status : ℕ) (before after : Option (List ℕ)) (v : Version) (i : ℕ) (J : History) : Type 0 where
   pub sound : IsTextOf v i J input
-  pub written : Appends before after (explained w name i J)
+  pub written : Appends before after (explained form w name i J)
   pub answered : status ≡ explained_status w i J
 
 -- what is written of an action of a sound journal; of an unsound one it is what an audit writes, and the status is 1
-abbrev pub Explains : Wanted → List ℕ → List ℕ → ℕ → Option (List ℕ) → Option (List ℕ) → Type 0
-Explains w name input status before after =
-    ((v : Version) × (i : ℕ) × (J : History) × WritesStory w name input status before after v i J)
+abbrev pub Explains : Form → Wanted → List ℕ → List ℕ → ℕ → Option (List ℕ) → Option (List ℕ) → Type 0
+Explains form w name input status before after =
+    ((v : Version) × (i : ℕ) × (J : History) × WritesStory form w name input status before after v i J)
     ⊎ ((status ≡ 1) × ReportsAudit input status before after)

@@ -3,5 +3,6 @@ pub mod Times
 pub mod Sentences
 pub mod Waits
 pub mod Wanted
+pub mod Drawn
 pub mod Explained
 pub mod inner

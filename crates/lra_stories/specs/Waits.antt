@@ -1,7 +1,7 @@
 -- What is noted at the end of an action's story: what it waits for, or which of those below it failed.
-use Rattle.std.specs.Prelude.{ℕ, ◌==◌, Bool, false, ◌&&◌, not, List, [], ◌∷◌, ◌++◌, codes, Option, Some, None, is_some, cond}
+use Rattle.std.specs.Prelude.{ℕ, ◌==◌, Bool, false, ◌&&◌, not, List, [], ◌∷◌, ◌++◌, map, codes, Option, Some, None, is_some, cond}
 use Rattle.std.specs.Option.{option_map_or}
-use Rattle.std.specs.List.{find, flat_map}
+use Rattle.std.specs.List.{find}
 use Rattle.std.specs.Fmt.{decimal}
 use Rattle.lra_model.specs.declared.status.ActionStatus.{ActionStatus}
 use Rattle.lra_model.specs.declared.status.ActionStatus.TheVariants as action
@@ -104,6 +104,6 @@ client_line limit since =
 abbrev pub own_note : ActionRow → List ℕ
 own_note r = cond (is_active r.status) (client_line r.limit r.since) []
 
--- what is noted of an action, then of its members, and then of those nested directly in it
-abbrev pub notes : History → List Told → ℕ → ActionRow → List ℕ
-notes J ts a r = own_note r ++ flat_map (member_note J ts r.status) (members_of J a) ++ flat_map (action_note J r.status) (children J a)
+-- what is noted of an action, then of its members, and then of those nested directly in it: a line each, or nothing
+abbrev pub notes : History → List Told → ℕ → ActionRow → List (List ℕ)
+notes J ts a r = own_note r ∷ [] ++ map (member_note J ts r.status) (members_of J a) ++ map (action_note J r.status) (children J a)

@@ -1,6 +1,7 @@
-//! What happened to one action of a journal, told in sentences; and a line for each action of one.
+//! What happened to one action of a journal, told in sentences or drawn; and a line for each action of one.
 #![tactic(auto)]
 
+mod drawing;
 mod explaining;
 mod facts;
 mod listing;
@@ -13,7 +14,7 @@ mod times;
 mod waits;
 mod wanted;
 
-pub use explaining::explain_run;
+pub use explaining::{Form, explain_run};
 pub use facts::{Fact, Told};
 pub use listing::{Choice, list_run};
 pub use wanted::{Wanted, read_wanted};

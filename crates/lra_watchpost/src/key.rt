@@ -5,30 +5,13 @@ ghost use Rattle.std.specs.List.{list_all};
 ghost use Rattle.lra_watchpost.specs.Keys.{is_shown, is_key};
 
 use crate::fault::PortFault;
+use lra_files::{SmallFault, is_shared, read_whole};
 use std::alloc::Global;
 use std::fs::File;
-use std::io::Read;
-use std::os::unix::fs::PermissionsExt;
 use std::rt::Files;
 
 /// How many bytes the file of a key has at most.
 const LONGEST: usize = 1_024;
-
-/// Those bits of a file's mode that let others than its owner read or write it.
-const OTHERS: u32 = 0o077;
-
-/// Fills a piece from a file, as far as it goes.
-fn fill(file: &mut File, piece: &mut [u8]) -> Option<usize> {
-    let mut filled: usize = 0;
-    for _part in 0..piece.len() {
-        let count = file.read(piece.get_mut(filled..)?).ok()?;
-        if count == 0 {
-            return Some(filled);
-        }
-        filled = filled.checked_add(count)?;
-    }
-    Some(filled)
-}
 
 /// The line without its end.
 fn line_of(text: &str) -> &str {
@@ -72,27 +55,6 @@ fn key_of(alloc: Global, bytes: &[u8]) -> Result<String, PortFault>
     }
 }
 
-/// The key of a file of which so much was read.
-fn key_in(alloc: Global, piece: &[u8], filled: Option<usize>) -> Result<String, PortFault>
-    ensures { IfOk result (λ key. is_key (string_bytes key) ≡ true) }
-{
-    let Some(count) = filled else {
-        return Err(PortFault::KeyFile);
-    };
-    if count >= LONGEST {
-        return Err(PortFault::BadKey);
-    }
-    key_of(alloc, piece.get(..count).unwrap_or(&[]))
-}
-
-/// Whether others than its owner may read or write a file. That of which it isn't told counts as theirs.
-fn is_shared(file: &File) -> bool {
-    match file.metadata() {
-        Ok(metadata) => metadata.permissions().mode() & OTHERS != 0,
-        Err(_) => true,
-    }
-}
-
 /// Reads the key that stands in a file, alone on its one line. Nobody but its owner may read it.
 pub fn read_key<R: Files<File = File>>(
     rt: &R,
@@ -101,15 +63,17 @@ pub fn read_key<R: Files<File = File>>(
 ) -> Result<String, PortFault>
     ensures { IfOk result (λ key. is_key (string_bytes key) ≡ true) }
 {
-    let Ok(mut file) = File::open(rt, path) else {
+    let Ok(file) = File::open(rt, path) else {
         return Err(PortFault::KeyFile);
     };
     if is_shared(&file) {
         drop(file);
         return Err(PortFault::SharedKey);
     }
-    let mut piece = [0u8; LONGEST];
-    let filled = fill(&mut file, piece.as_mut_slice());
-    drop(file);
-    key_in(alloc, piece.as_slice(), filled)
+    match read_whole(alloc, file, LONGEST as u32) {
+        Ok(text) => key_of(alloc, text.as_slice()),
+        Err(SmallFault::TooLong) => Err(PortFault::BadKey),
+        Err(SmallFault::Memory) => Err(PortFault::Memory),
+        Err(SmallFault::File) => Err(PortFault::KeyFile),
+    }
 }

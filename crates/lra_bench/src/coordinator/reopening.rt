@@ -39,7 +39,7 @@ struct Cost {
 }
 
 /// An opening that was fed a whole journal.
-fn fed(alloc: Global, text: &[u8]) -> Result<Opening, Memory> {
+pub fn fed(alloc: Global, text: &[u8]) -> Result<Opening, Memory> {
     Opening::new(alloc).feed(text)
 }
 

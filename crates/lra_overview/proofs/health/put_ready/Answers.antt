@@ -2,4 +2,4 @@ use Rattle.lra_overview.proofs.Chains.{three}
 use Rattle.lra_overview.proofs.health.put_ready.Goals as goal
 
 pub returns : goal.returns
-returns c = three _ _ _ _ _ _ _ _ c.in_ok-put_live.ensures c.in_ok-put.ensures c.put_room.ensures
+returns c = three _ _ _ _ _ _ _ _ c.in_ok-put_live.ensures c.in_ok-put.ensures c.put_openings.ensures

@@ -1,5 +1,4 @@
-use Rattle.std.proofs.Common.{◌≡◌, ◌++◌, take}
-use Rattle.std.specs.List.{flat_map}
+use Rattle.std.proofs.Common.{◌≡◌, ◌++◌, map, take, string_bytes}
 use Rattle.lra_model.specs.History.{History}
 use Rattle.lra_laws.specs.Sheets.{StandsFor}
 use Rattle.lra_stories.specs.Waits.{member_note}
@@ -7,4 +6,4 @@ use Rattle.lra_stories.proofs.waits.push_members.Given as goal
 
 abbrev pub invariant-loop-place : goal.invariant-loop-place
 invariant-loop-place l = (J : History) → StandsFor l.story.rows.sheet J
-    → l.text.items ≡ l.fn.text.items ++ flat_map (member_note J l.story.told.items l.status) (take l.place l.members)
+    → map string_bytes l.notes.items ≡ map string_bytes l.fn.notes.items ++ map (member_note J l.story.told.items l.status) (take l.place l.members)

@@ -1,0 +1,65 @@
+//! A file that says whose a journal is.
+
+use lra_files::{SmallFault, read_whole};
+use std::fs::File;
+use std::rt::LibcRuntime;
+use std::sync::Arc;
+
+/// How many bytes the file has at most.
+const LONGEST: u32 = 4_096;
+
+/// A file that says whose a journal is: for as long as it has the bytes that it had at first. It is found by its name at each look, so that another that took
+/// its place is seen. Who is handed no runtime can look.
+#[derive(Drop)]
+pub struct Fence {
+    rt: LibcRuntime,
+    path: String,
+    /// What it had at first.
+    text: Vec<u8>,
+}
+
+/// A runtime by whose files a fence is known.
+pub trait Fenced {
+    /// The file of that name, as it is now. One that has more than 4,096 bytes is none.
+    fn fence(&self, path: &str) -> Result<Fence, SmallFault>;
+}
+
+/// What the file of a name has.
+fn text_at(rt: LibcRuntime, path: &str) -> Result<Vec<u8>, SmallFault> {
+    match File::open(&rt, path) {
+        Ok(file) => read_whole(rt.alloc(), file, LONGEST),
+        Err(_) => Err(SmallFault::File),
+    }
+}
+
+impl Fenced for LibcRuntime {
+    fn fence(&self, path: &str) -> Result<Fence, SmallFault> {
+        let text = text_at(*self, path)?;
+        match String::from_str(self.alloc(), path) {
+            Ok(path) => Ok(Fence {
+                rt: *self,
+                path,
+                text,
+            }),
+            Err(_) => Err(SmallFault::Memory),
+        }
+    }
+}
+
+impl Fence {
+    /// Whether its file has the bytes that it had at first. One that can't be read, and one for which memory is refused, hasn't.
+    pub fn stands(&self) -> bool {
+        match text_at(self.rt, self.path.as_str()) {
+            Ok(text) => text.as_slice() == self.text.as_slice(),
+            Err(_) => false,
+        }
+    }
+}
+
+/// Whether a fence stands, where there is one.
+pub fn stands(fence: &Option<Arc<Fence>>) -> bool {
+    match fence {
+        Some(fence) => fence.stands(),
+        None => true,
+    }
+}

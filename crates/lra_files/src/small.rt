@@ -1,0 +1,52 @@
+//! Small files.
+
+ghost use Rattle.std.specs.Prelude.{◌≡◌, ◌≤◌, length, IfOk, IfErr, IfSome};
+ghost use Rattle.lra_files.specs.Small.{IsWhole, IsUnread};
+
+use std::alloc::Global;
+use std::fs::File;
+use std::io::{ErrorKind, Read};
+use std::os::unix::fs::PermissionsExt;
+
+/// Those bits of a file's mode that let others than its owner read or write it.
+const OTHERS: u32 = 0o077;
+
+/// Why a small file isn't read.
+#[derive(Clone, Copy, Debug, PartialEq, Eq)]
+pub enum SmallFault {
+    /// It can't be read.
+    File,
+    /// It has more bytes than it may have.
+    TooLong,
+    /// Memory is refused.
+    Memory,
+}
+
+/// Whether others than its owner may read or write a file. That of which it isn't told counts as theirs.
+pub fn is_shared(file: &File) -> bool {
+    match file.metadata() {
+        Ok(metadata) => metadata.permissions().mode() & OTHERS != 0,
+        Err(_) => true,
+    }
+}
+
+/// All that a reader has to its end, where that is no more than so many bytes. Of what has no end one byte more is read.
+pub fn read_whole<F: Read + Drop>(
+    alloc: Global,
+    file: F,
+    longest: u32,
+) -> Result<Vec<u8>, SmallFault>
+    ensures ok { IfSome (F.remaining file) (λ text. IfOk result (λ bytes. IsWhole longest text bytes.items)) }
+    ensures err { IfSome (F.remaining file) (λ text. IfErr result (IsUnread longest text)) }
+{
+    let mut text = Vec::new(alloc);
+    let mut front = file.take(u64::from(longest) + 1);
+    let read = front.read_to_end(&mut text);
+    drop(front);
+    match read {
+        Ok(_) if text.len() as u64 > u64::from(longest) => Err(SmallFault::TooLong),
+        Ok(_) => Ok(text),
+        Err(error) if error.kind() == ErrorKind::OutOfMemory => Err(SmallFault::Memory),
+        Err(_) => Err(SmallFault::File),
+    }
+}

@@ -1,0 +1,5 @@
+use Rattle.lra_overview.proofs.Chains.{two}
+use Rattle.lra_overview.proofs.health.put_starts.Goals as goal
+
+pub returns : goal.returns
+returns c = rw (← c.takes_starts.ensures) (two _ _ _ _ _ _ c.in_ok-begin_check.ensures c.put.ensures)

@@ -1,0 +1,62 @@
+//! How a folder is served, beside its settings.
+
+use lra_branch::Clerkship;
+use lra_fence::Fence;
+use lra_journal_folder::{Contents, Folder, RollingFault};
+use lra_model::Instance;
+use lra_opening::ServeFault;
+use lra_roster::Watch;
+use std::fs::File;
+use std::rt::Files;
+use std::sync::Arc;
+
+/// How a folder is served from one start on, beside its settings.
+#[derive(Clone, Copy)]
+pub struct Conduct<'a> {
+    /// No more starts are taken that name no action of it, and the service ends once nothing is left to be done.
+    pub drains: bool,
+    /// It was restored from a copy, which may lack what was answered since: in the journals that it has nothing is begun any more.
+    pub is_restored: bool,
+    /// What says whose the folder is: once that has fallen, nothing is written or kept.
+    pub fence: Option<&'a Arc<Fence>>,
+}
+
+impl Conduct<'_> {
+    /// Up to which instance nothing is begun in journals any more, if the folder was restored. That is noted where it is said now.
+    pub(crate) fn restored<R: Files<File = File> + AllocGlobal + Clone + Drop>(
+        &self,
+        folder: &Folder<'_, R>,
+        contents: &Contents,
+    ) -> Result<Option<Instance>, RollingFault> {
+        if !self.is_restored {
+            return folder.restored();
+        }
+        let Some(newest) = Instance::new(folder.newest(contents)?) else {
+            return Ok(None);
+        };
+        match folder.note_restored(newest) {
+            Ok(()) => Ok(Some(newest)),
+            Err(_) => Err(RollingFault::Here(ServeFault::File)),
+        }
+    }
+}
+
+/// The least number of an instance in whose journal anything is begun, where nothing is up to the last one, if there is one.
+pub(crate) fn first_open(last: Option<Instance>) -> u64 {
+    match last {
+        Some(last) => last.number().saturating_add(1),
+        None => 0,
+    }
+}
+
+/// Has nothing new begun in journals before the first one. Tells whether there is a newest one, which comes last, that takes what is begun.
+pub(crate) fn retire<B: Clerkship + Drop>(watches: &[Watch<B>], first: u64) -> bool {
+    let mut takes = false;
+    for watch in watches {
+        takes = first <= watch.journal.instance.number();
+        if !takes {
+            watch.journal.retire();
+        }
+    }
+    takes
+}

@@ -1,0 +1,115 @@
+-- The picture of what happened to an action: a row for each line of its story, so that time goes down, and a lane each for the action, for its
+-- members, and for the actions that are nested in it. Each text in it is made of words of this program and of numbers, which have no <, > or &: so
+-- nothing is escaped.
+use Rattle.std.specs.Prelude.{ℕ, ◌+◌, ◌*◌, List, [], ◌∷◌, ◌++◌, map, length, codes}
+use Rattle.std.specs.List.{flat_map}
+use Rattle.std.specs.Fmt.{decimal}
+use Rattle.lra_model.specs.declared.status.ActionStatus.{ActionStatus}
+use Rattle.lra_model.specs.declared.status.ActionStatus.TheVariants as action
+use Rattle.lra_model.specs.Names.{action_status_name, outcome_name}
+use Rattle.lra_reports.specs.Report.{joined}
+use Rattle.lra_stories.specs.declared.facts.Fact.{Fact}
+use Rattle.lra_stories.specs.declared.facts.Fact.TheVariants.{Started, Joined, Left, Closes, Cancels, Skipped, Asked, Answered, Reported, Ended, Restarted, Renewed, NestedStarted, NestedCloses, NestedCancels, NestedEnded}
+use Rattle.lra_stories.specs.declared.facts.Told.{Told}
+use Rattle.lra_stories.specs.declared.drawing.TheConstants.{LOOKS}
+use Rattle.lra_stories.specs.Times.{moment_text}
+use Rattle.lra_stories.specs.Sentences.{told_line}
+
+-- how far down the row of a number begins: all are of one height
+abbrev pub top_of : ℕ → ℕ
+top_of n = 26 * n
+
+-- the row of a number, with what stands in it
+abbrev pub row : ℕ → List ℕ → List ℕ
+row n content = joined (codes "<g transform=\"translate(0," ∷ decimal (top_of n) ∷ codes ")\">" ∷ content ∷ codes "</g>\n" ∷ [])
+
+-- rows, one below the other, from a number on
+abbrev pub rows : ℕ → List (List ℕ) → List ℕ
+rows n [] = []
+rows n (content ∷ more) = row n content ++ rows (n + 1) more
+
+-- a mark in the action's lane: a disk, of the look of a status
+abbrev pub action_mark : ActionStatus → List ℕ
+action_mark status = joined (codes "<circle cx=\"28\" cy=\"13\" r=\"7\" class=\"" ∷ action_status_name status ∷ codes "\"/>" ∷ [])
+
+-- a mark in the members' lane: a square
+abbrev pub member_mark : List ℕ → List ℕ
+member_mark look = joined (codes "<rect x=\"50\" y=\"7\" width=\"12\" height=\"12\" class=\"" ∷ look ∷ codes "\"/>" ∷ [])
+
+-- a mark in the lane of the nested actions: a diamond
+abbrev pub nested_mark : ActionStatus → List ℕ
+nested_mark status = joined (codes "<path d=\"M84 5l8 8l-8 8l-8-8z\" class=\"" ∷ action_status_name status ∷ codes "\"/>" ∷ [])
+
+-- the mark of a fact, where the action has this status after it: in the lane of whom it is about, and of the look of what that came to
+abbrev pub mark : ActionStatus → Fact → List ℕ
+mark status (Started by moment parent limit) = action_mark status
+mark status (Joined p) = member_mark (codes "joined")
+mark status (Left p) = member_mark (codes "left")
+mark status (Closes why) = action_mark status
+mark status (Cancels why) = action_mark status
+mark status (Skipped p) = member_mark (codes "skipped")
+mark status (Asked n p kind) = member_mark (codes "asked")
+mark status (Answered n p stage o) = member_mark (outcome_name o)
+mark status (Reported p stage o) = member_mark (outcome_name o)
+mark status Ended = action_mark status
+mark status Restarted = action_mark status
+mark status (Renewed limit) = action_mark status
+mark status (NestedStarted b) = nested_mark action.Active
+mark status (NestedCloses b) = nested_mark action.Closing
+mark status (NestedCancels b) = nested_mark action.Cancelling
+mark status (NestedEnded b s) = nested_mark s
+
+-- the action's lane from a row to the next one, of the look of the status that it has meanwhile
+abbrev pub stretch : ActionStatus → List ℕ
+stretch status = joined (codes "<line x1=\"28\" y1=\"13\" x2=\"28\" y2=\"39\" class=\"" ∷ action_status_name status ∷ codes "\"/>" ∷ [])
+
+-- when it was
+abbrev pub moment_words : ℕ → List ℕ
+moment_words moment = joined (codes "<text x=\"112\" y=\"18\" class=\"moment\">" ∷ moment_text moment ∷ codes "</text>" ∷ [])
+
+-- a line of the story, with its line feed, which no text of SVG shows
+abbrev pub words : List ℕ → List ℕ
+words line = joined (codes "<text x=\"328\" y=\"18\">" ∷ line ∷ codes "</text>" ∷ [])
+
+-- what stands in the first row: how the action is now
+abbrev pub head_row : List ℕ → List ℕ
+head_row head = joined (codes "<text x=\"20\" y=\"18\" class=\"head\">" ∷ head ∷ codes "</text>" ∷ [])
+
+-- what stands in the row of an entry: marks, when it was, and the line that tells of it
+abbrev pub told_row : Told → List ℕ
+told_row t = joined (stretch t.status ∷ mark t.status t.fact ∷ moment_words t.moment ∷ words (told_line t) ∷ [])
+
+-- what stands in the row of a note; where nothing is noted there is none
+abbrev pub note_rows : List ℕ → List (List ℕ)
+note_rows [] = []
+note_rows (c ∷ note) = words (c ∷ note) ∷ []
+
+-- what stands in the rows: how the action is now; then each entry that concerns it, in order; then each note
+abbrev pub contents : List ℕ → List Told → List (List ℕ) → List (List ℕ)
+contents head ts notes = head_row head ∷ [] ++ map told_row ts ++ flat_map note_rows notes
+
+-- what the picture begins with: its size, and what it is of
+abbrev pub opening : List ℕ → ℕ → List ℕ
+opening head height =
+    joined
+    (codes "<svg xmlns=\"http://www.w3.org/2000/svg\" version=\"1.1\" role=\"graphics-document document\" width=\"1280\" height=\""
+    ∷ decimal height
+    ∷ codes "\" viewBox=\"0 0 1280 "
+    ∷ decimal height
+    ∷ codes "\">\n<title>"
+    ∷ head
+    ∷ codes "</title>\n"
+    ∷ []
+    )
+
+-- the lanes of the members and of the nested actions
+abbrev pub lanes : ℕ → List ℕ
+lanes height = joined (codes "<path class=\"lane\" d=\"M56 26V" ∷ decimal height ∷ codes "M84 26V" ∷ decimal height ∷ codes "\"/>\n" ∷ [])
+
+-- a picture of these rows, as high as they are together
+abbrev pub framed : List ℕ → List (List ℕ) → List ℕ
+framed head cs = joined (opening head (top_of (length cs)) ∷ LOOKS.now ∷ lanes (top_of (length cs)) ∷ rows 0 cs ∷ codes "</svg>\n" ∷ [])
+
+-- the picture of a story by its parts: how the action is now, what is told of it, and what is noted at the end
+unfoldable pub picture : List ℕ → List Told → List (List ℕ) → List ℕ
+picture head ts notes = framed head (contents head ts notes)

@@ -1,0 +1,259 @@
+//! The picture of what happened to an action: an SVG document that stands alone. Each text in it is made of words of this program and of numbers, so
+//! nothing is escaped.
+
+ghost use Rattle.std.specs.Prelude.{◌≡◌, ◌+◌, ◌++◌, ◌∷◌, [], ℕ, List, IfOk, OnOk, map, string_bytes};
+ghost use Rattle.std.specs.List.{flat_map};
+ghost use Rattle.lra_stories.specs.Drawn as drawn;
+ghost use Rattle.lra_stories.specs.Sentences.{told_line as told_words};
+ghost use Rattle.lra_stories.specs.inner.Draws.{Draws};
+
+use crate::facts::{Fact, Told};
+use crate::sentences::told_line;
+use crate::times::moment_text;
+use lra_model::{ActionStatus, Memory};
+use std::alloc::{AllocError, Global};
+
+/// How the picture looks, by day and by night.
+const LOOKS: &str = "<style>
+svg{background:#fbfbf9}text{font:13px ui-monospace,monospace;fill:#1c2430}.moment{fill:#5b6675}.head{font-weight:600}
+circle,rect,path{fill:currentColor}line{stroke:currentColor;stroke-width:3}.lane{fill:none;stroke:#d9dde3}
+.asked,.accepted,.silent{fill:none;stroke:currentColor;stroke-width:2}
+.Active{color:#1a5fb4}.Closing,.Cancelling,.asked,.accepted{color:#9a5b00}.Closed,.joined,.skipped,.done{color:#1f6f43}
+.Cancelled,.left{color:#5b6675}.FailedToClose,.FailedToCancel,.failed,.silent{color:#b3261e}
+@media(prefers-color-scheme:dark){svg{background:#14171c}text{fill:#e4e7ec}.moment{fill:#98a2b1}.lane{stroke:#333b47}
+.Active{color:#8ab4f8}.Closing,.Cancelling,.asked,.accepted{color:#e8b45a}.Closed,.joined,.skipped,.done{color:#6fcf97}
+.Cancelled,.left{color:#98a2b1}.FailedToClose,.FailedToCancel,.failed,.silent{color:#ff8a80}}
+</style>
+";
+
+/// How far down the row of a number begins.
+fn top_of(number: u64) -> Result<u64, Memory>
+    ensures { IfOk result (λ top. top ≡ drawn.top_of number) }
+{
+    match number.checked_mul(26) {
+        Some(top) => Ok(top),
+        None => Err(AllocError),
+    }
+}
+
+/// How many rows there are with one more.
+fn next_of(count: u64) -> Result<u64, Memory>
+    ensures { IfOk result (λ next. next ≡ count + 1) }
+{
+    match count.checked_add(1) {
+        Some(next) => Ok(next),
+        None => Err(AllocError),
+    }
+}
+
+/// The row of a number.
+fn row_text(alloc: Global, number: u64, content: &str) -> Result<String, Memory>
+    ensures { IfOk result (λ text. string_bytes text ≡ drawn.row number content.now) }
+{
+    let top = top_of(number)?;
+    format!(in alloc; "<g transform=\"translate(0,{top})\">{content}</g>\n")
+}
+
+/// A mark in the action's lane.
+fn action_mark(alloc: Global, status: ActionStatus) -> Result<String, Memory>
+    ensures { IfOk result (λ text. string_bytes text ≡ drawn.action_mark status) }
+{
+    let look = status.name();
+    format!(in alloc; "<circle cx=\"28\" cy=\"13\" r=\"7\" class=\"{look}\"/>")
+}
+
+/// A mark in the members' lane.
+fn member_mark(alloc: Global, look: &str) -> Result<String, Memory>
+    ensures { IfOk result (λ text. string_bytes text ≡ drawn.member_mark look.now) }
+{
+    format!(in alloc; "<rect x=\"50\" y=\"7\" width=\"12\" height=\"12\" class=\"{look}\"/>")
+}
+
+/// A mark in the lane of the nested actions.
+fn nested_mark(alloc: Global, status: ActionStatus) -> Result<String, Memory>
+    ensures { IfOk result (λ text. string_bytes text ≡ drawn.nested_mark status) }
+{
+    let look = status.name();
+    format!(in alloc; "<path d=\"M84 5l8 8l-8 8l-8-8z\" class=\"{look}\"/>")
+}
+
+/// The mark of a fact, where the action has this status after it.
+fn mark(alloc: Global, status: ActionStatus, fact: Fact) -> Result<String, Memory>
+    ensures { IfOk result (λ text. string_bytes text ≡ drawn.mark status fact) }
+{
+    match fact {
+        Fact::Started { .. } => action_mark(alloc, status),
+        Fact::Joined { .. } => member_mark(alloc, "joined"),
+        Fact::Left { .. } => member_mark(alloc, "left"),
+        Fact::Closes { .. } => action_mark(alloc, status),
+        Fact::Cancels { .. } => action_mark(alloc, status),
+        Fact::Skipped { .. } => member_mark(alloc, "skipped"),
+        Fact::Asked { .. } => member_mark(alloc, "asked"),
+        Fact::Answered { outcome, .. } => member_mark(alloc, outcome.name()),
+        Fact::Reported { outcome, .. } => member_mark(alloc, outcome.name()),
+        Fact::Ended => action_mark(alloc, status),
+        Fact::Restarted => action_mark(alloc, status),
+        Fact::Renewed { .. } => action_mark(alloc, status),
+        Fact::NestedStarted { .. } => nested_mark(alloc, ActionStatus::Active),
+        Fact::NestedCloses { .. } => nested_mark(alloc, ActionStatus::Closing),
+        Fact::NestedCancels { .. } => nested_mark(alloc, ActionStatus::Cancelling),
+        Fact::NestedEnded { status, .. } => nested_mark(alloc, status),
+    }
+}
+
+/// The action's lane from a row to the next one.
+fn stretch(alloc: Global, status: ActionStatus) -> Result<String, Memory>
+    ensures { IfOk result (λ text. string_bytes text ≡ drawn.stretch status) }
+{
+    let look = status.name();
+    format!(in alloc; "<line x1=\"28\" y1=\"13\" x2=\"28\" y2=\"39\" class=\"{look}\"/>")
+}
+
+/// When it was.
+fn moment_words(alloc: Global, moment: u64) -> Result<String, Memory>
+    ensures { IfOk result (λ text. string_bytes text ≡ drawn.moment_words moment) }
+{
+    let moment = moment_text(alloc, moment)?;
+    format!(in alloc; "<text x=\"112\" y=\"18\" class=\"moment\">{moment}</text>")
+}
+
+/// A line of the story.
+fn words(alloc: Global, line: &str) -> Result<String, Memory>
+    ensures { IfOk result (λ text. string_bytes text ≡ drawn.words line.now) }
+{
+    format!(in alloc; "<text x=\"328\" y=\"18\">{line}</text>")
+}
+
+/// The line that tells of an entry.
+fn told_words(alloc: Global, told: &Told) -> Result<String, Memory>
+    ensures { IfOk result (λ text. string_bytes text ≡ drawn.words (told_words told.now)) }
+{
+    let line = told_line(alloc, told)?;
+    words(alloc, &line)
+}
+
+/// What stands in the first row.
+fn head_row(alloc: Global, head: &str) -> Result<String, Memory>
+    ensures { IfOk result (λ text. string_bytes text ≡ drawn.head_row head.now) }
+{
+    format!(in alloc; "<text x=\"20\" y=\"18\" class=\"head\">{head}</text>")
+}
+
+/// What stands in the row of an entry.
+fn told_row(alloc: Global, told: &Told) -> Result<String, Memory>
+    ensures { IfOk result (λ text. string_bytes text ≡ drawn.told_row told.now) }
+{
+    let stretch = stretch(alloc, told.status)?;
+    let mark = mark(alloc, told.status, told.fact)?;
+    let moment = moment_words(alloc, told.moment)?;
+    let words = told_words(alloc, told)?;
+    format!(in alloc; "{stretch}{mark}{moment}{words}")
+}
+
+/// Rows that are drawn, one below the other.
+#[derive(Drop)]
+struct Drawing {
+    alloc: Global,
+    text: String,
+    count: u64,
+}
+
+impl Drawing {
+    /// No row yet.
+    fn new(alloc: Global) -> Drawing
+        ensures { Draws result [] }
+    {
+        Drawing {
+            alloc,
+            text: String::new(alloc),
+            count: 0,
+        }
+    }
+
+    /// Adds a row.
+    fn put_row(&mut self, content: &str) -> Result<(), Memory>
+        ensures { (cs : List (List ℕ)) → Draws self.old cs → OnOk result (Draws self.new (cs ++ content.now ∷ [])) }
+    {
+        let row = row_text(self.alloc, self.count, content)?;
+        let count = next_of(self.count)?;
+        self.text.push_str(&row)?;
+        self.count = count;
+        Ok(())
+    }
+
+    /// Adds the row of a note, where something is noted.
+    fn put_note(&mut self, note: &str) -> Result<(), Memory>
+        ensures { (cs : List (List ℕ)) → Draws self.old cs → OnOk result (Draws self.new (cs ++ drawn.note_rows note.now)) }
+    {
+        if note.is_empty() {
+            return Ok(());
+        }
+        let words = words(self.alloc, note)?;
+        self.put_row(&words)
+    }
+}
+
+/// Adds the row of each entry that is told.
+fn put_told(drawing: &mut Drawing, told: &[Told]) -> Result<(), Memory>
+    ensures { (cs : List (List ℕ)) → Draws drawing.old cs → OnOk result (Draws drawing.new (cs ++ map drawn.told_row told.now)) }
+{
+    for place in 0..told.len() {
+        let content = told_row(drawing.alloc, &told[place])?;
+        drawing.put_row(&content)?;
+    }
+    Ok(())
+}
+
+/// Adds the row of each note.
+fn put_notes(drawing: &mut Drawing, notes: &[String]) -> Result<(), Memory>
+    ensures { (cs : List (List ℕ)) → Draws drawing.old cs → OnOk result (Draws drawing.new (cs ++ flat_map drawn.note_rows (map string_bytes notes.now))) }
+{
+    for place in 0..notes.len() {
+        drawing.put_note(&notes[place])?;
+    }
+    Ok(())
+}
+
+/// What the picture begins with.
+fn opening(alloc: Global, head: &str, height: u64) -> Result<String, Memory>
+    ensures { IfOk result (λ text. string_bytes text ≡ drawn.opening head.now height) }
+{
+    format!(in alloc;
+        "<svg xmlns=\"http://www.w3.org/2000/svg\" version=\"1.1\" role=\"graphics-document document\" width=\"1280\" height=\"{height}\" viewBox=\"0 0 1280 {height}\">\n<title>{head}</title>\n"
+    )
+}
+
+/// The lanes of the members and of the nested actions.
+fn lanes(alloc: Global, height: u64) -> Result<String, Memory>
+    ensures { IfOk result (λ text. string_bytes text ≡ drawn.lanes height) }
+{
+    format!(in alloc; "<path class=\"lane\" d=\"M56 26V{height}M84 26V{height}\"/>\n")
+}
+
+/// A picture of the rows that are drawn.
+fn framed(drawing: &Drawing, head: &str) -> Result<String, Memory>
+    ensures { (cs : List (List ℕ)) → Draws drawing.now cs → IfOk result (λ text. string_bytes text ≡ drawn.framed head.now cs) }
+{
+    let height = top_of(drawing.count)?;
+    let opening = opening(drawing.alloc, head, height)?;
+    let lanes = lanes(drawing.alloc, height)?;
+    let rows = drawing.text.as_str();
+    format!(in drawing.alloc; "{opening}{LOOKS}{lanes}{rows}</svg>\n")
+}
+
+/// The picture of a story: how the action is now, what is told of it, and what is noted at the end.
+pub(crate) fn draw(
+    alloc: Global,
+    head: &str,
+    told: &[Told],
+    notes: &[String],
+) -> Result<String, Memory>
+    ensures { IfOk result (λ text. string_bytes text ≡ drawn.picture head.now told.now (map string_bytes notes.now)) }
+{
+    let mut drawing = Drawing::new(alloc);
+    let first = head_row(alloc, head)?;
+    drawing.put_row(&first)?;
+    put_told(&mut drawing, told)?;
+    put_notes(&mut drawing, notes)?;
+    framed(&drawing, head)
+}
