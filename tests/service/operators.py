@@ -59,7 +59,7 @@ class Port:
         connection.close()
         return Reply(reply.status, reply.reason, dict(reply.getheaders()), text)
 
-    def told(self, path, code=200):
+    def read(self, path, code=200):
         """The object that is told at a path."""
         reply = self.ask(path)
         equal(f"the code of {path}", reply.code, code)
@@ -133,7 +133,7 @@ def test_health_is_up(setting):
         with kind(setting) as service, service.client() as client:
             client.start()
             for probe, names in (("", ["journal", "lock", "room", "starts"]), ("/live", ["journal", "lock"]), ("/ready", ["journal", "lock", "room", "starts"]), ("/started", ["started"])):
-                told = service.told("/health" + probe)
+                told = service.read("/health" + probe)
                 equal("the status", told["status"], "UP")
                 equal("the checks", [(it["name"], it["status"]) for it in told["checks"]], [(it, "UP") for it in names])
 
@@ -147,7 +147,7 @@ def test_health_is_down_on_a_full_disk(setting):
             resource.prlimit(service.process.pid, resource.RLIMIT_FSIZE, (most, resource.RLIM_INFINITY))
             equal("a close", client.call("PUT", f"/lra-coordinator/{id_of(action)}/close").code, 503)
             for probe in ("", "/live", "/ready"):
-                told = service.told("/health" + probe, 503)
+                told = service.read("/health" + probe, 503)
                 equal("the status", (told["status"], told["checks"][0]["name"], told["checks"][0]["status"]), ("DOWN", "journal", "DOWN"))
             equal("metrics", measures(service)["lra_journal_failed"], 1)
             equal("an order", service.ask(f"/actions/{id_of(action)}/cancel", "POST").code, 503)
@@ -218,7 +218,7 @@ def test_members_that_hold_up_an_end_are_counted(setting):
         equal("none while it is active", (found[silent], found[waiting]), (0, 0))
         client.end(action, "close")
         wait_until("one is silent", lambda: measures(service)[silent] == 1)
-        equal("it was asked in vain", service.told("/actions/" + id_of(action))["awaits"], {"member": id_of(recovery)})
+        equal("it was asked in vain", service.read("/actions/" + id_of(action))["awaits"], {"member": id_of(recovery)})
         reply = service.ask(f"/members/{id_of(recovery)}/give-up", "POST", json.dumps({"status": "FailedToComplete"}))
         equal("it is given up", reply.code, 200)
         wait_until("none is silent", lambda: measures(service)[silent] == 0)
@@ -286,16 +286,16 @@ def test_actions_are_listed_and_shown(setting):
         actions = [client.start() for _ in range(5)]
         nested = client.start(parent=actions[0])
         recovery = client.join(actions[0], **member.addresses("complete", "compensate"))
-        first = service.told("/actions?limit=4")
+        first = service.read("/actions?limit=4")
         equal("the first page", [it["action"] for it in first["actions"]], [id_of(it) for it in actions[:4]])
-        rest = service.told("/actions?from=" + first["next"])
+        rest = service.read("/actions?from=" + first["next"])
         equal("the rest", [(it["action"], it["parent"]) for it in rest["actions"]], [(id_of(actions[4]), None), (id_of(nested), id_of(actions[0]))])
         check("the end", rest["next"] is None)
-        shown = service.told("/actions/" + id_of(actions[0]))
+        shown = service.read("/actions/" + id_of(actions[0]))
         equal("the members", [(it["member"], it["status"]) for it in shown["members"]], [(id_of(recovery), "Active")])
         equal("the nested", [it["action"] for it in shown["nested"]], [id_of(nested)])
         client.end(actions[1], "close")
-        equal("those of a state", [it["action"] for it in service.told("/actions?state=Closed")["actions"]], [id_of(actions[1])])
+        equal("those of a state", [it["action"] for it in service.read("/actions?state=Closed")["actions"]], [id_of(actions[1])])
         for query in ("state=Closd", "limit=x", "limit=-1", "journal=one", "from=nothing"):
             code, word = (404, "NoSuchAction") if query.startswith("from") else (400, "BadQuery")
             refusal(service.ask("/actions?" + query), code, word)
@@ -310,10 +310,10 @@ def test_a_folder_s_journals_are_all_told(setting):
         with service.client() as client:
             new = client.start()
             client.end(old[1], "cancel")
-        told = [[it["action"] for it in service.told(f"/actions?journal={place}")["actions"]] for place in (0, 1)]
+        told = [[it["action"] for it in service.read(f"/actions?journal={place}")["actions"]] for place in (0, 1)]
         equal("the actions", sorted(told[0] + told[1]), sorted(map(id_of, [*old, new])))
         equal("the newest", told[1][-1], id_of(new))
-        equal("one of each", [service.told("/actions/" + id_of(it))["status"] for it in (old[0], new)], ["Active", "Active"])
+        equal("one of each", [service.read("/actions/" + id_of(it))["status"] for it in (old[0], new)], ["Active", "Active"])
         found = measures(service)
         equal("the counts", (found["lra_journals"], found['lra_actions{state="Active"}'], found['lra_actions{state="Cancelled"}']), (2, 4, 1))
         equal("an order to the older", json.loads(service.ask(f"/actions/{id_of(old[0])}/cancel", "POST").body), {"status": "Cancelled"})
@@ -352,7 +352,7 @@ def test_a_member_that_is_given_up_ends_its_action_as_failed(setting):
         recovery = client.join(action, **member.addresses("complete", "compensate", "status"))
         client.end(action, "close")
         member.wait("complete")
-        equal("what it waits for", service.told("/actions/" + id_of(action))["awaits"], {"member": id_of(recovery)})
+        equal("what it waits for", service.read("/actions/" + id_of(action))["awaits"], {"member": id_of(recovery)})
         path = f"/members/{id_of(recovery)}/give-up"
         refusal(service.ask(path, "POST", json.dumps({"status": "Completed"})), 400, "BadQuery")
         reply = service.ask(path, "POST", json.dumps({"status": "FailedToComplete"}))
@@ -554,7 +554,7 @@ def test_many_actions_are_paged(setting):
         begun = time.monotonic()
         seen, path = [], "/actions?limit=1000"
         while path:
-            told = service.told(path)
+            told = service.read(path)
             seen += [it["action"] for it in told["actions"]]
             path = told["next"] and "/actions?limit=1000&from=" + told["next"]
         listed = time.monotonic() - begun

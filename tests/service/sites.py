@@ -8,7 +8,7 @@ import journal
 from folders import Folder, check_sound, instance_of, refused
 from operators import WatchedFolder
 from participant import Participant, wait_until
-from service import HOST, PATIENCE, Telling, check, equal, free_port, id_of
+from service import HOST, PATIENCE, check, equal, free_port, id_of
 
 # How many seconds a journal stays that is done.
 REMEMBERED = 1
@@ -28,7 +28,7 @@ def full(reply):
 def leave(folder, seconds=PATIENCE):
     """Waits until a service has ended by itself, and answers its status and what it told."""
     status = folder.process.wait(seconds)
-    return status, Telling.told(folder)
+    return status, folder.told()
 
 
 def checks(service, probe):
