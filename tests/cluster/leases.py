@@ -271,7 +271,8 @@ def test_where_each_lock_is_had_the_fence_keeps_them_apart(setting):
         action, program = started(first), first.program()
         pids = pause_all_but_the_program(site, first)
         wait_until("the second serves", lambda: serves(second), TAKEOVER + PATIENCE)
-        check("the first's is alive", not alive(program))
+        # (which may be within the twentieth of a second in which the first looks at its fence anew)
+        wait_until("the first's ends by itself", lambda: not alive(program))
         with client_of(second) as client:
             equal("the action", client.status(action), "Active")
             equal("its end", client.end(action, "close"), "Closed")
