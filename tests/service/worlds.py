@@ -318,7 +318,8 @@ def wakes(service):
     """How often the threads of a service have been woken."""
     count = 0
     for thread in os.listdir(f"/proc/{service.process.pid}/task"):
-        with open(f"/proc/{service.process.pid}/task/{thread}/status", encoding="ascii") as it:
+        # (a thread that has made the service ready may have ended since)
+        with contextlib.suppress(FileNotFoundError, ProcessLookupError), open(f"/proc/{service.process.pid}/task/{thread}/status", encoding="ascii") as it:
             count += next(int(line.split()[1]) for line in it if line.startswith("voluntary_ctxt_switches:"))
     return count
 
