@@ -17,6 +17,9 @@ const VISIT: u64 = 10;
 /// How many visitors there are at once.
 const MOST: usize = 64;
 
+/// How many are let in at a look. Behind that it rests, so that a crowd which comes again and again leaves the processors to those who are served.
+const AT_ONCE: usize = 2;
+
 /// How many milliseconds pass before it is looked anew, where visitors are there and where none is.
 const SHORT: u64 = 2;
 
@@ -74,14 +77,15 @@ impl Desk {
         let _ = self.visitors.push(Visitor::new(self.alloc, stream, end));
     }
 
-    /// Gives those a place who have come, as many at most as there are places.
-    fn admit<R: Clock>(&mut self, rt: &R, post: &Watchpost) {
-        for _visitor in 0..MOST {
+    /// Gives those a place who have come, a few at most. Tells whether one has.
+    fn admit<R: Clock>(&mut self, rt: &R, post: &Watchpost) -> bool {
+        for admitted in 0..AT_ONCE {
             match post.listener.accept() {
                 Ok((stream, _)) => self.seat(rt, stream),
-                Err(_) => return,
+                Err(_) => return admitted > 0,
             }
         }
+        true
     }
 
     /// Answers the visitor at a place, where its request is whole.
@@ -126,7 +130,7 @@ impl Desk {
         }
     }
 
-    /// Looks after each visitor once. Tells whether something moved.
+    /// Looks after each visitor once. Tells whether to look anew at once: something moved, and no one has come.
     fn turn<R: Clock, O: Overview, T: Turned>(
         &mut self,
         rt: &R,
@@ -135,12 +139,12 @@ impl Desk {
         turned: &T,
     ) -> bool {
         overview.catch_up();
-        self.admit(rt, post);
+        let has_come = self.admit(rt, post);
         let mut place: usize = 0;
         let mut has_moved = false;
         for _visitor in 0..MOST {
             if place >= self.visitors.len() {
-                return has_moved;
+                break;
             }
             let step = self.step(rt, place);
             has_moved |= step == Step::Moved;
@@ -151,7 +155,7 @@ impl Desk {
             self.answer(post, overview, turned, place);
             place = place.saturating_add(1);
         }
-        has_moved
+        has_moved && !has_come
     }
 
     /// How long it rests before it looks again, in milliseconds.
