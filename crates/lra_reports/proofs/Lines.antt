@@ -7,7 +7,7 @@ use Rattle.std.proofs.KnownBytes.{Appends-trans}
 use Rattle.std.proofs.lemmas.List.{flat_map_more, take_more}
 use Rattle.std.proofs.lemmas.Option.{get_or_from_slice_get, slice_get-get_or, slice_get_within, none-some}
 use Rattle.lra_laws.specs.Rows.{row_at}
-use Rattle.lra_reports.specs.inner.Paging.{IsPaged}
+use Rattle.lra_reports.specs.Paging.{IsPaged}
 
 row_next : {X : Type 0} (xs : List X) (i : ℕ) → row_at xs (i + 1) ≡ slice_get xs i
 row_next xs i = let on : i + 1 ≡ suc i = omega arith in ap (row_at xs) on

@@ -5,8 +5,7 @@ use Rattle.std.specs.Io.KnownBytes.{Consumes}
 use Rattle.lra_auditor.specs.Feeding.{Feed, StandsFor}
 use Rattle.lra_reports.specs.declared.fault.RunFault.{RunFault}
 use Rattle.lra_reports.specs.declared.fault.RunFault.TheVariants as fault
-use Rattle.lra_reports.specs.Faults.{IsOfInput, IsMeasured}
-use Rattle.lra_reports.specs.inner.Causes.{IsOfOutput}
+use Rattle.lra_reports.specs.Faults.{IsOfInput, IsMeasured, IsOfOutput}
 use Rattle.lra_reports.specs.inner.Taking.{IsFedOn, IsCounted}
 
 -- the taker has what the reader gave, and so many more bytes may come

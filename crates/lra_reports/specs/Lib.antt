@@ -1,5 +1,6 @@
 pub mod Report
 pub mod Faults
+pub mod Paging
 pub mod Show
 pub mod Upgrade
 pub mod Salvage

@@ -1,5 +1,4 @@
 -- The words that private functions and proofs alone use: no public contract stands on them.
 pub mod Causes
 pub mod Headed
-pub mod Paging
 pub mod Taking

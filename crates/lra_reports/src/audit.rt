@@ -3,8 +3,7 @@
 ghost use Rattle.std.specs.Prelude.{◌≡◌, ℕ, List, IfOk, IfErr, IfSome, OnOk};
 ghost use Rattle.std.specs.Io.KnownBytes.{Appends};
 ghost use Rattle.lra_auditor.specs.Verdicts.{IsFault};
-ghost use Rattle.lra_reports.specs.Faults.{NamesNoLine, IsMeasured, LeavesOutput, IsNotPut};
-ghost use Rattle.lra_reports.specs.inner.Causes.{IsOfOutput};
+ghost use Rattle.lra_reports.specs.Faults.{NamesNoLine, IsMeasured, LeavesOutput, IsNotPut, IsOfOutput};
 ghost use Rattle.lra_reports.specs.Report.{report_of, ReportsAudit};
 
 use crate::fault::RunFault;

@@ -23,7 +23,7 @@ pub use dispatch::run;
 pub use errors::{error_line, hint_line, input_name};
 pub use fault::RunFault;
 pub use input::{LONGEST, next_piece, read_input};
-pub use output::put;
+pub use output::{put, put_line};
 pub use program::{System, answer_question, settle, tell, tell_usage, words_of};
 pub use salvage::{salvage_file, salvage_run};
 pub use show::show_run;

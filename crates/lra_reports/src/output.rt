@@ -2,8 +2,8 @@
 
 ghost use Rattle.std.specs.Prelude.{◌≡◌, ◌<◌, IfErr, OnOk};
 ghost use Rattle.std.specs.Io.KnownBytes.{Appends};
-ghost use Rattle.lra_reports.specs.inner.Causes.{IsOfOutput};
-ghost use Rattle.lra_reports.specs.inner.Paging.{IsPaged};
+ghost use Rattle.lra_reports.specs.Faults.{IsOfOutput};
+ghost use Rattle.lra_reports.specs.Paging.{IsPaged};
 
 use crate::fault::RunFault;
 use std::io::Write;
@@ -20,11 +20,7 @@ pub fn put<W: Write>(writer: &mut W, bytes: &[u8]) -> Result<(), RunFault>
 }
 
 /// Adds a line to a page, and writes the page once it is full.
-pub(crate) fn put_line<W: Write>(
-    writer: &mut W,
-    page: &mut Vec<u8>,
-    line: &str,
-) -> Result<(), RunFault>
+pub fn put_line<W: Write>(writer: &mut W, page: &mut Vec<u8>, line: &str) -> Result<(), RunFault>
     ensures written { OnOk result (IsPaged (W.contents writer.old) (W.contents writer.new) page.old.items page.new.items line.now) }
     ensures fault { IfErr result IsOfOutput }
 {

@@ -3,9 +3,8 @@
 ghost use Rattle.std.specs.Prelude.{◌≡◌, IfOk, IfErr, IfSome, OnOk, string_bytes};
 ghost use Rattle.std.specs.List.{flat_map};
 ghost use Rattle.std.specs.Io.KnownBytes.{Appends};
-ghost use Rattle.lra_reports.specs.Faults.{NamesNoLine, IsMeasured, LeavesOutput};
-ghost use Rattle.lra_reports.specs.inner.Causes.{IsOfOutput};
-ghost use Rattle.lra_reports.specs.inner.Paging.{IsPaged};
+ghost use Rattle.lra_reports.specs.Faults.{NamesNoLine, IsMeasured, LeavesOutput, IsOfOutput};
+ghost use Rattle.lra_reports.specs.Paging.{IsPaged};
 ghost use Rattle.lra_reports.specs.Show.{action_line, member_line, listing_text, account_text, account_status, ReportsListing};
 
 use crate::fault::RunFault;

@@ -11,7 +11,7 @@ use std::io::Write;
 pub(crate) trait Taker {
     ghost use Rattle.std.specs.Prelude.{◌≡◌, ◌+◌, ◌<◌, ◌^◌, ◌++◌, ℕ, List, [], length, OnOk, IfErr};
     ghost use Rattle.lra_reports.specs.declared.fault.RunFault.{RunFault};
-    ghost use Rattle.lra_reports.specs.inner.Causes.{IsOfOutput};
+    ghost use Rattle.lra_reports.specs.Faults.{IsOfOutput};
 
     // Of what it was before and what it is after, that it took these bytes.
     ghost took: { Self → Self → List ℕ → Type 0 };
@@ -88,7 +88,7 @@ pub(crate) struct Copying<'a, W> {
 impl<W: Write> Taker for Copying<'_, W> {
     ghost use Rattle.std.specs.Prelude.{[], ◌∷◌};
     ghost use Rattle.std.specs.Io.KnownBytes.{Appends};
-    ghost use Rattle.lra_reports.specs.inner.Causes.{IsOfOutput};
+    ghost use Rattle.lra_reports.specs.Faults.{IsOfOutput};
     ghost use Rattle.lra_reports.specs.inner.Taking.{IsFedOn};
     ghost use Rattle.std.proofs.Common.{rules};
 

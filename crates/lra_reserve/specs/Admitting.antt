@@ -1,5 +1,5 @@
 -- What is begun while a journal is near its end.
-use Rattle.std.specs.Prelude.{◌≡◌, ◌⊎◌, ℕ, Bool, true, false, Option, Some, None, IfSome, Result, Ok, Err}
+use Rattle.std.specs.Prelude.{◌≡◌, ◌⊎◌, ℕ, Bool, true, false, ◌&&◌, not, is_some, Option, Some, None, IfSome, Result, Ok, Err}
 use Rattle.lra_wire.specs.Request.{Request}
 use Rattle.lra_commands.specs.declared.refusal.Refusal.TheVariants as refusal
 use Rattle.lra_commands.specs.declared.refusal.Resource.TheVariants as resource
@@ -24,17 +24,27 @@ abbrev pub begins_by : Result Route Denial → Bool
 begins_by (Ok r) = begins_at r
 begins_by (Err denial) = false
 
--- a request begins something
+-- a request comes by a route at which something begins
 abbrev pub begins : Request → Bool
 begins request = begins_by (route_of request.method request.target)
+
+-- a route is where a member joins
+abbrev pub is_join : Result Route Denial → Bool
+is_join (Ok route.Join) = true
+is_join _ = false
+
+-- a join that names no action's identifier: it is of no journal, and begins nothing
+abbrev pub is_stray : Request → Bool
+is_stray request = is_join (route_of request.method request.target) && not (is_some (instance_of request))
 
 module _ (tells : Option ℕ → Option ℕ → Type 0) where
   -- a request is let through: it begins nothing, or it is told that the journal which takes it isn't near its end
   abbrev pub IsLet : Request → Type 0
-  IsLet request = (begins request ≡ false) ⊎ tells (instance_of request) None
+  IsLet request = (begins request ≡ false) ⊎ (is_stray request ≡ true) ⊎ tells (instance_of request) None
 
   -- it is refused as one that doesn't fit: it is told which journal near its end would take it, and that is the one that it names, if it names any
   pub record IsFull (request : Request) (answered : Answered) : Type 0 where
+    pub placed : is_stray request ≡ false
     pub told : tells (instance_of request) (Some answered.instance)
     pub own : IfSome (instance_of request) (λ i. answered.instance ≡ i)
     pub answer : answered.answer ≡ Denied (Refused (refusal.Full resource.Entries))

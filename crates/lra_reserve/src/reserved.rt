@@ -2,6 +2,7 @@
 
 ghost use Rattle.std.specs.Prelude.{◌≡◌, IfNone, IfSome};
 ghost use Rattle.lra_wire.specs.Request.{request_of};
+ghost use Rattle.lra_front.specs.Routes.{route_of};
 ghost use Rattle.lra_reserve.specs.Admitting as spec;
 
 use crate::reserve::Reserve;
@@ -38,6 +39,16 @@ fn begins(routes: &Routes, request: &RequestRead) -> bool
     }
 }
 
+/// Whether a request lets a member join.
+fn is_join(routes: &Routes, request: &RequestRead) -> bool
+    ensures { result ≡ spec.is_join (route_of (request_of request.now).method (request_of request.now).target) }
+{
+    matches!(
+        routes.route(request.method.as_str(), request.target.as_str()),
+        Ok(Route::Join)
+    )
+}
+
 impl<A: Responder, K: Reserve> Reserved<A, K> {
     pub fn new(inner: A, reserve: K) -> Reserved<A, K>
         ensures inner { result.inner ≡ inner }
@@ -55,6 +66,7 @@ impl<A: Responder, K: Reserve> Reserved<A, K> {
             return None;
         }
         let (instance, refusal) = match instance_of(alloc, routes, request) {
+            Ok(None) if is_join(routes, request) => return None,
             Ok(named) => (
                 self.reserve.reserved(named)?,
                 Refusal::Full(Resource::Entries),

@@ -3,3 +3,4 @@ pub mod Pieces
 pub mod Rows
 pub mod Writing
 pub mod Naming
+pub mod Listed

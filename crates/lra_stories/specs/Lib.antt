@@ -5,4 +5,5 @@ pub mod Waits
 pub mod Wanted
 pub mod Drawn
 pub mod Explained
+pub mod Lines
 pub mod inner

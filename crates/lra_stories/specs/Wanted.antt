@@ -1,5 +1,5 @@
 -- Which action is asked for.
-use Rattle.std.specs.Prelude.{◌≡◌, ◌⊎◌, ℕ, List, Option, Some, None}
+use Rattle.std.specs.Prelude.{◌≡◌, ◌⊎◌, ◌<◌, ◌^◌, ℕ, List, Option, Some, None}
 use Rattle.std.specs.Fmt.{decimal}
 use Rattle.lra_ids.specs.Identifiers.{IsSpelling, id_text, action_uri}
 use Rattle.lra_stories.specs.declared.wanted.Wanted.{Wanted}
@@ -12,3 +12,12 @@ IsNamed text a (Some i) = IsSpelling (id_text i) text a ⊎ ((base : List ℕ) �
 -- the text names what is asked for
 abbrev pub IsWanted : List ℕ → Wanted → Type 0
 IsWanted text w = IsNamed text w.action w.instance
+
+-- a number, or an instance and a number, that there can be: a number has 64 bits, and an instance 60 (this project's choice)
+abbrev pub CanBe : ℕ → Option ℕ → Type 0
+CanBe a None = a < 2 ^ 64
+CanBe a (Some i) = i < 2 ^ 60
+
+-- the text names no action that there can be
+abbrev pub NamesNone : List ℕ → Type 0
+NamesNone text = (a : ℕ) (o : Option ℕ) → CanBe a o → IsNamed text a o → ⊥

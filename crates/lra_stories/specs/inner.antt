@@ -2,3 +2,5 @@
 pub mod Hears
 pub mod Ids
 pub mod Draws
+pub mod Registered
+pub mod Tallied

@@ -1,11 +1,15 @@
 //! What a listing of actions wants to know beside their statuses: the journal's instance, when each action started, and the last moment.
 
+ghost use Rattle.std.specs.Prelude.{◌≡◌, ◌++◌, OnOk, None, option_map, option_to_list};
+ghost use Rattle.lra_journal.specs.Borrowed.{entry_seen};
+ghost use Rattle.lra_stories.specs.Lines.{begun_by};
+
 use lra_auditor::Follower;
 use lra_journal::{DeedRef, EntryRef};
 use lra_model::{Instance, Memory, Version};
 use std::alloc::Global;
 
-/// When the actions of a journal started, in the order of their numbers.
+/// When the actions of a journal started, in their order.
 #[derive(Drop)]
 pub(crate) struct Register {
     pub(crate) instance: Option<Instance>,
@@ -15,8 +19,12 @@ pub(crate) struct Register {
 }
 
 impl Register {
+    ghost use Rattle.lra_stories.specs.inner.Registered.{Hears};
+
     /// No entry yet.
-    pub(crate) fn new(alloc: Global) -> Register {
+    pub(crate) fn new(alloc: Global) -> Register
+        ensures { Hears result None }
+    {
         Register {
             instance: None,
             starts: Vec::new(alloc),
@@ -25,20 +33,37 @@ impl Register {
     }
 }
 
-impl Follower for Register {
-    ghost use Rattle.std.specs.Prelude.{⊤};
+/// The moment of an entry that starts an action.
+fn started_at(entry: &EntryRef<'_>) -> Option<u64>
+    ensures { result ≡ option_map (λ b. b.moment) (begun_by (entry_seen entry.now)) }
+{
+    match &entry.deed {
+        DeedRef::Start { .. } => Some(entry.moment),
+        _ => None,
+    }
+}
 
-    ghost hears = { λ _ _. ⊤ };
+/// Adds a moment, if there is one.
+fn add(moments: &mut Vec<u64>, moment: Option<u64>) -> Result<(), Memory>
+    ensures { OnOk result (moments.new.items ≡ moments.old.items ++ option_to_list moment) }
+{
+    if let Some(moment) = moment {
+        moments.push(moment)?;
+    }
+    Ok(())
+}
+
+impl Follower for Register {
+    ghost use Rattle.lra_stories.specs.inner.Registered.{Hears};
+
+    ghost hears = { Hears };
 
     fn begin(&mut self, _version: Version, instance: Instance) {
         self.instance = Some(instance);
     }
 
     fn take(&mut self, entry: &EntryRef<'_>) -> Result<(), Memory> {
-        if let DeedRef::Start { .. } = &entry.deed {
-            self.starts.push(entry.moment)?;
-        }
         self.last = entry.moment;
-        Ok(())
+        add(&mut self.starts, started_at(entry))
     }
 }

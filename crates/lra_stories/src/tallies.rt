@@ -1,10 +1,13 @@
 //! How many members of an action have each status.
 
-ghost use Rattle.std.specs.Prelude.{◌<◌};
+ghost use Rattle.std.specs.Prelude.{◌≡◌, ◌<◌, ◌+◌, ◌*◌, ◌++◌, ℕ, List, IfOk, OnOk, IfSome, string_bytes, get_or, map, option_to_list};
+ghost use Rattle.lra_auditor.specs.declared.listing.ListedMember.{ListedMember as ListedMemberValue};
+ghost use Rattle.lra_stories.specs.Lines as lines;
+ghost use Rattle.lra_stories.specs.inner.Tallied.{Tallied, IsMore};
 
 use lra_auditor::{ListedMember, Listing};
 use lra_model::{MemberStatus, Memory};
-use std::alloc::Global;
+use std::alloc::{AllocError, Global};
 
 /// All statuses of members, in the order in which they are listed.
 const STATUSES: [MemberStatus; 8] = [
@@ -18,15 +21,10 @@ const STATUSES: [MemberStatus; 8] = [
     MemberStatus::Left,
 ];
 
-/// How many members of an action have each status.
-#[derive(Clone, Copy)]
-pub(crate) struct Tally {
-    counts: [u64; 8],
-}
-
 /// The place of a status among all.
 fn place_of(status: MemberStatus) -> usize
-    ensures { result < 8 }
+    ensures place { result ≡ lines.place_of status }
+    ensures small { result < 8 }
 {
     match status {
         MemberStatus::Active => 0,
@@ -40,53 +38,109 @@ fn place_of(status: MemberStatus) -> usize
     }
 }
 
+/// Where the count of an action's members stands that have the status of a place: there are eight counts an action, in the order of their numbers.
+fn slot_of(action: u64, place: usize) -> Option<usize>
+    ensures { IfSome result (λ slot. slot + 8 ≡ 8 * action + place) }
+{
+    let row = usize::try_from(action).ok()?.checked_sub(1)?;
+    row.checked_mul(8)?.checked_add(place)
+}
+
 /// Counts a member in its action.
-fn count(tallies: &mut [Tally], member: &ListedMember) {
-    if let Some(tally) = tallies.get_mut(member.action.wrapping_sub(1) as usize) {
-        let place = place_of(member.status);
-        tally.counts[place] = tally.counts[place].saturating_add(1);
+fn count(counts: &mut Vec<u64>, member: &ListedMember) -> Result<(), Memory>
+    ensures { OnOk result (IsMore member.now counts.old.items counts.new.items) }
+{
+    let Some(slot) = slot_of(member.action, place_of(member.status)) else {
+        return Err(AllocError);
+    };
+    if slot >= counts.len() {
+        return Err(AllocError);
+    }
+    let Some(next) = counts[slot].checked_add(1) else {
+        return Err(AllocError);
+    };
+    counts[slot] = next;
+    Ok(())
+}
+
+/// As many counts as so many actions have, of which each is 0.
+fn zeros(alloc: Global, actions: u64) -> Result<Vec<u64>, Memory>
+    ensures { IfOk result (λ counts. (slot : ℕ) → get_or counts.items slot 0 ≡ 0) }
+{
+    match usize::try_from(actions).ok() {
+        Some(actions) => match actions.checked_mul(8) {
+            Some(count) => vec![in alloc; 0u64; count],
+            None => Err(AllocError),
+        },
+        None => Err(AllocError),
     }
 }
 
-/// The tallies of a listing's actions, in the order of their numbers.
-pub(crate) fn tallies_of(alloc: Global, listing: &Listing) -> Result<Vec<Tally>, Memory> {
-    let mut tallies = Vec::new(alloc);
-    for _ in 0..listing.action_count() {
-        tallies.push(Tally { counts: [0; 8] })?;
-    }
+/// How many members of each action have each status.
+pub(crate) fn tallies_of(alloc: Global, listing: &Listing) -> Result<Vec<u64>, Memory>
+    ensures { IfOk result (λ counts. Tallied listing.now.members counts.items) }
+{
+    let mut counts = zeros(alloc, listing.action_count())?;
     for place in 0..listing.member_count() {
-        if let Some(member) = listing.member(place + 1) {
-            count(&mut tallies, &member);
+        match listing.member(place + 1) {
+            Some(member) => count(&mut counts, &member)?,
+            None => return Err(AllocError),
         }
     }
-    Ok(tallies)
+    Ok(counts)
 }
 
-/// Adds how many members have one status, if any has.
-fn push_count(
+/// How many members of an action have a status.
+fn count_at(counts: &[u64], action: u64, status: MemberStatus) -> Result<u64, Memory>
+    ensures { (ms : List ListedMemberValue) → Tallied ms counts.now → IfOk result (λ count. count ≡ lines.count_of ms action (lines.place_of status)) }
+{
+    match slot_of(action, place_of(status)) {
+        Some(slot) => match counts.get(slot) {
+            Some(count) => Ok(*count),
+            None => Err(AllocError),
+        },
+        None => Err(AllocError),
+    }
+}
+
+/// Adds a status with how many members have it, where any has.
+fn push_counted(
     alloc: Global,
-    text: &mut String,
+    words: &mut Vec<String>,
     status: MemberStatus,
     count: u64,
-) -> Result<(), Memory> {
+) -> Result<(), Memory>
+    ensures { OnOk result (map string_bytes words.new.items ≡ map string_bytes words.old.items ++ option_to_list (lines.counted status count)) }
+{
     if count == 0 {
         return Ok(());
     }
-    if !text.is_empty() {
-        text.push_str(",")?;
-    }
     let name = status.name();
-    text.push_str(&format!(in alloc; "{name}={count}")?)
+    let word = format!(in alloc; "{name}={count}")?;
+    words.push(word)?;
+    Ok(())
 }
 
-/// How many members have each status that one has, or `*` where there is no member.
-pub(crate) fn tally_text(alloc: Global, tally: &Tally) -> Result<String, Memory> {
-    let mut text = String::new(alloc);
-    for status in STATUSES {
-        push_count(alloc, &mut text, status, tally.counts[place_of(status)])?;
+/// The words of a text, with commas between them, or `*` where there is none.
+fn listed_words(alloc: Global, words: &[String]) -> Result<String, Memory>
+    ensures { IfOk result (λ text. string_bytes text ≡ lines.listed_words (map string_bytes words.now)) }
+{
+    if words.is_empty() {
+        String::from_str(alloc, "*")
+    } else {
+        words.join(alloc, ",")
     }
-    if text.is_empty() {
-        text.push_str("*")?;
+}
+
+/// How many members of an action have each status that one has, or `*` where it has no member.
+pub(crate) fn tally_text(alloc: Global, counts: &[u64], action: u64) -> Result<String, Memory>
+    ensures { (ms : List ListedMemberValue) → Tallied ms counts.now → IfOk result (λ text. string_bytes text ≡ lines.tally_text (lines.count_of ms action)) }
+{
+    let mut words = Vec::new(alloc);
+    for place in 0..STATUSES.len() {
+        let status = STATUSES[place];
+        let count = count_at(counts, action, status)?;
+        push_counted(alloc, &mut words, status, count)?;
     }
-    Ok(text)
+    listed_words(alloc, &words)
 }

@@ -1,8 +1,10 @@
 //! Which action is asked for.
 
-ghost use Rattle.std.specs.Prelude.{◌≡◌, ◌≢◌, ◌++◌, ℕ, List, IfSome, MatchOption, codes};
-ghost use Rattle.lra_stories.specs.Wanted.{IsWanted};
-ghost use Rattle.lra_stories.specs.inner.Ids.{IsId};
+ghost use Rattle.std.specs.Prelude.{◌≡◌, ◌≢◌, ◌++◌, ◌<◌, ◌^◌, ℕ, List, IfSome, IfNone, ◌-◌, length, drop, MatchOption, codes};
+ghost use Rattle.std.specs.Fmt.{decimal};
+ghost use Rattle.lra_ids.specs.Identifiers.{IsSpelling, id_text, action_uri};
+ghost use Rattle.lra_stories.specs.Wanted.{IsWanted, NamesNone};
+ghost use Rattle.lra_stories.specs.inner.Ids.{IsId, IsNoId, IsNoUri};
 
 use lra_ids::read_id;
 use lra_instances::instance_in;
@@ -25,7 +27,8 @@ pub struct Wanted {
 
 /// The action of which a text is the number.
 fn of_number(text: &str) -> Option<Wanted>
-    ensures { IfSome result (IsWanted text.now) }
+    ensures found { IfSome result (IsWanted text.now) }
+    ensures none { IfNone result ((a : ℕ) → a < 2 ^ 64 → text.now ≢ decimal a) }
 {
     let action = read_number(text.as_bytes())?;
     Some(Wanted {
@@ -36,7 +39,8 @@ fn of_number(text: &str) -> Option<Wanted>
 
 /// The action of which a text is the UUID.
 fn of_id(text: &str) -> Option<Wanted>
-    ensures { IfSome result (IsId text.now) }
+    ensures found { IfSome result (IsId text.now) }
+    ensures none { IfNone result (IsNoId text.now) }
 {
     let instance = instance_in(text.as_bytes())?;
     let action = read_id(text, instance)?;
@@ -55,17 +59,23 @@ fn base_in(front: &[u8]) -> Option<&[u8]>
 
 /// The identifier at the end of the URI of an action, whatever its base.
 fn id_at_end(uri: &str) -> Option<&str>
-    ensures { IfSome result (λ id. (base : List ℕ) × (uri.now ≡ base ++ codes "lra-coordinator/" ++ id.now)) }
+    ensures found { IfSome result (λ id. (base : List ℕ) × (uri.now ≡ base ++ codes "lra-coordinator/" ++ id.now)) }
+    ensures end { IfSome result (λ id. id.now ≡ drop (length uri.now - 36) uri.now) }
+    ensures none { IfNone result ((base : List ℕ) (i n : ℕ) → uri.now ≢ action_uri i base n) }
 {
     let at = uri.len().checked_sub(ID_LENGTH)?;
     let (front, id) = uri.as_bytes().split_at(at);
     let _base = base_in(front)?;
-    str::from_utf8(id).ok()
+    match str::from_utf8(id) {
+        Ok(id) => Some(id),
+        Err(_) => None,
+    }
 }
 
 /// The action of which a text is the URI.
 fn of_uri(text: &str) -> Option<Wanted>
-    ensures { IfSome result (IsWanted text.now) }
+    ensures found { IfSome result (IsWanted text.now) }
+    ensures none { IfNone result (IsNoUri text.now) }
 {
     let id = id_at_end(text)?;
     of_id(id)
@@ -73,7 +83,8 @@ fn of_uri(text: &str) -> Option<Wanted>
 
 /// The action that a word of the command line names: by its number, by its UUID, or by its whole URI.
 pub fn read_wanted(text: &str) -> Option<Wanted>
-    ensures { IfSome result (IsWanted text.now) }
+    ensures found { IfSome result (IsWanted text.now) }
+    ensures none { IfNone result (NamesNone text.now) }
 {
     if let Some(wanted) = of_number(text) {
         return Some(wanted);

@@ -1,5 +1,6 @@
 //! One who answers operators.
 
+use crate::pace::Pace;
 use crate::post::Watchpost;
 use crate::visitor::{Step, Visitor};
 use lra_clocks::seconds_on;
@@ -17,10 +18,14 @@ const VISIT: u64 = 10;
 /// How many visitors there are at once.
 const MOST: usize = 64;
 
-/// How many are let in at a look. Behind that it rests, so that a crowd which comes again and again leaves the processors to those who are served.
+/// How many are let in at a look, and how many requests are answered. Behind that it rests, so that a crowd which comes again and again leaves the
+/// processors to those who are served.
 const AT_ONCE: usize = 2;
 
-/// How many milliseconds pass before it is looked anew, where visitors are there and where none is.
+/// How often one visitor is read or written at a look.
+const STEPS: usize = 8;
+
+/// How many milliseconds pass at least before it is looked anew, where visitors are there and where none is.
 const SHORT: u64 = 2;
 
 const LONG: u64 = 20;
@@ -52,6 +57,8 @@ struct Desk {
     alloc: Global,
     port: Port,
     visitors: Vec<Visitor>,
+    /// How many requests are still answered at this look.
+    left: usize,
 }
 
 /// Whether a moment has passed.
@@ -77,18 +84,25 @@ impl Desk {
         let _ = self.visitors.push(Visitor::new(self.alloc, stream, end));
     }
 
-    /// Gives those a place who have come, a few at most. Tells whether one has.
-    fn admit<R: Clock>(&mut self, rt: &R, post: &Watchpost) -> bool {
-        for admitted in 0..AT_ONCE {
+    /// Gives those a place who have come, a few at most.
+    fn admit<R: Clock>(&mut self, rt: &R, post: &Watchpost) {
+        for _ in 0..AT_ONCE {
             match post.listener.accept() {
                 Ok((stream, _)) => self.seat(rt, stream),
-                Err(_) => return admitted > 0,
+                Err(_) => break,
             }
         }
-        true
     }
 
-    /// Answers the visitor at a place, where its request is whole.
+    /// Whether the visitor at a place waits for its answer.
+    fn is_waiting(&self, place: usize) -> bool {
+        match self.visitors.get(place) {
+            Some(visitor) => visitor.is_waiting(),
+            None => false,
+        }
+    }
+
+    /// Answers the visitor at a place, whose request is whole.
     fn answer<O: Overview, T: Turned>(
         &mut self,
         post: &Watchpost,
@@ -100,10 +114,9 @@ impl Desk {
             alloc,
             port,
             visitors,
+            left: _,
         } = self;
-        if let Some(visitor) = visitors.get_mut(place)
-            && visitor.is_waiting()
-        {
+        if let Some(visitor) = visitors.get_mut(place) {
             let came = visitor.came.as_slice();
             visitor.reply = reply_to(*alloc, port, overview, &post.access(), came);
             if let Some(code) = turned_code(visitor.reply.as_slice()) {
@@ -130,40 +143,76 @@ impl Desk {
         }
     }
 
-    /// Looks after each visitor once. Tells whether to look anew at once: something moved, and no one has come.
+    /// Reads, answers and writes as far as can be at once, of one visitor. Tells whether it stays.
+    fn look_after<R: Clock, O: Overview, T: Turned>(
+        &mut self,
+        rt: &R,
+        post: &Watchpost,
+        overview: &mut O,
+        turned: &T,
+        place: usize,
+    ) -> bool {
+        for _ in 0..STEPS {
+            if self.is_waiting(place) && self.left > 0 {
+                self.left -= 1;
+                self.answer(post, overview, turned, place);
+            }
+            match self.step(rt, place) {
+                Step::Gone => return false,
+                Step::Waits => return true,
+                Step::Moved => {}
+            }
+        }
+        true
+    }
+
+    /// Looks after each visitor once.
     fn turn<R: Clock, O: Overview, T: Turned>(
         &mut self,
         rt: &R,
         post: &Watchpost,
         overview: &mut O,
         turned: &T,
-    ) -> bool {
+    ) {
         overview.catch_up();
-        let has_come = self.admit(rt, post);
+        self.admit(rt, post);
+        self.left = AT_ONCE;
         let mut place: usize = 0;
-        let mut has_moved = false;
         for _visitor in 0..MOST {
             if place >= self.visitors.len() {
                 break;
             }
-            let step = self.step(rt, place);
-            has_moved |= step == Step::Moved;
-            if step == Step::Gone {
+            if self.look_after(rt, post, overview, turned, place) {
+                place = place.saturating_add(1);
+            } else {
                 self.dismiss(place);
-                continue;
             }
-            self.answer(post, overview, turned, place);
-            place = place.saturating_add(1);
         }
-        has_moved && !has_come
     }
 
-    /// How long it rests before it looks again, in milliseconds.
-    fn pause(&self) -> u64 {
-        if self.visitors.is_empty() {
+    /// How long it rests at least before it looks again.
+    fn pause(&self) -> Duration {
+        Duration::from_millis(if self.visitors.is_empty() {
             LONG
         } else {
             SHORT
+        })
+    }
+
+    /// Looks after each visitor once. The answer is how long it rests behind that.
+    fn turn_and_rest<R: Clock, O: Overview, T: Turned>(
+        &mut self,
+        rt: &R,
+        post: &Watchpost,
+        overview: &mut O,
+        turned: &T,
+        pace: &mut Pace,
+    ) -> Duration {
+        let begun = Instant::now(rt);
+        self.turn(rt, post, overview, turned);
+        match (begun, Instant::now(rt)) {
+            (Ok(begun), Ok(now)) => pace.rest(begun, now).max(self.pause()),
+            _ => self.pause(),
         }
     }
 }
@@ -178,21 +227,22 @@ pub fn attend<R: Wait + Clock, O: Overview, E: Ends, T: Turned>(
     ends: &E,
     turned: &T,
 ) {
-    let Ok(port) = Port::new(alloc) else {
+    let (Ok(port), Ok(now)) = (Port::new(alloc), Instant::now(rt)) else {
         return;
     };
+    let mut pace = Pace::new(now);
     let mut desk = Desk {
         alloc,
         port,
         visitors: Vec::new(alloc),
+        left: 0,
     };
     for _turn in rt.forever() {
         if ends.is_over() {
             break;
         }
-        if !desk.turn(rt, post, overview, turned) {
-            let _ = sleep(rt, Duration::from_millis(desk.pause()));
-        }
+        let rest = desk.turn_and_rest(rt, post, overview, turned, &mut pace);
+        let _ = sleep(rt, rest);
     }
     drop(desk);
 }

@@ -9,6 +9,7 @@ mod fault;
 mod given;
 mod histogram;
 mod key;
+mod pace;
 mod post;
 mod table;
 mod tallies;

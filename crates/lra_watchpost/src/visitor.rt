@@ -7,7 +7,7 @@ use std::net::{Shutdown, TcpStream};
 use std::time::Instant;
 
 /// How many bytes are read at once.
-const PIECE: usize = 16_384;
+const PIECE: usize = 4_096;
 
 /// How far a visit is.
 #[derive(Clone, Copy, Debug, PartialEq, Eq)]

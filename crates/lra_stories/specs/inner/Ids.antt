@@ -1,6 +1,6 @@
 -- An action that is asked for by its UUID.
-use Rattle.std.specs.Prelude.{ℕ, List, Option, Some, None}
-use Rattle.lra_ids.specs.Identifiers.{IsSpelling, id_text}
+use Rattle.std.specs.Prelude.{ℕ, ◌<◌, ◌^◌, List, Option, Some, None}
+use Rattle.lra_ids.specs.Identifiers.{IsSpelling, id_text, action_uri}
 use Rattle.lra_stories.specs.declared.wanted.Wanted.{Wanted}
 
 -- the text is the UUID of a number at an instance
@@ -11,3 +11,11 @@ IsSpelled text a (Some i) = IsSpelling (id_text i) text a
 -- the text is the UUID of what is asked for
 abbrev pub IsId : List ℕ → Wanted → Type 0
 IsId text w = IsSpelled text w.action w.instance
+
+-- the text is the UUID of no number at any instance
+abbrev pub IsNoId : List ℕ → Type 0
+IsNoId text = (i n : ℕ) → i < 2 ^ 60 → IsSpelling (id_text i) text n → ⊥
+
+-- the text is the URI, over any base, of no number at any instance
+abbrev pub IsNoUri : List ℕ → Type 0
+IsNoUri text = (base : List ℕ) (i n : ℕ) → i < 2 ^ 60 → IsSpelling (action_uri i base) text n → ⊥

@@ -1,6 +1,6 @@
 use Rattle.std.proofs.Common.{take}
 use Rattle.std.specs.List.{flat_map}
-use Rattle.lra_reports.specs.inner.Paging.{IsPaged}
+use Rattle.lra_reports.specs.Paging.{IsPaged}
 use Rattle.lra_reports.specs.Show.{member_line}
 use Rattle.lra_reports.proofs.show.put_members.Given as goal
 

@@ -1,0 +1,15 @@
+use Rattle.std.proofs.Common.{◌≡◌, take}
+use Rattle.std.specs.Prelude.{unwrap_or}
+use Rattle.std.specs.List.{flat_map}
+use Rattle.lra_model.specs.History.{History, last_moment}
+use Rattle.lra_auditor.specs.Listings.{listing}
+use Rattle.lra_reports.specs.Paging.{IsPaged}
+use Rattle.lra_stories.specs.Lines.{starts, start_line}
+use Rattle.lra_stories.specs.inner.Registered.{start_moments}
+use Rattle.lra_stories.specs.inner.Tallied.{Tallied}
+use Rattle.lra_stories.proofs.listing.Sheet.put_lines.Given as goal
+
+abbrev pub invariant-loop-place : goal.invariant-loop-place
+invariant-loop-place g l = (J : History) → l.listing ≡ listing J → l.starts ≡ start_moments J → Tallied l.listing.members l.counts → l.self.end ≡ unwrap_or l.self.choice.now.now (last_moment J)
+    → IsPaged (g.W.Write.contents l.fn.writer) (g.W.Write.contents l.writer) l.fn.page.items l.page.items
+    (flat_map (start_line l.self.choice.now l.self.prefix.now l.self.instance J) (take l.place (starts J)))

@@ -1,0 +1,133 @@
+-- What is written of a journal's actions, a line each: which are listed, how old each is, and how many of its members have each status.
+use Rattle.std.specs.Prelude.{◌≡◌, ◌⊎◌, ℕ, zero, suc, ◌-◌, ◌*◌, ◌==◌, nat_lt, Bool, true, ◌&&◌, List, [], ◌∷◌, ◌++◌, length, filter, codes, Option, Some, None, option_map, unwrap_or, cond}
+use Rattle.std.specs.Option.{option_map_or}
+use Rattle.std.specs.List.{filter_map, flat_map}
+use Rattle.std.specs.Fmt.{decimal}
+use Rattle.std.specs.Io.KnownBytes.{Appends}
+use Rattle.lra_model.specs.declared.version.Version.{Version}
+use Rattle.lra_model.specs.declared.status.ActionStatus.{ActionStatus}
+use Rattle.lra_model.specs.declared.status.MemberStatus.{MemberStatus}
+use Rattle.lra_model.specs.declared.status.MemberStatus.TheVariants as member
+use Rattle.lra_model.specs.declared.entry.Entry.{Entry}
+use Rattle.lra_model.specs.Words.{same_status}
+use Rattle.lra_model.specs.Names.{action_status_name, member_status_name}
+use Rattle.lra_model.specs.History.{History, started_by, last_moment}
+use Rattle.lra_ids.specs.Identifiers.{id_text}
+use Rattle.lra_journal.specs.Line.{or_star}
+use Rattle.lra_auditor.specs.declared.listing.ListedAction.{ListedAction}
+use Rattle.lra_auditor.specs.declared.listing.ListedMember.{ListedMember}
+use Rattle.lra_auditor.specs.Listings.{listed_action, listing}
+use Rattle.lra_auditor.specs.Verdicts.{IsTextOf}
+use Rattle.lra_reports.specs.Report.{joined, line_feed, ReportsAudit}
+use Rattle.lra_stories.specs.declared.listing.Choice.{Choice}
+use Rattle.lra_stories.specs.Times.{seconds_text}
+
+-- that an action started, and the moment at which it did, in milliseconds
+pub record Begun : Type 0 where
+  pub action : ℕ
+  pub moment : ℕ
+
+-- the start that an entry is, if it is one (MicroProfile LRA 2.0, starting an LRA)
+abbrev pub begun_by : Entry → Option Begun
+begun_by e = option_map (λ a. record { action = a; moment = e.moment }) (started_by e.deed)
+
+-- the starts of a history, in their order
+unfoldable pub starts : History → List Begun
+starts J = filter_map begun_by J
+
+-- how old an action is that started at a moment: up to the moment that is asked for, or the history's last; 0 where that comes before
+abbrev pub age : Choice → History → ℕ → ℕ
+age c J moment = unwrap_or c.now (last_moment J) - moment
+
+-- whether a status is the one that is asked for, where one is
+abbrev pub has_status : Option ActionStatus → ActionStatus → Bool
+has_status o s = option_map_or (same_status s) o true
+
+-- whether an age in milliseconds is more than so many seconds, where that is asked for
+abbrev pub is_older : Option ℕ → ℕ → Bool
+is_older o n = option_map_or (λ seconds. nat_lt (seconds * 1000) n) o true
+
+-- whether an action of a status and an age is listed
+abbrev pub is_chosen : Choice → ActionStatus → ℕ → Bool
+is_chosen c s n = has_status c.status s && is_older c.older_than n
+
+-- the place of a status of members, in the order in which they are listed
+abbrev pub place_of : MemberStatus → ℕ
+place_of member.Active = 0
+place_of member.Completing = 1
+place_of member.Completed = 2
+place_of member.FailedToComplete = 3
+place_of member.Compensating = 4
+place_of member.Compensated = 5
+place_of member.FailedToCompensate = 6
+place_of member.Left = 7
+
+-- all of them, in that order
+abbrev pub statuses : List MemberStatus
+statuses =
+    member.Active ∷ member.Completing ∷ member.Completed ∷ member.FailedToComplete ∷ member.Compensating ∷ member.Compensated ∷ member.FailedToCompensate ∷ member.Left ∷ []
+
+-- whether a member is of an action, and has the status of a place
+abbrev pub is_counted : ℕ → ℕ → ListedMember → Bool
+is_counted a p m = (m.action == a) && (place_of m.status == p)
+
+-- how many of the members of an action have the status of a place
+abbrev pub count_of : List ListedMember → ℕ → ℕ → ℕ
+count_of ms a p = length (filter (is_counted a p) ms)
+
+-- a status with how many members have it, where any has
+abbrev pub counted : MemberStatus → ℕ → Option (List ℕ)
+counted s zero = None
+counted s (suc n) = Some (joined (member_status_name s ∷ codes "=" ∷ decimal (suc n) ∷ []))
+
+-- texts with commas between them, or * where there is none
+abbrev pub listed_words : List (List ℕ) → List ℕ
+listed_words [] = codes "*"
+listed_words (t ∷ ts) = t ++ flat_map (λ (u : List ℕ). codes "," ++ u) ts
+
+-- how many members have each status, by how many have that of a place
+abbrev pub tally_text : (ℕ → ℕ) → List ℕ
+tally_text count = listed_words (filter_map (λ s. counted s (count (place_of s))) statuses)
+
+-- the first half of the line of an action of an instance: its number, its UUID and its status
+abbrev pub line_front : List ℕ → ℕ → ListedAction → List ℕ
+line_front prefix i x = joined (prefix ∷ decimal x.action ∷ codes " " ∷ id_text i x.action ∷ codes " " ∷ action_status_name x.status ∷ [])
+
+-- the second half: its parent's number or *, its age in seconds, and how many of its members have each status
+abbrev pub line_end : List ListedMember → ListedAction → ℕ → List ℕ
+line_end ms x n =
+    joined (codes " " ∷ or_star (option_map decimal x.parent) ∷ codes " " ∷ seconds_text n ∷ codes " " ∷ tally_text (count_of ms x.action) ∷ line_feed ∷ [])
+
+-- the line of an action of an instance, by its age
+abbrev pub action_line : List ℕ → ℕ → List ListedMember → ListedAction → ℕ → List ℕ
+action_line prefix i ms x n = line_front prefix i x ++ line_end ms x n
+
+-- the same where the action is listed
+abbrev pub chosen_line : Choice → List ℕ → ℕ → List ListedMember → ListedAction → ℕ → List ℕ
+chosen_line c prefix i ms x n = cond (is_chosen c x.status n) (action_line prefix i ms x n) []
+
+-- what is written of a start: the line of its action as it is at the history's end
+abbrev pub start_line : Choice → List ℕ → ℕ → History → Begun → List ℕ
+start_line c prefix i J b = chosen_line c prefix i (listing J).members (listed_action J b.action) (age c J b.moment)
+
+-- what is written of a history of an instance: a line for each action that is listed, in the order in which they started
+unfoldable pub lines_text : Choice → List ℕ → ℕ → History → List ℕ
+lines_text c prefix i J = flat_map (start_line c prefix i J) (starts J)
+
+-- the input is the text of this history; what was written are the lines of its actions, and the status is 0
+pub record WritesLines (c : Choice) (prefix input : List ℕ) (status : ℕ) (before after : Option (List ℕ)) (v : Version) (i : ℕ) (J : History) : Type 0 where
+  pub sound : IsTextOf v i J input
+  pub written : Appends before after (lines_text c prefix i J)
+  pub answered : status ≡ 0
+
+-- what was written is the prefix, and then what an audit writes; the status is 1
+pub record WritesFault (prefix input : List ℕ) (status : ℕ) (before after : Option (List ℕ)) : Type 0 where
+  pub between : Option (List ℕ)
+  pub named : Appends before between prefix
+  pub told : ReportsAudit input status between after
+  pub answered : status ≡ 1
+
+-- what is written of a sound journal, and of an unsound one
+abbrev pub ListsActions : Choice → List ℕ → List ℕ → ℕ → Option (List ℕ) → Option (List ℕ) → Type 0
+ListsActions c prefix input status before after =
+    ((v : Version) × (i : ℕ) × (J : History) × WritesLines c prefix input status before after v i J) ⊎ WritesFault prefix input status before after

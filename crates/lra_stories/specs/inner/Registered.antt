@@ -1,0 +1,32 @@
+-- What a register that follows an audit has heard.
+use Rattle.std.specs.Prelude.{◌≡◌, ℕ, List, [], map, Option, Some, None, IfSome, IfNone}
+use Rattle.lra_model.specs.History.{History, last_moment}
+use Rattle.lra_model.specs.declared.version.Version.{Version}
+use Rattle.lra_auditor.specs.declared.auditor.FaultyLine.{FaultyLine}
+use Rattle.lra_auditor.specs.declared.listing.Account.{Account}
+use Rattle.lra_auditor.specs.Heard.{Heard}
+use Rattle.lra_auditor.specs.Listings.{IsAccount}
+use Rattle.lra_auditor.specs.Verdicts.{IsTextOf, IsFault}
+use Rattle.lra_stories.specs.declared.register.Register.{Register}
+use Rattle.lra_stories.specs.Lines.{Begun, starts}
+
+-- the moments at which the actions of a history started
+abbrev pub start_moments : History → List ℕ
+start_moments J = map (λ (b : Begun). b.moment) (starts J)
+
+-- a register has heard nothing, or a header and the entries of a history
+abbrev pub Hears : Register → Option Heard → Type 0
+Hears r None = (r.starts.items ≡ []) × (r.last ≡ 0)
+Hears r (Some h) = (r.instance ≡ Some h.instance) × (r.starts.items ≡ start_moments h.entries) × (r.last ≡ last_moment h.entries)
+
+-- a register of a history of an instance
+pub record Registers (r : Register) (i : ℕ) (J : History) : Type 0 where
+  pub instance : r.instance ≡ Some i
+  pub moments : r.starts.items ≡ start_moments J
+  pub end : r.last ≡ last_moment J
+
+-- what is said of bytes: their first fault; or, of a legal history's text, what a register has heard of it; and their account
+pub record IsSaid (bytes : List ℕ) (fault : Option FaultyLine) (account : Account) (r : Register) : Type 0 where
+  pub some : IfSome fault (λ f. IsFault bytes f.line f.rule)
+  pub none : IfNone fault ((v : Version) × (i : ℕ) × (J : History) × IsTextOf v i J bytes × Hears r (Some (record { version = v; instance = i; entries = J })))
+  pub listed : IsAccount bytes account
