@@ -49,6 +49,8 @@ def test_a_site_that_drains_ends_once_its_actions_have(setting):
             nested = client.start(parent=action)
             client.join(nested, **member.addresses("compensate", "complete"))
             full(client.call("POST", "/lra-coordinator", limit=5))
+            stray = client.call("PUT", "/lra-coordinator/none", **member.addresses("compensate"))
+            equal("a join that names no action", (stray.code, stray.body["error"]), (404, "NoSuchAction"))
             time.sleep(2 * REMEMBERED)
             equal("it goes on", service.process.poll(), None)
             equal("the nested one", client.status(nested), "Active")
