@@ -1,5 +1,6 @@
 """The operators' port: health, metrics, lists, pages and orders, who may ask, and that nobody who is slow blinds it."""
 import base64
+import contextlib
 import http.client
 import json
 import os
@@ -542,6 +543,38 @@ def test_a_flood_at_the_front_does_not_blind_who_looks(setting):
         crowds.close_all(idle)
         check(f"the longest look took {longest:.2f} s", longest < LATE)
     return f"{len(counts) / 5:.0f} requests a second at the front, the longest look with a scrape {1000 * longest:.0f} ms"
+
+
+def processor_time(service):
+    """The seconds of a processor that a service has taken."""
+    with open(f"/proc/{service.process.pid}/stat", encoding="ascii") as text:
+        fields = text.read().rsplit(")", 1)[1].split()
+    return (int(fields[11]) + int(fields[12])) / os.sysconf("SC_CLK_TCK")
+
+
+def look_again(service, end, looks):
+    """Asks for the metrics again and again."""
+    while time.monotonic() < end:
+        with contextlib.suppress(OSError, http.client.HTTPException):
+            equal("a scrape", service.ask("/metrics").code, 200)
+            looks.append(1)
+
+
+def test_a_crowd_of_operators_leaves_the_processors_to_services(setting):
+    with Watched(setting) as service, service.client() as client:
+        for _ in range(MANY):
+            client.start()
+        looks, begun, before = [], time.monotonic(), processor_time(service)
+        threads = [threading.Thread(target=look_again, args=(service, begun + 5, looks), daemon=True) for _ in range(16)]
+        for thread in threads:
+            thread.start()
+        for thread in threads:
+            thread.join(PATIENCE)
+        took, lasted = processor_time(service) - before, time.monotonic() - begun
+        check("some are answered", len(looks) > 0)
+        # a twentieth, and what may be had at once
+        check(f"{took:.2f} s of a processor in {lasted:.1f} s", took < 0.25 * lasted)
+    return f"{len(looks)} scrapes of {MANY} actions in {lasted:.1f} s took {took:.2f} s of a processor"
 
 
 def test_many_actions_are_paged(setting):
