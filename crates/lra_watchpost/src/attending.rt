@@ -18,14 +18,14 @@ const VISIT: u64 = 10;
 /// How many visitors there are at once.
 const MOST: usize = 64;
 
-/// How many are let in at a look, and how many requests are answered. Behind that it rests, so that a crowd which comes again and again leaves the
-/// processors to those who are served.
-const AT_ONCE: usize = 2;
+/// How many are let in at a look, and how many requests are answered. Where so many come, more may wait: a crowd.
+const AT_ONCE: usize = 4;
 
 /// How often one visitor is read or written at a look.
 const STEPS: usize = 8;
 
-/// How many milliseconds pass at least before it is looked anew, where visitors are there and where none is.
+/// How many milliseconds pass at least before it is looked anew: where something moved, and where nothing did or a crowd comes. Each look may take a
+/// processor from one who answers services, and so a crowd has fewer of them.
 const SHORT: u64 = 2;
 
 const LONG: u64 = 20;
@@ -57,8 +57,36 @@ struct Desk {
     alloc: Global,
     port: Port,
     visitors: Vec<Visitor>,
-    /// How many requests are still answered at this look.
+    /// What comes of this look.
+    look: Look,
+}
+
+/// What comes of a look.
+#[derive(Clone, Copy)]
+struct Look {
+    /// How many have come.
+    came: usize,
+    /// How many requests are still answered.
     left: usize,
+    /// Whether a byte came or went.
+    has_moved: bool,
+}
+
+impl Look {
+    /// One that begins.
+    fn new() -> Look {
+        Look {
+            came: 0,
+            left: AT_ONCE,
+            has_moved: false,
+        }
+    }
+
+    /// How long it rests at least behind it.
+    fn pause(&self) -> Duration {
+        let is_quick = self.came < AT_ONCE && (self.came > 0 || self.has_moved);
+        Duration::from_millis(if is_quick { SHORT } else { LONG })
+    }
 }
 
 /// Whether a moment has passed.
@@ -86,11 +114,12 @@ impl Desk {
 
     /// Gives those a place who have come, a few at most.
     fn admit<R: Clock>(&mut self, rt: &R, post: &Watchpost) {
-        for _ in 0..AT_ONCE {
+        for count in 0..AT_ONCE {
             match post.listener.accept() {
                 Ok((stream, _)) => self.seat(rt, stream),
                 Err(_) => break,
             }
+            self.look.came = count + 1;
         }
     }
 
@@ -114,7 +143,7 @@ impl Desk {
             alloc,
             port,
             visitors,
-            left: _,
+            look: _,
         } = self;
         if let Some(visitor) = visitors.get_mut(place) {
             let came = visitor.came.as_slice();
@@ -153,14 +182,14 @@ impl Desk {
         place: usize,
     ) -> bool {
         for _ in 0..STEPS {
-            if self.is_waiting(place) && self.left > 0 {
-                self.left -= 1;
+            if self.is_waiting(place) && self.look.left > 0 {
+                self.look.left -= 1;
                 self.answer(post, overview, turned, place);
             }
             match self.step(rt, place) {
                 Step::Gone => return false,
                 Step::Waits => return true,
-                Step::Moved => {}
+                Step::Moved => self.look.has_moved = true,
             }
         }
         true
@@ -175,8 +204,8 @@ impl Desk {
         turned: &T,
     ) {
         overview.catch_up();
+        self.look = Look::new();
         self.admit(rt, post);
-        self.left = AT_ONCE;
         let mut place: usize = 0;
         for _visitor in 0..MOST {
             if place >= self.visitors.len() {
@@ -190,15 +219,6 @@ impl Desk {
         }
     }
 
-    /// How long it rests at least before it looks again.
-    fn pause(&self) -> Duration {
-        Duration::from_millis(if self.visitors.is_empty() {
-            LONG
-        } else {
-            SHORT
-        })
-    }
-
     /// Looks after each visitor once. The answer is how long it rests behind that.
     fn turn_and_rest<R: Clock, O: Overview, T: Turned>(
         &mut self,
@@ -210,9 +230,10 @@ impl Desk {
     ) -> Duration {
         let begun = Instant::now(rt);
         self.turn(rt, post, overview, turned);
+        let pause = self.look.pause();
         match (begun, Instant::now(rt)) {
-            (Ok(begun), Ok(now)) => pace.rest(begun, now).max(self.pause()),
-            _ => self.pause(),
+            (Ok(begun), Ok(now)) => pace.rest(begun, now).max(pause),
+            _ => pause,
         }
     }
 }
@@ -235,7 +256,7 @@ pub fn attend<R: Wait + Clock, O: Overview, E: Ends, T: Turned>(
         alloc,
         port,
         visitors: Vec::new(alloc),
-        left: 0,
+        look: Look::new(),
     };
     for _turn in rt.forever() {
         if ends.is_over() {
