@@ -296,6 +296,8 @@ impl<
         work(&shift, steward, self.workers as usize);
         drop(shift);
         if !shelf.is_own() {
+            // Whichever thread saw it first, and ended all.
+            shelf.fail(self.rt);
             self.herald.tell("lra: the fence is another's now: nothing is written any more\n");
         } else if shelf.progress().has_failed(self.rt) {
             self.herald.note(&Event::SyncFailed);
