@@ -545,13 +545,6 @@ def test_a_flood_at_the_front_does_not_blind_who_looks(setting):
     return f"{len(counts) / 5:.0f} requests a second at the front, the longest look with a scrape {1000 * longest:.0f} ms"
 
 
-def processor_time(service):
-    """The seconds of a processor that a service has taken."""
-    with open(f"/proc/{service.process.pid}/stat", encoding="ascii") as text:
-        fields = text.read().rsplit(")", 1)[1].split()
-    return (int(fields[11]) + int(fields[12])) / os.sysconf("SC_CLK_TCK")
-
-
 def look_again(service, end, looks):
     """Asks for a page of actions again and again, which is what takes most to make."""
     while time.monotonic() < end:
@@ -564,13 +557,13 @@ def test_a_crowd_of_operators_leaves_the_processors_to_services(setting):
     with Watched(setting) as service, service.client() as client:
         for _ in range(MANY):
             client.start()
-        looks, begun, before = [], time.monotonic(), processor_time(service)
+        looks, begun, before = [], time.monotonic(), service.seconds()
         threads = [threading.Thread(target=look_again, args=(service, begun + 5, looks), daemon=True) for _ in range(16)]
         for thread in threads:
             thread.start()
         for thread in threads:
             thread.join(PATIENCE)
-        took, lasted = processor_time(service) - before, time.monotonic() - begun
+        took, lasted = service.seconds() - before, time.monotonic() - begun
         check("some are answered", len(looks) > 0)
         # a twentieth, and what may be had at once
         check(f"{took:.2f} s of a processor in {lasted:.1f} s", took < 0.25 * lasted)
