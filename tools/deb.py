@@ -14,6 +14,8 @@ MAINTAINER = "Raxunto maintainers <maintainers@users.noreply.raxunto.example>"
 # Where each file of the repository goes, and whether it is packed by gzip there.
 FILES = (
     ("examples/systemd/lra.service", "usr/lib/systemd/system/lra.service", False),
+    ("examples/systemd/lra-archive.service", "usr/lib/systemd/system/lra-archive.service", False),
+    ("examples/systemd/lra-archive.timer", "usr/lib/systemd/system/lra-archive.timer", False),
     ("examples/systemd/lra.default", "etc/default/lra", False),
     ("examples/systemd/lra.toml", "etc/lra/lra.toml", False),
     ("completions/lra", "usr/share/bash-completion/completions/lra", False),
@@ -29,8 +31,6 @@ FILES = (
     ("docs/HEADLINE.md", f"{DOC}/HEADLINE.md", False),
     ("docs/MEASURED.md", f"{DOC}/MEASURED.md", False),
     ("examples/systemd/gentle.conf", f"{DOC}/examples/gentle.conf", False),
-    ("examples/systemd/lra-archive.service", f"{DOC}/examples/lra-archive.service", False),
-    ("examples/systemd/lra-archive.timer", f"{DOC}/examples/lra-archive.timer", False),
 )
 # What an administrator may change, and an upgrade or a removal leaves as it is.
 SETTINGS = ("etc/default/lra", "etc/lra/lra.toml")

@@ -17,8 +17,38 @@ SHOP, TILL, FORMER = "c2hvcA.4711", "dGlsbA~0815", "Zm9ybWVy"
 STRANGERS = (None, "", "Bearer", "Bearer " + FORMER, "Bearer " + SHOP[:-1], f"Bearer {SHOP}x", f"Bearer  {SHOP}", f"Basic {SHOP}", SHOP, f"Bearer {SHOP} {TILL}")
 # The bytes that a file of keys may have.
 LONGEST = 65_536
-# Texts that are no names.
-OTHERS = ("", "http://lra.example.com", "lra.example.com/", "*.example.com", "lra.example.com:", "lra.example.com:http", ":8080", "::1", "[::1", "lra example com")
+# Texts that are names, and texts that are none.
+NAMES = ("lra.example.com", "LRA.example.com:8080", "192.0.2.1", "[::1]", "[::1]:8080")
+OTHERS = (
+    *("", "http://lra.example.com", "lra.example.com/", "*.example.com", "lra.example.com:", "lra.example.com:http", "lra.example.com:655360", "lra.example.com:80:90"),
+    *(":8080", "::1", "[::1", "::1]", "[[::1]]", "[::1]]", "[]::1", "lra example com"),
+)
+# The digests of `abc` (FIPS 180-4's example) and of nothing.
+ABC, NOTHING = "ba7816bf8f01cfea414140de5dae2223b00361a396177a9cb410ff61f20015ad", "e3b0c44298fc1c149afbf4c8996fb92427ae41e4649b934ca495991b7852b855"
+# Texts of a file of keys, a secret, and whether that is known by it.
+FILES = (
+    (f"shop {ABC}", "abc", True),
+    (f"shop    {ABC.upper()}\n", "abc", True),
+    (f"# shop\n\ntill {NOTHING}\nshop {ABC}", "abc", True),
+    (f"# shop\n\ntill {NOTHING}\nshop {ABC}", "ab", False),
+    (f"shop {ABC}", "abcd", False),
+    (f"shop {ABC}", "", False),
+    (f"#shop {ABC}", "abc", False),
+    ("", "abc", False),
+    ("#" * 65_536, "abc", False),
+)
+# Texts of which a line is no key, and the line's number.
+NO_KEYS = (
+    ("# shop\n\nshop", 3),
+    (f"shop {ABC[:-1]}", 1),
+    (f"shop {ABC}0", 1),
+    (f"shop {ABC} ", 1),
+    (f"shop {ABC[:-1]}g", 1),
+    (ABC, 1),
+    (f" {ABC}", 1),
+    (f"shop till {ABC}", 1),
+    (f"shop {ABC}\n\ntill", 3),
+)
 
 
 def key_line(name, secret):
@@ -67,6 +97,23 @@ def answer(*words, **given):
 NO_KEY, NO_HOST, NO_ORIGIN = (401, "WrongKey"), (403, "WrongHost"), (403, "WrongOrigin")
 # What a request is answered that is let in, and whose path there isn't.
 LET_IN = (404, "NoSuchPath")
+# The values of Authorization, Host and Origin, and what is answered where `abc` is known, by the names `lra.example.com`, `[::1]` and `till.example.com:8080`.
+REQUESTS = (
+    ("Bearer abc", "lra.example.com", None, LET_IN),
+    ("bearer abc", "LRA.Example.COM:8080", None, LET_IN),
+    ("Bearer abc", "[::1]:50000", None, LET_IN),
+    ("Bearer abc", "lra.example.com:", None, LET_IN),
+    ("Bearer abc", "till.example.com:8080", "https://lra.example.com", LET_IN),
+    ("Bearer abc", "lra.example.com", "http://till.EXAMPLE.com:8080", LET_IN),
+    *((it, "lra.example.com", None, NO_KEY) for it in (None, "Bearer", "Bearer ab", "Bearer abcd", "Bearer  abc", "Basic abc", "abc")),
+    (None, "example.org", "http://example.org", NO_KEY),
+    *(("Bearer abc", it, None, NO_HOST) for it in ("example.com", "lra.example.com.evil.org", "lra.example.comx", "xlra.example.com", "lra.example.com:80@evil.org", "lra.example.com:http")),
+    *(("Bearer abc", it, None, NO_HOST) for it in ("till.example.com", "till.example.com:80", "till.example.com:80801")),
+    ("Bearer abc", "example.org", "http://example.org", NO_HOST),
+    *(("Bearer abc", "lra.example.com", it, NO_ORIGIN) for it in ("null", "http://example.org", "http://till.example.com", "http://lra.example.com/", "http://lra.example.com.evil.org")),
+    *(("Bearer abc", "lra.example.com", it, NO_ORIGIN) for it in ("http://user@lra.example.com", "http://lra.example.com http://evil.org", "lra.example.com", "://lra.example.com")),
+    *(("Bearer abc", "lra.example.com", it, NO_ORIGIN) for it in ("1://lra.example.com", "http:lra.example.com")),
+)
 
 
 def check_keys(setting, place):
@@ -189,6 +236,24 @@ def test_a_key_is_looked_at_first_and_then_the_host(setting):
         equal("a key, by its name", answer(service, fields=bearer(SHOP), host="lra.example.com"), LET_IN)
 
 
+def test_files_of_keys_have_a_secret_or_a_line_that_is_wrong(setting):
+    for text, secret, is_known in FILES:
+        with Based(setting, setting.journal, "--key", key_file(setting, text)) as service:
+            equal(f"what {secret!r} is answered by {text[:90]!r}", answer(service, fields=bearer(secret)), LET_IN if is_known else NO_KEY)
+    for text, line in NO_KEYS:
+        path = key_file(setting, text)
+        told = serve_by(setting, "--key", path)
+        check(f"what is told of {text!r}: {told}", told.status == 2 and told.told.startswith(f"lra: {path}: line {line} "))
+
+
+def test_requests_are_let_in_or_denied(setting):
+    names = ("--origin", "lra.example.com", "--origin", "[::1]", "--origin", "till.example.com:8080")
+    with Based(setting, setting.journal, "--key", key_file(setting, f"shop {ABC}\n"), *names) as service:
+        for authorization, host, origin, wanted in REQUESTS:
+            fields = {name: value for name, value in (("Authorization", authorization), ("Origin", origin)) if value is not None}
+            equal(f"what {authorization}, {host} and {origin} are answered", answer(service, fields=fields, host=host), wanted)
+
+
 def test_denied_requests_are_counted_by_why(setting):
     with WatchedFolder(setting, "--key", key_file(setting), "--origin", "lra.example.com") as service:
         for _ in range(3):
@@ -209,6 +274,8 @@ def test_keys_and_names_in_a_file_and_what_is_no_name(setting):
     told = told_of(setting, "--config", settings)
     equal("what is told", (told["key"], told["origin"]), (f'"{path}"', '["lra.example.com", "till.example.com:8080"]'))
     equal("the line's, in its place", told_of(setting, "--config", settings, "--origin", "shop.test")["origin"], '["shop.test"]')
+    for text in NAMES:
+        told_of(setting, "--origin", text)
     for text in OTHERS:
         told = serve_by(setting, "--origin", text)
         check(f"what is told of {text!r}: {told}", (told.status, told.output) == (2, "") and told.told.startswith("lra: ") and told.told.endswith(f"origin: no name: {text}\n"))

@@ -31,6 +31,55 @@ SPELLED = (
     ("http://[::1]:8080/", "http://[::1]:8080/"),
 )
 
+PROXIED = "https://lra.test/shop/"
+# Older bases: one that begins the base of now stands before one which that begins.
+OLDERS = ("http://h.test:1/", "https://lra.test/", "https://lra.test/shop/x/")
+ACTIONS, MEMBERS = "lra-coordinator", "lra-recovery"
+NO_PATH, NO_ACTION, BAD_BODY = (404, "NoSuchPath"), (404, "NoSuchAction"), (400, "BadBody")
+# A method, a target and a body, with ACTION and MEMBER for the numbers of an action and its member, and what that is answered.
+PASSED = (
+    ("GET", f"/{ACTIONS}/ACTION", "", (200, None)),
+    ("GET", f"/shop/{ACTIONS}/ACTION", "", (200, None)),
+    ("POST", f"/shop/{ACTIONS}", "", (201, None)),
+    ("PUT", f"/shop/{MEMBERS}/MEMBER", '{"status":"Completed"}', (412, "NotAsked")),
+    ("GET", f"/shop/shop/{ACTIONS}/ACTION", "", NO_PATH),
+    ("GET", "/shop", "", NO_PATH),
+    ("GET", "/shop/metrics", "", NO_PATH),
+    ("GET", f"shop/{ACTIONS}", "", NO_PATH),
+    ("GET", f"/shops/{ACTIONS}", "", NO_PATH),
+    ("POST", f"/{ACTIONS}", f'{{"parent":"http://h.test:1/{ACTIONS}/ACTION"}}', (201, None)),
+    ("POST", f"/shop/{ACTIONS}", f'{{"parent":"http://h.test:1/{ACTIONS}/ACTION"}}', (201, None)),
+    ("POST", f"/{ACTIONS}", f'{{ "parent" : "https:\\/\\/lra.test\\/{ACTIONS}/ACTION", "limit": 150000 }}', (201, None)),
+    ("POST", f"/{ACTIONS}", f'{{ "parent" : "https:\\/\\/lra.test\\/{ACTIONS}/ACTION", "limit": 1.50 }}', BAD_BODY),
+    ("POST", f"/{ACTIONS}", f'{{"parent":"https://lra.test/shop/x/{ACTIONS}/ACTION"}}', (201, None)),
+    ("POST", f"/{ACTIONS}", f'{{ "parent": "https://lra.test/shop/{ACTIONS}/ACTION"}}', (201, None)),
+    ("POST", f"/{ACTIONS}", f'{{ "parent": "http://other.test/{ACTIONS}/ACTION"}}', NO_ACTION),
+    ("POST", f"/{ACTIONS}", f'{{ "recovery": "http://h.test:1/{MEMBERS}/MEMBER"}}', BAD_BODY),
+    ("POST", f"/{ACTIONS}", f'{{ "parent": ["http://h.test:1/{ACTIONS}/ACTION"]}}', BAD_BODY),
+    ("POST", f"/{ACTIONS}", '[ "parent" ]', BAD_BODY),
+    ("POST", f"/{ACTIONS}", '{ "parent"', BAD_BODY),
+    ("PUT", f"/{ACTIONS}/ACTION/remove", f'{{ "parent":"http://h.test:1/{ACTIONS}/ACTION"}}', BAD_BODY),
+    ("PUT", f"/{ACTIONS}/ACTION/remove", f'{{"recovery":"http://h.test:1/{MEMBERS}/MEMBER"}}', (200, None)),
+    ("PUT", f"/{ACTIONS}/ACTION", f'{{ "compensate":"http://h.test:1/{ACTIONS}/8"}}', (200, None)),
+)
+# The same of a service behind a secret, which stands in the targets as TOKEN.
+STRICT = (
+    ("GET", f"/TOKEN/{ACTIONS}/ACTION", "", (200, None)),
+    ("PUT", f"/TOKEN/{MEMBERS}/MEMBER", '{"status":"Completed"}', (412, "NotAsked")),
+    ("POST", f"/TOKEN/{ACTIONS}", f'{{"parent":"http://h.test:1/{ACTIONS}/ACTION"}}', (201, None)),
+    ("GET", f"/{ACTIONS}/ACTION", "", NO_PATH),
+    ("POST", f"/{ACTIONS}", f'{{"parent":"https://lra.test/shop/{ACTIONS}/ACTION"}}', NO_PATH),
+    ("PATCH", f"/{ACTIONS}", "", NO_PATH),
+    ("GET", f"/TOKEN/TOKEN/{ACTIONS}/ACTION", "", NO_PATH),
+    ("GET", f"/TOKENs/{ACTIONS}", "", NO_PATH),
+    ("GET", f"/UPPER/{ACTIONS}", "", NO_PATH),
+    ("GET", f"//TOKEN/{ACTIONS}", "", NO_PATH),
+    ("GET", f"TOKEN/{ACTIONS}", "", NO_PATH),
+    ("GET", "/TOKEN", "", NO_PATH),
+    ("GET", "/", "", NO_PATH),
+    ("GET", "*", "", NO_PATH),
+)
+
 
 class Based(Service):
     """A service with a base of its own."""
@@ -116,6 +165,31 @@ def test_older_bases_and_paths_that_are_passed_on(setting):
 
 def test_older_bases_of_a_folder(setting):
     check_older(setting, folder_of(setting))
+
+
+def check_passed(setting, rows, path, *options):
+    """Each request is answered as a row says, under a path that identifiers begin with."""
+    olders = [word for it in OLDERS for word in ("--also-base", it)]
+    with Based(setting, setting.journal, "--base", PROXIED, *olders, *options) as service, service.client() as client:
+        action = client.call("POST", f"{path}/{ACTIONS}").body["lra"]
+        joined = client.call("PUT", f"{path}/{ACTIONS}/{id_of(action)}", compensate="http://127.0.0.1:9/u")
+        for method, target, body, wanted in rows:
+            target, body = (it.replace("ACTION", id_of(action)).replace("MEMBER", id_of(joined.body["recovery"])) for it in (target, body))
+            reply = client.send(method, target, body or None)
+            equal(f"what {method} {target} with {body} is answered", (reply.code, (reply.body or {}).get("error")), wanted)
+
+
+def test_requests_mean_the_same_by_any_base(setting):
+    check_passed(setting, PASSED, "/shop")
+    check("an address of a member was exchanged", f" http://h.test:1/{ACTIONS}/8 ".encode() in journal.read(setting.journal))
+
+
+def test_nothing_is_answered_but_behind_a_path(setting):
+    token = "c2VjcmV0LXdvcmQtMDE"
+    path = config(setting, token + "\n", "token")
+    os.chmod(path, 0o600)
+    rows = [(method, target.replace("TOKEN", f"shop/{token}").replace("UPPER", f"Shop/{token}"), body, wanted) for method, target, body, wanted in STRICT]
+    check_passed(setting, rows, f"/shop/{token}", "--token", path)
 
 
 def test_older_bases_are_told(setting):

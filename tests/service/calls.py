@@ -1,12 +1,17 @@
 """How the program is called: its faults, each in one line on standard error with status 2, and what it prints otherwise."""
+import json
 import os
 import re
+import shlex
 import socket
+import subprocess
+import sys
 
+import held
 import journal
-from files import UNSOUND, VERDICT, hint
+from files import SOUND, UNSOUND, VERDICT, hint
 from options import WORDS
-from service import HOST, check, equal, free_port
+from service import HOST, PATIENCE, LeftOut, check, equal, free_port
 
 
 def told(setting, line, *words):
@@ -14,6 +19,117 @@ def told(setting, line, *words):
     before = os.listdir(setting.folder)
     equal(" ".join(words), setting.run(*words), (2, "", line + "\n"))
     equal("the folder", os.listdir(setting.folder), before)
+
+
+def on_terminal(program, *words):
+    """Runs a program with a terminal as its standard error: its status, what it prints, and what the terminal shows."""
+    screen, terminal = os.openpty()
+    try:
+        done = subprocess.run([program, *words], stdin=subprocess.DEVNULL, stdout=subprocess.PIPE, stderr=terminal, timeout=PATIENCE, check=False)
+        os.write(terminal, b"\0")
+        shown = b""
+        while not shown.endswith(b"\0"):
+            shown += os.read(screen, 65536)
+    finally:
+        os.close(terminal)
+        os.close(screen)
+    return done.returncode, done.stdout.decode(), shown[:-1].decode().replace("\r\n", "\n")
+
+
+def test_a_terminal_is_told_why_and_nothing_else_is(setting):
+    journal.write(setting.journal, SOUND)
+    circle, missing, beside = unreadable(setting), f"{setting.folder}/missing", f"{setting.folder}/missing/journal"
+    empty = f"{setting.folder}/empty"
+    os.makedirs(empty)
+    address, faulty = f"{HOST}:{free_port()}", f"{HOST}:{free_port()}/"
+    states = "Active, Closing, Closed, FailedToClose, Cancelling, Cancelled or FailedToCancel"
+    no_file, loop = "no such file or folder", "links that lead in a circle"
+    with socket.socket() as listener:
+        listener.bind((HOST, free_port()))
+        listener.listen()
+        used = f"{HOST}:{listener.getsockname()[1]}"
+        for line, why, *words in (
+            ("usage", "serve: WORKERS is 1 to 16, not 40", "serve", address, setting.journal, "40"),
+            ("usage", "unknown option --foo", "--foo"),
+            ("usage", "unknown option --foo", "audit", "--foo", "2"),
+            ("usage", "unknown option --foo", "list", setting.journal, "--now", "--foo"),
+            ("usage", f"--state is {states}, not closed", "list", setting.journal, "--state", "closed"),
+            ("usage", "--older-than is a number of seconds, not 1m", "list", setting.journal, "--older-than", "1m"),
+            ("usage", "--state has no value", "list", setting.journal, "--state"),
+            ("usage", "no call frob: lra --help prints them", "frob", setting.journal),
+            ("usage", "it is called so: lra explain FILE ID [--svg]", "explain", setting.journal),
+            ("usage", "explain: ID is the number of an action, its UUID or its URI, not 02", "explain", setting.journal, "02"),
+            (f"cannot read {missing}", f"{missing}: {no_file}", "audit", missing),
+            (f"cannot read {circle}", f"{circle}: {loop}", "show", circle),
+            (f"cannot read {missing}", f"{missing}: {no_file}", "explain", missing, "2"),
+            (f"cannot read {empty}", f"{empty}: is a directory", "upgrade", empty),
+            (f"cannot read {missing}", f"{missing}: {no_file}", "play", missing),
+            (f"cannot read {circle}", f"cannot read {circle}: {loop}", "serve", address, circle, "2"),
+            (f"cannot write {beside}", f"cannot write {beside}: {no_file}", "serve", address, beside, "2"),
+            (f"cannot serve {used}", f"cannot serve {used}: address in use", "serve", used, setting.journal, "2"),
+            (f"cannot serve {faulty}", f"cannot serve {faulty}: no host and port as they are spelled, as 127.0.0.1:8080", "serve", faulty, setting.journal, "2"),
+            (f"cannot read {missing}", f"cannot read {missing}: {no_file}", "serve", "--key", missing, address, setting.journal, "2"),
+            (f"no journal in {empty}", None, "audit", empty),
+        ):
+            second = "" if why is None else f"lra: {why}\n"
+            equal(f"{words} on a terminal", on_terminal(setting.program, *words), (2, "", f"lra: {line}\n{second}"))
+            equal(f"{words} elsewhere", setting.run(*words), (2, "", f"lra: {line}\n"))
+
+
+def test_a_fault_of_a_service_stands_in_its_log(setting):
+    folder, missing = f"{setting.folder}/folder", f"{setting.folder}/missing"
+    os.makedirs(folder)
+    with socket.socket() as listener:
+        listener.bind((HOST, free_port()))
+        listener.listen()
+        used = f"{HOST}:{listener.getsockname()[1]}"
+        for line, why, *words in (
+            (f"cannot serve {used}", "address in use", used, setting.journal),
+            (f"cannot serve {used}", "address in use", used, folder),
+            (f"cannot read {missing}", "no such file or folder", "--key", missing, f"{HOST}:{free_port()}", setting.journal),
+        ):
+            done = setting.run("serve", "--log", "error", "--log-format", "json", *words, "2")
+            first, second = done.told.splitlines()
+            equal(f"the line of {words}", (done.status, done.output, first), (2, "", f"lra: {line}"))
+            logged = json.loads(second)
+            equal(f"what is logged of {words}", (logged["level"], logged["message"]), ("error", f"{line}: {why}"))
+    journal.write(setting.journal, UNSOUND)
+    for options in ((), ("--log", "error", "--log-format", "json")):
+        done = setting.run("serve", *options, f"{HOST}:{free_port()}", setting.journal, "2")
+        equal(f"an unsound file with {options}", (done.status, done.output, done.told[: len(hint(setting))]), (1, VERDICT, hint(setting)))
+        logged = [json.loads(line)["message"] for line in done.told[len(hint(setting)) :].splitlines()]
+        equal(f"what is logged of it with {options}", logged[:1], [f"{setting.journal} is not sound"] if options else [])
+
+
+def test_an_address_that_leads_nowhere_is_warned_of(setting):
+    for host in ("0.0.0.0", "[::]"):
+        address = f"{host}:{free_port()}"
+        warning = f"identifiers that begin with http://{address}/ lead nowhere: name by --base where clients reach this service"
+        done = setting.run("serve", "--check", address, setting.journal, "1")
+        equal(f"a check at {host}", (done.status, done.told), (0, f"lra: {warning}\n"))
+        for options in ((), ("--base", "http://lra.test/"), ("--log", "error", "--log-format", "json")):
+            done = setting.run("serve", "--stop-at-eof", *options, address, setting.journal, "1")
+            equal(f"a service at {host} with {options}", (done.status, done.output), (0, f"serving {address}\n"))
+            if "--log" in options:
+                logged = json.loads(done.told)
+                equal(f"the log at {host}", (logged["level"], logged["message"]), ("warn", warning))
+            else:
+                equal(f"what is told at {host} with {options}", done.told, "" if options else f"lra: {warning}\n")
+
+
+def test_a_terminal_shows_how_far_a_long_run_is(setting):
+    journal.write(setting.journal, SOUND)
+    folder = f"{setting.folder}/folder"
+    os.makedirs(folder)
+    journal.write(f"{folder}/a.journal", SOUND)
+    line, cleared = "\rlra: 0 of 0 MB", "\r" + 48 * " " + "\r"
+    for words in (("audit", setting.journal), ("show", setting.journal), ("upgrade", setting.journal), ("audit", folder)):
+        usual = setting.run(*words)
+        status, output, shown = on_terminal(sys.executable, held.__file__, "1.2", "65536", setting.program, *words)
+        if output.startswith(held.REFUSED):
+            raise LeftOut(held.REFUSED)
+        equal(f"what {words} prints", (status, output), (usual.status, usual.output))
+        equal(f"what the terminal shows of {words}", shown, line + cleared)
 
 
 def test_usage(setting):
@@ -46,7 +162,7 @@ def words_of_help(setting):
     told, serving = setting.run("--help").output, setting.run("serve", "--help").output
     verbs, calls = (set(re.findall(rf"^lra ({word}) ", told, re.M)) for word in ("[a-z]+", "--[a-z]+"))
     options = set(re.findall(r"--[a-z][a-z-]*", serving))
-    equal("how many there are", (len(verbs), len(calls), len(options)), (9, 2, 30))
+    equal("how many there are", (len(verbs), len(calls), len(options)), (9, 2, 31))
     return verbs, calls, options
 
 
@@ -76,6 +192,35 @@ def test_the_unit_s_settings_are_the_usual_ones(setting):
     _, _, options = words_of_help(setting)
     named = {f"--{it}" for it in re.findall(r"^#([a-z-]+) = ", text, re.M)}
     equal("what isn't among them", options - named, {"--stop-at-eof", "--drain", "--restored", "--config", "--check", "--help", *(f"--{word}" for word in WORDS)})
+
+
+def guard(setting, name):
+    """Runs the unit's look at its folder before a start, with this name for what is served."""
+    unit = journal.read(f"{setting.root}/examples/systemd/lra.service").decode()
+    words = shlex.split(re.search("^ExecStartPre=(.*)$", unit, re.M)[1].replace("$$", "$"))
+    environment = os.environ | {"LRA_JOURNAL": name, "STATE_DIRECTORY": setting.folder}
+    return subprocess.run(words, env=environment, capture_output=True, text=True, check=False)
+
+
+def test_a_journal_of_an_older_unit_is_taken_up(setting):
+    """As OPERATING.md says: until it has its instance for a name the unit doesn't start."""
+    page = journal.read(f"{setting.root}/docs/OPERATING.md").decode().partition("### An older unit")[2]
+    command = re.search("^mv .*$", page, re.M)[0]
+    usual = re.search("^LRA_JOURNAL=(.*)$", journal.read(f"{setting.root}/examples/systemd/lra.default").decode(), re.M)[1]
+    equal("an empty folder", guard(setting, usual).returncode, 0)
+    setting.journal = setting.folder + "/lra.journal"
+    with setting.serve() as service, service.client() as client:
+        action = client.start()
+    refused = guard(setting, usual)
+    equal("a folder that has it", (refused.returncode, "lra.journal wants the name of its instance" in refused.stderr), (2, True))
+    equal("the file itself", guard(setting, "lra.journal").returncode, 0)
+    subprocess.run(["sh", "-c", command], cwd=setting.folder, check=True)
+    equal("a folder that has taken it up", guard(setting, usual).returncode, 0)
+    setting.journal = f"{setting.folder}/{usual}"
+    with setting.serve(port=service.port) as service, service.client() as client:
+        equal("the action", client.status(action), "Active")
+        client.start()
+        equal("its end", client.end(action, "close"), "Closed")
 
 
 def test_an_address_that_is_no_base_cannot_be_served(setting):

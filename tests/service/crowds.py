@@ -4,7 +4,7 @@ import threading
 import time
 
 from patience import narrow, serves
-from service import LATE, LeftOut, check, equal, id_of, reset
+from service import LATE, LeftOut, check, equal, id_of, is_ready, received, reset
 
 # How many connections are kept at once, and how many clients are slow in each way.
 KEPT, SLOW = 2000, 500
@@ -122,3 +122,69 @@ def test_a_reset_in_the_middle_of_a_request_or_a_reply_does_no_harm(setting):
             for stream in streams:
                 reset(stream)
             serves(service)
+
+
+# What is refused while it still comes: the head, and the code by which it is refused. What is sent of its body is more
+# than is read of a request.
+REFUSED = (
+    (b"POST /lra-coordinator HTTP/1.1\r\nHost: h\r\nContent-Length: 600000\r\n\r\n", b"HTTP/1.1 413 "),
+    (b"POST /lra-coordinator HTTP/1.1\r\nHost: h\r\nTransfer-Encoding: chunked\r\n\r\n", b"HTTP/1.1 501 "),
+    (b"no request\r\n\r\n", b"HTTP/1.1 400 "),
+)
+# How many seconds a client has to close its connection once that is all it can do, and how many bytes of it are thrown
+# away meanwhile.
+LINGER, THROWN = 2, 1 << 20
+
+
+def refused(service, head):
+    """A client whose request is refused, and that sends what follows after that, before it reads the reply."""
+    stream = service.connect()
+    stream.sendall(head)
+    check("a reply", is_ready(stream, LATE))
+    for _ in range(6):
+        stream.sendall(b"x" * 100000)
+        time.sleep(0.02)
+    return stream
+
+
+def test_a_refused_request_has_its_reply_though_its_body_still_comes(setting):
+    """A connection that is closed while bytes of it are unread is reset, and loses its reply on the way: so what still
+    comes is read first."""
+    with setting.serve(1) as service:
+        for head, wanted in REFUSED:
+            for _ in range(5):
+                with refused(service, head) as stream:
+                    data, is_whole = received(stream)
+                    check(f"{data!r} and a reset", is_whole)
+                    equal("the reply", data[: len(wanted)], wanted)
+                    stream.sendall(b"x" * 100000)
+        # A client that says that it sends nothing more has its reply whether the connection is closed before or after
+        # what it sent was read.
+        with service.connect() as stream:
+            stream.sendall(b"POST /lra-coordinator HTTP/1.1\r\nHost: h\r\nConnection: close\r\n\r\n" + b"x" * 500000)
+            data, is_whole = received(stream)
+            check(f"{data!r}", is_whole and data.startswith(b"HTTP/1.1 201 "))
+
+
+def test_who_does_not_stop_after_a_refusal_is_left(setting):
+    """By its time and by its bytes; others are answered meanwhile."""
+    with setting.serve(1) as service:
+        with refused(service, REFUSED[0][0]) as silent, service.connect() as endless:
+            begun = time.monotonic()
+            sent = 0
+            endless.sendall(REFUSED[0][0])
+            try:
+                while sent < 64 * THROWN:
+                    sent += endless.send(b"x" * 65536)
+            except ConnectionError:
+                pass
+            check(f"{sent} bytes were taken", THROWN <= sent < 32 * THROWN)
+            serves(service)
+            try:
+                while time.monotonic() - begun < LINGER + LATE:
+                    silent.send(b"x")
+                    time.sleep(0.05)
+            except ConnectionError:
+                pass
+            seconds = time.monotonic() - begun
+            check(f"it was left after {seconds:.1f} s", LINGER - 0.5 <= seconds < LINGER + LATE)

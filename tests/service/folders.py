@@ -4,6 +4,7 @@ import glob
 import os
 import re
 import shutil
+import socket
 import subprocess
 import time
 import uuid
@@ -192,6 +193,41 @@ def test_a_journal_that_has_ended_is_put_away_and_the_newest_never_is(setting):
         equal("the journals that are sound", check_sound(folder), 2)
 
 
+def test_a_journal_that_can_not_be_put_away_stays_served_until_it_can(setting):
+    """A file has its name already: that stays as it is, and it is tried again."""
+    with Folder(setting, *SOON) as folder, folder.client() as client:
+        actions = folder.first(3)
+        first = instance_of(actions[0])
+        os.makedirs(folder.path("ended"))
+        put(setting, f"ended/{first}.journal", b"another's")
+        for action in actions:
+            client.end(action, "close")
+        line = f"lra: cannot put away {folder.path(first)}.journal\n"
+        wait_until("that it can't be put away", lambda: line in folder.told())
+        time.sleep(1.5)
+        for action in actions:
+            equal("its status", client.status(action), "Closed")
+        equal("the other file", journal.read(folder.path(f"ended/{first}.journal")), b"another's")
+        equal("what is told", folder.told(), line)
+        os.remove(folder.path(f"ended/{first}.journal"))
+        wait_until("it is put away", lambda: first not in folder.journals())
+        wait_until("it is gone", lambda: all(folder.missing(action) for action in actions))
+        equal("what is among those that were put away", os.listdir(folder.path("ended")), [first + ".journal"])
+        folder.kill()
+        equal("the journals that are sound", check_sound(folder), 2)
+
+
+def test_a_move_that_was_cut_off_is_taken_back_at_the_start(setting):
+    put(setting, SEVENTH + ".journal", SOUND)
+    os.makedirs(f"{setting.folder}/journals/ended", exist_ok=True)
+    for name in (SEVENTH + ".journal", SEVENTH + ".next"):
+        os.link(f"{setting.folder}/journals/{SEVENTH}.journal", f"{setting.folder}/journals/ended/{name}")
+    with Folder(setting, *FAR) as folder:
+        equal("what is among those that were put away", os.listdir(folder.path("ended")), [])
+        equal("the journals", folder.journals(), [SEVENTH])
+        folder.first()
+
+
 def files_of(process, stem):
     """How many files of this name a process has open."""
     found = 0
@@ -345,10 +381,20 @@ def test_names_that_are_no_text_or_have_control_characters_are_told(setting):
     equal("an audit", (told.status, sorted(told.told.splitlines())), (0, wanted))
 
 
+def make_socket(path):
+    """Makes a socket of a name."""
+    with socket.socket(socket.AF_UNIX) as it:
+        it.bind(path)
+
+
 def test_what_is_no_file_or_no_folder_is_named(setting):
-    """A pipe and a folder under a journal's name, and a file under that of the folder of those that were put away."""
+    """A pipe, a socket and a folder under names that a service keeps, and a file under that of `ended`."""
     seventh = SEVENTH + ".journal"
-    for name, make, line in ((seventh, os.mkfifo, "cannot read"), (seventh, os.mkdir, "cannot read"), ("ended", os.mknod, "cannot write")):
+    kept = (seventh, SEVENTH + ".next", "newest", "newest.next", "base", "restored")
+    made = [(name, os.mkfifo, "cannot read") for name in kept]
+    made += [(seventh, os.mkdir, "cannot read"), ("newest", os.mkdir, "cannot read")]
+    made += [("base", make_socket, "cannot read"), ("ended", os.mknod, "cannot write")]
+    for name, make, line in made:
         folder = Folder(setting)
         make(folder.path(name))
         equal(name, refused(folder), Run(2, "", f"lra: {line} {folder.path(name)}\n"))
@@ -364,7 +410,10 @@ def test_where_few_files_may_be_open_clients_have_some(setting):
         wait_until("no next journal", lambda: folder.first() and line in folder.told())
         time.sleep(1.2)
         actions = folder.first(30)
-        equal("what is told", set(folder.told().splitlines()), {line})
+        # What there is at once is lowered at the start, and that is told.
+        lowered, *others = folder.told().splitlines()
+        check(lowered, lowered.startswith("lra: at most ") and lowered.endswith("the limit of open files is 128"))
+        equal("what is told", set(others), {line})
         with folder.client() as client:
             equal("the statuses", {client.status(it) for it in actions}, {"Active"})
         return f"{len(folder.journals())} journals"

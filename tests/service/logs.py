@@ -4,6 +4,7 @@ import json
 import re
 import threading
 import time
+from collections import Counter
 
 import journal
 from files import SOUND
@@ -219,6 +220,32 @@ def test_no_key_and_no_address_stands_in_a_line(setting):
     check("the refusal", "request refused port=operators code=401" in told)
     for secret in (*SECRETS, KEY, "a key of somebody", str(member.port), "127.0.0.1", "http"):
         check(f"{secret!r} stands in {told!r}", secret not in told)
+
+
+def test_warnings_are_told_whatever_there_is_of_other_lines(setting):
+    """Requests are refused as long as actions start, of which no more than a hundred a second are told."""
+    count, clients = 400, 4
+
+    def start(service):
+        with service.client() as client:
+            for _ in range(count // clients):
+                client.start()
+
+    refused = 0
+    with Logged(setting, "--log", "debug") as service:
+        threads = [threading.Thread(target=start, args=(service,)) for _ in range(clients)]
+        for thread in threads:
+            thread.start()
+        while any(thread.is_alive() for thread in threads) or refused < 5:
+            equal("a wrong key", service.ask("/health", key="another").code, 401)
+            refused += 1
+        service.end()
+        lines = [fields_of(it[2]) for it in in_words(service.told())]
+    told = Counter(said for said, _ in lines)
+    equal("the refused requests", told["request refused"], refused)
+    suppressed = sum(fields["lines"] for said, fields in lines if said == "suppressed")
+    equal("the starts", told["action started"] + suppressed, count)
+    return f"{refused} warnings, {suppressed} of {count} starts left out"
 
 
 def test_a_hundred_lines_are_told_in_a_second_and_the_others_are_counted(setting):

@@ -9,12 +9,14 @@ import resource
 import shutil
 import socket
 import subprocess
+import sys
 import threading
 import time
 import urllib.parse
 
 import crowds
 import folders
+import hung
 import journal
 from participant import Participant, wait_until
 from service import HOST, LATE, PATIENCE, LeftOut, Reply, Service, check, equal, free_port, id_of
@@ -129,11 +131,16 @@ def measures(service):
     return found
 
 
+# the checks of liveness, and those of readiness
+LIVE = ["journal", "lock", "threads"]
+READY = [*LIVE, "room", "starts", "set", "sync"]
+
+
 def test_health_is_up(setting):
     for kind in (Watched, WatchedFolder):
         with kind(setting) as service, service.client() as client:
             client.start()
-            for probe, names in (("", ["journal", "lock", "room", "starts"]), ("/live", ["journal", "lock"]), ("/ready", ["journal", "lock", "room", "starts"]), ("/started", ["started"])):
+            for probe, names in (("", READY), ("/live", LIVE), ("/ready", READY), ("/started", ["started"])):
                 told = service.read("/health" + probe)
                 equal("the status", told["status"], "UP")
                 equal("the checks", [(it["name"], it["status"]) for it in told["checks"]], [(it, "UP") for it in names])
@@ -152,6 +159,51 @@ def test_health_is_down_on_a_full_disk(setting):
                 equal("the status", (told["status"], told["checks"][0]["name"], told["checks"][0]["status"]), ("DOWN", "journal", "DOWN"))
             equal("metrics", measures(service)["lra_journal_failed"], 1)
             equal("an order", service.ask(f"/actions/{id_of(action)}/cancel", "POST").code, 503)
+
+
+class HangingDisk:
+    """A disk whose syncs hang while a file is there."""
+
+    def __init__(self, setting):
+        self.flag = setting.folder + "/hang"
+
+    def wrap(self, service):
+        service.words[:0] = [sys.executable, hung.__file__, self.flag]
+        return service
+
+    def __enter__(self):
+        journal.write(self.flag, b"")
+
+    def __exit__(self, *_):
+        os.remove(self.flag)
+
+
+def test_a_sync_that_hangs_is_told(setting):
+    for kind in (Watched, WatchedFolder):
+        disk = HangingDisk(setting)
+        service = disk.wrap(kind(setting))
+        at = service.words.index("serve")
+        service.words[at + 3:at + 3] = ["--sync-seconds", "1"]
+        with service, service.client() as client:
+            action = client.start()
+            equal("a sync under way", measures(service)["lra_sync_age_seconds"], 0)
+            with disk:
+                closing = threading.Thread(target=client.end, args=(action, "close"))
+                closing.start()
+                began = time.monotonic()
+                equal("liveness", service.read("/health/live")["status"], "UP")
+                wait_until("it isn't ready", lambda: not service.is_ready())
+                check("that it is told so in time", 1 <= time.monotonic() - began < 1 + LATE)
+                for probe in ("", "/ready"):
+                    before = time.monotonic()
+                    checks = {it["name"]: it for it in service.read("/health" + probe, 503)["checks"]}
+                    check("a probe is answered at once", time.monotonic() - before < 1)
+                    equal("what is down", [name for name, it in checks.items() if it["status"] == "DOWN"], ["sync"])
+                    equal("the limit", checks["sync"]["data"]["limit_ms"], 1000)
+                    check("the age", checks["sync"]["data"]["age_ms"] > 1000)
+                check("its age", measures(service)["lra_sync_age_seconds"] > 1)
+            closing.join()
+            wait_until("it is ready", service.is_ready)
 
 
 def test_metrics_are_as_prometheus_reads_them(setting):

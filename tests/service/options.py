@@ -24,6 +24,7 @@ NUMBERS = (
     ("reply-timeout", 10, 1, 86400),
     ("connect-timeout", 5, 1, 86400),
     ("callback-timeout", 30, 1, 86400),
+    ("sync-seconds", 5, 1, 86400),
     ("retry-first", 100, 1, 86400000),
     ("retry-last", 60000, 1, 86400000),
     ("roll-after", 50000, 1, 50000),

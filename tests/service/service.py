@@ -109,7 +109,10 @@ class Client:
 
     def call(self, method, path, **keys):
         """A request with these keys in its body, and its reply."""
-        body = json.dumps(keys) if keys else None
+        return self.send(method, path, json.dumps(keys) if keys else None)
+
+    def send(self, method, path, body):
+        """A request with this body, and its reply."""
         fields = {} if self.keep else {"Connection": "close"}
         self.connection.request(method, path, body, fields)
         reply = self.connection.getresponse()

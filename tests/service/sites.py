@@ -6,7 +6,7 @@ import time
 
 import journal
 from folders import Folder, check_sound, instance_of, refused
-from operators import WatchedFolder
+from operators import LIVE, READY, WatchedFolder
 from participant import Participant, wait_until
 from service import HOST, PATIENCE, check, equal, free_port, id_of
 
@@ -44,8 +44,8 @@ def test_a_site_that_drains_ends_once_its_actions_have(setting):
             client.join(action, **member.addresses("complete", "compensate"))
         with WatchedFolder(setting, *BASE, "--drain", "--remember", str(REMEMBERED)) as service, service.client() as client:
             full(client.call("POST", "/lra-coordinator"))
-            equal("what is ready", checks(service, "/ready"), (503, {"journal": "UP", "lock": "UP", "room": "UP", "starts": "DOWN"}))
-            equal("what lives", checks(service, "/live"), (200, {"journal": "UP", "lock": "UP"}))
+            equal("what is ready", checks(service, "/ready"), (503, dict.fromkeys(READY, "UP") | {"starts": "DOWN"}))
+            equal("what lives", checks(service, "/live"), (200, dict.fromkeys(LIVE, "UP")))
             nested = client.start(parent=action)
             client.join(nested, **member.addresses("compensate", "complete"))
             full(client.call("POST", "/lra-coordinator", limit=5))

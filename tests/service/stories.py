@@ -60,9 +60,14 @@ FIRST_ID = "00000000-0000-8007-8000-000000000001"
 
 def played(setting, *more):
     """The journal that the script makes, with more lines of it, in a file."""
+    return write_played(setting, SCRIPT + "".join(f"1 {AT + moment} {words}\n" for moment, words in more))
+
+
+def write_played(setting, text):
+    """The journal that a script makes, in a file."""
     script = f"{setting.folder}/script"
     with open(script, "w") as it:
-        it.write(SCRIPT + "".join(f"1 {AT + moment} {words}\n" for moment, words in more))
+        it.write(text)
     lines = setting.run("play", script).output.splitlines()
     text = "".join(line[2:] + "\n" for line in lines if line.startswith("+ "))
     with open(setting.journal, "w") as it:
@@ -114,6 +119,37 @@ def test_a_story_on_standard_input(setting):
     text = played(setting, (6100, "reply 1 done"))
     it = subprocess.run([setting.program, "explain", "-", "2"], input=text, capture_output=True, text=True)
     equal("the action", (it.returncode, it.stdout, it.stderr), (0, ENDED, ""))
+
+
+def test_a_story_in_a_folder(setting):
+    """The journal is the one whose instance the identifier bears, whatever its name is, also where it was put away."""
+    text = played(setting)
+    place = Place(setting)
+    equal("no journal", setting.run("explain", place.path, ID), (2, "", f"lra: no journal in {place.path}\n"))
+    place.put("a.journal", text.replace(HEADER, "lra-journal 2 8", 1))
+    place.put("torn.journal", "lra-jour")
+    equal("another's", setting.run("explain", place.path, ID), (1, f"unknown action {ID}\n", ""))
+    os.symlink("circle.journal", f"{place.path}/circle.journal")
+    told = f"lra: cannot read {place.path}/circle.journal\n"
+    equal("one can't be read", setting.run("explain", place.path, ID), (2, "", told))
+    place.put("ended/z.journal", text)
+    for name in (ID, "https://else.test/x/lra-coordinator/" + ID):
+        equal(name, setting.run("explain", place.path, name), (0, WAITING, told))
+    place.remove("circle.journal")
+    equal("a picture", setting.run("explain", place.path, ID, "--svg"), drawn(setting, ID))
+    other = ID[:-1] + "9"
+    equal("no action of it", setting.run("explain", place.path, other), (1, f"unknown action {other}\n", ""))
+    told = f"lra: 2 is ambiguous in {place.path}: name the action by its UUID or URI\n"
+    equal("a number alone", setting.run("explain", place.path, "2"), (2, "", told))
+
+
+def test_a_folder_without_a_journal_is_a_fault(setting):
+    place = Place(setting)
+    for verb in ("audit", "show"):
+        equal(verb, setting.run(verb, place.path), (2, "", f"lra: no journal in {place.path}\n"))
+    place.put("notes", "")
+    told = f"lra: {place.path}/notes is no journal\nlra: no journal in {place.path}\n"
+    equal("what is no journal", setting.run("audit", place.path), (2, "", told))
 
 
 def drawn(setting, name):
@@ -185,6 +221,18 @@ def test_a_listing(setting):
         equal(f"list {options}", setting.run("list", setting.journal, *options), (0, lines, ""))
     for options in (("--state", "Open"), ("--older-than",), ("--older-than", "-1"), ("--all",), ("2",)):
         equal(f"list {options}", setting.run("list", setting.journal, *options), (2, "", "lra: usage\n"))
+
+
+def test_a_listing_of_what_ended_badly(setting):
+    played(setting, (6100, "reply 1 failed"))
+    line = f"2 {ID} FailedToCancel 1 5.100 FailedToCompensate=1,Left=1\n"
+    for state, lines in (("FailedToCancel", line), ("Cancelled", ""), ("FailedToClose", "")):
+        equal(f"those that are {state}", setting.run("list", setting.journal, "--state", state), (0, lines, ""))
+    begun = "".join(f"1 {AT} {words}\n" for words in ("start * 0", "join 1 http://n.test/u http://n.test/c * * *", "close 1", "ask"))
+    write_played(setting, f"0 {AT} enrol\n{begun}1 {AT + 1000} reply 1 failed\n")
+    line = f"1 {FIRST_ID} FailedToClose * 1.000 FailedToComplete=1\n"
+    for state, lines in (("FailedToClose", line), ("Closed", ""), ("FailedToCancel", "")):
+        equal(f"those that are {state}", setting.run("list", setting.journal, "--state", state), (0, lines, ""))
 
 
 def test_a_listing_of_a_folder(setting):

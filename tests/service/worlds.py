@@ -16,7 +16,7 @@ import journal
 from crowds import UNKNOWN, close_all, one_reply, room_for
 from participant import Participant, plain, wait_until
 from patience import serves
-from service import HOST, LATE, PATIENCE, check, equal, id_of, is_ready, number_of, reset
+from service import HOST, LATE, PATIENCE, check, equal, id_of, number_of, reset
 
 START = b"POST /lra-coordinator HTTP/1.1\r\nHost: h\r\n\r\n"
 LOCATION = re.compile(rb"^Location: (\S+)\r$", re.M)
@@ -24,8 +24,8 @@ LOCATION = re.compile(rb"^Location: (\S+)\r$", re.M)
 BETWEEN = 20
 # How many replies a client takes a byte at a time.
 TAKEN = 300
-# How many files a service may have that is to have none left, and how many clients call it.
-FILES, MORE = 64, 100
+# How many files a service may have, and how many clients call it.
+FILES, MORE = 96, 100
 # How many connections are opened and closed without a byte, so many at once.
 EMPTY, AT_ONCE = 3000, 100
 # How many peers wake the other side for nothing, for how many seconds; and at how many hosts those that are members are.
@@ -280,38 +280,27 @@ def share(service, seconds):
     return (service.seconds() - used) / seconds
 
 
-def test_files_that_are_used_up_and_free_again(setting):
+def test_files_that_are_few_are_shared(setting):
+    """More clients than there are files for: each is answered, for those that have been idle for longest make room, and a member is called beside them."""
     few = setting.serve(2)
-    few.words = ["sh", "-c", f'ulimit -n {FILES}; exec "$@"', "sh", *few.words]
-    with few as service, Participant() as member, service.client() as client, contextlib.ExitStack() as open_ones:
+    few.words = ["sh", "-c", f'ulimit -n {FILES}; exec "$@" 2>/dev/null', "sh", *few.words]
+    with few as service, Participant() as member, service.client(keep=False) as client, contextlib.ExitStack() as open_ones:
         action = client.start()
         client.join(action, **member.addresses("compensate"))
-        streams = [open_ones.enter_context(service.connect()) for _ in range(MORE)]
-        for stream in streams:
+        slowest = 0
+        for _ in range(MORE):
+            begun = time.monotonic()
+            stream = open_ones.enter_context(service.connect())
             stream.sendall(UNKNOWN)
-        wait_until("replies", lambda: sum(is_ready(stream, 0) for stream in streams) > FILES / 2)
-        time.sleep(0.5)
-        equal("a close", client.end(action, "cancel"), "Cancelling")
-        spent = share(service, 3)
-        check(f"it takes {spent:.2f} of a processor", spent < MUCH)
-        equal("a status", client.status(action), "Cancelling")
-        equal("requests to the member", len(member.requests), 0)
-        first = [stream for stream in streams if is_ready(stream, 0)]
-        others = [stream for stream in streams if stream not in first]
-        check(f"{len(first)} of {MORE} are answered with {FILES} files", len(first) < FILES)
-        for stream in first:
-            one_reply(stream)
-            stream.close()
-        begun = time.monotonic()
-        for stream in others[: FILES // 2]:
             check("a reply", one_reply(stream)[0].startswith(b"HTTP/1.1 404 "))
-        soon = time.monotonic() - begun
-        check(f"others wait for {soon:.1f} s", soon < LATE)
-        close_all(others)
-        serves(service)
+            slowest = max(slowest, time.monotonic() - begun)
+        check(f"a newcomer waits for {slowest:.2f} s", slowest < LATE)
+        equal("a close", client.end(action, "cancel"), "Cancelling")
         member.wait("compensate")
         wait_until("the end", lambda: client.status(action) == "Cancelled")
-        return f"{len(first)} clients, {spent:.3f} of a processor without files, others after {soon:.2f} s"
+        spent = share(service, 3)
+        check(f"it takes {spent:.2f} of a processor", spent < MUCH)
+        return f"{MORE} clients, the slowest after {slowest:.2f} s, {spent:.3f} of a processor"
 
 
 def wakes(service):

@@ -1,6 +1,6 @@
 //! The keys of a file that may change while a service runs.
 
-ghost use Rattle.std.specs.Prelude.{◌≡◌, IfOk, string_bytes};
+ghost use Rattle.std.specs.Prelude.{◌≡◌, ◌+◌, ◌-◌, ◌^◌, IfOk, min, string_bytes};
 
 use crate::fault::KeysFault;
 use crate::file::{KeyFiles, Print};
@@ -13,6 +13,13 @@ use std::sync::{Arc, Mutex, Wait};
 
 /// How many milliseconds pass at least from one look at the file to the next.
 const PAUSE: u64 = 1_000;
+
+/// Returns from when on the file is looked at again, after a look at a moment.
+fn next_look(moment: u64) -> u64
+    ensures { result ≡ min (moment + 1_000) (2 ^ 64 - 1) }
+{
+    moment.saturating_add(PAUSE)
+}
 
 /// The keys that are in force.
 #[derive(Drop)]
@@ -117,8 +124,7 @@ impl KeyBook {
     /// Reads the file again, where it has changed since it was read last. The answer is what became of it then.
     fn renew<R: KeyFiles>(&self, rt: &R, moment: u64) -> Option<Result<(), KeysFault>> {
         let mut kept = self.kept.try_lock()?;
-        self.next
-            .store(moment.saturating_add(PAUSE), Ordering::SeqCst);
+        self.next.store(next_look(moment), Ordering::SeqCst);
         let path = self.path.as_str();
         let seen = rt.print(path);
         if seen == kept.seen {

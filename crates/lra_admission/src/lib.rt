@@ -11,8 +11,6 @@ mod lines;
 mod names;
 mod porter;
 mod told;
-#[cfg(test)]
-mod trials;
 
 pub use book::KeyBook;
 pub use fault::KeysFault;

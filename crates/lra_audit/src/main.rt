@@ -2,8 +2,9 @@
 //! sound of it, without a coordinator.
 #![tactic(auto)]
 
+use lra_audits::{tell_usage, words_of};
 use lra_folders::answer_question;
-use lra_reports::{read_question, tell_usage, words_of};
+use lra_reports::read_question;
 use std::process::ExitCode;
 
 fn main(rt: HostRuntime) -> ExitCode {

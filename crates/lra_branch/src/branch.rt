@@ -100,6 +100,22 @@ impl<V: Serving, R: Wait + Clone + Drop> Branch<V, R> {
         let Branch { rt, office, clerk } = self;
         run_carrier(&rt, &office, clerk, carriage, gate, clock)
     }
+
+    /// Takes the office back whole, with this clerk of it, where it has no other branch: no order reaches it any more.
+    /// Where it has, this one stays a branch.
+    pub fn close(self) -> Result<(OfficeOf<V>, Clerk<V>), Branch<V, R>>
+        ensures whole { IfOk result (λ parts. (parts.0 ≡ arc_value self.office) × (parts.1 ≡ self.clerk)) }
+        ensures kept { IfErr result (λ branch. (branch.office ≡ self.office) × (branch.clerk ≡ self.clerk)) }
+    {
+        let Branch { rt, office, clerk } = self;
+        match Arc::try_unwrap(office) {
+            Ok(office) => {
+                drop(rt);
+                Ok((office, clerk))
+            }
+            Err(office) => Err(Branch { rt, office, clerk }),
+        }
+    }
 }
 
 impl<V: Serving, R: Wait> Counter for Branch<V, R> {
@@ -134,6 +150,9 @@ pub trait Clerkship: Counter {
     /// What its office tells of its history, if it does.
     fn query(&mut self, query: Query) -> Option<Known>;
 
+    /// Ends its office, where that has no other clerk: no order reaches it any more. Else the clerk is given back.
+    fn close(self) -> Result<(), Self>;
+
     /// Works as its clerk with many errands under way, until a gate lets no further turn be made, and tells why it has ended.
     fn carry<C: Carriage, G: Gate, K: Clock>(
         self,
@@ -156,6 +175,17 @@ impl<V: Serving + Drop, R: Wait + Clone + Drop> Clerkship for Branch<V, R> {
         match Branch::query(self, query) {
             Ok(known) => Some(known),
             Err(_) => None,
+        }
+    }
+
+    fn close(self) -> Result<(), Self> {
+        match Branch::close(self) {
+            Ok((office, clerk)) => {
+                drop(clerk);
+                drop(office);
+                Ok(())
+            }
+            Err(branch) => Err(branch),
         }
     }
 

@@ -2,14 +2,15 @@
 
 use lra_journal::read_number;
 use lra_model::ActionStatus;
-use lra_stories::Form;
+use lra_stories::{Form, Wanted, read_wanted};
 
 /// What these words ask for.
 #[derive(Clone, Copy)]
 pub(crate) enum Asking<'a> {
     /// What happened to an action.
     Explain {
-        file: &'a str,
+        place: &'a str,
+        wanted: Wanted,
         form: Form,
         name: &'a str,
     },
@@ -23,6 +24,17 @@ pub(crate) enum Asking<'a> {
         place: &'a str,
         stop_at_eof: bool,
     },
+}
+
+impl<'a> Asking<'a> {
+    /// Returns the place that is asked about.
+    pub(crate) fn place(&self) -> &'a str {
+        match *self {
+            Asking::Explain { place, .. }
+            | Asking::List { place, .. }
+            | Asking::Follow { place, .. } => place,
+        }
+    }
 }
 
 /// Which actions are listed, and whether their ages count up to now.
@@ -107,20 +119,24 @@ fn is_name(word: &str) -> bool {
     !word.starts_with("--")
 }
 
+/// The story in a form of the action that a word names. None where it names none.
+fn explain_of<'a>(place: &'a str, form: Form, name: &'a str) -> Option<Asking<'a>> {
+    Some(Asking::Explain {
+        place,
+        wanted: read_wanted(name)?,
+        form,
+        name,
+    })
+}
+
 /// What words with a verb and a place ask for.
 fn read_on<'a>(verb: &str, place: &'a str, rest: &'a [String]) -> Option<Asking<'a>> {
     match verb {
         "explain" => match rest {
-            [name] => Some(Asking::Explain {
-                file: place,
-                form: Form::Text,
-                name: name.as_str(),
-            }),
-            [name, option] if option.as_str() == "--svg" => Some(Asking::Explain {
-                file: place,
-                form: Form::Svg,
-                name: name.as_str(),
-            }),
+            [name] => explain_of(place, Form::Text, name.as_str()),
+            [name, option] if option.as_str() == "--svg" => {
+                explain_of(place, Form::Svg, name.as_str())
+            }
             _ => None,
         },
         "list" => Some(Asking::List {

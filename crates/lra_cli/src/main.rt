@@ -3,20 +3,28 @@
 #![tactic(auto)]
 
 mod asking;
+mod explaining;
+mod gauge;
 mod grounds;
+mod misuse;
+mod nowhere;
+mod questioning;
+mod reasons;
 mod rolling;
 mod serving;
 mod telling;
 mod texts;
 
 use crate::asking::read_asking;
+use crate::questioning::answer_watched;
+use crate::reasons::{behind, tell_misuse};
 use crate::serving::{answer_options, answer_serve, have_options};
 use crate::telling::{answer_asking, answer_help};
 use lra_admission::KeyFiles;
+use lra_audits::{settle, words_of};
 use lra_fence::Fenced;
-use lra_folders::answer_question;
 use lra_opening::{Herald, Watched};
-use lra_reports::{Question, System, settle, tell_usage, words_of};
+use lra_reports::{Invocation, Question, System, input_name};
 use lra_runs::{Task, play_file, read_task};
 use lra_syncs::Timed;
 use std::env::Env;
@@ -36,6 +44,21 @@ use std::time::Clock;
 fn answer_play<R: AllocGlobal + Files + Input + Print + Eprint>(rt: &R, script: &str) -> u8 {
     let outcome = play_file(rt.alloc(), &System { rt }, script, &mut io::writer(rt));
     settle(rt, outcome, script)
+}
+
+/// Returns the place that a question is about, `-` for none or for standard input, and whether it may be a folder.
+fn place_of(question: Question<'_>) -> (&str, bool) {
+    match question {
+        Question::Run(invocation) => {
+            let takes_folders = matches!(
+                invocation,
+                Invocation::Audit { .. } | Invocation::Show { .. }
+            );
+            (input_name(invocation), takes_folders)
+        }
+        Question::Salvage { file } => (file, false),
+        Question::Help | Question::Version => ("-", false),
+    }
 }
 
 /// Carries out what these words ask for, and answers the program's status. The watcher is told what takes a while.
@@ -64,8 +87,17 @@ where
 {
     match read_task(words) {
         Ok(Task::Question(Question::Help)) => answer_help(rt),
-        Ok(Task::Question(question)) => answer_question(rt, question),
-        Ok(Task::Play { script }) => answer_play(rt, script),
+        Ok(Task::Question(question)) => {
+            let (place, takes_folders) = place_of(question);
+            behind(
+                rt,
+                watcher,
+                place,
+                takes_folders,
+                answer_watched(rt, watcher, question),
+            )
+        }
+        Ok(Task::Play { script }) => behind(rt, watcher, script, false, answer_play(rt, script)),
         Ok(
             Task::Serve {
                 address,
@@ -75,8 +107,8 @@ where
         ) => answer_serve(rt, address, file, workers, watcher),
         Err(_) if have_options(words) => answer_options(rt, words, watcher),
         Err(_) => match read_asking(words) {
-            Some(asking) => answer_asking(rt, asking),
-            None => tell_usage(rt),
+            Some(asking) => behind(rt, watcher, asking.place(), true, answer_asking(rt, asking)),
+            None => tell_misuse(rt, watcher, words),
         },
     }
 }

@@ -1,12 +1,12 @@
 //! What is served of a folder.
 
 use crate::grounds::Grounds;
+use crate::reasons::{fail, log_unsound};
 use crate::serving::{put_words, tell_way};
 use lra_admission::KeyFiles;
 use lra_ids::Base;
 use lra_opening::Herald;
 use lra_options::Options;
-use lra_reports::tell;
 use lra_rolling::{Conduct, FolderServed, RollingFault, check_folder, rolling_line, serve_folder};
 use lra_service::{Book, Entry};
 use lra_syncs::Timed;
@@ -24,19 +24,32 @@ use std::time::Clock;
 
 /// The status of a service over a folder that has ended, or isn't there. A fault is told, and so is where a journal isn't sound the way to what is sound
 /// of it.
-fn settle_rolling<R: AllocGlobal + Eprint>(
+fn settle_rolling<
+    R: AllocGlobal
+        + Files<File = File>
+        + Net<Stream = TcpStream, Listener = TcpListener>
+        + Clock
+        + Wait
+        + Eprint,
+    H: Herald,
+>(
     rt: &R,
     outcome: Result<FolderServed, RollingFault>,
     options: &Options<'_>,
+    watcher: &H,
+    book: Option<&Book<R>>,
 ) -> u8 {
     match outcome {
         Ok(FolderServed::Ended) => 0,
         Ok(FolderServed::Unsound { status, path }) => {
             tell_way(rt, path.as_str());
+            log_unsound(rt, book, path.as_str());
             status
         }
-        Err(fault) => tell(
+        Err(fault) => fail(
             rt,
+            watcher,
+            book,
             rolling_line(rt.alloc(), fault, options.address, options.file),
         ),
     }
@@ -44,7 +57,15 @@ fn settle_rolling<R: AllocGlobal + Eprint>(
 
 /// Tells what would be served of a folder. The watcher is told how far journals have been read.
 pub(crate) fn check_rolling<
-    R: AllocGlobal + Files<File = File> + Clone + Drop + Clock + Print + Eprint,
+    R: AllocGlobal
+        + Files<File = File>
+        + Net<Stream = TcpStream, Listener = TcpListener>
+        + Clone
+        + Drop
+        + Clock
+        + Wait
+        + Print
+        + Eprint,
     H: Herald + Sync,
 >(rt: &R, options: &Options<'_>, base: Option<Base>, watcher: &H) -> u8 {
     let outcome = check_folder(
@@ -62,7 +83,7 @@ pub(crate) fn check_rolling<
         Ok(FolderServed::Ended) => tell_words(rt, options),
         other => other,
     };
-    settle_rolling(rt, told, options)
+    settle_rolling(rt, told, options, watcher, None)
 }
 
 /// Writes what is said of the options whose values are texts, behind what would be served.
@@ -122,6 +143,7 @@ pub(crate) fn serve_rolling<
         book,
         &mut io::writer(rt),
     );
+    let status = settle_rolling(rt, outcome, options, watcher, Some(book));
     book.log.close();
-    settle_rolling(rt, outcome, options)
+    status
 }

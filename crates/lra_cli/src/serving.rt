@@ -1,19 +1,22 @@
 //! What is served.
 
 use crate::grounds::{Grounds, copy_base, grounds_of, wrong};
+use crate::nowhere::warn_of_nowhere;
+use crate::reasons::{fail, log_unsound, tell_misuse};
 use crate::rolling::{check_rolling, serve_rolling};
 use lra_admission::KeyFiles;
+use lra_audits::{RunFault, error_line, put, settle};
 use lra_fence::Fenced;
 use lra_folders::is_folder;
 use lra_logs::{Format, LevelFilter, Logbook, has_priorities, level_named};
 use lra_opening::NamedFile;
 use lra_options::{Options, OptionsFault, Said, Word, read_options};
-use lra_reports::{RunFault, error_line, hint_line, put, settle, tell, tell_usage};
+use lra_reports::hint_line;
 use lra_service::{
-    Book, Entry, Herald, ServeFault, Served, Spot, check_place, fault_line, put_text, serve_with,
-    spot_at,
+    Aloud, Book, Entry, Herald, ServeFault, Served, Spot, check_place, fault_line, fit_descriptors,
+    put_text, serve_with, spot_at,
 };
-use lra_settings::Settings;
+use lra_settings::{Settings, taken_by_file};
 use lra_syncs::Timed;
 use lra_watchpost::{PortFault, Watchpost, port_line, read_key};
 use std::alloc::Global;
@@ -74,20 +77,33 @@ pub(crate) fn tell_way<R: AllocGlobal + Eprint>(rt: &R, file: &str) {
 
 /// The status of a service that has ended, or isn't there. A fault is told, and so is where a journal isn't sound the way to what is sound
 /// of it.
-fn settle_serving<R: AllocGlobal + Eprint>(
+fn settle_serving<
+    R: AllocGlobal
+        + Files<File = File>
+        + Net<Stream = TcpStream, Listener = TcpListener>
+        + Clock
+        + Wait
+        + Eprint,
+    H: Herald,
+>(
     rt: &R,
     outcome: Result<u8, ServeFault>,
     options: &Options<'_>,
+    watcher: &H,
+    book: Option<&Book<R>>,
 ) -> u8 {
     match outcome {
         Ok(status) => {
             if status != 0 {
                 tell_way(rt, options.file);
+                log_unsound(rt, book, options.file);
             }
             status
         }
-        Err(fault) => tell(
+        Err(fault) => fail(
             rt,
+            watcher,
+            book,
             fault_line(rt.alloc(), fault, options.address, options.file),
         ),
     }
@@ -192,7 +208,9 @@ fn answer_check<
         + Files<File = File>
         + KeyFiles
         + Fenced
+        + Net<Stream = TcpStream, Listener = TcpListener>
         + Clock
+        + Wait
         + Print
         + Eprint
         + Env
@@ -201,11 +219,12 @@ fn answer_check<
     H: Herald + Sync,
 >(rt: &R, options: &Options<'_>, watcher: &H) -> u8 {
     if let Err(fault) = look_over(rt, options) {
-        return tell_fault(rt, fault);
+        return tell_fault(rt, watcher, None, fault);
     }
     let Ok(base) = copy_base(options) else {
-        return tell_fault(rt, OptionsFault::Memory);
+        return tell_fault(rt, watcher, None, OptionsFault::Memory);
     };
+    warn_of_nowhere(rt.alloc(), options, options.address, &Aloud { rt });
     if is_folder(rt, options.file) {
         return check_rolling(rt, options, base, watcher);
     }
@@ -224,7 +243,7 @@ fn answer_check<
         Ok(0) => put_words(rt.alloc(), options, &mut io::writer(rt)).map(|_| 0),
         other => other,
     };
-    settle_serving(rt, told, options)
+    settle_serving(rt, told, options, watcher, None)
 }
 
 /// The key that operators have to give, if a file of one is named.
@@ -250,9 +269,17 @@ fn operators_of<
 }
 
 /// Tells why there is no port for operators. The answer is the program's status.
-fn tell_port<R: AllocGlobal + Eprint>(rt: &R, fault: PortFault, options: &Options<'_>) -> u8 {
+fn tell_port<
+    R: AllocGlobal
+        + Files<File = File>
+        + Net<Stream = TcpStream, Listener = TcpListener>
+        + Clock
+        + Wait
+        + Eprint,
+    H: Herald,
+>(rt: &R, fault: PortFault, options: &Options<'_>, watcher: &H, book: Option<&Book<R>>) -> u8 {
     let address = options.said.text(Word::Operators).unwrap_or("-");
-    tell(rt, port_line(rt.alloc(), fault, address))
+    fail(rt, watcher, book, port_line(rt.alloc(), fault, address))
 }
 
 /// The log of a service, as its options say: one that is off, where none is asked for.
@@ -310,23 +337,27 @@ fn answer_until<
         + Drop,
     H: Herald + Sync,
 >(rt: &R, options: &Options<'_>, input: Option<ChildStdout>, watcher: &H) -> u8 {
+    // What is wrong with its options is told after what else is.
+    let book = book_of(rt, &options.said);
+    let log = book.as_ref().ok();
     let post = match operators_of(rt, options) {
         Ok(post) => post,
-        Err(fault) => return tell_port(rt, fault, options),
+        Err(fault) => return tell_port(rt, fault, options, watcher, log),
     };
     let spot = match spot_at(rt, rt.alloc(), options.address) {
         Ok(spot) => spot,
-        Err(fault) => return settle_serving(rt, Err(fault), options),
+        Err(fault) => return settle_serving(rt, Err(fault), options, watcher, log),
     };
     let Spot { address, listener } = spot;
     let grounds = match sound_grounds(rt, options, address.as_str()) {
         Ok(grounds) => grounds,
-        Err(fault) => return tell_fault(rt, fault),
+        Err(fault) => return tell_fault(rt, watcher, log, fault),
     };
-    let book = match book_of(rt, &options.said) {
+    let book = match book {
         Ok(book) => book,
-        Err(fault) => return tell_fault(rt, fault),
+        Err(fault) => return tell_fault(rt, watcher, None, fault),
     };
+    warn_of_nowhere(rt.alloc(), options, address.as_str(), &book);
     let entry = Entry { listener, input };
     if is_folder(rt, options.file) {
         return serve_rolling(
@@ -340,6 +371,15 @@ fn answer_until<
             watcher,
         );
     }
+    let taken = taken_by_file(options.workers);
+    let settings = match fit_descriptors(rt, rt.alloc(), &book, taken, options.settings) {
+        Ok(settings) => settings,
+        Err(fault) => {
+            let status = settle_serving(rt, Err(fault), options, watcher, Some(&book));
+            book.log.close();
+            return status;
+        }
+    };
     let (base, grounds) = grounds.parted();
     let served = serve_with(
         rt,
@@ -348,19 +388,20 @@ fn answer_until<
         grounds.terms(&options.also_bases),
         &NamedFile::told(rt, options.file, watcher),
         options.workers,
-        options.settings,
+        settings,
         post.as_ref(),
         entry,
         &book,
         &mut io::writer(rt),
     );
-    book.log.close();
     let outcome = match served {
         Ok(Served::Unsound(status)) => Ok(status),
         Ok(Served::Ended) => Ok(0),
         Err(fault) => Err(fault),
     };
-    settle_serving(rt, outcome, options)
+    let status = settle_serving(rt, outcome, options, watcher, Some(&book));
+    book.log.close();
+    status
 }
 
 /// Serves with the usual settings, and answers the program's status.
@@ -429,19 +470,42 @@ where
     }
     match standard_input(rt) {
         Ok(input) => answer_until(rt, options, Some(input), watcher),
-        Err(_) => tell(rt, error_line(rt.alloc(), RunFault::Read, "-")),
+        Err(_) => fail(
+            rt,
+            watcher,
+            None,
+            error_line(rt.alloc(), RunFault::Read, "-"),
+        ),
     }
 }
 
 /// Prints the line of what is wrong with options on standard error, or help on standard output. The answer is the program's status.
-fn tell_fault<R: AllocGlobal + Print + Eprint>(rt: &R, fault: OptionsFault) -> u8 {
+fn tell_fault<
+    R: AllocGlobal
+        + Files<File = File>
+        + Net<Stream = TcpStream, Listener = TcpListener>
+        + Clock
+        + Wait
+        + Print
+        + Eprint,
+    H: Herald,
+>(rt: &R, watcher: &H, book: Option<&Book<R>>, fault: OptionsFault) -> u8 {
     match fault {
         OptionsFault::Help(text) => {
             let outcome = put(&mut io::writer(rt), text.as_str().as_bytes());
             settle(rt, outcome.map(|_| 0), "-")
         }
-        OptionsFault::Wrong(text) => tell(rt, format!(in rt.alloc(); "lra: {text}\n")),
-        OptionsFault::Memory => tell(rt, error_line(rt.alloc(), RunFault::Memory, "-")),
+        OptionsFault::Wrong(text) => {
+            fail(rt, watcher, book, format!(in rt.alloc(); "lra: {text}\n"))
+        }
+        OptionsFault::Memory => {
+            fail(
+                rt,
+                watcher,
+                book,
+                error_line(rt.alloc(), RunFault::Memory, "-"),
+            )
+        }
     }
 }
 
@@ -470,11 +534,11 @@ where
     R::Reader: AsFd,
 {
     let [_verb, rest @ ..] = words else {
-        return tell_usage(rt);
+        return tell_misuse(rt, watcher, words);
     };
     match read_options(rt, rest) {
         Ok(options) if options.is_check => answer_check(rt, &options, watcher),
         Ok(options) => answer_serving(rt, &options, watcher),
-        Err(fault) => tell_fault(rt, fault),
+        Err(fault) => tell_fault(rt, watcher, None, fault),
     }
 }

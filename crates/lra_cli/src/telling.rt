@@ -1,14 +1,16 @@
-//! Stories, listings, and journals that are followed.
+//! Help, listings, and journals that are followed.
 
 use crate::asking::{Asking, Listed};
+use crate::explaining::answer_explain;
 use crate::serving::standard_input;
 use crate::texts::HELP;
+use lra_audits::{RunFault, put, settle, tell};
 use lra_clocks::milliseconds;
 use lra_folders::{Found, find, is_folder, open_each, tell_others, width};
 use lra_follow::{Journals, Stop, follow, pause, watch_input};
 use lra_model::Memory;
-use lra_reports::{RunFault, Sources, System, put, settle, tell, tell_usage};
-use lra_stories::{Choice, Form, Wanted, explain_run, list_run, read_wanted};
+use lra_reports::{Sources, System};
+use lra_stories::{Choice, list_run};
 use std::alloc::Global;
 use std::fs::File;
 use std::io::Read;
@@ -24,42 +26,6 @@ use std::{io, thread};
 pub(crate) fn answer_help<R: AllocGlobal + Print + Eprint>(rt: &R) -> u8 {
     let outcome = put(&mut io::writer(rt), HELP.as_bytes());
     settle(rt, outcome.map(|_| 0), "-")
-}
-
-/// Tells what happened to an action of a file's journal, or of standard input's.
-fn explain<R: AllocGlobal + Files + Input + Print + Eprint>(
-    rt: &R,
-    file: &str,
-    wanted: Wanted,
-    form: Form,
-    name: &str,
-) -> Result<u8, RunFault> {
-    let sources = System { rt };
-    if file == "-" {
-        return explain_run(
-            rt.alloc(),
-            sources.input(),
-            wanted,
-            form,
-            name,
-            &mut io::writer(rt),
-        );
-    }
-    let input = sources.open(file)?;
-    explain_run(rt.alloc(), input, wanted, form, name, &mut io::writer(rt))
-}
-
-/// Tells what happened to an action, and answers the program's status.
-fn answer_explain<R: AllocGlobal + Files + Input + Print + Eprint>(
-    rt: &R,
-    file: &str,
-    form: Form,
-    name: &str,
-) -> u8 {
-    match read_wanted(name) {
-        Some(wanted) => settle(rt, explain(rt, file, wanted, form, name), file),
-        None => tell_usage(rt),
-    }
 }
 
 /// Which actions are listed; none where the moment now is asked for and the clock doesn't tell it.
@@ -310,7 +276,12 @@ where
     R::Reader: AsFd,
 {
     match asking {
-        Asking::Explain { file, form, name } => answer_explain(rt, file, form, name),
+        Asking::Explain {
+            place,
+            wanted,
+            form,
+            name,
+        } => answer_explain(rt, place, wanted, form, name),
         Asking::List { place, choice } => answer_list(rt, place, choice),
         Asking::Follow { place, stop_at_eof } => answer_follow(rt, place, stop_at_eof),
     }

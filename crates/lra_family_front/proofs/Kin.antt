@@ -1,5 +1,5 @@
 -- Members that join and leave, and what their URIs begin with.
-use Rattle.std.proofs.Common.{◌≡◌, ◌==◌, ℕ, Bool, true, false, true≢false, List, [], ◌∷◌, ◌++◌, map, Option, Some, None, is_some, Result, refl, sym, ap, ◌∙◌, subst}
+use Rattle.std.proofs.Common.{◌≡◌, ◌==◌, ℕ, Bool, true, false, true≢false, List, [], ◌∷◌, ◌++◌, map, Option, Some, None, is_some, Result, inl, inr, refl, sym, ap, ◌∙◌, subst}
 use Rattle.std.specs.Prelude.{◌⊎◌, IfNone, IfSome, MatchOption, if◌then◌else◌}
 use Rattle.lra_commands.specs.declared.command.Told.{Told}
 use Rattle.lra_commands.specs.declared.counter.Order.{Order}
@@ -11,7 +11,12 @@ use Rattle.lra_family.specs.Runs.{Event, Run}
 use Rattle.lra_family.specs.Runs.Event.{Turn as OneTurn, Join, Leave}
 use Rattle.lra_family_front.specs.Serving.{Turn, names, Does, Lacks, Serves}
 use Rattle.lra_family_front.specs.inner.Stays.{responds_stays}
-use Rattle.lra_family_front.specs.Households.{HaveBase, HouseholdsRest, HouseholdsRun, KeepsBase, Moved, Moves, base_of, turn_of, turns_of}
+use Rattle.lra_steps.specs.declared.responder.Answered.{Answered}
+use Rattle.lra_steps.specs.History.{Turn as ConnectionTurn}
+use Rattle.lra_steps.specs.Pieces.{turns_in}
+use Rattle.lra_wire.specs.Request.{Request}
+use Rattle.lra_family_front.specs.Waiting.{IsPutOff, IsRefused}
+use Rattle.lra_family_front.specs.Households.{AreTurns, HaveBase, HouseholdsRest, HouseholdsRun, KeepsBase, Moved, Moves, Outcome, Responds, base_of, turn_of, turns_of}
 
 -- ---- joins and leaves
 
@@ -157,6 +162,12 @@ module _ (gives : Sight → ℕ → Order → Result Told CounterFault → Sight
         (begin_put base i k.0 before
         (ap (λ (c : Setting). c.base) (responds_stays gives keeps s k.0 turn.moment turn.request turn.answer k.1) ∙ member_base base i before s h is) begun)
 
+  -- they do, too, where it is refused
+  pub outcome_base : (tells : Option ℕ → Bool → Type 0) (base : List ℕ) (before after : List Sight) (moment : ℕ) (request : Request) (answered : Answered) → IsFamily (map name before)
+      → HaveBase base before → Outcome tells gives before moment request answered after → HaveBase base after × (base_of after ≡ base)
+  outcome_base tells base before after moment request answered f h (inl o) = serves_base base before after (record { moment = moment; request = request; answer = answered.answer }) f h o.1
+  outcome_base tells base before after moment request answered f h (inr o) = subst (Begin base) (sym o.1) (begin_family base before f h)
+
 -- ---- a run
 
 -- joins and leaves have no turns
@@ -166,7 +177,12 @@ moves_turns ss us (OneTurn turn ∷ xs) ys h = absurd h
 moves_turns ss us (Join s ∷ xs) ys h = moves_turns h.0 us xs ys h.2
 moves_turns ss us (Leave s ∷ xs) ys h = moves_turns h.0 us xs ys h.2
 
-module _ {K : Type 0} (gives : Sight → ℕ → Order → Result Told CounterFault → Sight → Type 0) (tells : K → ℕ → K → Type 0) where
+-- what is put off is refused
+refused : (lacks : Option ℕ → Bool → Type 0) (ss : List Sight) (request : Request) (answered : Answered) → IsPutOff lacks ss request answered → IsRefused answered.answer
+refused lacks ss request answered (inl h) = inl h.answer
+refused lacks ss request answered (inr h) = inr h.1
+
+module _ {K : Type 0} (lacks : Option ℕ → Bool → Type 0) (gives : Sight → ℕ → Order → Result Told CounterFault → Sight → Type 0) (tells : K → ℕ → K → Type 0) where
   -- joins and leaves, and what happens then
   moves_then : (ss us ts : List Sight) (xs ys : List (Event Sight Turn)) → Moves ss xs us → Run name names (Does gives) Lacks us ys ts → Run name names (Does gives) Lacks ss (xs ++ ys) ts
   moves_then ss us ts [] ys h r = subst (λ (vs : List Sight). Run name names (Does gives) Lacks vs ys ts) h r
@@ -174,31 +190,38 @@ module _ {K : Type 0} (gives : Sight → ℕ → Order → Result Told CounterFa
   moves_then ss us ts (Join s ∷ xs) ys h r = (h.0, h.1, moves_then h.0 us ts xs ys h.2 r)
   moves_then ss us ts (Leave s ∷ xs) ys h r = (h.0, h.1, moves_then h.0 us ts xs ys h.2 r)
 
-  pub households_run : HouseholdsRun gives tells
-  households_run ss ts k l [] c = ([], c.0, refl)
-  households_run ss ts k l (turn ∷ turns) c =
-      let r = c.3 in
-      let more = households_run c.0 ts c.1 l turns c.4 in
-      let ys : List (Event Sight Turn) = OneTurn (turn_of turn) ∷ more.0 in (
-        r.moved.0 ++ ys,
-        moves_then ss r.met ts r.moved.0 ys r.moved.1 (c.0, r.serves, more.1),
-        moves_turns ss r.met r.moved.0 ys r.moved.1 ∙ ap (λ xs. turn_of turn ∷ xs) more.2,
-      )
+  -- what happens from a family on, to one, that has those turns
+  abbrev Happening : List Sight → List ConnectionTurn → List Sight → Type 0
+  Happening ss turns ts = (xs : List (Event Sight Turn)) × Run name names (Does gives) Lacks ss xs ts × AreTurns (turns_of xs) turns
 
-  pub households_rest : HouseholdsRest gives tells
+  -- a response, and what happens then
+  respond_then : (ss us ts : List Sight) (turn : ConnectionTurn) (turns : List ConnectionTurn) → Responds lacks gives ss turn.moment turn.request turn.answered us → Happening us turns ts
+      → Happening ss (turn ∷ turns) ts
+  respond_then ss us ts turn turns r more = by r.serves where
+    by : Outcome lacks gives r.met turn.moment turn.request turn.answered us → Happening ss (turn ∷ turns) ts
+    by (inl h) =
+        let ys : List (Event Sight Turn) = OneTurn (turn_of turn) ∷ more.0 in (
+          r.moved.0 ++ ys,
+          moves_then ss r.met ts r.moved.0 ys r.moved.1 (us, h.1, more.1),
+          subst (λ (es : List Turn). AreTurns es (turn ∷ turns)) (sym (moves_turns ss r.met r.moved.0 ys r.moved.1)) (inl (turns_of more.0, refl, more.2)),
+        )
+    by (inr h) = (
+      r.moved.0 ++ more.0,
+      moves_then ss r.met ts r.moved.0 more.0 r.moved.1 (subst (λ (vs : List Sight). Run name names (Does gives) Lacks vs more.0 ts) h.1 more.1),
+      subst (λ (es : List Turn). AreTurns es (turn ∷ turns)) (sym (moves_turns ss r.met r.moved.0 more.0 r.moved.1)) (inr (refused lacks r.met turn.request turn.answered h.0, more.2)),
+    )
+
+  pub households_run : HouseholdsRun lacks gives tells
+  households_run ss ts k l [] c = ([], c.0, refl)
+  households_run ss ts k l (turn ∷ turns) c = respond_then ss c.0 ts turn turns c.3 (households_run c.0 ts c.1 l turns c.4)
+
+  pub households_rest : HouseholdsRest lacks gives tells
   households_rest ss ts k l [] c = ([], c.0, refl)
-  households_rest ss ts k l (Some turn ∷ xs) c =
-      let r = c.3 in
-      let more = households_rest c.0 ts c.1 l xs c.4 in
-      let ys : List (Event Sight Turn) = OneTurn (turn_of turn) ∷ more.0 in (
-        r.moved.0 ++ ys,
-        moves_then ss r.met ts r.moved.0 ys r.moved.1 (c.0, r.serves, more.1),
-        moves_turns ss r.met r.moved.0 ys r.moved.1 ∙ ap (λ ys. turn_of turn ∷ ys) more.2,
-      )
+  households_rest ss ts k l (Some turn ∷ xs) c = respond_then ss c.0 ts turn (turns_in xs) c.3 (households_rest c.0 ts c.1 l xs c.4)
   households_rest ss ts k l (None ∷ xs) c =
       let moved = c.1.moved in
       let more = households_rest c.0 ts k l xs c.2 in (
         moved.0 ++ more.0,
         moves_then ss c.0 ts moved.0 more.0 moved.1 more.1,
-        moves_turns ss c.0 moved.0 more.0 moved.1 ∙ more.2,
+        subst (λ (es : List Turn). AreTurns es (turns_in xs)) (sym (moves_turns ss c.0 moved.0 more.0 moved.1)) more.2,
       )

@@ -1,5 +1,5 @@
 -- A family whose members join and leave between its turns, as one that answers.
-use Rattle.std.specs.Prelude.{◌≡◌, ◌≢◌, ℕ, List, [], ◌∷◌, map, Option, unwrap_or, Result}
+use Rattle.std.specs.Prelude.{◌≡◌, ◌≢◌, ◌⊎◌, ℕ, Bool, List, [], ◌∷◌, Option, unwrap_or, Result}
 use Rattle.std.specs.List.{AllByRecursion}
 use Rattle.lra_wire.specs.Request.{Request}
 use Rattle.lra_commands.specs.declared.command.Told.{Told}
@@ -18,6 +18,7 @@ use Rattle.lra_family.specs.Runs.{Event, Run}
 use Rattle.lra_family.specs.Runs.Event.{Turn as OneTurn, Join, Leave}
 use Rattle.lra_family_front.specs.Naming.{instance_of}
 use Rattle.lra_family_front.specs.Serving.{Turn, names, Does, Lacks, Serves}
+use Rattle.lra_family_front.specs.Waiting.{IsPutOff, IsRefused, IsSure}
 
 -- the URIs of each member begin so
 abbrev pub HaveBase : List ℕ → List Sight → Type 0
@@ -43,11 +44,19 @@ Moved before after = (xs : List (Event Sight Turn)) × Moves before xs after
 abbrev pub KeepsBase : List Sight → List Sight → Type 0
 KeepsBase before after = (base : List ℕ) → HaveBase base before → HaveBase base after
 
--- what a request at a moment does: members join and leave, and then it is answered at the one that it names, as in a family that stays
-pub record Responds (gives : Sight → ℕ → Order → Result Told CounterFault → Sight → Type 0) (before : List Sight) (moment : ℕ) (request : Request) (answered : Answered) (after : List Sight) : Type 0 where
+-- a request is answered as in a family that stays, where it is sure who answers; or it is refused, and reaches none
+abbrev pub Outcome : (Option ℕ → Bool → Type 0) → (Sight → ℕ → Order → Result Told CounterFault → Sight → Type 0) → List Sight → ℕ → Request → Answered → List Sight → Type 0
+Outcome tells gives before moment request answered after =
+    (IsSure tells before request × Serves gives before (record { moment = moment; request = request; answer = answered.answer }) after)
+    ⊎ (IsPutOff tells before request answered × (after ≡ before))
+
+-- what a request at a moment does: members join and leave, and then it is answered at the one that it names, as in a
+-- family that stays; or it is refused, and reaches
+-- none, where it is told that the one may still be lacked
+pub record Responds (tells : Option ℕ → Bool → Type 0) (gives : Sight → ℕ → Order → Result Told CounterFault → Sight → Type 0) (before : List Sight) (moment : ℕ) (request : Request) (answered : Answered) (after : List Sight) : Type 0 where
   pub met : List Sight
   pub moved : Moved before met
-  pub serves : Serves gives met (record { moment = moment; request = request; answer = answered.answer }) after
+  pub serves : Outcome tells gives met moment request answered after
   -- it tells whose the answer is, unless memory was refused
   pub whose : answered.answer ≢ answer.Denied (denial.Refused refusal.Memory) → answered.instance ≡ unwrap_or (instance_of request) (newest name met)
   pub base : base_of after ≡ base_of before
@@ -68,12 +77,19 @@ turns_of (Leave s ∷ xs) = turns_of xs
 abbrev pub turn_of : ConnectionTurn → Turn
 turn_of turn = record { moment = turn.moment; request = turn.request; answer = turn.answered.answer }
 
--- Requests that a household answers one after another are a run of its family: its turns are these, in order, and members join and leave between them.
-abbrev pub HouseholdsRun : {K : Type 0} → (Sight → ℕ → Order → Result Told CounterFault → Sight → Type 0) → (K → ℕ → K → Type 0) → Type 0
-HouseholdsRun {K} gives tells = (ss ts : List Sight) (k l : K) (turns : List ConnectionTurn) → Chain (Responds gives) tells ss k turns ts l
-    → (xs : List (Event Sight Turn)) × Run name names (Does gives) Lacks ss xs ts × (turns_of xs ≡ map turn_of turns)
+-- turns of a family are those of a connection, in order, but for some that are refused
+abbrev pub AreTurns : List Turn → List ConnectionTurn → Type 0
+AreTurns es [] = es ≡ []
+AreTurns es (turn ∷ turns) = ((fs : List Turn) × (es ≡ turn_of turn ∷ fs) × AreTurns fs turns) ⊎ (IsRefused turn.answered.answer × AreTurns es turns)
+
+-- Requests that a household answers one after another are a run of its family: its turns are these, in order, but for
+-- those that are refused while a member may be
+-- lacked, and members join and leave between them.
+abbrev pub HouseholdsRun : {K : Type 0} → (Option ℕ → Bool → Type 0) → (Sight → ℕ → Order → Result Told CounterFault → Sight → Type 0) → (K → ℕ → K → Type 0) → Type 0
+HouseholdsRun {K} lacks gives tells = (ss ts : List Sight) (k l : K) (turns : List ConnectionTurn) → Chain (Responds lacks gives) tells ss k turns ts l
+    → (xs : List (Event Sight Turn)) × Run name names (Does gives) Lacks ss xs ts × AreTurns (turns_of xs) turns
 
 -- The same with rests between the requests: of these there are joins and leaves alone.
-abbrev pub HouseholdsRest : {K : Type 0} → (Sight → ℕ → Order → Result Told CounterFault → Sight → Type 0) → (K → ℕ → K → Type 0) → Type 0
-HouseholdsRest {K} gives tells = (ss ts : List Sight) (k l : K) (course : List (Option ConnectionTurn)) → Course (Responds gives) Rests tells ss k course ts l
-    → (xs : List (Event Sight Turn)) × Run name names (Does gives) Lacks ss xs ts × (turns_of xs ≡ map turn_of (turns_in course))
+abbrev pub HouseholdsRest : {K : Type 0} → (Option ℕ → Bool → Type 0) → (Sight → ℕ → Order → Result Told CounterFault → Sight → Type 0) → (K → ℕ → K → Type 0) → Type 0
+HouseholdsRest {K} lacks gives tells = (ss ts : List Sight) (k l : K) (course : List (Option ConnectionTurn)) → Course (Responds lacks gives) Rests tells ss k course ts l
+    → (xs : List (Event Sight Turn)) × Run name names (Does gives) Lacks ss xs ts × AreTurns (turns_of xs) (turns_in course)

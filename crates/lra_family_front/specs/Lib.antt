@@ -2,4 +2,5 @@ pub mod inner
 pub mod Naming
 pub mod Serving
 pub mod Laws
+pub mod Waiting
 pub mod Households

@@ -1,15 +1,24 @@
 //! A family whose members join and leave, as one that answers.
 
-ghost use Rattle.std.specs.Prelude.{◌≡◌, ℕ, List, IfErr, IfSome, OnErr, OnOk, IsTrue};
+ghost use Rattle.std.specs.Prelude.{◌≡◌, ◌≢◌, ℕ, true, false, List, map, unwrap_or, IfErr, IfNone, IfSome, OnErr, OnOk, IsFalse, IsTrue};
 ghost use Rattle.std.proofs.Props.{props};
 ghost use Rattle.lra_family.specs.Counted.{name};
+ghost use Rattle.lra_commands.specs.declared.refusal.Refusal.TheVariants as reason;
+ghost use Rattle.lra_front.specs.declared.denial.Denial.TheVariants as denial;
+ghost use Rattle.lra_front.specs.declared.answer.Answer.TheVariants as answer;
+ghost use Rattle.lra_front.specs.Replies.{HasIdentifiers};
+ghost use Rattle.lra_family.specs.Families as spec;
 ghost use Rattle.lra_family.specs.Families.{Joins, Leaves};
-ghost use Rattle.lra_family_front.specs.Households.{base_of, HaveBase, KeepsBase, Moved};
+ghost use Rattle.lra_wire.specs.Request.{request_of};
+ghost use Rattle.lra_family_front.specs.Households.{base_of, HaveBase, KeepsBase, Moved, Outcome};
+ghost use Rattle.lra_family_front.specs.Naming.{instance_of as spec_instance_of};
+ghost use Rattle.lra_family_front.specs.Waiting.{IsAstray, IsPutOff, IsSure, is_start};
 
+use crate::naming::instance_of;
 use crate::serving;
-use lra_commands::Counter;
+use lra_commands::{Counter, Refusal};
 use lra_family::Family;
-use lra_front::Routes;
+use lra_front::{Answer, Denial, Route, Routes};
 use lra_ids::Base;
 use lra_model::Instance;
 use lra_steps::{Answered, Responder};
@@ -18,12 +27,25 @@ use std::alloc::Global;
 
 /// Who tells which counters are in a family by now.
 pub trait Kinship<C: Counter + Drop> {
+    ghost use Rattle.std.specs.Prelude.{ℕ, Bool, false, Option, IsFalse};
     ghost use Rattle.lra_family_front.specs.Households.{KeepsBase, Moved};
+
+    // What it may tell of what names an instance, or none.
+    ghost tells: { Option ℕ → Bool → Type 0 };
 
     /// Has counters join that are newer than all, and others leave. Where memory for one is refused, that one may join at another look.
     fn look(&mut self, family: &mut Family<C>)
         ensures moved { Moved family.old family.new }
         ensures base { KeepsBase family.old family.new };
+
+    /// Whether a family may still lack any counter. This is asked for each request, and so takes no time.
+    fn lacks_any(&self) -> bool
+        ensures { IsFalse result → (named : Option ℕ) → tells named false };
+
+    /// Whether a family may still lack the counter of an instance, or for none the newest: then what names it can't be
+    /// answered yet.
+    fn lacks(&self, named: Option<Instance>) -> bool
+        ensures { tells named result };
 }
 
 /// The newest counter of a family.
@@ -69,6 +91,94 @@ pub fn dismiss<C: Counter + Drop>(family: &mut Family<C>, instance: Instance) ->
     family.retire(instance)
 }
 
+/// Whether a request starts an action.
+fn starts(routes: &Routes, request: &RequestRead) -> bool
+    ensures { result ≡ is_start (request_of request.now) }
+{
+    matches!(
+        routes.route(request.method.as_str(), request.target.as_str()),
+        Ok(Route::Start)
+    )
+}
+
+/// Whether it is told that a family may lack who answers what names an instance, or none, and starts an action or doesn't:
+/// the newest, or one that isn't there.
+fn is_lacked<C: Counter + Drop, K: Kinship<C>>(
+    family: &Family<C>,
+    kinship: &K,
+    is_start: bool,
+    named: &Option<Instance>,
+) -> bool
+    ensures astray { IsTrue result → IsAstray family.now is_start named.now }
+    ensures told { IsTrue result → K.tells named.now true }
+    ensures sure { IsFalse result → IsAstray family.now is_start named.now → K.tells named.now false }
+{
+    match named {
+        Some(instance) => { family.member(*instance).is_none() && kinship.lacks(Some(*instance)) }
+        None => is_start && kinship.lacks(None),
+    }
+}
+
+/// The answer of an instance that refuses a request.
+fn refused(instance: Instance, refusal: Refusal) -> Answered
+    ensures { result ≡ record { instance = instance; answer = answer.Denied (denial.Refused refusal) } }
+{
+    Answered {
+        instance,
+        answer: Answer::Denied(Denial::Refused(refusal)),
+    }
+}
+
+/// What a request is answered that can't be answered yet, where that is the newest: it is refused, and reaches no
+/// member.
+fn put_off<C: Counter + Drop, K: Kinship<C>>(
+    alloc: Global,
+    routes: &Routes,
+    family: &Family<C>,
+    kinship: &K,
+    newest: Instance,
+    request: &RequestRead,
+) -> Option<Answered>
+    requires { newest ≡ spec.newest name family.now }
+    ensures none { IfNone result (IsSure K.tells family.now (request_of request.now)) }
+    ensures some { IfSome result (IsPutOff K.tells family.now (request_of request.now)) }
+{
+    if !kinship.lacks_any() {
+        return None;
+    }
+    let Ok(named) = instance_of(alloc, routes, request) else {
+        return Some(refused(newest, Refusal::Memory));
+    };
+    if !is_lacked(family, kinship, starts(routes, request), &named) {
+        return None;
+    }
+    Some(refused(named.unwrap_or(newest), Refusal::Stopped))
+}
+
+/// Answers a request at a moment, as it is answered in a family that stays; or refuses it, and reaches no member, where
+/// the one that would answer may be lacked.
+#[tactic(auto, using(crate::proofs::Waiting::put_off_whose, crate::proofs::Waiting::put_off_bears))]
+fn respond_at<C: Counter + Drop, K: Kinship<C>>(
+    alloc: Global,
+    routes: &Routes,
+    family: &mut Family<C>,
+    kinship: &K,
+    moment: u64,
+    request: &RequestRead,
+) -> Answered
+    ensures serves { Outcome K.tells C.gives family.old moment (request_of request.now) result family.new }
+    ensures instance { result.answer ≢ answer.Denied (denial.Refused reason.Memory)
+        → result.instance ≡ unwrap_or (spec_instance_of (request_of request.now)) (spec.newest name family.old) }
+    ensures identifiers { HasIdentifiers result.answer }
+    ensures family { spec.IsFamily (map name family.old) }
+{
+    let newest = family.newest();
+    match put_off(alloc, routes, family, kinship, newest, request) {
+        Some(answered) => answered,
+        None => serving::respond(alloc, routes, family, moment, request),
+    }
+}
+
 /// A family whose members join and leave, and who tells which they are. All URIs begin alike.
 #[derive(Drop)]
 pub struct Household<C: Counter + Drop, K: Kinship<C>> {
@@ -106,7 +216,7 @@ impl<C: Counter + Drop, K: Kinship<C>> Responder for Household<C, K> {
 
     ghost base_of = { base_of_family };
 
-    ghost responds = { Responds C.gives };
+    ghost responds = { Responds K.tells C.gives };
 
     ghost rests = { Rests };
 
@@ -126,7 +236,14 @@ impl<C: Counter + Drop, K: Kinship<C>> Responder for Household<C, K> {
         request: &RequestRead,
     ) -> Answered {
         self.kinship.look(&mut self.family);
-        serving::respond(alloc, routes, &mut self.family, moment, request)
+        respond_at(
+            alloc,
+            routes,
+            &mut self.family,
+            &self.kinship,
+            moment,
+            request,
+        )
     }
 
     /// Members leave that are there no more, and so nothing is held of them until the next request.

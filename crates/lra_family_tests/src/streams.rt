@@ -6,6 +6,7 @@ use crate::counter::{Counting, NEWER, OLDER, alone, newcomer, orders_of};
 use lra_clocks::Clock;
 use lra_family::Family;
 use lra_family_front::{Household, Kinship, admit};
+use lra_ids::Instance;
 use lra_steps::{Responder, answer_pieces};
 use std::alloc::Global;
 
@@ -14,6 +15,8 @@ use std::alloc::Global;
 struct Late {
     looks: u64,
     newer: Option<Counting>,
+    /// It says that any member may be lacked.
+    lacks: bool,
 }
 
 /// The newer counter joins, where it is there still and memory isn't refused.
@@ -28,12 +31,22 @@ fn join(family: &mut Family<Counting>, newer: &mut Option<Counting>)
 }
 
 impl Kinship<Counting> for Late {
+    ghost tells = { λ named lacks. Unit {0} };
+
     fn look(&mut self, family: &mut Family<Counting>) {
         self.looks = self.looks.saturating_add(1);
         if self.looks != 3 {
             return;
         }
         join(family, &mut self.newer);
+    }
+
+    fn lacks_any(&self) -> bool {
+        self.lacks
+    }
+
+    fn lacks(&self, _named: Option<Instance>) -> bool {
+        self.lacks
     }
 }
 
@@ -65,6 +78,9 @@ GET /lra-coordinator/00000000-0000-8007-8000-000000000001 HTTP/1.1\r\nHost: h.te
 /// The status of each reply: 503 where a member is given the order, and 404 where none is there.
 const STATUSES: &str = "503 404 503 404 503 503 ";
 
+/// The same where a member may be lacked: 503 for what no member answers, too.
+const LACKING: &str = "503 503 503 503 503 503 ";
+
 /// The stream in pieces of this size.
 fn cut(alloc: Global, size: usize) -> Option<Vec<Vec<u8>>> {
     let mut pieces = Vec::new(alloc);
@@ -90,21 +106,28 @@ fn statuses(alloc: Global, replies: &str) -> Option<String> {
 }
 
 /// Whether these are the replies.
-fn are_so(alloc: Global, sent: &[u8]) -> bool {
+fn are_so(alloc: Global, sent: &[u8], wanted: &str) -> bool {
     let Ok(replies) = str::from_utf8(sent) else {
         return false;
     };
     match statuses(alloc, replies) {
-        Some(told) => told.as_str() == STATUSES,
+        Some(told) => told.as_str() == wanted,
         None => false,
     }
 }
 
-/// The household of the older member, whom the newer will join, after so many looks.
-fn household(alloc: Global, looks: u64) -> Option<Household<Counting, Late>> {
+/// The household of the older member, whom the newer will join, after so many looks, and may be lacked until then.
+fn household(alloc: Global, looks: u64, lacks: bool) -> Option<Household<Counting, Late>> {
     let newer = newcomer(alloc);
     let family = alone(alloc)?;
-    Some(Household::new(family, Late { looks, newer }))
+    Some(Household::new(
+        family,
+        Late {
+            looks,
+            newer,
+            lacks,
+        },
+    ))
 }
 
 /// Whether the stream is replied so at a household.
@@ -112,20 +135,21 @@ fn is_replied(
     alloc: Global,
     household: &mut Household<Counting, Late>,
     size: usize,
+    wanted: &str,
 ) -> Option<bool> {
     let pieces = cut(alloc, size)?;
     let mut sent = Vec::new(alloc);
     let mut clock = Still { moment: 5 };
     let end = answer_pieces(alloc, pieces.as_slice(), &mut sent, household, &mut clock);
-    let replied = end.is_ok() && are_so(alloc, sent.as_slice());
+    let replied = end.is_ok() && are_so(alloc, sent.as_slice(), wanted);
     drop(pieces);
     Some(replied)
 }
 
 /// Whether the stream is replied so, and each member is given two orders.
 fn comes_to(alloc: Global, size: usize) -> Option<bool> {
-    let mut household = household(alloc, 0)?;
-    let replied = is_replied(alloc, &mut household, size);
+    let mut household = household(alloc, 0, false)?;
+    let replied = is_replied(alloc, &mut household, size, STATUSES);
     let (family, kinship) = household.into_parts();
     drop(kinship);
     let given = orders_of(&family, OLDER) == Some(2) && orders_of(&family, NEWER) == Some(2);
@@ -139,9 +163,26 @@ fn a_connection_asks_members_by_turns(rt: HostRuntime) {
     assert!(rt; comes_to(rt.alloc(), 4096) == Some(true));
 }
 
+/// Whether what no member answers is refused while one may be lacked, and the older is given its own two orders, and no start.
+fn reaches_nobody(alloc: Global, size: usize) -> Option<bool> {
+    let mut household = household(alloc, 3, true)?;
+    let replied = is_replied(alloc, &mut household, size, LACKING);
+    let (family, kinship) = household.into_parts();
+    drop(kinship);
+    let given = orders_of(&family, OLDER) == Some(2);
+    drop(family);
+    Some(replied? && given)
+}
+
+#[test]
+fn what_may_be_lacked_reaches_nobody(rt: HostRuntime) {
+    assert!(rt; reaches_nobody(rt.alloc(), 1) == Some(true));
+    assert!(rt; reaches_nobody(rt.alloc(), 4096) == Some(true));
+}
+
 /// Whether the newer member has joined after one rest more than these looks.
 fn has_joined(alloc: Global, looks: u64) -> Option<bool> {
-    let mut household = household(alloc, looks)?;
+    let mut household = household(alloc, looks, false)?;
     household.rest();
     let (family, kinship) = household.into_parts();
     drop(kinship);

@@ -2,7 +2,5 @@
 #![tactic(auto)]
 
 mod fence;
-#[cfg(test)]
-mod trials;
 
 pub use fence::{Fence, Fenced, stands};

@@ -6,9 +6,9 @@ use Rattle.std.proofs.lemmas.List.{take_more, take-append-drop, get_or_read, get
 use Rattle.lra_auditor.specs.declared.verdict.Verdict.{Verdict}
 use Rattle.lra_auditor.specs.declared.verdict.Verdict.TheVariants.{Sound, Unsound}
 use Rattle.std.specs.Io.KnownBytes.{Appends}
-use Rattle.lra_reports.specs.Report.{report_of, status_of}
-use Rattle.lra_reports.specs.Words.{texts}
-use Rattle.lra_reports.specs.declared.fault.RunFault.{RunFault}
+use Rattle.lra_audits.specs.Report.{report_of, status_of}
+use Rattle.lra_audits.specs.Asked.{texts}
+use Rattle.lra_audits.specs.declared.fault.RunFault.{RunFault}
 use Rattle.lra_folders.specs.declared.deed.Deed.{Deed}
 use Rattle.lra_folders.specs.declared.deed.Deed.TheVariants.{Audit}
 use Rattle.lra_folders.specs.declared.deed.Line.{Line}

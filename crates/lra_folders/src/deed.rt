@@ -5,7 +5,8 @@ ghost use Rattle.lra_folders.specs.Folders.{behind, Tells};
 ghost use Rattle.lra_folders.specs.inner.Told.{IsToldOf};
 
 use lra_auditor::Memory;
-use lra_reports::{RunFault, audit_run, show_run};
+use lra_audits::{RunFault, audit_run};
+use lra_reports::show_run;
 use std::alloc::Global;
 use std::io::Read;
 

@@ -1,6 +1,6 @@
 //! Which journals a folder has.
 
-use lra_reports::RunFault;
+use lra_audits::RunFault;
 use std::alloc::{AllocError, Global};
 use std::fs;
 use std::io::ErrorKind;

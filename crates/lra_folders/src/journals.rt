@@ -1,7 +1,7 @@
 //! Audits and listings of the journals of a folder, by their names.
 
 ghost use Rattle.std.specs.Prelude.{◌≡◌, ◌+◌, ◌-◌, ◌<◌, ◌≤◌, ◌^◌, ◌++◌, ℕ, List, Option, Some, IfOk, OnOk, codes, length, string_bytes};
-ghost use Rattle.lra_reports.specs.Words.{texts};
+ghost use Rattle.lra_audits.specs.Asked.{texts};
 ghost use Rattle.lra_folders.specs.declared.deed.Deed.{Deed};
 ghost use Rattle.lra_folders.specs.declared.deed.Deed.TheVariants as deeds;
 ghost use Rattle.lra_folders.specs.Folders.{path_of, behind, counted_as, TellsNext, TellsEach, TellsAll, AuditsAll, verdicts_counted, totals_line, status_of};
@@ -10,7 +10,8 @@ ghost use Rattle.lra_folders.specs.inner.Told.{IsTold, AllTold};
 use crate::deed::{Deed, Told};
 use crate::threads::{tell_names, width};
 use lra_auditor::Memory;
-use lra_reports::{RunFault, Sources, error_line, put};
+use lra_audits::{RunFault, error_line, put};
+use lra_reports::Sources;
 use std::alloc::Global;
 use std::io::{Read, Write};
 use std::marker::{Send, Sync};

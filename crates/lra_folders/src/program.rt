@@ -1,12 +1,15 @@
 //! What a program does on a system, where a folder may stand in a file's place.
 
 use crate::deed::Deed;
-use crate::finding::{Found, find, is_folder, stray_line};
+use crate::finding::{find, is_folder, stray_line};
 use crate::journals::{FolderAudit, audit_journals, list_journals};
-use lra_reports::{Invocation, Question, RunFault, System, settle, tell};
+use lra_audits::{RunFault, settle, tell};
+use lra_reports::{Invocation, Question, Sources, System};
+use std::alloc::Global;
 use std::fs::File;
 use std::io;
-use std::marker::Sync;
+use std::io::{Read, Write};
+use std::marker::{Send, Sync};
 use std::rt::Files;
 use std::thread::Threads;
 
@@ -17,44 +20,58 @@ pub fn tell_others<R: AllocGlobal + Eprint>(rt: &R, folder: &str, others: &[Stri
     }
 }
 
-/// Does this with the journals of these names, each read from the system.
-fn run_on<R: AllocGlobal + Files<File = File> + Threads + Input + Print + Sync>(
+/// Tells that a folder has no journal. Returns the program's status.
+pub fn tell_none<R: AllocGlobal + Eprint>(rt: &R, folder: &str) -> u8 {
+    tell(rt, format!(in rt.alloc(); "lra: no journal in {folder}\n"))
+}
+
+/// Does this with the journals of these names.
+fn run_on<R: Threads + Sync, F: Read + Send + Drop, S: Sources<File = F>, W: Write>(
     rt: &R,
+    alloc: Global,
     deed: Deed,
+    sources: &S,
     folder: &str,
     names: &[String],
+    writer: &mut W,
 ) -> Result<FolderAudit, RunFault> {
-    let alloc = rt.alloc();
-    let sources = System { rt };
-    let writer = &mut io::writer(rt);
     match deed {
-        Deed::Audit => audit_journals(rt, alloc, &sources, folder, names, writer),
-        Deed::Show => list_journals(rt, alloc, &sources, folder, names, writer),
+        Deed::Audit => audit_journals(rt, alloc, sources, folder, names, writer),
+        Deed::Show => list_journals(rt, alloc, sources, folder, names, writer),
     }
 }
 
-/// Does this with the journals that a folder has, and gives the program's status.
-fn run_found<R: AllocGlobal + Files<File = File> + Threads + Input + Print + Eprint + Sync>(
-    rt: &R,
-    deed: Deed,
-    folder: &str,
-    found: &Found,
-) -> Result<u8, RunFault> {
+/// Does this with the journals that a folder has, and returns the program's status. A folder that has none is a fault.
+pub fn run_folder<
+    R: AllocGlobal + Files + Threads + Eprint + Sync + Clone + Drop,
+    F: Read + Send + Drop,
+    S: Sources<File = F>,
+    W: Write,
+>(rt: &R, sources: &S, writer: &mut W, deed: Deed, folder: &str) -> Result<u8, RunFault> {
+    let found = find(rt, folder)?;
     tell_others(rt, folder, &found.others);
-    let done = run_on(rt, deed, folder, &found.journals)?;
+    if found.journals.is_empty() {
+        return Ok(tell_none(rt, folder));
+    }
+    let done = run_on(
+        rt,
+        rt.alloc(),
+        deed,
+        sources,
+        folder,
+        &found.journals,
+        writer,
+    )?;
     let told = done.told.as_str();
     let _ = eprint!(rt; "{told}");
     Ok(done.status)
 }
 
-/// Does this with a folder, and gives the program's status.
+/// Does this with a folder of the system's, and gives the program's status.
 fn answer_folder<
     R: AllocGlobal + Files<File = File> + Threads + Input + Print + Eprint + Sync + Clone + Drop,
 >(rt: &R, deed: Deed, folder: &str) -> u8 {
-    let outcome = match find(rt, folder) {
-        Ok(found) => run_found(rt, deed, folder, &found),
-        Err(fault) => Err(fault),
-    };
+    let outcome = run_folder(rt, &System { rt }, &mut io::writer(rt), deed, folder);
     settle(rt, outcome, folder)
 }
 

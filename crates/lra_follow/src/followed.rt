@@ -3,7 +3,7 @@
 use crate::texts::{Lost, lost_line, sound_line};
 use crate::watch::{Extent, Seen, Watch};
 use lra_auditor::FaultyLine;
-use lra_reports::{RunFault, put, report_fault, tell};
+use lra_audits::{RunFault, put, report_fault, tell};
 use std::alloc::Global;
 use std::fs::File;
 use std::io::Write;

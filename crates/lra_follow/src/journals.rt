@@ -3,8 +3,8 @@
 use crate::followed::Followed;
 use crate::texts::Lost;
 use crate::watch::{Extent, Seen, extent_of};
+use lra_audits::{RunFault, settle};
 use lra_model::Memory;
-use lra_reports::{RunFault, settle};
 use std::alloc::Global;
 use std::fs::File;
 use std::io::Write;

@@ -1,7 +1,7 @@
 //! A journal followed on a system.
 
 use crate::followed::Followed;
-use lra_reports::{RunFault, settle};
+use lra_audits::{RunFault, settle};
 use std::fs::File;
 use std::io;
 use std::io::{ErrorKind, Read, Write};

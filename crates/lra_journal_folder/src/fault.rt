@@ -1,7 +1,7 @@
 //! Why a folder isn't served.
 
+use lra_audits::RunFault;
 use lra_opening::{ServeFault, fault_line};
-use lra_reports::RunFault;
 use std::alloc::{AllocError, AllocFailed, Global};
 
 /// Why a folder isn't served, or is served no more.
@@ -28,7 +28,7 @@ impl From<ServeFault> for RollingFault {
 
 impl From<AllocError> for RollingFault {
     ghost use Rattle.std.specs.Prelude.{◌≡◌};
-    ghost use Rattle.lra_reports.specs.declared.fault.RunFault.TheVariants.{Memory};
+    ghost use Rattle.lra_audits.specs.declared.fault.RunFault.TheVariants.{Memory};
     ghost use Rattle.lra_opening.specs.declared.fault.ServeFault.TheVariants as served;
     ghost use Rattle.lra_journal_folder.specs.declared.fault.RollingFault.TheVariants as rolling;
 
@@ -41,7 +41,7 @@ impl From<AllocError> for RollingFault {
 
 impl<T: Drop> From<AllocFailed<T>> for RollingFault {
     ghost use Rattle.std.specs.Prelude.{◌≡◌};
-    ghost use Rattle.lra_reports.specs.declared.fault.RunFault.TheVariants.{Memory};
+    ghost use Rattle.lra_audits.specs.declared.fault.RunFault.TheVariants.{Memory};
     ghost use Rattle.lra_opening.specs.declared.fault.ServeFault.TheVariants as served;
     ghost use Rattle.lra_journal_folder.specs.declared.fault.RollingFault.TheVariants as rolling;
 

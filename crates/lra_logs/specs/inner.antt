@@ -1,3 +1,4 @@
 pub mod Matters
 pub mod Passing
 pub mod Sayings
+pub mod Urgent

@@ -3,6 +3,7 @@
 ghost use Rattle.std.specs.Prelude.{◌≡◌, ◌≢◌, IfSome, Some};
 ghost use Rattle.log.specs.declared.level.Level.{Level as LevelValue};
 ghost use Rattle.lra_logs.specs.Levels as spec;
+ghost use Rattle.lra_logs.specs.inner.Urgent as urgent;
 
 pub use log::{Level, LevelFilter};
 
@@ -30,6 +31,16 @@ pub fn level_named(text: &[u8]) -> Option<Level>
         b"info" => Some(Level::Info),
         b"debug" => Some(Level::Debug),
         _ => None,
+    }
+}
+
+/// Returns whether a line at a level is written whatever room there is: a warning or an error.
+pub(crate) fn is_urgent(level: Level) -> bool
+    ensures { result ≡ urgent.is_urgent level }
+{
+    match level {
+        Level::Error | Level::Warn => true,
+        Level::Info | Level::Debug | Level::Trace => false,
     }
 }
 

@@ -5,7 +5,7 @@ ghost use Rattle.lra_logs.specs.Meters as spec;
 
 use std::marker::Model;
 
-/// How many lines are written in a second at most.
+/// How many lines are written in a second at most, beside warnings and errors.
 const MOST: u64 = 100;
 
 /// What becomes of a line.
@@ -19,7 +19,7 @@ pub enum Verdict {
     Suppress,
 }
 
-/// How many lines were written in a second, and how many weren't.
+/// How many lines beside warnings and errors were written in a second, and how many weren't.
 #[derive(Debug, Drop)]
 pub struct Meter {
     second: u64,
@@ -33,6 +33,24 @@ impl Model for Meter {
     ghost Value = { Pace };
 
     ghost view = { λ m. record { second = m.second; written = m.written; suppressed = m.suppressed } };
+}
+
+/// Returns how much of the room of a second a line takes: a warning or an error takes none.
+fn share(is_urgent: bool) -> u64
+    ensures { result ≡ spec.share is_urgent }
+{
+    if is_urgent { 0 } else { 1 }
+}
+
+/// Returns what becomes of a line for which there is no room.
+fn unless_urgent(is_urgent: bool) -> Verdict
+    ensures { result ≡ spec.unless_urgent is_urgent }
+{
+    if is_urgent {
+        Verdict::Write
+    } else {
+        Verdict::Suppress
+    }
 }
 
 impl Meter {
@@ -59,35 +77,35 @@ impl Meter {
     }
 
     /// What becomes of a line now.
-    fn verdict(&self) -> Verdict
-        ensures { result ≡ spec.verdict_at self.now }
+    fn verdict(&self, is_urgent: bool) -> Verdict
+        ensures { result ≡ spec.verdict_at self.now is_urgent }
     {
         if self.suppressed == 0 {
             if self.written < MOST {
                 Verdict::Write
             } else {
-                Verdict::Suppress
+                unless_urgent(is_urgent)
             }
-        } else if self.written < MOST - 1 {
+        } else if self.written < MOST - share(is_urgent) {
             Verdict::WriteAfter {
                 suppressed: self.suppressed,
             }
         } else {
-            Verdict::Suppress
+            unless_urgent(is_urgent)
         }
     }
 
-    /// What becomes of a line at a moment, in milliseconds of a clock that doesn't go back.
-    pub fn admit(&mut self, moment: u64) -> Verdict
-        ensures verdict { result ≡ spec.verdict_at (spec.turned self.old moment) }
-        ensures pace { self.new ≡ spec.after (spec.turned self.old moment) result }
+    /// What becomes of a line at a moment, in milliseconds of a clock that doesn't go back. An urgent one, which is a warning or an error, is always written.
+    pub fn admit(&mut self, moment: u64, is_urgent: bool) -> Verdict
+        ensures verdict { result ≡ spec.verdict_at (spec.turned self.old moment) is_urgent }
+        ensures pace { self.new ≡ spec.after (spec.turned self.old moment) is_urgent result }
     {
         self.turn(moment);
-        let verdict = self.verdict();
+        let verdict = self.verdict(is_urgent);
         match verdict {
-            Verdict::Write => self.written += 1,
+            Verdict::Write => self.written = self.written.saturating_add(share(is_urgent)),
             Verdict::WriteAfter { .. } => {
-                self.written += 2;
+                self.written += share(is_urgent) + 1;
                 self.suppressed = 0;
             }
             Verdict::Suppress => self.suppressed = self.suppressed.saturating_add(1),

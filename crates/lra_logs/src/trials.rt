@@ -32,12 +32,18 @@ const WORDS: &str = "<6>T info serving journals=2 workers=4
 <4>T warn action ended journal=00001a0c1f8b2d4 action=12 status=FailedToCancel
 <6>T info journal rolled journal=00001a0c1f8b2d4
 <6>T info journal put away journal=00001a0c1f8b2d4
-<4>T warn journal cannot be put away journal=00001a0c1f8b2d4
+<4>T warn archive failed journal=00001a0c1f8b2d4
 <4>T warn member silent journal=00001a0c1f8b2d4 member=3 times=10
 <3>T error write failed journal=00001a0c1f8b2d4
 <3>T error sync failed
 <4>T warn request refused port=operators code=401
 <4>T warn suppressed lines=1234
+<3>T error journal set behind
+<6>T info journal set followed
+<4>T warn descriptors lowered asked=70000 had=1024
+<3>T error thread refused
+<3>T error thread ended
+<3>T error callbacks stand journal=00001a0c1f8b2d4
 <4>T warn a name\\x1b[31m with \\x0a and \\\\ in it";
 
 /// The same in JSON.
@@ -48,12 +54,18 @@ const OBJECTS: &str = r#"{"journals":2,"level":"info","message":"serving","time"
 {"action":12,"journal":"00001a0c1f8b2d4","level":"warn","message":"action ended","status":"FailedToCancel","time":"T"}
 {"journal":"00001a0c1f8b2d4","level":"info","message":"journal rolled","time":"T"}
 {"journal":"00001a0c1f8b2d4","level":"info","message":"journal put away","time":"T"}
-{"journal":"00001a0c1f8b2d4","level":"warn","message":"journal cannot be put away","time":"T"}
+{"journal":"00001a0c1f8b2d4","level":"warn","message":"archive failed","time":"T"}
 {"journal":"00001a0c1f8b2d4","level":"warn","member":3,"message":"member silent","time":"T","times":10}
 {"journal":"00001a0c1f8b2d4","level":"error","message":"write failed","time":"T"}
 {"level":"error","message":"sync failed","time":"T"}
 {"code":401,"level":"warn","message":"request refused","port":"operators","time":"T"}
 {"level":"warn","lines":1234,"message":"suppressed","time":"T"}
+{"level":"error","message":"journal set behind","time":"T"}
+{"level":"info","message":"journal set followed","time":"T"}
+{"asked":70000,"had":1024,"level":"warn","message":"descriptors lowered","time":"T"}
+{"level":"error","message":"thread refused","time":"T"}
+{"level":"error","message":"thread ended","time":"T"}
+{"journal":"00001a0c1f8b2d4","level":"error","message":"callbacks stand","time":"T"}
 {"level":"warn","message":"a name\u001b[31m with \n and \\ in it","time":"T"}"#;
 
 /// What a journal's bytes tell, where nothing else is written to it.
@@ -87,7 +99,7 @@ fn event_at(journal: Instance, place: usize) -> Option<Event> {
         }),
         5 => Some(Event::JournalRolled { journal }),
         6 => Some(Event::JournalPutAway { journal }),
-        7 => Some(Event::JournalStays { journal }),
+        7 => Some(Event::ArchiveFailed { journal }),
         8 => Some(Event::MemberSilent {
             journal,
             member,
@@ -100,6 +112,15 @@ fn event_at(journal: Instance, place: usize) -> Option<Event> {
             code: 401,
         }),
         12 => Some(Event::Suppressed { lines: 1234 }),
+        13 => Some(Event::SetBehind),
+        14 => Some(Event::SetFollowed),
+        15 => Some(Event::DescriptorsLowered {
+            asked: 70_000,
+            had: 1024,
+        }),
+        16 => Some(Event::ThreadRefused),
+        17 => Some(Event::ThreadEnded),
+        18 => Some(Event::CallbacksStand { journal }),
         _ => None,
     }
 }

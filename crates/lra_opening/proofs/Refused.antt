@@ -8,7 +8,7 @@ use Rattle.lra_auditor.specs.Verdicts.{summary, IsTextOf, IsFault}
 use Rattle.lra_core.specs.Fed.{Fed, IsFed}
 use Rattle.lra_office.specs.Wholes.{whole_lines}
 use Rattle.lra_office.proofs.Torn.{fed_front}
-use Rattle.lra_reports.specs.Report.{ReportsAudit}
+use Rattle.lra_audits.specs.Report.{ReportsAudit}
 use Rattle.lra_opening.specs.Ends.{IsFoundSound, IsRefused}
 use Rattle.lra_opening.specs.Places.{IsRead}
 

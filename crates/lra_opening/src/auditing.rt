@@ -9,8 +9,8 @@ ghost use Rattle.lra_opening.specs.Places.{IsRead};
 
 use crate::fault::ServeFault;
 use crate::feeding::is_new;
+use lra_audits::report_fault;
 use lra_core::Opening;
-use lra_reports::report_fault;
 use std::alloc::Global;
 use std::io::Write;
 

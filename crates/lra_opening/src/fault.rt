@@ -3,10 +3,10 @@
 ghost use Rattle.std.specs.Prelude.{◌≡◌, IfOk, string_bytes};
 ghost use Rattle.lra_opening.specs.Faults.{fault_line, enrol_fault, IsOfNoScript};
 
+use lra_audits::{RunFault, error_line};
 use lra_commands::Refusal;
 use lra_model::Memory;
 use lra_office::OfficeRefusal;
-use lra_reports::{RunFault, error_line};
 use std::alloc::{AllocError, AllocFailed, Global};
 use thiserror::Error;
 
@@ -38,7 +38,7 @@ impl From<RunFault> for ServeFault {
 
 impl From<AllocError> for ServeFault {
     ghost use Rattle.std.specs.Prelude.{◌≡◌};
-    ghost use Rattle.lra_reports.specs.declared.fault.RunFault.TheVariants.{Memory};
+    ghost use Rattle.lra_audits.specs.declared.fault.RunFault.TheVariants.{Memory};
     ghost use Rattle.lra_opening.specs.declared.fault.ServeFault.TheVariants as served;
 
     ghost from_gives = { λ _ fault. fault ≡ served.Run Memory };
@@ -50,7 +50,7 @@ impl From<AllocError> for ServeFault {
 
 impl<T: Drop> From<AllocFailed<T>> for ServeFault {
     ghost use Rattle.std.specs.Prelude.{◌≡◌};
-    ghost use Rattle.lra_reports.specs.declared.fault.RunFault.TheVariants.{Memory};
+    ghost use Rattle.lra_audits.specs.declared.fault.RunFault.TheVariants.{Memory};
     ghost use Rattle.lra_opening.specs.declared.fault.ServeFault.TheVariants as served;
 
     ghost from_gives = { λ _ fault. fault ≡ served.Run Memory };

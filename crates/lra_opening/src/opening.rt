@@ -9,11 +9,11 @@ ghost use Rattle.lra_opening.specs.Opened.{IsBegun, GoesOn};
 
 use crate::fault::{ServeFault, enrol_fault};
 use crate::feeding::is_new;
+use lra_audits::RunFault;
 use lra_commands::Limits;
 use lra_core::Opening;
 use lra_ids::{Base, Instance};
 use lra_office::{Clerk, Desk, Office, ReopenFault, StartFault};
-use lra_reports::RunFault;
 use std::alloc::Global;
 use std::io::Write;
 use std::sync::Wait;

@@ -31,7 +31,7 @@ lra_oldest_unended_seconds 1.500
 |GET /health/ready HTTP/1.1~Host: localhost~~
 0 HTTP/1.1 503 Service Unavailable
 {"status":"DOWN"
-{"name":"room","status":"DOWN","data":{"bytes":750,"entries":5,"actions":97,"members":0}},{"name":"starts","status":"UP"}]}
+{"name":"room","status":"DOWN","data":{"bytes":750,"entries":5,"actions":97,"members":0}},{"name":"starts","status":"UP"},{"name":"set","status":"UP"},{"name":"sync","status":"UP","data":{"age_ms":0,"limit_ms":5000}}]}
 |GET /health/started HTTP/1.1~Host: localhost~~
 0 HTTP/1.1 200 OK
 {"status":"UP","checks":[{"name":"started","status":"UP"}]}

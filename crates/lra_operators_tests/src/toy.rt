@@ -30,6 +30,11 @@ const FACTS: Facts = Facts {
     virtual_bytes: None,
     resident_bytes: Some(4_096),
     processor_ticks: Some(123),
+    lags: false,
+    sync_age: 0,
+    sync_limit: 5_000,
+    lost_workers: 0,
+    lost_callback_workers: 0,
 };
 
 /// The service, and how many orders it was given.

@@ -40,6 +40,7 @@ fn help_of(parameter: Parameter) -> &'static str {
         Parameter::ReplyTimeout => "How long a client has to take the replies that wait [10]",
         Parameter::ConnectTimeout => "How long a member has to take a connection [5]",
         Parameter::CallbackTimeout => "How long a member has for a whole callback [30]",
+        Parameter::SyncSeconds => "How long a sync may take before readiness is DOWN [5]",
         Parameter::RetryFirst => "The pause before a member is first asked again [100]",
         Parameter::RetryLast => "The longest pause before it is asked again [60000]",
         Parameter::RollAfter => {

@@ -1,5 +1,5 @@
 -- When a service is well.
-use Rattle.std.specs.Prelude.{ℕ, ◌-◌, nat_lt, Bool, true, false, ◌&&◌, not, cond, List, [], ◌∷◌, codes, Option, Some, None, is_some}
+use Rattle.std.specs.Prelude.{ℕ, ◌-◌, nat_lt, nat_le, nat_eq, Bool, true, false, ◌&&◌, not, cond, List, [], ◌∷◌, codes, Option, Some, None, is_some}
 use Rattle.std.specs.Fmt.{decimal}
 use Rattle.lra_overview.specs.declared.overview.Facts.{Facts}
 use Rattle.lra_overview.specs.declared.health.Probe.{Probe}
@@ -24,11 +24,35 @@ has_room facts answered = nat_lt facts.bytes facts.most_bytes && nat_lt facts.en
 abbrev pub takes_starts : Facts → Bool
 takes_starts facts = not facts.is_ending
 
+-- each worker knows the journals that there are
+abbrev pub follows : Facts → Bool
+follows facts = not facts.lags
+
+-- no sync takes longer than it may
+abbrev pub syncs_in_time : Facts → Bool
+syncs_in_time facts = nat_le facts.sync_age facts.sync_limit
+
+-- no worker and no callback worker has ended
+abbrev pub has_threads : Facts → Bool
+has_threads facts = nat_eq facts.lost_workers 0 && nat_eq facts.lost_callback_workers 0
+
+-- nothing is wrong that a new start would mend
+abbrev pub is_live : Facts → Option Answered → Bool
+is_live facts answered = keeps facts && is_some answered && has_threads facts
+
+-- anything more is taken
+abbrev pub takes_more : Facts → Option Answered → Bool
+takes_more facts answered = has_room facts answered && takes_starts facts
+
+-- nothing is late: no worker behind the set of journals, and no sync
+abbrev pub is_timely : Facts → Bool
+is_timely facts = follows facts && syncs_in_time facts
+
 -- all checks of a probe come out well (MicroProfile Health 4.0, liveness, readiness and startup)
 abbrev pub is_up : Probe → Facts → Option Answered → Bool
-is_up probe.Whole facts answered = keeps facts && is_some answered && has_room facts answered && takes_starts facts
-is_up probe.Live facts answered = keeps facts && is_some answered
-is_up probe.Ready facts answered = keeps facts && is_some answered && has_room facts answered && takes_starts facts
+is_up probe.Whole facts answered = is_live facts answered && takes_more facts answered && is_timely facts
+is_up probe.Live facts answered = is_live facts answered
+is_up probe.Ready facts answered = is_live facts answered && takes_more facts answered && is_timely facts
 is_up probe.Started facts answered = true
 
 -- ---- texts (MicroProfile Health 4.0, the response's JSON)
@@ -118,17 +142,46 @@ starts facts = joined (check (codes "starts") (takes_starts facts) ∷ codes "}"
 abbrev pub openings : Facts → Option Answered → List ℕ
 openings facts answered = joined (room facts answered ∷ codes "," ∷ starts facts ∷ [])
 
+-- how many workers and callback workers have ended
+abbrev pub lost : Facts → List ℕ
+lost facts =
+    joined (measured (codes "ended_workers") facts.lost_workers ∷ codes "," ∷ measured (codes "ended_callback_workers") facts.lost_callback_workers ∷ [])
+
+-- whether all threads go on
+abbrev pub threads : Facts → List ℕ
+threads facts = joined (check (codes "threads") (has_threads facts) ∷ codes ",\"data\":{" ∷ lost facts ∷ codes "}}" ∷ [])
+
+-- how long the sync under way has taken, and how long it may
+abbrev pub ages : Facts → List ℕ
+ages facts = joined (measured (codes "age_ms") facts.sync_age ∷ codes "," ∷ measured (codes "limit_ms") facts.sync_limit ∷ [])
+
+-- whether a sync takes too long
+abbrev pub sync : Facts → List ℕ
+sync facts = joined (check (codes "sync") (syncs_in_time facts) ∷ codes ",\"data\":{" ∷ ages facts ∷ codes "}}" ∷ [])
+
+-- what is told beside of whether a worker is behind the set of journals: why that is
+abbrev pub set_data : Facts → List ℕ
+set_data facts = cond facts.lags (codes ",\"data\":{\"reason\":\"a worker can't follow a change of the set of journals\"}}") (codes "}")
+
+-- that a worker is behind the set of journals, or that none is
+abbrev pub set : Facts → List ℕ
+set facts = joined (check (codes "set") (follows facts) ∷ set_data facts ∷ [])
+
+-- the checks of whether nothing is late
+abbrev pub delays : Facts → List ℕ
+delays facts = joined (set facts ∷ codes "," ∷ sync facts ∷ [])
+
 -- whether it has begun: that is so where anything is told
 abbrev pub started : List ℕ
 started = joined (check (codes "started") true ∷ codes "}" ∷ [])
 
 -- the checks of whether it should be started anew
 abbrev pub live : Facts → Option Answered → List ℕ
-live facts answered = joined (journal facts ∷ codes "," ∷ lock answered ∷ [])
+live facts answered = joined (journal facts ∷ codes "," ∷ lock answered ∷ codes "," ∷ threads facts ∷ [])
 
 -- those of whether it can be sent requests
 abbrev pub ready : Facts → Option Answered → List ℕ
-ready facts answered = joined (live facts answered ∷ codes "," ∷ openings facts answered ∷ [])
+ready facts answered = joined (live facts answered ∷ codes "," ∷ openings facts answered ∷ codes "," ∷ delays facts ∷ [])
 
 -- the checks of a probe
 abbrev pub checks : Probe → Facts → Option Answered → List ℕ

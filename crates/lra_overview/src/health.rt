@@ -54,15 +54,57 @@ fn takes_starts(facts: &Facts) -> bool
     !facts.is_ending
 }
 
+/// Returns whether each worker knows the journals that there are.
+fn follows(facts: &Facts) -> bool
+    ensures { result ≡ spec.follows facts.now }
+{
+    !facts.lags
+}
+
+/// Returns whether no sync takes longer than it may.
+fn syncs_in_time(facts: &Facts) -> bool
+    ensures { result ≡ spec.syncs_in_time facts.now }
+{
+    facts.sync_age <= facts.sync_limit
+}
+
+/// Returns whether no worker and no callback worker has ended.
+fn has_threads(facts: &Facts) -> bool
+    ensures { result ≡ spec.has_threads facts.now }
+{
+    facts.lost_workers == 0 && facts.lost_callback_workers == 0
+}
+
+/// Returns whether nothing is wrong that a new start would mend.
+fn is_live(facts: &Facts, answered: &Option<Answered>) -> bool
+    ensures { result ≡ spec.is_live facts.now answered.now }
+{
+    keeps(facts) && answered.is_some() && has_threads(facts)
+}
+
+/// Returns whether anything more is taken.
+fn takes_more(facts: &Facts, answered: &Option<Answered>) -> bool
+    ensures { result ≡ spec.takes_more facts.now answered.now }
+{
+    has_room(facts, answered) && takes_starts(facts)
+}
+
+/// Returns whether nothing is late: no worker behind the set of journals, and no sync.
+fn is_timely(facts: &Facts) -> bool
+    ensures { result ≡ spec.is_timely facts.now }
+{
+    follows(facts) && syncs_in_time(facts)
+}
+
 /// Whether all checks of a probe came out well.
 pub fn is_up(probe: Probe, facts: &Facts, answered: &Option<Answered>) -> bool
     ensures { result ≡ spec.is_up probe facts.now answered.now }
 {
     match probe {
         Probe::Started => true,
-        Probe::Live => keeps(facts) && answered.is_some(),
+        Probe::Live => is_live(facts, answered),
         Probe::Ready | Probe::Whole => {
-            keeps(facts) && answered.is_some() && has_room(facts, answered) && takes_starts(facts)
+            is_live(facts, answered) && takes_more(facts, answered) && is_timely(facts)
         }
     }
 }
@@ -199,6 +241,72 @@ fn put_openings(
     put_starts(page, facts)
 }
 
+/// Adds how many workers and callback workers have ended.
+fn put_lost(page: &mut Vec<u8>, facts: &Facts) -> Result<(), Memory>
+    ensures { OnOk result (page.new.items ≡ page.old.items ++ spec.lost facts.now) }
+{
+    put_data(page, "ended_workers", facts.lost_workers)?;
+    put(page, ",")?;
+    put_data(page, "ended_callback_workers", facts.lost_callback_workers)
+}
+
+/// Adds whether all threads go on.
+fn put_threads(page: &mut Vec<u8>, facts: &Facts) -> Result<(), Memory>
+    ensures { OnOk result (page.new.items ≡ page.old.items ++ spec.threads facts.now) }
+{
+    begin_check(page, "threads", has_threads(facts))?;
+    put(page, ",\"data\":{")?;
+    put_lost(page, facts)?;
+    put(page, "}}")
+}
+
+/// Adds how long the sync under way has taken, and how long it may.
+fn put_ages(page: &mut Vec<u8>, facts: &Facts) -> Result<(), Memory>
+    ensures { OnOk result (page.new.items ≡ page.old.items ++ spec.ages facts.now) }
+{
+    put_data(page, "age_ms", facts.sync_age)?;
+    put(page, ",")?;
+    put_data(page, "limit_ms", facts.sync_limit)
+}
+
+/// Adds whether a sync takes too long.
+fn put_sync(page: &mut Vec<u8>, facts: &Facts) -> Result<(), Memory>
+    ensures { OnOk result (page.new.items ≡ page.old.items ++ spec.sync facts.now) }
+{
+    begin_check(page, "sync", syncs_in_time(facts))?;
+    put(page, ",\"data\":{")?;
+    put_ages(page, facts)?;
+    put(page, "}}")
+}
+
+/// What is told beside of whether a worker is behind the set of journals: why that is.
+fn set_data(facts: &Facts) -> &'static str
+    ensures { result.now ≡ spec.set_data facts.now }
+{
+    if facts.lags {
+        ",\"data\":{\"reason\":\"a worker can't follow a change of the set of journals\"}}"
+    } else {
+        "}"
+    }
+}
+
+/// Adds that a worker is behind the set of journals, or that none is.
+fn put_set(page: &mut Vec<u8>, facts: &Facts) -> Result<(), Memory>
+    ensures { OnOk result (page.new.items ≡ page.old.items ++ spec.set facts.now) }
+{
+    begin_check(page, "set", follows(facts))?;
+    put(page, set_data(facts))
+}
+
+/// Adds the checks of whether nothing is late.
+fn put_delays(page: &mut Vec<u8>, facts: &Facts) -> Result<(), Memory>
+    ensures { OnOk result (page.new.items ≡ page.old.items ++ spec.delays facts.now) }
+{
+    put_set(page, facts)?;
+    put(page, ",")?;
+    put_sync(page, facts)
+}
+
 /// Adds the check of whether it has begun: that is so where anything is told.
 fn put_started(page: &mut Vec<u8>) -> Result<(), Memory>
     ensures { OnOk result (page.new.items ≡ page.old.items ++ spec.started) }
@@ -213,7 +321,9 @@ fn put_live(page: &mut Vec<u8>, facts: &Facts, answered: &Option<Answered>) -> R
 {
     put_journal(page, facts)?;
     put(page, ",")?;
-    put_lock(page, answered)
+    put_lock(page, answered)?;
+    put(page, ",")?;
+    put_threads(page, facts)
 }
 
 /// Adds the checks of whether it can be sent requests.
@@ -222,7 +332,9 @@ fn put_ready(page: &mut Vec<u8>, facts: &Facts, answered: &Option<Answered>) -> 
 {
     put_live(page, facts, answered)?;
     put(page, ",")?;
-    put_openings(page, facts, answered)
+    put_openings(page, facts, answered)?;
+    put(page, ",")?;
+    put_delays(page, facts)
 }
 
 /// Adds the checks of a probe.

@@ -193,6 +193,38 @@ fn put_journal(page: &mut Vec<u8>, facts: &Facts) -> Result<(), Memory> {
     )
 }
 
+/// Adds how long the sync that is under way has taken, and how many threads have ended.
+fn put_sync(page: &mut Vec<u8>, facts: &Facts) -> Result<(), Memory> {
+    parts(
+        page,
+        "lra_sync_age_seconds",
+        Kind::Gauge,
+        "How long the sync of the disk that is under way has taken; 0 where none is.",
+        facts.sync_age,
+        1_000,
+    )?;
+    let name = "lra_threads_ended";
+    describe(
+        page,
+        name,
+        Kind::Gauge,
+        "Threads that have ended though the service goes on.",
+    )?;
+    labelled(page, name, "kind", "worker")?;
+    put_number(page, facts.lost_workers)?;
+    put(page, "\n")?;
+    labelled(page, name, "kind", "callback_worker")?;
+    put_number(page, facts.lost_callback_workers)?;
+    put(page, "\n")?;
+    whole(
+        page,
+        "lra_set_behind",
+        Kind::Gauge,
+        "Whether a worker can't follow a change of the set of journals.",
+        u64::from(facts.lags),
+    )
+}
+
 /// Adds what is measured of connections and callbacks.
 fn put_traffic(page: &mut Vec<u8>, facts: &Facts) -> Result<(), Memory> {
     whole(
@@ -277,6 +309,7 @@ pub fn put_metrics(
         1_000,
     )?;
     put_journal(page, facts)?;
+    put_sync(page, facts)?;
     put_room(page, facts, newest)?;
     put_traffic(page, facts)?;
     put_process(page, facts)

@@ -35,6 +35,14 @@ pub struct Facts {
     pub resident_bytes: Option<u64>,
     /// How much processor time it took, in hundredths of a second, where the system tells it.
     pub processor_ticks: Option<u64>,
+    /// A worker can't follow a change of the set of journals.
+    pub lags: bool,
+    /// How long the sync that is under way has taken, 0 where none is, and how long one may take.
+    pub sync_age: u64,
+    pub sync_limit: u64,
+    /// How many workers and callback workers have ended though the service goes on.
+    pub lost_workers: u64,
+    pub lost_callback_workers: u64,
 }
 
 /// Where operators' questions are asked and their orders given: one office, or those of several journals, each known by its instance.

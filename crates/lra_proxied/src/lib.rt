@@ -7,8 +7,6 @@ mod paths;
 mod proxied;
 mod requests;
 mod texts;
-#[cfg(test)]
-mod trials;
 
 pub use paths::path_of;
 pub use proxied::Proxied;

@@ -2,7 +2,7 @@
 use Rattle.std.specs.Prelude.{ℕ, List, codes, Option}
 use Rattle.lra_reports.specs.declared.words.Invocation.{Invocation}
 use Rattle.lra_reports.specs.declared.words.Invocation.TheVariants.{AuditInput, Audit, Show, Upgrade}
-use Rattle.lra_reports.specs.Report.{ReportsAudit}
+use Rattle.lra_audits.specs.Report.{ReportsAudit}
 use Rattle.lra_reports.specs.Show.{ReportsListing}
 use Rattle.lra_reports.specs.Upgrade.{Upgrades}
 

@@ -1,5 +1,5 @@
-pub mod Report
-pub mod Faults
+pub use Rattle.lra_audits.specs.Report
+pub use Rattle.lra_audits.specs.Faults
 pub mod Paging
 pub mod Show
 pub mod Upgrade

@@ -1,14 +1,9 @@
 -- What the words of a command line ask of a journal.
-use Rattle.std.specs.Prelude.{◌≡◌, ℕ, List, [], ◌∷◌, map, codes, String, string_bytes}
-use Rattle.std.specs.Global.{Global}
+use Rattle.std.specs.Prelude.{◌≡◌, ℕ, List, [], ◌∷◌, codes}
 use Rattle.lra_reports.specs.declared.words.Invocation.{Invocation}
 use Rattle.lra_reports.specs.declared.words.Invocation.TheVariants.{AuditInput, Audit, Show, Upgrade}
 use Rattle.lra_reports.specs.declared.words.Question.{Question}
 use Rattle.lra_reports.specs.declared.words.Question.TheVariants.{Run, Salvage, Help, Version}
-
--- the bytes of each word
-abbrev pub texts : List (String Global) → List (List ℕ)
-texts words = map string_bytes words
 
 -- no word is to audit standard input; `audit FILE` is to audit a file, `show FILE` to list it, and `upgrade FILE` to upgrade it
 abbrev pub IsInvocation : List (List ℕ) → Invocation → Type 0

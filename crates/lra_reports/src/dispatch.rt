@@ -1,15 +1,14 @@
 //! Which run the words of a command line ask for, and of which input.
 
 ghost use Rattle.std.specs.Prelude.{IfOk, IfErr, IfSome};
-ghost use Rattle.lra_reports.specs.Faults.{NamesNoLine, IsMeasured, LeavesOutput};
+ghost use Rattle.lra_audits.specs.Faults.{NamesNoLine, IsMeasured, LeavesOutput};
 ghost use Rattle.lra_reports.specs.Invoked.{input_bytes, Runs};
 
-use crate::audit::audit_run;
-use crate::fault::RunFault;
 use crate::show::show_run;
 use crate::sources::Sources;
 use crate::upgrade::upgrade_file;
 use crate::words::Invocation;
+use lra_audits::{RunFault, audit_run};
 use std::alloc::Global;
 use std::io::Write;
 

@@ -1,23 +1,14 @@
-//! What a run writes: a text at once, or lines in pages.
+//! Lines that a run writes in pages.
 
-ghost use Rattle.std.specs.Prelude.{◌≡◌, ◌<◌, IfErr, OnOk};
-ghost use Rattle.std.specs.Io.KnownBytes.{Appends};
-ghost use Rattle.lra_reports.specs.Faults.{IsOfOutput};
+ghost use Rattle.std.specs.Prelude.{IfErr, OnOk};
+ghost use Rattle.lra_audits.specs.Faults.{IsOfOutput};
 ghost use Rattle.lra_reports.specs.Paging.{IsPaged};
 
-use crate::fault::RunFault;
+use lra_audits::{RunFault, put};
 use std::io::Write;
 
 /// From how many bytes on a page is written.
 const PAGE: usize = 65_536;
-
-/// Writes all bytes.
-pub fn put<W: Write>(writer: &mut W, bytes: &[u8]) -> Result<(), RunFault>
-    ensures written { OnOk result (Appends (W.contents writer.old) (W.contents writer.new) bytes.now) }
-    ensures err { IfErr result (λ fault. fault ≡ RunFault.Write) }
-{
-    writer.write_all(bytes).map_err(|_| RunFault::Write)
-}
 
 /// Adds a line to a page, and writes the page once it is full.
 pub fn put_line<W: Write>(writer: &mut W, page: &mut Vec<u8>, line: &str) -> Result<(), RunFault>

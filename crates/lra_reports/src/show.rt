@@ -3,15 +3,14 @@
 ghost use Rattle.std.specs.Prelude.{◌≡◌, IfOk, IfErr, IfSome, OnOk, string_bytes};
 ghost use Rattle.std.specs.List.{flat_map};
 ghost use Rattle.std.specs.Io.KnownBytes.{Appends};
-ghost use Rattle.lra_reports.specs.Faults.{NamesNoLine, IsMeasured, LeavesOutput, IsOfOutput};
+ghost use Rattle.lra_audits.specs.Faults.{NamesNoLine, IsMeasured, LeavesOutput, IsOfOutput};
 ghost use Rattle.lra_reports.specs.Paging.{IsPaged};
 ghost use Rattle.lra_reports.specs.Show.{action_line, member_line, listing_text, account_text, account_status, ReportsListing};
 
-use crate::fault::RunFault;
 use crate::input::list_input;
-use crate::output::{put, put_line};
-use crate::report::line_of_fault;
+use crate::output::put_line;
 use lra_auditor::{Account, ListedAction, ListedMember, Listing, Memory};
+use lra_audits::{RunFault, line_of_fault, put};
 use std::alloc::Global;
 use std::io::{Read, Write};
 

@@ -1,6 +1,6 @@
 //! Where the inputs of runs come from.
 
-use crate::fault::RunFault;
+use lra_audits::RunFault;
 use std::io::Read;
 
 /// Standard input, and files by their names.

@@ -3,9 +3,10 @@
 ghost use Rattle.std.specs.Prelude.{IfOk, IfErr, [], ◌∷◌};
 ghost use Rattle.lra_reports.specs.declared.words.Invocation.{Invocation};
 ghost use Rattle.lra_reports.specs.declared.words.Question.{Question};
-ghost use Rattle.lra_reports.specs.Words.{texts, IsInvocation, IsQuestion};
+ghost use Rattle.lra_reports.specs.Words.{IsInvocation, IsQuestion};
+ghost use Rattle.lra_audits.specs.Asked.{texts};
 
-use thiserror::Error;
+use lra_audits::Usage;
 
 /// A run on an input.
 #[derive(Clone, Copy, Debug)]
@@ -32,11 +33,6 @@ pub enum Question<'a> {
     /// Which version it is.
     Version,
 }
-
-/// The words ask for nothing.
-#[derive(Clone, Copy, Debug, PartialEq, Eq, Error)]
-#[error("the words ask for nothing")]
-pub struct Usage;
 
 /// The run on a file that a verb names.
 fn invocation_on<'a>(verb: &str, file: &'a str) -> Result<Invocation<'a>, Usage>

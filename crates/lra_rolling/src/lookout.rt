@@ -3,13 +3,13 @@
 ghost use Rattle.std.specs.Prelude.{◌≡◌};
 
 use crate::shift::Shift;
+use lra_audits::LONGEST;
 use lra_branch::Clerkship;
 use lra_clocks::{Clock as Moments, SystemClock};
 use lra_commands::{CounterFault, Known, Limits, Order, Query, Refusal, Told};
 use lra_ids::Base;
 use lra_model::{Instance, Memory};
 use lra_overview::{Facts, Overview};
-use lra_reports::LONGEST;
 use lra_roster::Journal;
 use lra_watchpost::{Given, Tallies, Vitals, Watchpost, operators_order};
 use std::alloc::Global;
@@ -50,6 +50,8 @@ pub(crate) struct Lookout<'b, 's, 'a, R: Wait, H, B> {
     desks: Vec<Desk<B>>,
     /// The roster's version that they are known to be of.
     seen: u64,
+    /// It couldn't follow the last change of the roster that it saw.
+    is_behind: bool,
     clock: SystemClock<'a, R>,
     given: Given,
 }
@@ -114,6 +116,7 @@ impl<'b, 's, 'a: 's, R: Wait + Clock, H, B> Lookout<'b, 's, 'a, R, H, B> {
             shift,
             desks: Vec::new(alloc),
             seen: 0,
+            is_behind: false,
             clock,
             given: Given::new(),
         }
@@ -179,6 +182,16 @@ impl<'s, 'a: 's, R: Wait + Clock, H, B: Clerkship + Drop> Lookout<'_, 's, 'a, R,
             None => Err(CounterFault::Refused(Refusal::NoSuchAction)),
         }
     }
+
+    /// How what names an instance is refused that has no desk: where there may be a journal of it by now, or still, it
+    /// isn't said that there is none.
+    fn lacking(&self, instance: Instance) -> CounterFault {
+        CounterFault::Refused(if self.shift.roster.lacks(instance, self.seen) {
+            Refusal::Stopped
+        } else {
+            Refusal::NoSuchAction
+        })
+    }
 }
 
 impl<'s, 'a: 's, R: Wait + Clock, H, B: Clerkship + Drop> Overview
@@ -200,12 +213,14 @@ impl<'s, 'a: 's, R: Wait + Clock, H, B: Clerkship + Drop> Overview
             return;
         }
         let Ok(journals) = self.shift.roster.all(self.shift.rt) else {
+            self.is_behind = true;
             return;
         };
         self.desks
             .retain(|desk| is_among(&journals, desk.journal.instance));
         let moment = self.clock.now();
-        if join_all(self.shift.rt, &mut self.desks, &journals, moment) {
+        self.is_behind = !join_all(self.shift.rt, &mut self.desks, &journals, moment);
+        if !self.is_behind {
             self.seen = version;
         }
     }
@@ -231,6 +246,11 @@ impl<'s, 'a: 's, R: Wait + Clock, H, B: Clerkship + Drop> Overview
             virtual_bytes: vitals.virtual_bytes,
             resident_bytes: vitals.resident_bytes,
             processor_ticks: vitals.ticks,
+            lags: self.is_behind || self.shift.roster.lags(),
+            sync_age: self.shift.tower.tallies.sync_age(),
+            sync_limit: self.shift.tower.tallies.sync_limit(),
+            lost_workers: self.shift.tower.tallies.lost_workers(),
+            lost_callback_workers: self.shift.tower.tallies.lost_callback_workers(),
         }
     }
 
@@ -241,7 +261,7 @@ impl<'s, 'a: 's, R: Wait + Clock, H, B: Clerkship + Drop> Overview
     fn query(&mut self, instance: Instance, query: Query) -> Result<Known, CounterFault> {
         match place_of(&self.desks, instance) {
             Some(place) => self.query_at(place, query),
-            None => Err(CounterFault::Refused(Refusal::NoSuchAction)),
+            None => Err(self.lacking(instance)),
         }
     }
 
@@ -250,7 +270,7 @@ impl<'s, 'a: 's, R: Wait + Clock, H, B: Clerkship + Drop> Overview
             return Err(CounterFault::Refused(Refusal::NotAsked));
         };
         let Some(place) = place_of(&self.desks, instance) else {
-            return Err(CounterFault::Refused(Refusal::NoSuchAction));
+            return Err(self.lacking(instance));
         };
         self.given.note(instance, &own);
         let moment = self.clock.now();

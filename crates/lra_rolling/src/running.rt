@@ -8,10 +8,11 @@ use crate::crier::Crier;
 use crate::lookout::Tower;
 use crate::opening::{Bench, Opener};
 use crate::preparing::Maker;
-use crate::shift::Shift;
+use crate::shift::{Shift, duties_of};
 use crate::steward::{Steward, steady};
 use crate::working::work;
 use lra_admission::KeyFiles;
+use lra_audits::RunFault;
 use lra_branch::Clerkship;
 use lra_clocks::milliseconds;
 use lra_folders::stray_line;
@@ -20,14 +21,14 @@ use lra_journal_folder::{Contents, Folder, RollingFault, Sound, Unsound, audit_a
 use lra_logs::{Event, Journalist};
 use lra_model::Instance;
 use lra_opening::{Herald, ServeFault};
-use lra_reports::RunFault;
 use lra_rolls::Counts;
 use lra_roster::{Journal, Roster, Watch};
 use lra_rounds::Arrivals;
 use lra_service::{
-    Doorway, Entry, Site, Terms, end_of, limits_of, listener_at, make_doorway, say, site_at,
+    Doorway, Entry, Site, Terms, end_of, fit_descriptors, limits_of, listener_at, make_doorway,
+    site_at,
 };
-use lra_settings::Settings;
+use lra_settings::{Settings, taken_by_folder};
 use lra_shelf::Shelf;
 use lra_watchpost::{Tallies, Watchpost};
 use std::alloc::{AllocError, Global};
@@ -249,6 +250,9 @@ impl<
             limit,
             remember: self.settings.remember_seconds.saturating_mul(1_000),
             watches,
+            leaving: None,
+            falls: 0,
+            is_behind: false,
             tails: Vec::new(self.alloc),
             idle: Vec::new(self.alloc),
             is_full: false,
@@ -288,13 +292,13 @@ impl<
             moment,
             self.tower,
         );
-        say(self.alloc, self.address, writer)?;
-        self.herald.note(&Event::Serving {
-            journals: steward.watches.len() as u64,
-            workers: u64::from(self.workers),
-        });
-        work(&shift, steward, self.workers as usize);
+        let duties = duties_of(self.alloc, self.workers, self.tower.post.is_some())?;
+        let served = work(&shift, steward, &duties, writer);
         drop(shift);
+        if let Err(fault) = served {
+            drop(ending);
+            return Err(RollingFault::Here(fault));
+        }
         if !shelf.is_own() {
             // Whichever thread saw it first, and ended all.
             shelf.fail(self.rt);
@@ -429,11 +433,14 @@ pub fn serve_folder<
     let site = site_at(alloc, address, base)?;
     let folder = Folder::open(rt, path)?;
     let contents = folder.contents()?;
+    let journals = u32::try_from(contents.journals.len()).unwrap_or(u32::MAX);
+    let taken = taken_by_folder(workers, journals);
+    let settings = fit_descriptors(rt, alloc, herald, taken, settings)?;
     let tower = Tower {
         post: operators,
         base: &site.base,
         limits: limits_of(&settings),
-        tallies: Tallies::new(alloc, operators)?,
+        tallies: Tallies::new(alloc, operators, settings.sync_seconds)?,
     };
     let Ok(shelf) = Shelf::open(alloc, tower.tallies.syncs(), conduct.fence) else {
         return Err(RollingFault::Here(ServeFault::Run(RunFault::Memory)));

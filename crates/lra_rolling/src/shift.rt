@@ -10,27 +10,61 @@ use lra_callbacks::{Callbacks, Names, Share};
 use lra_clocks::{Clock, SystemClock};
 use lra_durable::Progress;
 use lra_family_front::Household;
-use lra_logs::Journalist;
+use lra_logs::{Event, Journalist};
 use lra_opening::Herald;
 use lra_reserve::Reserved;
 use lra_roster::{Journal, Kin, Reservations, Roster};
 use lra_rounds::{Arrivals, Rounds, RoundsEnd, Times};
 use lra_service::{
-    CarrierGate, Doorman, Ending, Entrance, Line, Terms, Turnstile, dismiss, receive, share_of,
-    tell_answered, tell_carried, times_of,
+    CarrierGate, Doorman, Ending, Entrance, Latch, Line, ServeFault, Terms, Turnstile, dismiss,
+    lose_callback_worker, lose_worker, receive, share_of, times_of,
 };
 use lra_settings::Settings;
 use lra_shelf::{Shelf, ShelfDisk};
 use lra_watchpost::{CountedCarriage, attend};
 use lra_workers::{Gate, Go, WorkerEnd};
-use std::alloc::Global;
+use std::alloc::{AllocError, Global};
 use std::net::{Net, TcpListener, TcpStream};
-use std::sync::atomic::{AtomicU64, Ordering};
+use std::sync::atomic::{AtomicBool, AtomicU64, Ordering};
 use std::sync::{Arc, Wait};
 use std::time;
 
 /// Between how many of the journals the callbacks that go out at once are shared: the newest, and one before it.
 const BUSY: usize = 2;
+
+/// What a thread does.
+#[derive(Clone, Copy, Debug, PartialEq, Eq)]
+pub(crate) enum Duty {
+    /// Accepts connections.
+    Admit,
+    /// Answers connections, at that place.
+    Answer(u32),
+    /// Answers operators.
+    Watch,
+    /// Wakes those who carry callbacks.
+    Cry,
+    /// Looks up the names of members' hosts.
+    LookUp,
+}
+
+/// The duties of the threads that answer so many connections at once, and of those beside them.
+pub(crate) fn duties_of(
+    alloc: Global,
+    workers: u32,
+    is_watched: bool,
+) -> Result<Vec<Duty>, AllocError> {
+    let mut duties = Vec::new(alloc);
+    for place in 0..workers {
+        duties.push(Duty::Answer(place))?;
+    }
+    if is_watched {
+        duties.push(Duty::Watch)?;
+    }
+    for duty in [Duty::Cry, Duty::LookUp, Duty::LookUp, Duty::Admit] {
+        duties.push(duty)?;
+    }
+    Ok(duties)
+}
 
 /// What the threads share.
 #[derive(Drop)]
@@ -39,6 +73,10 @@ pub(crate) struct Shift<'s, 'a, R: Wait, H, B> {
     pub(crate) alloc: Global,
     pub(crate) herald: &'s H,
     door: Entrance<'s, R>,
+    /// Where the threads wait until all of them stand.
+    latch: Latch,
+    /// Whether the thread that was wanted last couldn't be started.
+    is_refused: AtomicBool,
     pub(crate) shelf: &'a Arc<Shelf>,
     pub(crate) ending: &'s Arc<Ending>,
     pub(crate) roster: &'s Roster<B>,
@@ -52,6 +90,8 @@ pub(crate) struct Shift<'s, 'a, R: Wait, H, B> {
     times: Times,
     /// How many answer connections.
     answering: AtomicU64,
+    /// How many did at first.
+    workers: u64,
     crier: Crier,
     /// The addresses of members' hosts.
     names: Names,
@@ -108,6 +148,8 @@ impl<'s, 'a: 's, R: Wait + time::Clock, H, B> Shift<'s, 'a, R, H, B> {
             alloc,
             herald,
             door: Entrance::new(rt, line, ending, arrivals),
+            latch: Latch::new(),
+            is_refused: AtomicBool::new(false),
             shelf,
             ending,
             roster,
@@ -116,6 +158,7 @@ impl<'s, 'a: 's, R: Wait + time::Clock, H, B> Shift<'s, 'a, R, H, B> {
             most: most as usize,
             times: times_of(settings),
             answering: AtomicU64::new(workers as u64),
+            workers: workers as u64,
             crier,
             names: Names::new(alloc),
             share: share_of(settings, BUSY),
@@ -165,6 +208,7 @@ impl<
     /// Takes down that one who answered connections has ended: with the last one all end.
     fn leave(&self) {
         if self.answering.fetch_sub(1, Ordering::SeqCst) <= 1 {
+            self.names.close(self.rt);
             self.ending.finish();
             lra_callbacks::ring(&self.crier.bells);
             self.roster.ring(self.rt);
@@ -172,7 +216,7 @@ impl<
     }
 
     /// Hands on the connections that come, until there are to be no others. Then those who carry look whether they are to end.
-    pub(crate) fn admit(&self) {
+    fn admit(&self) {
         self.door.open();
         self.roster.ring(self.rt);
     }
@@ -182,6 +226,8 @@ impl<
         let mut kin = Kin::new(self.rt, self.alloc, self.roster, self.clock());
         let Some(family) = kin.begin(self.alloc) else {
             self.herald.tell("lra: a thread that answered has ended: no clerk could be enrolled\n");
+            self.herald.note(&Event::ThreadEnded);
+            self.tower.tallies.lose_worker();
             return;
         };
         let household = Household::new(family, kin);
@@ -192,7 +238,7 @@ impl<
             Ok(received) => received,
             Err(reserved) => {
                 drop(reserved);
-                tell_answered(self.herald, RoundsEnd::Refused);
+                lose_worker(self.herald, tallies, RoundsEnd::Refused);
                 return;
             }
         };
@@ -205,12 +251,13 @@ impl<
             self.most,
             self.times,
         );
-        tell_answered(self.herald, rounds.run(&mut received, &mut self.clock()));
+        let end = rounds.run(&mut received, &mut self.clock());
+        lose_worker(self.herald, tallies, end);
         drop(dismiss(received));
     }
 
     /// Answers connections.
-    pub(crate) fn answer(&self, place: u32) {
+    fn answer(&self, place: u32) {
         if let Some(arrivals) = self.door.arrivals(place) {
             self.answer_at(arrivals);
             arrivals.close(self.rt);
@@ -219,13 +266,13 @@ impl<
     }
 
     /// Wakes those who carry.
-    pub(crate) fn cry(&self) {
+    fn cry(&self) {
         self.crier
             .run(self.rt, self.alloc, self.roster, self.ending);
     }
 
     /// Looks up the names of members' hosts.
-    pub(crate) fn look_up(&self) {
+    fn look_up(&self) {
         self.names.run(self.rt, &self.crier.bells);
     }
 
@@ -292,20 +339,62 @@ impl<
     /// Tells why one who carried has ended, unless the disk has failed: then the program ends, and says so.
     fn tell_end(&self, end: WorkerEnd) {
         if !self.progress().has_failed(self.rt) {
-            tell_carried(self.alloc, self.herald, end);
+            lose_callback_worker(self.alloc, self.herald, &self.tower.tallies, end);
         }
     }
 
-    /// All that answered have ended: so do those who look names up, and who waits for connections.
-    pub(crate) fn end(&self) {
-        self.names.close(self.rt);
-        self.ending.finish();
+    /// Waits until all threads stand, and does a duty.
+    pub(crate) fn stand(&self, duty: Duty) {
+        if !self.latch.pass(self.rt) {
+            return;
+        }
+        match duty {
+            Duty::Admit => self.admit(),
+            Duty::Answer(place) => self.answer(place),
+            Duty::Watch => self.watch(),
+            Duty::Cry => self.cry(),
+            Duty::LookUp => self.look_up(),
+        }
+    }
+
+    /// Waits until all threads stand, and carries the callbacks of a journal.
+    pub(crate) fn stand_and_carry(&self, journal: &Journal<B>) {
+        if self.latch.pass(self.rt) {
+            self.carry(journal);
+        }
+    }
+
+    /// How many threads answer connections, if none has ended.
+    pub(crate) fn workers(&self) -> u64 {
+        self.workers
+    }
+
+    /// Lets those who stand work.
+    pub(crate) fn begin(&self) {
+        self.latch.decide(self.rt, true);
+    }
+
+    /// Has those who stand end at once, since another couldn't be started. Returns why the service doesn't serve.
+    pub(crate) fn give_up(&self) -> ServeFault {
+        self.latch.decide(self.rt, false);
+        ServeFault::Address
+    }
+
+    /// Notes whether the thread that was wanted last was started. While none could be, that counts as one that is lost.
+    pub(crate) fn note_thread(&self, is_started: bool) {
+        let was_refused = self.is_refused.swap(!is_started, Ordering::SeqCst);
+        if is_started && was_refused {
+            self.tower.tallies.regain_callback_worker();
+        } else if !is_started && !was_refused {
+            self.tower.tallies.lose_callback_worker();
+            self.herald.note(&Event::ThreadRefused);
+        }
     }
 }
 
 impl<'s, 'a: 's, R: Wait + time::Clock, H: Journalist, B: Clerkship + Drop> Shift<'s, 'a, R, H, B> {
     /// Answers operators, where any come in, until no one answers any more.
-    pub(crate) fn watch(&self) {
+    fn watch(&self) {
         if let Some(post) = self.tower.post {
             let mut lookout = Lookout::new(self.alloc, self, self.clock());
             let turnstile = Turnstile {

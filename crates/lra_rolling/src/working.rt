@@ -3,39 +3,29 @@
 ghost use Rattle.std.specs.Thread.{IsSend, IsSync};
 
 use crate::opening::Opener;
-use crate::shift::Shift;
+use crate::shift::{Duty, Shift};
 use crate::steward::Steward;
 use lra_admission::KeyFiles;
+use lra_audits::RunFault;
 use lra_branch::Clerkship;
-use lra_logs::Journalist;
-use lra_opening::Herald;
+use lra_logs::{Event, Journalist};
+use lra_opening::{Herald, ServeFault};
+use lra_service::say;
 use std::fs::File;
+use std::io::Write;
 use std::marker::{Send, Sync};
 use std::net::{Net, TcpListener, TcpStream};
 use std::rt::Files;
 use std::sync::Wait;
 use std::thread;
-use std::thread::{Builder, Threads, join};
+use std::thread::{Builder, Threads};
 use std::time::Clock;
 
-/// Answers connections by so many threads, until no one answers any more.
-fn answer_all<
-    'a,
-    R: KeyFiles + Threads + Wait + Clock + Net<Stream = TcpStream, Listener = TcpListener> + Sync,
-    H: Herald + Journalist + Sync,
-    B: Clerkship + Send + Drop,
->(shift: &Shift<'_, 'a, R, H, B>, workers: usize) {
-    let _ = thread::map_indices(
-        shift.rt,
-        shift.alloc,
-        workers,
-        &|place: usize| { shift.answer(u32::try_from(place).unwrap_or(u32::MAX)) },
-    );
-    shift.end();
-}
-
-/// Looks after the journals, with a thread for each that carries.
-fn tend<
+/// Starts a thread for each duty, and one for each journal, which carries its callbacks; says that the service serves;
+/// and looks after the journals, with a thread for each new one, until no one answers any more. Where a thread can't be
+/// started before that is said, nothing is said, and those that stand end at once. Later the journal that it was wanted
+/// for is given up, and made anew after a pause.
+pub(crate) fn work<
     'a,
     R: Files<File = File>
         + KeyFiles
@@ -50,140 +40,70 @@ fn tend<
     H: Herald + Journalist + Sync,
     O: Opener<Branch = B> + Drop,
     B: Clerkship + Send + Drop,
->(shift: &Shift<'_, 'a, R, H, B>, steward: Steward<'a, R, O, B>) {
+    W: Write,
+>(
+    shift: &Shift<'_, 'a, R, H, B>,
+    steward: Steward<'a, R, O, B>,
+    duties: &[Duty],
+    writer: &mut W,
+) -> Result<(), ServeFault> {
     let mut steward = steward;
-    steward.begin(shift);
-    thread::scope(
+    let Ok(journals) = shift.roster.all(shift.rt) else {
+        drop(steward);
+        return Err(ServeFault::Run(RunFault::Memory));
+    };
+    steward.idle = journals;
+    let served = thread::scope(
         thread::scope_env(),
         shift.rt,
-        |scope|
+        |scope| -> Result<(), ServeFault>
             requires { IsSync R.row × IsSync H.row × IsSend B.row }
         {
+            for duty in duties {
+                let duty = *duty;
+                let started = Builder::new().spawn_scoped(scope, move || shift.stand(duty));
+                if started.is_err() {
+                    return Err(shift.give_up());
+                }
+            }
+            for _journal in 0..steward.idle.len() {
+                let Some(journal) = steward.idle.pop() else {
+                    break;
+                };
+                let started = Builder::new().spawn_scoped(scope, move || {
+                    shift.stand_and_carry(&journal);
+                    drop(journal);
+                });
+                if started.is_err() {
+                    return Err(shift.give_up());
+                }
+            }
+            if let Err(fault) = say(shift.alloc, steward.address, writer) {
+                let _ = shift.give_up();
+                return Err(fault);
+            }
+            shift.herald.note(&Event::Serving {
+                journals: steward.watches.len() as u64,
+                workers: shift.workers(),
+            });
+            steward.begin(shift);
+            shift.begin();
             for _ in shift.rt.forever() {
                 let Some(journal) = steward.next(shift) else {
-                    return;
+                    break;
                 };
-                let hired = Builder::new().spawn_scoped(scope, move || {
+                let started = Builder::new().spawn_scoped(scope, move || {
                     shift.carry(&journal);
                     drop(journal);
                 });
-                if hired.is_err() {
+                shift.note_thread(started.is_ok());
+                if started.is_err() {
                     steward.give_up(shift);
                 }
             }
+            Ok(())
         },
     );
     drop(steward);
-}
-
-/// Lets the answering threads work beside who looks after the journals, until no one answers any more.
-fn work_all<
-    'a,
-    R: Files<File = File>
-        + KeyFiles
-        + AllocGlobal
-        + Clone
-        + Drop
-        + Threads
-        + Wait
-        + Clock
-        + Net<Stream = TcpStream, Listener = TcpListener>
-        + Sync,
-    H: Herald + Journalist + Sync,
-    O: Opener<Branch = B> + Send + Drop,
-    B: Clerkship + Send + Drop,
->(shift: &Shift<'_, 'a, R, H, B>, steward: Steward<'a, R, O, B>, workers: usize) {
-    join(
-        shift.rt,
-        move || answer_all(shift, workers),
-        move ||
-            requires { IsSync R.row × IsSync H.row × IsSend B.row }
-        { tend(shift, steward) },
-    );
-}
-
-/// The same, while two more threads look up names, and one wakes those who carry.
-fn work_by_name<
-    'a,
-    R: Files<File = File>
-        + KeyFiles
-        + AllocGlobal
-        + Clone
-        + Drop
-        + Threads
-        + Wait
-        + Clock
-        + Net<Stream = TcpStream, Listener = TcpListener>
-        + Sync,
-    H: Herald + Journalist + Sync,
-    O: Opener<Branch = B> + Send + Drop,
-    B: Clerkship + Send + Drop,
->(shift: &Shift<'_, 'a, R, H, B>, steward: Steward<'a, R, O, B>, workers: usize) {
-    join(
-        shift.rt,
-        move || {
-            join(
-                shift.rt,
-                || shift.cry(),
-                || {
-                    join(shift.rt, || shift.look_up(), || shift.look_up());
-                },
-            );
-        },
-        move ||
-            requires { IsSync R.row × IsSync H.row × IsSend O.row × IsSend B.row }
-        { work_all(shift, steward, workers) },
-    );
-}
-
-/// The same, while one more answers operators, where any come in.
-fn work_watched<
-    'a,
-    R: Files<File = File>
-        + KeyFiles
-        + AllocGlobal
-        + Clone
-        + Drop
-        + Threads
-        + Wait
-        + Clock
-        + Net<Stream = TcpStream, Listener = TcpListener>
-        + Sync,
-    H: Herald + Journalist + Sync,
-    O: Opener<Branch = B> + Send + Drop,
-    B: Clerkship + Send + Drop,
->(shift: &Shift<'_, 'a, R, H, B>, steward: Steward<'a, R, O, B>, workers: usize) {
-    join(
-        shift.rt,
-        move || shift.watch(),
-        move ||
-            requires { IsSync R.row × IsSync H.row × IsSend O.row × IsSend B.row }
-        { work_by_name(shift, steward, workers) },
-    );
-}
-
-/// Lets the threads of a service work until no one answers any more, while one more waits for connections.
-pub(crate) fn work<
-    'a,
-    R: Files<File = File>
-        + KeyFiles
-        + AllocGlobal
-        + Clone
-        + Drop
-        + Threads
-        + Wait
-        + Clock
-        + Net<Stream = TcpStream, Listener = TcpListener>
-        + Sync,
-    H: Herald + Journalist + Sync,
-    O: Opener<Branch = B> + Send + Drop,
-    B: Clerkship + Send + Drop,
->(shift: &Shift<'_, 'a, R, H, B>, steward: Steward<'a, R, O, B>, workers: usize) {
-    join(
-        shift.rt,
-        move || shift.admit(),
-        move ||
-            requires { IsSync R.row × IsSync H.row × IsSend O.row × IsSend B.row }
-        { work_watched(shift, steward, workers) },
-    );
+    served
 }

@@ -77,6 +77,22 @@ impl<B: Clerkship + Drop> Journal<B> {
     pub fn query<R: Wait>(&self, rt: &R, query: Query) -> Option<Known> {
         self.branch.lock(rt).as_mut()?.query(query)
     }
+
+    /// Ends its coordinator, where no thread has a clerk of it any more. Returns whether it has ended: then no order
+    /// reaches it.
+    pub fn close<R: Wait>(&self, rt: &R) -> bool {
+        let mut place = self.branch.lock(rt);
+        let Some(branch) = place.take() else {
+            return true;
+        };
+        match branch.close() {
+            Ok(()) => true,
+            Err(branch) => {
+                *place = Some(branch);
+                false
+            }
+        }
+    }
 }
 
 impl<B: Drop> Journal<B> {

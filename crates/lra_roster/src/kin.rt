@@ -23,6 +23,8 @@ pub struct Kin<'s, 'a, R: Wait, B> {
     mine: Vec<Instance>,
     /// The roster's version that the family is known to be of.
     seen: u64,
+    /// It couldn't follow the last change that it saw.
+    is_behind: bool,
     clock: SystemClock<'a, R>,
 }
 
@@ -39,6 +41,7 @@ impl<'s, 'a, R: Wait, B> Kin<'s, 'a, R, B> {
             roster,
             mine: Vec::new(alloc),
             seen: 0,
+            is_behind: false,
             clock,
         }
     }
@@ -102,18 +105,19 @@ impl<R: Wait + time::Clock, B: Clerkship + Drop> Kin<'_, '_, R, B> {
         true
     }
 
-    /// Has those leave that are no more among the journals.
+    /// Has those leave that are no more among the journals. The family's newest stays until another one is.
     #[tactic(auto, using(crate::proofs::Grows::moved_none, crate::proofs::Grows::moved_on, crate::proofs::Grows::keeps_none, crate::proofs::Grows::keeps_on))]
     fn leave_all(&mut self, family: &mut Family<B>, journals: &[Arc<Journal<B>>])
         ensures moved { Moved family.old family.new }
         ensures base { KeepsBase family.old family.new }
     {
+        let newest = family.newest().number();
         for instance in &self.mine {
             if !is_among(journals, *instance) {
                 drop(dismiss(family, *instance));
             }
         }
-        self.mine.retain(|instance| is_among(journals, *instance));
+        self.mine.retain(|instance| instance.number() == newest || is_among(journals, *instance));
     }
 
     /// Has journals join and leave. Tells whether the family is of the roster by now.
@@ -125,20 +129,49 @@ impl<R: Wait + time::Clock, B: Clerkship + Drop> Kin<'_, '_, R, B> {
         let Ok(journals) = self.roster.all(self.rt) else {
             return false;
         };
-        if !self.join_all(family, &journals) {
-            return false;
-        }
+        let follows = self.join_all(family, &journals);
         self.leave_all(family, &journals);
-        true
+        follows
+    }
+
+    /// Notes whether it follows the roster.
+    fn note(&mut self, follows: bool, version: u64) {
+        if follows {
+            self.seen = version;
+        }
+        if follows == self.is_behind {
+            self.is_behind = !follows;
+            if follows {
+                self.roster.follow();
+            } else {
+                self.roster.fall_behind();
+            }
+        }
     }
 }
 
 impl<R: Wait + time::Clock, B: Clerkship + Drop> Kinship<B> for Kin<'_, '_, R, B> {
+    // Journals come and go whenever they like: nothing is known of what is told.
+    ghost tells = { λ named lacks. Unit {0} };
+
     #[tactic(auto, using(crate::proofs::Grows::moved_none, crate::proofs::Grows::moved_on, crate::proofs::Grows::keeps_none, crate::proofs::Grows::keeps_on))]
     fn look(&mut self, family: &mut Family<B>) {
         let version = self.roster.version();
-        if version != self.seen && self.catch_up(family) {
-            self.seen = version;
+        if version == self.seen {
+            return;
+        }
+        let follows = self.catch_up(family);
+        self.note(follows, version);
+    }
+
+    fn lacks_any(&self) -> bool {
+        self.is_behind || self.roster.lacks_any(self.seen)
+    }
+
+    fn lacks(&self, named: Option<Instance>) -> bool {
+        match named {
+            Some(instance) => self.roster.lacks(instance, self.seen),
+            None => self.is_behind,
         }
     }
 }

@@ -16,7 +16,15 @@ pub struct Roster<B> {
     has_reserved: AtomicBool,
     /// Nothing is begun that names no journal.
     is_draining: AtomicBool,
+    /// The instance whose journal has left to be put away, and isn't yet; or `NONE`.
+    retiring: AtomicU64,
+    /// How many threads that answer can't follow the last change, and how often one couldn't.
+    lagging: AtomicU64,
+    falls: AtomicU64,
 }
+
+/// No instance's number.
+const NONE: u64 = u64::MAX;
 
 impl<B: Drop> Roster<B> {
     pub fn new(alloc: Global) -> Roster<B> {
@@ -26,6 +34,9 @@ impl<B: Drop> Roster<B> {
             version: AtomicU64::new(1),
             has_reserved: AtomicBool::new(false),
             is_draining: AtomicBool::new(false),
+            retiring: AtomicU64::new(NONE),
+            lagging: AtomicU64::new(0),
+            falls: AtomicU64::new(0),
         }
     }
 
@@ -77,8 +88,9 @@ impl<B: Drop> Roster<B> {
         Ok(())
     }
 
-    /// One leaves.
+    /// One leaves, to be put away. Until `forget` it isn't said that there is none of its instance.
     pub fn withdraw<R: Wait>(&self, rt: &R, instance: Instance) {
+        self.retiring.store(instance.number(), Ordering::SeqCst);
         let mut journals = self.journals.lock(rt);
         let place = journals
             .iter()
@@ -88,6 +100,44 @@ impl<B: Drop> Roster<B> {
         }
         drop(journals);
         self.version.fetch_add(1, Ordering::SeqCst);
+    }
+
+    /// The one that has left is put away.
+    pub fn forget(&self) {
+        self.retiring.store(NONE, Ordering::SeqCst);
+    }
+
+    /// Whether those of a version may lack the journal of an instance: it isn't put away yet, or there is another
+    /// version by now.
+    pub fn lacks(&self, instance: Instance, version: u64) -> bool {
+        let is_retiring = self.retiring.load(Ordering::SeqCst) == instance.number();
+        is_retiring || self.version() != version
+    }
+
+    /// Whether those of a version may lack any.
+    pub fn lacks_any(&self, version: u64) -> bool {
+        self.retiring.load(Ordering::SeqCst) != NONE || self.version() != version
+    }
+
+    /// A thread that answers can't follow a change.
+    pub fn fall_behind(&self) {
+        self.lagging.fetch_add(1, Ordering::SeqCst);
+        self.falls.fetch_add(1, Ordering::SeqCst);
+    }
+
+    /// It can again.
+    pub fn follow(&self) {
+        self.lagging.fetch_sub(1, Ordering::SeqCst);
+    }
+
+    /// Whether a thread that answers can't follow a change.
+    pub fn lags(&self) -> bool {
+        self.lagging.load(Ordering::SeqCst) > 0
+    }
+
+    /// How often a thread that answers couldn't follow a change.
+    pub fn falls(&self) -> u64 {
+        self.falls.load(Ordering::SeqCst)
     }
 
     /// All of them, the newest last.

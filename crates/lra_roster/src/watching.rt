@@ -3,7 +3,8 @@
 use crate::journal::Journal;
 use crate::scanning::{Kind, Scan, Scanned};
 use lra_branch::Clerkship;
-use lra_rolls::{Counts, Rest, is_put_away};
+use lra_rolls::{Counts, Rest, is_put_away, longer_pause};
+use std::io::ErrorKind;
 use std::sync::{Arc, Wait};
 
 /// A journal, and what is known of it.
@@ -18,8 +19,11 @@ pub struct Watch<B> {
     since: u64,
     /// The look at all that it has, unless that came to something that is left to be done.
     scan: Option<Scan>,
-    /// It can't be put away.
-    pub stays: bool,
+    /// Why it couldn't be put away the last time, if that was tried.
+    why: Option<ErrorKind>,
+    /// How many milliseconds pass until that is tried again, and from when on it is.
+    pause: u64,
+    retry: u64,
 }
 
 impl<B: Drop> Watch<B> {
@@ -32,8 +36,36 @@ impl<B: Drop> Watch<B> {
             bytes: 0,
             since: now,
             scan: None,
-            stays: false,
+            why: None,
+            pause: 0,
+            retry: 0,
         }
+    }
+
+    /// It couldn't be put away at a moment: that is tried again later, each time after a longer pause. Returns whether
+    /// it is for another reason than before.
+    pub fn put_off(&mut self, why: ErrorKind, now: u64) -> bool {
+        self.pause = longer_pause(self.pause);
+        self.retry = now.saturating_add(self.pause);
+        let is_new = self.why != Some(why);
+        self.why = Some(why);
+        is_new
+    }
+
+    /// Whether it couldn't be put away the last time that this was tried.
+    pub fn is_put_off(&self) -> bool {
+        self.why.is_some()
+    }
+
+    /// Whether it may be tried to put it away.
+    pub fn may_be_tried(&self, now: u64) -> bool {
+        self.retry <= now
+    }
+
+    /// Has nothing more written to its journal, where that has as many bytes as it was judged by. Returns whether that
+    /// is so.
+    pub fn close(&self) -> bool {
+        self.journal.leaf.close_at(self.bytes)
     }
 
     /// The journal.
@@ -45,7 +77,9 @@ impl<B: Drop> Watch<B> {
             bytes: _,
             since: _,
             scan: _,
-            stays: _,
+            why: _,
+            pause: _,
+            retry: _,
         } = self;
         journal
     }
@@ -59,6 +93,9 @@ impl<B: Drop> Watch<B> {
         self.bytes = bytes;
         self.since = now;
         self.scan = Some(Scan::new());
+        self.why = None;
+        self.pause = 0;
+        self.retry = 0;
         true
     }
 }
@@ -102,7 +139,7 @@ impl<B: Clerkship + Drop> Watch<B> {
 
     /// Whether one that isn't the newest is put away by now, where it is kept at hand so many milliseconds after its last entry.
     pub fn is_done<R: Wait>(&mut self, rt: &R, now: u64, remember: u64) -> bool {
-        if self.stays || self.has_moved(now) {
+        if self.has_moved(now) || !self.may_be_tried(now) {
             return false;
         }
         let quiet = now.saturating_sub(self.since);

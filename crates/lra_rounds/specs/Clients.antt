@@ -1,5 +1,5 @@
 -- What a client's stream gives and takes.
-use Rattle.std.specs.Prelude.{◌≡◌, ℕ, ◌≤◌, Bool, List, [], length, take, Option, Some, IsTrue}
+use Rattle.std.specs.Prelude.{◌≡◌, ℕ, ◌≤◌, Bool, List, [], length, take, Option, Some, None, IsTrue}
 use Rattle.std.specs.Io.KnownBytes.{Appends, Consumes, IsAtEnd, Keeps}
 use Rattle.lra_durable.specs.Leaves.{MayLeave}
 use Rattle.lra_steps.specs.History.{History, took, finished, went}
@@ -33,3 +33,9 @@ HandsOut took keeps due before after old new Went = Leaves took keeps due before
 HandsOut took keeps due before after old new Waits = Keeps before after × (new ≡ old)
 HandsOut took keeps due before after old new Unkept = Keeps before after × (new ≡ old)
 HandsOut took keeps due before after old new Done = (old.out ≡ []) × Keeps before after × (new ≡ old)
+
+-- So many bytes came, and nobody is told of them; at the stream's end there are none.
+abbrev pub ThrowsAway : Option (List ℕ) → Option (List ℕ) → History → History → Option ℕ → Type 0
+ThrowsAway before after old new None = Keeps before after × (new ≡ old)
+ThrowsAway before after old new (Some count) =
+    (bytes : List ℕ) × Consumes before after bytes × (length bytes ≡ count) × (new ≡ old)

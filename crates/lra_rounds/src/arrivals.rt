@@ -6,7 +6,7 @@ use mio::{Poll, Token, Waker};
 use std::alloc::{AllocError, Global};
 use std::io;
 use std::net::Net;
-use std::sync::atomic::{AtomicU64, Ordering};
+use std::sync::atomic::{AtomicBool, AtomicU64, Ordering};
 use std::sync::{Mutex, Wait};
 
 /// What the events of newcomers are known by. No client has that key.
@@ -40,6 +40,8 @@ pub struct Arrivals {
     bell: Waker,
     /// How many the thread has.
     clients: AtomicU64,
+    /// Whether a newcomer waits for a descriptor.
+    wants_room: AtomicBool,
 }
 
 impl Arrivals {
@@ -55,6 +57,7 @@ impl Arrivals {
             }),
             bell,
             clients: AtomicU64::new(0),
+            wants_room: AtomicBool::new(false),
         })
     }
 
@@ -82,6 +85,18 @@ impl Arrivals {
         // Where it can't be woken, it looks by itself soon.
         let _ = self.bell.wake();
         Ok(())
+    }
+
+    /// Asks the thread to end the client that has been idle for longest: a newcomer waits, and the system has no
+    /// descriptor for it.
+    pub fn ask_room(&self) {
+        self.wants_room.store(true, Ordering::SeqCst);
+        let _ = self.bell.wake();
+    }
+
+    /// Returns whether that was asked since the last call.
+    pub(crate) fn takes_room(&self) -> bool {
+        self.wants_room.swap(false, Ordering::SeqCst)
     }
 
     /// No more come, and the thread reads no more requests: it ends once the replies that wait have left, or 10 s after.

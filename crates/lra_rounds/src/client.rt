@@ -4,7 +4,7 @@ ghost use Rattle.std.specs.Prelude.{◌≡◌, ◌⊎◌, ◌↔◌, ◌≤◌, 
 ghost use Rattle.std.specs.Io.KnownBytes.{Keeps};
 ghost use Rattle.lra_steps.specs.History.{begun, room_of, took};
 ghost use Rattle.lra_rounds.specs.Answered.{AnswersOf};
-ghost use Rattle.lra_rounds.specs.Clients.{Reads, HandsOut};
+ghost use Rattle.lra_rounds.specs.Clients.{Reads, HandsOut, ThrowsAway};
 
 use crate::answering::{Stage, answer_some};
 use crate::base::WhichBase;
@@ -13,9 +13,11 @@ use lra_front::{Clock, Routes};
 use lra_ids::{Base, Instance};
 use lra_model::Memory;
 use lra_steps::{Connection, Responder};
+use mio::net::TcpStream;
 use std::alloc::{AllocError, Global};
 use std::io::{ErrorKind, Read, Write};
 use std::marker::PhantomData;
+use std::net::Shutdown;
 use std::sync::Wait;
 
 /// Why a client can't be served any more.
@@ -158,6 +160,30 @@ impl<S: Read, D: Disk, P: WhichBase, A: Responder> Client<S, D, P, A> {
             }
             Ok(count) => take_in(&mut self.connection, &buffer[..count]),
             Err(error) if error.kind() == ErrorKind::WouldBlock => Ok(Reading::Waits),
+            Err(_) => Err(ClientFault::Io),
+        }
+    }
+}
+
+impl<S: Read, D: Disk, P: WhichBase, A: Responder> Client<S, D, P, A> {
+    /// Reads once and throws away what came. Returns how many bytes that were, or nothing where none came yet; 0 at the
+    /// stream's end.
+    pub fn discard(&mut self, buffer: &mut [u8]) -> Result<Option<usize>, ClientFault>
+        ensures { IfOk result (ThrowsAway (S.remaining self.old.stream) (S.remaining self.new.stream) self.old.connection self.new.connection) }
+    {
+        match self.stream.read(buffer) {
+            Ok(count) => Ok(Some(count)),
+            Err(error) if error.kind() == ErrorKind::WouldBlock => Ok(None),
+            Err(_) => Err(ClientFault::Io),
+        }
+    }
+}
+
+impl<D: Disk, P: WhichBase, A: Responder> Client<TcpStream, D, P, A> {
+    /// Shuts the stream's writing side: its peer reads all that was written, and then the end.
+    pub(crate) fn shut(&self) -> Result<(), ClientFault> {
+        match self.stream.shutdown(Shutdown::Write) {
+            Ok(()) => Ok(()),
             Err(_) => Err(ClientFault::Io),
         }
     }

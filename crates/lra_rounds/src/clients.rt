@@ -30,8 +30,9 @@ pub(crate) struct Clients<D: Disk, P: WhichBase, A: Responder> {
     alloc: Global,
     times: Times,
     seats: Slab<Seat<D, P, A>>,
-    /// Until when those that are idle have to begin a request, as limits; and the others to go on with theirs, or with a reply, as retries. What stands
-    /// here may come too soon: then it is put right (see `settle`).
+    /// Until when those that are idle have to begin a request, or to close their streams, as limits; and the others to
+    /// go on with theirs, or with a reply, as retries. What stands here may come too soon: then it is put right (see
+    /// `settle`).
     agenda: Agenda,
     /// The keys of those whose streams may be ready.
     ready: Vec<usize>,
@@ -94,9 +95,11 @@ impl<D: Disk, P: WhichBase, A: Responder> Clients<D, P, A> {
 
     /// Makes room for a client under so many: where there are as many, the one that has been idle for longest is ended. Tells whether there is room.
     fn make_room(&mut self, most: usize) -> bool {
-        if self.seats.len() < most {
-            return true;
-        }
+        self.seats.len() < most || self.end_idle()
+    }
+
+    /// Ends the client that has been idle for longest, if any is idle. Returns whether one was.
+    pub(crate) fn end_idle(&mut self) -> bool {
         for _stale in 0..=self.seats.len() {
             let Some(key) = self.agenda.first_due(u64::MAX) else {
                 return false;
@@ -183,7 +186,7 @@ impl<D: Disk, P: WhichBase, A: Responder> Clients<D, P, A> {
         }
         let key = key as u64;
         match turn {
-            Turn::Begins(until) => {
+            Turn::Begins(until) | Turn::Closes(until) => {
                 self.agenda.drop_retry(key);
                 self.agenda.set_limit(key, until).is_ok()
             }
@@ -246,23 +249,36 @@ impl<D: Disk, P: WhichBase, A: Responder> Clients<D, P, A> {
         }
     }
 
-    /// Whether the replies of someone wait to leave, also where its stream takes nothing.
+    /// Whether the replies of someone wait to leave, also where its stream takes nothing, or may be on their way.
     pub(crate) fn are_owed(&self) -> bool {
         self.seats.iter().any(|(_, seat)| seat.is_owed())
     }
 
-    /// Visits nobody any more: of those whose streams may be ready, those whose replies wait to leave are seen to.
-    pub(crate) fn rest(&mut self, now: u64) {
+    /// Sees to a client of whom no request is read any more: what it needs for the replies that it is owed.
+    fn rest_one(&mut self, buffer: &mut [u8], key: usize, now: u64) {
+        let Some(seat) = self.seats.get_mut(key) else {
+            return;
+        };
+        seat.unlist();
+        if seat.lingers() && seat.discard(buffer).is_err() {
+            self.end(key);
+        } else if seat.is_owed() {
+            self.place(key, now);
+        }
+    }
+
+    /// Visits nobody any more: of those whose streams may be ready, those whose replies wait to leave, or may be on
+    /// their way, are seen to.
+    pub(crate) fn rest(&mut self, buffer: &mut [u8], now: u64) {
         let keys = mem::replace(&mut self.ready, Vec::new(self.alloc));
-        self.again.clear();
         for key in keys {
-            let Some(seat) = self.seats.get_mut(key) else {
-                continue;
+            self.rest_one(buffer, key, now);
+        }
+        for _visit in 0..self.again.len() {
+            let Some(key) = self.again.pop_front() else {
+                return;
             };
-            seat.unlist();
-            if seat.is_owed() {
-                self.place(key, now);
-            }
+            self.rest_one(buffer, key, now);
         }
     }
 
@@ -311,7 +327,9 @@ impl<D: Disk, P: WhichBase, A: Responder> Clients<D, P, A> {
     fn end_of(&self, key: Option<u64>) -> Option<u64> {
         let seat = self.seats.get(key? as usize)?;
         match seat.noted() {
-            Turn::Begins(until) | Turn::Asks(until) | Turn::Takes(until) => Some(until),
+            Turn::Begins(until) | Turn::Asks(until) | Turn::Takes(until) | Turn::Closes(until) => {
+                Some(until)
+            }
             Turn::Waits => None,
         }
     }

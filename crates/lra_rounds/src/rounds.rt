@@ -162,7 +162,7 @@ impl<'a, R: Wait + time::Clock, D: Disk> Rounds<'a, R, D> {
         Duration::from_millis(left)
     }
 
-    /// Notes whose streams may be ready, and takes in those who have come.
+    /// Notes whose streams may be ready, ends one that is idle where that is asked, and takes in those who have come.
     fn take_in<P: WhichBase, A: Responder>(
         &self,
         watch: &Watch<'a, R>,
@@ -175,6 +175,9 @@ impl<'a, R: Wait + time::Clock, D: Disk> Rounds<'a, R, D> {
     {
         for event in watch.events.iter() {
             clients.call(usize::from(event.token()), event.is_read_closed());
+        }
+        if self.arrivals.takes_room() {
+            let _ = clients.end_idle();
         }
         let registry = watch.poll.registry();
         for _newcomer in 0..self.most {
@@ -218,7 +221,7 @@ impl<'a, R: Wait + time::Clock, D: Disk> Rounds<'a, R, D> {
         for event in watch.events.iter() {
             clients.call(usize::from(event.token()), event.is_read_closed());
         }
-        clients.rest(now);
+        clients.rest(watch.buffer.as_mut_slice(), now);
         self.hand_out(&mut watch.rounds, clients, true, now);
         clients.end_late(now);
         let until = watch.until.unwrap_or(now.saturating_add(PARTING));

@@ -1,6 +1,7 @@
 //! A client among those of a thread.
 
-ghost use Rattle.std.specs.Prelude.{◌≡◌};
+ghost use Rattle.std.specs.Prelude.{◌≡◌, if◌then◌else◌};
+ghost use Rattle.lra_rounds.specs.declared.seat.Need.TheVariants.{Rest, Visit};
 ghost use Rattle.lra_rounds.specs.inner.Stretches.{AnsweredSome};
 
 use crate::answering::Stage;
@@ -18,6 +19,13 @@ use std::sync::Wait;
 /// How often a client's stream is written to in a round.
 const MOST_CALLS: u64 = 4;
 
+/// How many milliseconds a client has to close its stream, once it has all its replies and no further request of it is
+/// read.
+const LINGER: u64 = 2_000;
+
+/// How many bytes are thrown away meanwhile.
+const MOST_DISCARDED: usize = 1_048_576;
+
 /// Whose turn it is with a client, and until when.
 #[derive(Clone, Copy, Debug, PartialEq, Eq)]
 pub(crate) enum Turn {
@@ -27,6 +35,9 @@ pub(crate) enum Turn {
     Asks(u64),
     /// The client's, to take replies.
     Takes(u64),
+    /// The client's, to close its stream: what still comes is thrown away. A stream that is closed with bytes unread
+    /// loses replies on their way.
+    Closes(u64),
     /// The disk's, to keep what replies tell of.
     Waits,
 }
@@ -61,6 +72,10 @@ pub(crate) struct Seat<D: Disk, P: WhichBase, A: Responder> {
     goes: bool,
     /// No further request comes.
     has_ended: bool,
+    /// Its stream gave its end.
+    is_read_out: bool,
+    /// How many more bytes are thrown away.
+    left: usize,
     /// Its stream takes nothing for now.
     is_blocked: bool,
     /// It is among those to visit.
@@ -82,6 +97,8 @@ impl<D: Disk, P: WhichBase, A: Responder> Seat<D, P, A> {
             is_closing: false,
             goes: false,
             has_ended: false,
+            is_read_out: false,
+            left: MOST_DISCARDED,
             is_blocked: false,
             is_listed: false,
             is_waiting: false,
@@ -132,7 +149,9 @@ impl<D: Disk, P: WhichBase, A: Responder> Seat<D, P, A> {
     /// Reads what came, a piece of it at most.
     fn read(&mut self, buffer: &mut [u8]) -> Result<(), ClientFault> {
         let before = self.client.room();
-        self.may_read = match self.client.read(buffer)? {
+        let reading = self.client.read(buffer)?;
+        self.is_read_out |= reading == Reading::Ended;
+        self.may_read = match reading {
             // Where fewer bytes came than there was room for, there are no others for now.
             Reading::Came => self.is_closing
                 || before.saturating_sub(self.client.room()) >= before.min(buffer.len()),
@@ -140,6 +159,41 @@ impl<D: Disk, P: WhichBase, A: Responder> Seat<D, P, A> {
             Reading::Waits | Reading::Ended => false,
         };
         Ok(())
+    }
+
+    /// Throws away what came, a piece of it at most.
+    pub(crate) fn discard(&mut self, buffer: &mut [u8]) -> Result<(), ClientFault> {
+        if !self.may_read {
+            return Ok(());
+        }
+        match self.client.discard(buffer)? {
+            Some(count) => {
+                self.is_read_out |= count == 0;
+                self.left = self.left.saturating_sub(count);
+            }
+            None => self.may_read = false,
+        }
+        Ok(())
+    }
+
+    /// Whether it has all its replies, and what still comes is thrown away.
+    pub(crate) fn lingers(&self) -> bool {
+        matches!(self.turn, Turn::Closes(_))
+    }
+
+    /// What it needs once it has all its replies and no further request is read. Its writing side is shut first, so
+    /// that its client reads all of them.
+    fn close(&mut self, now: u64) -> Need {
+        if self.is_read_out || self.left == 0 {
+            return Need::End;
+        }
+        if !self.lingers() {
+            if self.client.shut().is_err() {
+                return Need::End;
+            }
+            self.turn = Turn::Closes(now.saturating_add(LINGER));
+        }
+        need_of(self.may_read)
     }
 
     /// Reads what came, once all requests before are answered, and has those answered that are whole; but not while replies wait to leave.
@@ -156,6 +210,9 @@ impl<D: Disk, P: WhichBase, A: Responder> Seat<D, P, A> {
         self.is_listed = false;
         if !self.client.is_done() {
             return Ok(());
+        }
+        if self.lingers() {
+            return self.discard(buffer);
         }
         if self.may_read && !self.goes {
             self.read(buffer)?;
@@ -193,9 +250,9 @@ impl<D: Disk, P: WhichBase, A: Responder> Seat<D, P, A> {
         Ok(())
     }
 
-    /// Whether replies of it wait to leave.
+    /// Whether replies of it wait to leave, or may be on their way.
     pub(crate) fn is_owed(&self) -> bool {
-        !self.client.is_done()
+        !self.client.is_done() || self.lingers()
     }
 
     /// It isn't among those to visit any more.
@@ -214,15 +271,19 @@ impl<D: Disk, P: WhichBase, A: Responder> Seat<D, P, A> {
             };
         }
         if self.has_ended {
-            return Need::End;
+            return self.close(now);
         }
         self.turn = request_turn(self.turn, self.client.room() < self.whole, times, now);
-        if self.goes || self.may_read {
-            Need::Visit
-        } else {
-            Need::Rest
-        }
+        need_of(self.goes || self.may_read)
     }
+}
+
+/// What a client needs that isn't owed anything: another visit where more may be there to be read, or a request to be
+/// answered.
+fn need_of(is_more: bool) -> Need
+    ensures { result ≡ (if is_more then Visit else Rest) }
+{
+    if is_more { Need::Visit } else { Need::Rest }
 }
 
 /// The turn of a client whose replies wait to leave, where its stream takes nothing, or the disk doesn't keep yet what they tell of.

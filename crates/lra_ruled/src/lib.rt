@@ -5,8 +5,6 @@ mod addresses;
 mod bodies;
 mod laws;
 mod ruled;
-#[cfg(test)]
-mod trials;
 
 pub use laws::hosts_are_those_of_sockets;
 pub use ruled::Ruled;

@@ -6,12 +6,12 @@ use Rattle.std.specs.Net.Reader.{read_number, read_octet, read_ipv4, read_segmen
 use Rattle.lra_rules.specs.declared.fault.RuleFault.{RuleFault}
 use Rattle.lra_rules.specs.declared.fault.RuleFault.TheVariants.{NotHosts, NotPort}
 use Rattle.lra_rules.specs.Texts.{at_last, number, is_name}
-use Rattle.lra_rules.specs.Networks.{ipv4, ipv6, bare_ip_of, ip_of, octets_of, width_of, holds, network_of, is_special}
+use Rattle.lra_rules.specs.Networks.{ipv4, ipv6, bare_ip_of, ip_of, octets_of, width_of, inside, holds, network_of, is_special}
 use Rattle.lra_rules.specs.Rules.{hosts_of, reading_of, lets, names, let_address, let_host}
 
 -- what unfolds to compute these definitions
 unfoldable pub rules_on_literals : ⊤
-unfolding read_number read_octet read_ipv4 read_segment read_segments read_ipv6 at_last number is_name bare_ip_of ip_of octets_of width_of holds network_of is_special hosts_of reading_of lets names let_address let_host
+unfolding read_number read_octet read_ipv4 read_segment read_segments read_ipv6 at_last number is_name bare_ip_of ip_of octets_of width_of inside holds network_of is_special hosts_of reading_of lets names let_address let_host
 rules_on_literals = tt
 
 -- ---- texts that are no rules
@@ -82,6 +82,13 @@ by_name = refl
 by_network : each_of (codes "localhost" ∷ codes "127.0.0.0/8" ∷ []) ((10 ∷ 1 ∷ 2 ∷ 3 ∷ []) ∷ (127 ∷ 0 ∷ 0 ∷ 1 ∷ []) ∷ (169 ∷ 254 ∷ 169 ∷ 254 ∷ []) ∷ []) ≡ true ∷ true ∷ false ∷ []
 unfolding each_of rules_on_literals
 by_network = refl
+
+-- an address of NAT64 or 6to4 is called where the IPv4 address inside may be
+by_inside : map (λ rule. map (λ segments. let_address (rule ∷ []) (codes "a") (ipv6 segments) 80)
+    ((0x64 ∷ 0xff9b ∷ 0 ∷ 0 ∷ 0 ∷ 0 ∷ 0x7f00 ∷ 1 ∷ []) ∷ (0x2002 ∷ 0xa00 ∷ 1 ∷ 0 ∷ 0 ∷ 0 ∷ 0 ∷ 0 ∷ []) ∷ [])) (codes "a" ∷ codes "10.0.0.0/8" ∷ codes "64:ff9b::/96" ∷ codes "127.0.0.1" ∷ [])
+    ≡ (false ∷ true ∷ []) ∷ (false ∷ true ∷ []) ∷ (false ∷ false ∷ []) ∷ (true ∷ false ∷ []) ∷ []
+unfolding rules_on_literals
+by_inside = refl
 
 -- an IPv4-mapped address is the IPv4 address
 by_mapped : map (λ rule. let_address (rule ∷ []) (codes "a") (ipv6 (0 ∷ 0 ∷ 0 ∷ 0 ∷ 0 ∷ 0xffff ∷ 0x7f00 ∷ 1 ∷ [])) 80) (codes "a" ∷ codes "127.0.0.1" ∷ codes "::ffff:127.0.0.1" ∷ codes "::/0" ∷ codes "0.0.0.0/0" ∷ [])

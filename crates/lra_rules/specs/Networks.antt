@@ -1,5 +1,5 @@
 -- IP addresses as texts, networks of them, and those that are special.
-use Rattle.std.specs.Prelude.{ℕ, ◌-◌, ◌/◌, ◌^◌, Bool, true, false, ◌&&◌, ◌==◌, if◌then◌else◌, List, [], ◌∷◌, length, take, drop, slice_index, bytes_eq, nat_le, Option, Some, option_map, option_and_then}
+use Rattle.std.specs.Prelude.{ℕ, ◌-◌, ◌/◌, ◌%◌, ◌^◌, Bool, true, false, ◌&&◌, ◌==◌, if◌then◌else◌, List, [], ◌∷◌, length, take, drop, slice_index, bytes_eq, nat_le, Option, Some, option_map, option_and_then}
 use Rattle.std.specs.Option.{option_map_or, option_or}
 use Rattle.std.specs.List.{list_any}
 use Rattle.std.specs.Net.Addr.{ipv4_octets, ipv6_segments, ipv6_octets, low_octets}
@@ -39,6 +39,30 @@ ip_of text = if is_bracketed text then option_map ipv6 (whole_value (read_ipv6 (
 -- an IPv6 address is an IPv4-mapped one (RFC 4291, section 2.5.5.2), which counts as the IPv4 address here
 abbrev pub is_mapped : List ℕ → Bool
 is_mapped segments = bytes_eq (take 6 segments) (0 ∷ 0 ∷ 0 ∷ 0 ∷ 0 ∷ 65535 ∷ [])
+
+-- an IPv6 address is one of a NAT64 (RFC 6052, section 2.1: 64:ff9b::/96), which hands what comes to it on to the IPv4 address in its last 32 bits
+abbrev pub is_nat64 : List ℕ → Bool
+is_nat64 segments = bytes_eq (take 6 segments) (0x64 ∷ 0xff9b ∷ 0 ∷ 0 ∷ 0 ∷ 0 ∷ [])
+
+-- it is one of 6to4 (RFC 3056, section 2: 2002::/16), which does so to the IPv4 address in the 32 bits behind the first 16
+abbrev pub is_6to4 : List ℕ → Bool
+is_6to4 segments = slice_index segments 0 == 0x2002
+
+-- the four octets of two segments
+abbrev pub octets_in : ℕ → ℕ → List ℕ
+octets_in high low = high / 256 ∷ high % 256 ∷ low / 256 ∷ low % 256 ∷ []
+
+-- where what is sent to an IPv6 address of these segments arrives: at the IPv4 address inside it, where it has one
+abbrev pub inside_of : List ℕ → IpAddr
+inside_of segments =
+    if is_nat64 segments then ipv4 (octets_in (slice_index segments 6) (slice_index segments 7))
+    else if is_6to4 segments then ipv4 (octets_in (slice_index segments 1) (slice_index segments 2))
+    else ipv6 segments
+
+-- the same of any address
+unfoldable pub inside : IpAddr → IpAddr
+inside (V4 ip) = V4 ip
+inside (V6 ip) = inside_of (ipv6_segments ip)
 
 -- an address's octets
 unfoldable pub octets_of : IpAddr → List ℕ

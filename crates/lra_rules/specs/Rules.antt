@@ -11,7 +11,7 @@ use Rattle.lra_rules.specs.declared.reading.Hosts.{Hosts}
 use Rattle.lra_rules.specs.declared.reading.Hosts.TheVariants.{Any, Named, Within}
 use Rattle.lra_rules.specs.declared.reading.Reading.{Reading}
 use Rattle.lra_rules.specs.Texts.{at_last, number, is_name}
-use Rattle.lra_rules.specs.Networks.{ip_of, holds, network_of, is_special}
+use Rattle.lra_rules.specs.Networks.{ip_of, inside, holds, network_of, is_special}
 
 -- ---- the texts that are rules (this project's choice)
 
@@ -84,9 +84,14 @@ some_lets rules host port = list_any (lets host port) rules
 abbrev pub some_names : List (List ℕ) → IpAddr → ℕ → Bool
 some_names rules ip port = list_any (names ip port) rules
 
--- A host may be called at a port and an address that it comes to: there is no rule, or one that names the address, or one that lets the host, and the address isn't special.
+-- some rule lets a host or names an address, at a port
+abbrev pub some_has : List (List ℕ) → List ℕ → IpAddr → ℕ → Bool
+some_has rules host ip port = some_names rules ip port || some_lets rules host port
+
+-- A host may be called at a port and an address that it comes to: there is no rule, or one that names the address at which that arrives; or one that names the address or lets the
+-- host, and the one at which that arrives isn't special.
 unfoldable pub let_address : List (List ℕ) → List ℕ → IpAddr → ℕ → Bool
-let_address rules host ip port = length rules == 0 || some_names rules ip port || (some_lets rules host port && not (is_special ip))
+let_address rules host ip port = length rules == 0 || some_names rules (inside ip) port || (some_has rules host ip port && not (is_special (inside ip)))
 
 -- A host at a port may be a member's, as far as its text tells: in numbers, where its address may be called; and by its name, where there is no rule or one that lets it.
 unfoldable pub let_host : List (List ℕ) → List ℕ → ℕ → Bool

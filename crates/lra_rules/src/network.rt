@@ -70,6 +70,43 @@ fn canonical(ip: IpAddr) -> IpAddr
     ip.to_canonical()
 }
 
+/// Returns the IPv4 address of two segments.
+fn ipv4_of(high: u16, low: u16) -> IpAddr
+    ensures { result ≡ spec.ipv4 (spec.octets_in high low) }
+{
+    let octets = [
+        (high / 256) as u8,
+        (high % 256) as u8,
+        (low / 256) as u8,
+        (low % 256) as u8,
+    ];
+    IpAddr::V4(Ipv4Addr::from_octets(octets))
+}
+
+/// Returns where what is sent to an IPv6 address of these segments arrives.
+fn inside_of(segments: [u16; 8]) -> IpAddr
+    ensures { result ≡ spec.inside_of segments }
+{
+    if segments[..6] == [0x64, 0xff9b, 0, 0, 0, 0] {
+        return ipv4_of(segments[6], segments[7]);
+    }
+    if segments[0] == 0x2002 {
+        return ipv4_of(segments[1], segments[2]);
+    }
+    IpAddr::V6(Ipv6Addr::from_segments(segments))
+}
+
+/// Returns where what is sent to an address arrives: at the IPv4 address inside one of NAT64 or 6to4, and else there.
+#[tactic(auto, unfolding(crate::specs::Networks::inside))]
+pub(crate) fn inside(ip: IpAddr) -> IpAddr
+    ensures { result ≡ spec.inside ip }
+{
+    match ip {
+        IpAddr::V4(_) => ip,
+        IpAddr::V6(own) => inside_of(own.segments()),
+    }
+}
+
 /// How many bits an address has.
 fn width_of(ip: IpAddr) -> u16
     ensures { result ≡ spec.width_of ip }

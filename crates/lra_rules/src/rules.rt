@@ -5,7 +5,7 @@ ghost use Rattle.std.specs.Net.Socket.{socket_ip, socket_port};
 ghost use Rattle.lra_rules.specs.Texts.{host_in};
 ghost use Rattle.lra_rules.specs.Rules as spec;
 
-use crate::network::{ip_in, is_special};
+use crate::network::{inside, ip_in, is_special};
 use crate::rule::Rule;
 use crate::texts::host_in;
 use std::alloc::Global;
@@ -68,14 +68,22 @@ impl Rules {
         self.as_slice().iter().any(|rule| rule.names(ip, port))
     }
 
-    /// Whether a host may be called at a port and an address that it comes to.
+    /// Whether some rule lets a host or names an address, at a port.
+    fn some_has(&self, host: &[u8], ip: IpAddr, port: u16) -> bool
+        ensures { result ≡ spec.some_has self.now host.now ip port }
+    {
+        self.some_names(ip, port) || self.some_lets(host, port)
+    }
+
+    /// Whether a host may be called at a port and an address that it comes to. An address that has an IPv4 address inside, to which what is sent there goes, is called only where that one may be.
     #[tactic(auto, unfolding(crate::specs::Rules::let_address))]
     pub fn let_address(&self, host: &[u8], ip: IpAddr, port: u16) -> bool
         ensures { result ≡ spec.let_address self.now host.now ip port }
     {
+        let there = inside(ip);
         self.is_empty()
-            || self.some_names(ip, port)
-            || (self.some_lets(host, port) && !is_special(ip))
+            || self.some_names(there, port)
+            || (self.some_has(host, ip, port) && !is_special(there))
     }
 
     /// Whether a host at a port may be a member's, as far as its text tells: one in numbers where its address may be called.

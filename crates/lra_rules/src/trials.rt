@@ -12,6 +12,13 @@ const ROWS: &str = r"* pay.test:80 10.0.0.1:80 true
 PAY.test:8443 pay.test:8443 [2001:db8::1]:8443 true
 PAY.test:8443 pay.test:80 [2001:db8::1]:80 false
 .test pay.test:80 192.168.0.1:80 true
+* pay.test:80 [64:ff9b::7f00:1]:80 false
+* pay.test:80 [2002:a9fe:a9fe::1]:80 false
+* pay.test:80 [64:ff9b::a00:1]:80 true
+64:ff9b::/96 pay.test:80 [64:ff9b::7f00:1]:80 false
+64:ff9b::/96 pay.test:80 [64:ff9b::a00:1]:80 true
+10.0.0.0/8 pay.test:80 [2002:a00:1::]:80 true
+10.0.0.0/8 pay.test:80 [2002:b00:1::]:80 false
 127.0.0.0/8 localhost:80 127.0.0.1:80 true
 127.0.0.0/8 localhost:80 [::1]:80 false
 [fd00::]/8:80 [fd00::1]:80 [fd00::1]:80 true";

@@ -14,14 +14,14 @@ use Rattle.lra_journal.specs.Line.{header}
 use Rattle.lra_journal.specs.Lines.{IsLine}
 use Rattle.lra_journal.proofs.Texts.{feed_in, line_front, one_more}
 use Rattle.lra_core.specs.Shape.{Shape}
-use Rattle.lra_reports.specs.declared.fault.RunFault.{RunFault}
-use Rattle.lra_reports.specs.declared.fault.RunFault.TheVariants as fault
+use Rattle.lra_audits.specs.declared.fault.RunFault.{RunFault}
+use Rattle.lra_audits.specs.declared.fault.RunFault.TheVariants as fault
 use Rattle.lra_runs.specs.declared.player.Player.{Player}
 use Rattle.lra_runs.specs.declared.requests.RequestLine.{RequestLine}
 use Rattle.lra_runs.specs.Requests.{words_of_request_line, request_line, IsRequestLine}
 use Rattle.lra_runs.specs.Script.{player, Stage, first_stage, is_playable, line_answer, after_line, after_lines, ArePlayable, BeginsWithNone}
 use Rattle.lra_runs.specs.Play.{marked, played_line, played_lines, played, some_refused, Plays, PlaysUpToLine}
-use Rattle.lra_reports.specs.Faults.{IsOfOutput}
+use Rattle.lra_audits.specs.Faults.{IsOfOutput}
 use Rattle.lra_runs.specs.inner.Causes.{IsOfPlay}
 use Rattle.lra_runs.specs.inner.Players.{holding, stage_of, IsPlayedLine, IsPlayed}
 use Rattle.lra_runs.proofs.RequestLines.{lacks_feed}

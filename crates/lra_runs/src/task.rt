@@ -3,11 +3,12 @@
 ghost use Rattle.std.specs.Prelude.{◌≡◌, ◌∷◌, [], ℕ, ◌≤◌, List, IfOk, IfErr, IfSome, IfNone, codes};
 ghost use Rattle.std.specs.Fmt.{decimal};
 ghost use Rattle.lra_runs.specs.declared.task.Task.{Task};
-ghost use Rattle.lra_reports.specs.Words.{texts};
+ghost use Rattle.lra_audits.specs.Asked.{texts};
 ghost use Rattle.lra_runs.specs.Tasks.{IsTask};
 
 use itoa::Buffer;
-use lra_reports::{Question, Usage, read_question};
+use lra_audits::Usage;
+use lra_reports::{Question, read_question};
 
 /// How many threads of a kind a service may have.
 const MOST_WORKERS: u32 = 16;

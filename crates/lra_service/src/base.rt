@@ -6,10 +6,10 @@ ghost use Rattle.lra_ids.specs.Bases.{base_text, is_own_base};
 ghost use Rattle.lra_opening.specs.Ends.{IsOfAddress};
 ghost use Rattle.lra_service.specs.Sited.{base_served};
 
+use lra_audits::RunFault;
 use lra_courier::socket_text;
 use lra_ids::{Address, Base, base_of};
 use lra_opening::ServeFault;
-use lra_reports::RunFault;
 use std::alloc::Global;
 use std::net::{Net, TcpListener};
 

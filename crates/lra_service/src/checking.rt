@@ -6,10 +6,10 @@ ghost use Rattle.lra_ids.specs.Bases.{base_text};
 ghost use Rattle.lra_opening.specs.Ends.{IsRefused, IsOfAddress};
 
 use crate::base::{Site, site_at};
+use lra_audits::put;
 use lra_core::Opening;
 use lra_ids::Base;
 use lra_opening::{Found, Place, ServeFault, find_journal, is_new, refuse};
-use lra_reports::put;
 use lra_settings::{Parameter, Settings};
 use std::alloc::Global;
 use std::io::Write;

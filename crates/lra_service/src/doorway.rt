@@ -5,8 +5,8 @@ ghost use Rattle.lra_opening.specs.Faults.{IsOfNoScript};
 
 use crate::ending::{Ending, watch};
 use crate::entrance::Line;
+use lra_audits::RunFault;
 use lra_opening::ServeFault;
-use lra_reports::RunFault;
 use std::alloc::Global;
 use std::io::Read;
 use std::marker::Send;

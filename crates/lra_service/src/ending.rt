@@ -6,9 +6,9 @@ ghost use Rattle.lra_opening.specs.Ends.{serving_line, IsSaid};
 ghost use Rattle.lra_opening.specs.Faults.{IsOfNoScript};
 
 use crate::running::Served;
+use lra_audits::RunFault;
 use lra_durable::{Disk, Progress};
 use lra_opening::ServeFault;
-use lra_reports::RunFault;
 use lra_watchpost::Ends;
 use mio::Waker;
 use std::alloc::Global;
@@ -83,7 +83,8 @@ fn read_out<I: Read>(input: &mut I) {
     }
 }
 
-/// Has a service end gently once an input has ended. A thread of its own waits for that. It is left to itself, so that it holds nobody up.
+/// Has a service end gently once an input has ended. A thread of its own waits for that. It is left to itself, so that
+/// it holds nobody up. Where it can't be started, nothing is served.
 pub fn watch<R: Threads, I: Read + Send + Drop + 'static>(
     rt: &R,
     ending: &Arc<Ending>,
@@ -105,7 +106,7 @@ pub fn watch<R: Threads, I: Read + Send + Drop + 'static>(
             drop(thread);
             Ok(())
         }
-        Err(_) => Err(ServeFault::Run(RunFault::Memory)),
+        Err(_) => Err(ServeFault::Address),
     }
 }
 

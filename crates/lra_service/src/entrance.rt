@@ -65,7 +65,9 @@ enum Came {
     Connection(TcpStream),
     /// None waits.
     Nothing,
-    /// None could be accepted, as where too many files are open.
+    /// None could be accepted, since too many files are open.
+    Crowded,
+    /// None could be accepted for another reason.
     Refused,
     /// The listener is gone.
     Gone,
@@ -130,6 +132,13 @@ impl<'a, R: Wait> Entrance<'a, R> {
         }
     }
 
+    /// Asks each thread to end the client that has been idle for longest.
+    fn ask_room(&self) {
+        for arrivals in self.arrivals.as_slice() {
+            arrivals.ask_room();
+        }
+    }
+
     /// Hands on the connections that wait. Tells how many milliseconds may pass before others are looked for, if no event has to be waited for; or nothing,
     /// where the listener is gone.
     fn take_all(&self, line: &Line) -> Option<Option<u64>> {
@@ -137,6 +146,10 @@ impl<'a, R: Wait> Entrance<'a, R> {
             match accept(&line.listener) {
                 Came::Connection(stream) => self.hand_on(stream),
                 Came::Nothing => return Some(None),
+                Came::Crowded => {
+                    self.ask_room();
+                    return Some(Some(PAUSE));
+                }
                 Came::Refused => return Some(Some(PAUSE)),
                 Came::Gone => return None,
             }
@@ -160,8 +173,9 @@ impl<'a, R: Wait> Entrance<'a, R> {
         }
     }
 
-    /// Hands on the connections that come, until there are to be no others. Then those who answer end: at once, or once the replies that wait have left,
-    /// where the service is to end gently. A connection that can't be accepted, as where too many files are open, is waited out.
+    /// Hands on the connections that come, until there are to be no others. Then those who answer end: at once, or once
+    /// the replies that wait have left, where the service is to end gently. Where a connection can't be accepted, as
+    /// where too many files are open, those that have been idle for longest make room for it.
     pub fn open(&self) {
         let line = self.line.lock(self.rt).take();
         if let Some(mut line) = line {
@@ -190,11 +204,23 @@ impl<'a, R: Wait> Entrance<'a, R> {
     }
 }
 
+/// How the system says that too many files are open: on the whole machine, and in this process.
+const CROWDED: [i32; 2] = [23, 24];
+
+/// Whether a fault says that too many files are open.
+fn is_crowded(error: &io::Error) -> bool {
+    match error.raw_os_error() {
+        Some(code) => CROWDED.contains(&code),
+        None => false,
+    }
+}
+
 /// Accepts a connection.
 fn accept(listener: &TcpListener) -> Came {
     match listener.accept() {
         Ok((stream, _)) => Came::Connection(stream),
         Err(error) if error.kind() == ErrorKind::WouldBlock => Came::Nothing,
+        Err(error) if is_crowded(&error) => Came::Crowded,
         Err(_) => {
             if listener.local_addr().is_ok() {
                 Came::Refused

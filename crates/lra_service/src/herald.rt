@@ -3,7 +3,7 @@
 use lra_logs::{Event, Journalist, Level, Logbook, Port};
 use lra_opening::Herald;
 use lra_rounds::RoundsEnd;
-use lra_watchpost::Turned;
+use lra_watchpost::{Tallies, Turned};
 use lra_workers::WorkerEnd;
 use std::alloc::Global;
 use std::sync::Wait;
@@ -73,15 +73,24 @@ fn why_answered(end: RoundsEnd) -> Option<&'static str> {
     }
 }
 
-/// Tells that a thread that answered has ended, and why.
-pub fn tell_answered<H: Herald>(herald: &H, end: RoundsEnd) {
+/// Tells that a thread that answered has ended though the service goes on, and why. Where it has ended with the service
+/// nothing is told.
+pub fn lose_worker<H: Herald + Journalist>(herald: &H, tallies: &Tallies, end: RoundsEnd) {
     if let Some(line) = why_answered(end) {
         herald.tell(line);
+        herald.note(&Event::ThreadEnded);
+        tallies.lose_worker();
     }
 }
 
-/// Tells that a thread that carried has ended, and why.
-pub fn tell_carried<H: Herald>(alloc: Global, herald: &H, end: WorkerEnd) {
+/// Tells that a thread that carried has ended though the service goes on, and why. Where it has ended with the service
+/// nothing is told.
+pub fn lose_callback_worker<H: Herald + Journalist>(
+    alloc: Global,
+    herald: &H,
+    tallies: &Tallies,
+    end: WorkerEnd,
+) {
     let WorkerEnd::Refused(refusal) = end else {
         return;
     };
@@ -89,4 +98,6 @@ pub fn tell_carried<H: Herald>(alloc: Global, herald: &H, end: WorkerEnd) {
         Ok(line) => herald.tell(line.as_str()),
         Err(_) => herald.tell("lra: a thread that carried has ended\n"),
     }
+    herald.note(&Event::ThreadEnded);
+    tallies.lose_callback_worker();
 }

@@ -3,6 +3,7 @@
 
 mod base;
 mod checking;
+mod descriptors;
 mod disk;
 mod doorway;
 mod ending;
@@ -10,6 +11,7 @@ mod entrance;
 mod gate;
 mod grown;
 mod herald;
+mod latch;
 mod lookout;
 mod measure;
 mod polls;
@@ -18,16 +20,19 @@ mod running;
 mod shares;
 mod shift;
 mod spot;
+mod starting;
 mod terms;
 
 pub use base::{Site, bind, site_at};
 pub use checking::{check_place, put_journal, put_number, put_olders, put_settings, put_text};
+pub use descriptors::fit_descriptors;
 pub use disk::{FilePen, JournalFile};
 pub use doorway::{Doorway, make_doorway};
 pub use ending::{Ending, end_of, say, watch};
 pub use entrance::{Entrance, Line};
 pub use gate::CarrierGate;
-pub use herald::{Book, Quiet, Turnstile, tell_answered, tell_carried};
+pub use herald::{Book, Quiet, Turnstile, lose_callback_worker, lose_worker};
+pub use latch::Latch;
 pub use lra_clocks::SystemClock;
 pub use lra_opening::{
     Aloud, Found, Herald, Place, ServeFault, Silence, fault_line, find_journal, open_office,

@@ -1,11 +1,11 @@
 //! What is told operators of a service beside its history.
 
 use crate::grown::Grown;
+use lra_audits::LONGEST;
 use lra_commands::Limits;
 use lra_core::Opening;
 use lra_opening::is_new;
 use lra_overview::Facts;
-use lra_reports::LONGEST;
 use lra_watchpost::{Tallies, Vitals};
 use std::sync::Arc;
 
@@ -74,6 +74,11 @@ impl Measure {
             virtual_bytes: vitals.virtual_bytes,
             resident_bytes: vitals.resident_bytes,
             processor_ticks: vitals.ticks,
+            lags: false,
+            sync_age: self.tallies.sync_age(),
+            sync_limit: self.tallies.sync_limit(),
+            lost_workers: self.tallies.lost_workers(),
+            lost_callback_workers: self.tallies.lost_callback_workers(),
         }
     }
 }

@@ -15,17 +15,19 @@ ghost use Rattle.lra_service.specs.inner.Opened.{IsOpenAt};
 use crate::base::{Site, site_at};
 use crate::disk::{FilePen, JournalFile};
 use crate::doorway::{Doorway, make_doorway};
-use crate::ending::{end_of, say};
+use crate::ending::end_of;
 use crate::grown::Grown;
 use crate::herald::Quiet;
 use crate::measure::{Begun, Measure, begun_from};
 use crate::polls::{Polls, polls_of};
 use crate::post::hire_all;
 use crate::shares::limits_of;
-use crate::shift::{Shift, work};
+use crate::shift::Shift;
 use crate::spot::{Entry, listener_at};
+use crate::starting::work;
 use crate::terms::Terms;
 use lra_admission::KeyFiles;
+use lra_audits::RunFault;
 use lra_clocks::milliseconds;
 use lra_core::Opening;
 use lra_durable::{Keeper, Progress};
@@ -35,7 +37,6 @@ use lra_office::{Clerk, Desk, Office};
 use lra_opening::{
     Found, Herald, NamedFile, Place, ServeFault, find_journal, open_office, ready_file, refuse,
 };
-use lra_reports::RunFault;
 use lra_rules::Rules;
 use lra_settings::Settings;
 use lra_syncs::Syncs;
@@ -124,10 +125,14 @@ fn disk_of(alloc: Global, file: File, syncs: Option<Arc<Syncs>>) -> Option<OpenD
 }
 
 /// What is tallied of a service that begins.
-fn tallies_of(alloc: Global, post: Option<&Watchpost>) -> Result<Tallies, ServeFault>
+fn tallies_of(
+    alloc: Global,
+    post: Option<&Watchpost>,
+    sync_seconds: u64,
+) -> Result<Tallies, ServeFault>
     ensures { IfErr result IsOfNoScript }
 {
-    match Tallies::new(alloc, post) {
+    match Tallies::new(alloc, post, sync_seconds) {
         Ok(tallies) => Ok(tallies),
         Err(_) => Err(ServeFault::Run(RunFault::Memory)),
     }
@@ -177,7 +182,7 @@ impl<
     P: Place<File = File>,
     H: Herald + Journalist + Sync,
 > Service<'_, R, P, H> {
-    /// Says that it serves, and serves connections until none can come any more.
+    /// Says that it serves once all threads stand, and serves connections until none can come any more.
     fn serve_office<K: Write + Drop + Send, W: Write>(
         &self,
         shift: &Shift<'_, R, H>,
@@ -198,20 +203,7 @@ impl<
             self.workers,
             shift.is_watched(),
         )?;
-        match say(self.alloc, self.address, writer) {
-            Ok(()) => {
-                self.herald.note(&Event::Serving {
-                    journals: 1,
-                    workers: u64::from(self.workers),
-                });
-                shift.follow(office.instance());
-                Ok(work(shift, office, jobs)?)
-            }
-            Err(fault) => {
-                drop(jobs);
-                Err(fault)
-            }
-        }
+        work(shift, office, jobs, self.address, writer)
     }
 
     /// The office of a journal, and its first clerk.
@@ -319,7 +311,7 @@ impl<
             return Err(ServeFault::Address);
         };
         let polls = polls_of(self.rt, self.alloc, self.workers)?;
-        let tallies = tallies_of(self.alloc, self.operators)?;
+        let tallies = tallies_of(self.alloc, self.operators, self.settings.sync_seconds)?;
         // A journal that was written to later, as by a clock that was wrong, is gone on from that moment.
         let moment = now.max(latest);
         stand_on(self.alloc, file, door, polls, tallies, begun, moment)

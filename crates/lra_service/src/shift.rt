@@ -1,6 +1,6 @@
 //! The threads of a service.
 
-ghost use Rattle.std.specs.Prelude.{◌≡◌, [], All, IfSome};
+ghost use Rattle.std.specs.Prelude.{◌≡◌, [], IfSome};
 ghost use Rattle.lra_ticket.specs.Locks.{lock_id};
 ghost use Rattle.lra_service.specs.inner.Opened.{IsAt};
 
@@ -8,7 +8,8 @@ use crate::disk::JournalFile;
 use crate::ending::Ending;
 use crate::entrance::{Entrance, Line};
 use crate::gate::CarrierGate;
-use crate::herald::{Turnstile, tell_answered, tell_carried};
+use crate::herald::{Turnstile, lose_callback_worker, lose_worker};
+use crate::latch::Latch;
 use crate::lookout::Lookout;
 use crate::measure::{Measure, Now};
 use crate::polls::{Polls, Stall};
@@ -21,22 +22,21 @@ use lra_callbacks::{Callbacks, Names, Share, ring};
 use lra_clocks::SystemClock;
 use lra_durable::Progress;
 use lra_ids::Instance;
-use lra_logs::{Journalist, Tail};
+use lra_logs::{Event, Journalist, Tail};
 use lra_office::{Clerk, OfficeOf, Serving, WhichLock, Window};
-use lra_opening::Herald;
+use lra_opening::{Herald, ServeFault};
 use lra_overview::Facts;
 use lra_rounds::{Arrivals, Rounds, RoundsEnd, Times};
 use lra_settings::Settings;
 use lra_watchpost::{CountedCarriage, Vitals, Watchpost, attend};
 use lra_workers::{WorkerEnd, run_carrier};
 use mio::Waker;
-use std::alloc::{AllocError, Global};
-use std::marker::{Brand, Send, Sync};
+use std::alloc::Global;
+use std::marker::Brand;
 use std::net::{Net, TcpListener, TcpStream};
 use std::sync::atomic::{AtomicU64, Ordering};
 use std::sync::{Arc, Mutex, Wait};
 use std::thread;
-use std::thread::{Threads, join};
 use std::time::{Clock, Duration};
 
 /// How many milliseconds pass from one look at what the journal's file has taken to the next.
@@ -45,10 +45,12 @@ const LOOK: u64 = 100;
 /// What the threads of a service share.
 #[derive(Drop)]
 pub(crate) struct Shift<'a, R, H> {
-    rt: &'a R,
-    alloc: Global,
+    pub(crate) rt: &'a R,
+    pub(crate) alloc: Global,
     herald: &'a H,
     door: Entrance<'a, R>,
+    /// Where the threads wait until all of them stand.
+    latch: Latch,
     progress: &'a Progress<JournalFile>,
     ending: &'a Arc<Ending>,
     /// By which terms requests are taken.
@@ -61,6 +63,8 @@ pub(crate) struct Shift<'a, R, H> {
     times: Times,
     /// How many answer connections.
     answering: AtomicU64,
+    /// How many clerks work.
+    working: AtomicU64,
     /// The places of those who carry.
     stalls: Vec<Stall>,
     /// What wakes them, once something may be due.
@@ -110,6 +114,7 @@ impl<'a, R: Wait + Clock, H> Shift<'a, R, H> {
             alloc,
             herald,
             door: Entrance::new(rt, line, ending, arrivals),
+            latch: Latch::new(),
             progress,
             ending,
             terms,
@@ -117,6 +122,7 @@ impl<'a, R: Wait + Clock, H> Shift<'a, R, H> {
             most: most as usize,
             times: times_of(settings),
             answering: AtomicU64::new(workers as u64),
+            working: AtomicU64::new(0),
             share: share_of(settings, workers),
             stalls,
             bells,
@@ -226,7 +232,7 @@ impl<
     }
 
     /// Hands on the connections that come, until there are to be no others. Then those who carry look whether they are to end.
-    fn admit(&self) {
+    pub(crate) fn admit(&self) {
         self.door.open();
         ring(&self.bells);
     }
@@ -248,7 +254,7 @@ impl<
             Ok(received) => received,
             Err(window) => {
                 drop(window.into_clerk());
-                tell_answered(self.herald, RoundsEnd::Refused);
+                lose_worker(self.herald, tallies, RoundsEnd::Refused);
                 return;
             }
         };
@@ -261,7 +267,8 @@ impl<
             self.most,
             self.times,
         );
-        tell_answered(self.herald, rounds.run(&mut received, &mut self.clock()));
+        let end = rounds.run(&mut received, &mut self.clock());
+        lose_worker(self.herald, tallies, end);
         drop(dismiss(received).into_clerk());
     }
 
@@ -311,7 +318,7 @@ impl<
     }
 
     /// Has what the file takes told of, as that of a journal.
-    pub(crate) fn follow(&self, journal: Instance) {
+    fn follow(&self, journal: Instance) {
         let taken = self.end.lock(self.rt).take();
         if let Some(FileEnd { file, at }) = taken {
             let tail = Tail::of(self.alloc, file, at, journal, self.herald);
@@ -372,7 +379,7 @@ impl<
     /// Tells why one who carried has ended, unless the disk has failed: then the program ends, and says so.
     fn tell_end(&self, end: WorkerEnd) {
         if !self.progress.has_failed(self.rt) {
-            tell_carried(self.alloc, self.herald, end);
+            lose_callback_worker(self.alloc, self.herald, &self.measure.tallies, end);
         }
     }
 
@@ -387,6 +394,57 @@ impl<
         self.ending.finish();
     }
 
+    /// Notes that so many clerks are going to work.
+    pub(crate) fn expect(&self, clerks: usize) {
+        self.working.store(clerks as u64, Ordering::SeqCst);
+    }
+
+    /// Lets those who stand work, once it was said that the service serves.
+    pub(crate) fn begin(&self, journal: Instance) {
+        self.herald.note(&Event::Serving {
+            journals: 1,
+            workers: self.stalls.len() as u64,
+        });
+        self.follow(journal);
+        self.latch.decide(self.rt, true);
+    }
+
+    /// Has those who stand end at once, since another couldn't be started. Returns why the service doesn't serve.
+    pub(crate) fn give_up(&self) -> ServeFault
+        ensures { result ≡ ServeFault.Address }
+    {
+        self.latch.decide(self.rt, false);
+        ServeFault::Address
+    }
+
+    /// Waits until all stand, and reports what the journal's file takes.
+    pub(crate) fn stand_and_report(&self) {
+        if self.latch.pass(self.rt) {
+            self.report();
+        }
+    }
+
+    /// Waits until all stand, and looks up the names of members' hosts.
+    pub(crate) fn stand_and_look_up(&self) {
+        if self.latch.pass(self.rt) {
+            self.look_up();
+        }
+    }
+
+    /// Waits until all stand, and does a clerk's duty. With the last clerk's end all end.
+    pub(crate) fn stand<V: Serving>(&self, office: &OfficeOf<V>, duty: Duty, clerk: Clerk<V>)
+        requires { IsAt V.setting office.now clerk }
+    {
+        if !self.latch.pass(self.rt) {
+            drop(clerk);
+            return;
+        }
+        self.work(office, duty, clerk);
+        if self.working.fetch_sub(1, Ordering::SeqCst) <= 1 {
+            self.end();
+        }
+    }
+
     fn work<V: Serving>(&self, office: &OfficeOf<V>, duty: Duty, clerk: Clerk<V>)
         requires { IsAt V.setting office.now clerk }
     {
@@ -396,96 +454,4 @@ impl<
             Duty::Watch => self.watch(office, clerk),
         }
     }
-}
-
-/// Lets each clerk work in a thread of its own, until no one answers connections any more.
-fn work_all<
-    V: Serving + Send,
-    R: KeyFiles + Threads + Wait + Clock + Net<Stream = TcpStream, Listener = TcpListener> + Sync,
-    H: Herald + Journalist + Sync,
->(
-    shift: &Shift<'_, R, H>,
-    office: &OfficeOf<V>,
-    jobs: Vec<(Duty, Clerk<V>)>,
-) -> Result<(), AllocError>
-    requires { All (λ job. IsAt V.setting office.now job.1) jobs.items }
-{
-    let worked = thread::map_vec(
-        shift.rt,
-        jobs,
-        &|job: (Duty, Clerk<V>)|
-            requires { IsAt V.setting office.now job.1 }
-        { shift.work(office, job.0, job.1) },
-    );
-    shift.end();
-    worked?;
-    Ok(())
-}
-
-/// The same, while two more threads look up names.
-fn work_by_name<
-    V: Serving + Send,
-    R: KeyFiles + Threads + Wait + Clock + Net<Stream = TcpStream, Listener = TcpListener> + Sync,
-    H: Herald + Journalist + Sync,
->(
-    shift: &Shift<'_, R, H>,
-    office: &OfficeOf<V>,
-    jobs: Vec<(Duty, Clerk<V>)>,
-) -> Result<(), AllocError>
-    requires { All (λ job. IsAt V.setting office.now job.1) jobs.items }
-{
-    let (_, worked) = join(
-        shift.rt,
-        move || {
-            join(shift.rt, || shift.look_up(), || shift.look_up());
-        },
-        move || -> Result<(), AllocError>
-            requires { All (λ job. IsAt V.setting office.now job.1) jobs.items }
-        { work_all(shift, office, jobs) },
-    );
-    worked
-}
-
-/// The same, while one more thread tells of what the journal's file takes.
-fn work_reported<
-    V: Serving + Send,
-    R: KeyFiles + Threads + Wait + Clock + Net<Stream = TcpStream, Listener = TcpListener> + Sync,
-    H: Herald + Journalist + Sync,
->(
-    shift: &Shift<'_, R, H>,
-    office: &OfficeOf<V>,
-    jobs: Vec<(Duty, Clerk<V>)>,
-) -> Result<(), AllocError>
-    requires { All (λ job. IsAt V.setting office.now job.1) jobs.items }
-{
-    let (_, worked) = join(
-        shift.rt,
-        move || shift.report(),
-        move || -> Result<(), AllocError>
-            requires { All (λ job. IsAt V.setting office.now job.1) jobs.items }
-        { work_by_name(shift, office, jobs) },
-    );
-    worked
-}
-
-/// The same, while one more thread waits for connections.
-pub(crate) fn work<
-    V: Serving + Send,
-    R: KeyFiles + Threads + Wait + Clock + Net<Stream = TcpStream, Listener = TcpListener> + Sync,
-    H: Herald + Journalist + Sync,
->(
-    shift: &Shift<'_, R, H>,
-    office: &OfficeOf<V>,
-    jobs: Vec<(Duty, Clerk<V>)>,
-) -> Result<(), AllocError>
-    requires { All (λ job. IsAt V.setting office.now job.1) jobs.items }
-{
-    let (_, worked) = join(
-        shift.rt,
-        move || shift.admit(),
-        move || -> Result<(), AllocError>
-            requires { All (λ job. IsAt V.setting office.now job.1) jobs.items }
-        { work_reported(shift, office, jobs) },
-    );
-    worked
 }

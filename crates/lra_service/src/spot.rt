@@ -5,8 +5,8 @@ ghost use Rattle.lra_opening.specs.Ends.{IsOfAddress};
 ghost use Rattle.lra_service.specs.Sited.{IsSpotOf};
 
 use crate::base::bind;
+use lra_audits::RunFault;
 use lra_opening::ServeFault;
-use lra_reports::RunFault;
 use std::alloc::Global;
 use std::net::{Net, TcpListener, TcpStream};
 

@@ -1,3 +1,4 @@
 pub mod Parameters
 pub mod Settings
 pub mod Given
+pub mod Descriptors

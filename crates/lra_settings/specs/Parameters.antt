@@ -1,7 +1,7 @@
 -- The numbers among the settings.
 use Rattle.std.specs.Prelude.{ℕ, Bool, List, ◌&&◌, codes, nat_le}
 use Rattle.lra_settings.specs.declared.parameter.Parameter.{Parameter}
-use Rattle.lra_settings.specs.declared.parameter.Parameter.TheVariants.{Connections, Callbacks, HostShare, IdleTimeout, RequestTimeout, ReplyTimeout, ConnectTimeout, CallbackTimeout, RetryFirst, RetryLast, RollAfter, Remember, Site}
+use Rattle.lra_settings.specs.declared.parameter.Parameter.TheVariants.{Connections, Callbacks, HostShare, IdleTimeout, RequestTimeout, ReplyTimeout, ConnectTimeout, CallbackTimeout, SyncSeconds, RetryFirst, RetryLast, RollAfter, Remember, Site}
 
 -- the word of a parameter, on a command line and in a file (this project's choice)
 abbrev pub name_of : Parameter → List ℕ
@@ -13,6 +13,7 @@ name_of RequestTimeout = codes "request-timeout"
 name_of ReplyTimeout = codes "reply-timeout"
 name_of ConnectTimeout = codes "connect-timeout"
 name_of CallbackTimeout = codes "callback-timeout"
+name_of SyncSeconds = codes "sync-seconds"
 name_of RetryFirst = codes "retry-first"
 name_of RetryLast = codes "retry-last"
 name_of RollAfter = codes "roll-after"
@@ -29,6 +30,7 @@ least_of RequestTimeout = 1
 least_of ReplyTimeout = 1
 least_of ConnectTimeout = 1
 least_of CallbackTimeout = 1
+least_of SyncSeconds = 1
 least_of RetryFirst = 1
 least_of RetryLast = 1
 least_of RollAfter = 1
@@ -45,6 +47,7 @@ most_of RequestTimeout = 86400
 most_of ReplyTimeout = 86400
 most_of ConnectTimeout = 86400
 most_of CallbackTimeout = 86400
+most_of SyncSeconds = 86400
 most_of RetryFirst = 86400000
 most_of RetryLast = 86400000
 most_of RollAfter = 50000

@@ -1,7 +1,7 @@
 -- All settings of a service.
 use Rattle.std.specs.Prelude.{ℕ, Bool, false, ◌&&◌, nat_le}
 use Rattle.lra_settings.specs.declared.parameter.Parameter.{Parameter}
-use Rattle.lra_settings.specs.declared.parameter.Parameter.TheVariants.{Connections, Callbacks, HostShare, IdleTimeout, RequestTimeout, ReplyTimeout, ConnectTimeout, CallbackTimeout, RetryFirst, RetryLast, RollAfter, Remember, Site}
+use Rattle.lra_settings.specs.declared.parameter.Parameter.TheVariants.{Connections, Callbacks, HostShare, IdleTimeout, RequestTimeout, ReplyTimeout, ConnectTimeout, CallbackTimeout, SyncSeconds, RetryFirst, RetryLast, RollAfter, Remember, Site}
 use Rattle.lra_settings.specs.declared.settings.Settings.{Settings}
 use Rattle.lra_settings.specs.Parameters.{fits}
 
@@ -16,6 +16,7 @@ usual = record {
   reply_seconds = 10;
   connect_seconds = 5;
   callback_seconds = 30;
+  sync_seconds = 5;
   retry_first_ms = 100;
   retry_last_ms = 60000;
   roll_after = 50000;
@@ -34,6 +35,7 @@ value_of s RequestTimeout = s.request_seconds
 value_of s ReplyTimeout = s.reply_seconds
 value_of s ConnectTimeout = s.connect_seconds
 value_of s CallbackTimeout = s.callback_seconds
+value_of s SyncSeconds = s.sync_seconds
 value_of s RetryFirst = s.retry_first_ms
 value_of s RetryLast = s.retry_last_ms
 value_of s RollAfter = s.roll_after
@@ -43,8 +45,8 @@ value_of s Site = s.site
 -- each parameter may be what it is
 abbrev pub are_in_range : Settings → Bool
 are_in_range s =
-    (((((((((((fits Connections s.connections && fits Callbacks s.callbacks) && fits HostShare s.host_share) && fits IdleTimeout s.idle_seconds) && fits RequestTimeout s.request_seconds)
-    && fits ReplyTimeout s.reply_seconds) && fits ConnectTimeout s.connect_seconds) && fits CallbackTimeout s.callback_seconds) && fits RetryFirst s.retry_first_ms)
+    ((((((((((((fits Connections s.connections && fits Callbacks s.callbacks) && fits HostShare s.host_share) && fits IdleTimeout s.idle_seconds) && fits RequestTimeout s.request_seconds)
+    && fits ReplyTimeout s.reply_seconds) && fits ConnectTimeout s.connect_seconds) && fits CallbackTimeout s.callback_seconds) && fits SyncSeconds s.sync_seconds) && fits RetryFirst s.retry_first_ms)
     && fits RetryLast s.retry_last_ms) && fits RollAfter s.roll_after) && fits Remember s.remember_seconds) && fits Site s.site
 
 -- a service may be run by them: each parameter may be what it is, and the first pause is no longer than the last

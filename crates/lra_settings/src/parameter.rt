@@ -14,6 +14,7 @@ pub enum Parameter {
     ReplyTimeout,
     ConnectTimeout,
     CallbackTimeout,
+    SyncSeconds,
     RetryFirst,
     RetryLast,
     RollAfter,
@@ -23,7 +24,7 @@ pub enum Parameter {
 
 impl Parameter {
     /// All of them.
-    pub const ALL: [Parameter; 13] = [
+    pub const ALL: [Parameter; 14] = [
         Parameter::Connections,
         Parameter::Callbacks,
         Parameter::HostShare,
@@ -32,6 +33,7 @@ impl Parameter {
         Parameter::ReplyTimeout,
         Parameter::ConnectTimeout,
         Parameter::CallbackTimeout,
+        Parameter::SyncSeconds,
         Parameter::RetryFirst,
         Parameter::RetryLast,
         Parameter::RollAfter,
@@ -52,6 +54,7 @@ impl Parameter {
             Parameter::ReplyTimeout => "reply-timeout",
             Parameter::ConnectTimeout => "connect-timeout",
             Parameter::CallbackTimeout => "callback-timeout",
+            Parameter::SyncSeconds => "sync-seconds",
             Parameter::RetryFirst => "retry-first",
             Parameter::RetryLast => "retry-last",
             Parameter::RollAfter => "roll-after",
@@ -95,6 +98,7 @@ impl Parameter {
             Parameter::ReplyTimeout => 86_400,
             Parameter::ConnectTimeout => 86_400,
             Parameter::CallbackTimeout => 86_400,
+            Parameter::SyncSeconds => 86_400,
             Parameter::RetryFirst => 86_400_000,
             Parameter::RetryLast => 86_400_000,
             Parameter::RollAfter => 50_000,

@@ -24,6 +24,8 @@ pub struct Settings {
     pub connect_seconds: u64,
     /// How many it has for a whole callback, the connection included.
     pub callback_seconds: u64,
+    /// How many a sync of the disk may take before the service isn't ready.
+    pub sync_seconds: u64,
     /// How many milliseconds pass before a member is asked again for the first time.
     pub retry_first_ms: u64,
     /// How many pass at most before it is asked again.
@@ -52,6 +54,7 @@ impl Settings {
             reply_seconds: 10,
             connect_seconds: 5,
             callback_seconds: 30,
+            sync_seconds: 5,
             retry_first_ms: 100,
             retry_last_ms: 60_000,
             roll_after: 50_000,
@@ -74,6 +77,7 @@ impl Settings {
             Parameter::ReplyTimeout => self.reply_seconds,
             Parameter::ConnectTimeout => self.connect_seconds,
             Parameter::CallbackTimeout => self.callback_seconds,
+            Parameter::SyncSeconds => self.sync_seconds,
             Parameter::RetryFirst => self.retry_first_ms,
             Parameter::RetryLast => self.retry_last_ms,
             Parameter::RollAfter => self.roll_after,
@@ -94,6 +98,7 @@ impl Settings {
             && Parameter::ReplyTimeout.fits(self.reply_seconds)
             && Parameter::ConnectTimeout.fits(self.connect_seconds)
             && Parameter::CallbackTimeout.fits(self.callback_seconds)
+            && Parameter::SyncSeconds.fits(self.sync_seconds)
             && Parameter::RetryFirst.fits(self.retry_first_ms)
             && Parameter::RetryLast.fits(self.retry_last_ms)
             && Parameter::RollAfter.fits(self.roll_after)

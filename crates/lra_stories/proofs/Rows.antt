@@ -2,7 +2,7 @@
 use Rattle.std.proofs.Common.{◌≡◌, ℕ, ◌+◌, ◌<◌, List, [], ◌∷◌, ◌++◌, length, take, get_or, map, sym, ap, ◌∙◌, arith, append_assoc}
 use Rattle.std.specs.Prelude.{codes}
 use Rattle.std.proofs.lemmas.List.{append-nil, map_more}
-use Rattle.lra_reports.specs.Report.{joined}
+use Rattle.lra_audits.specs.Report.{joined}
 use Rattle.lra_stories.specs.declared.drawing.TheConstants.{LOOKS}
 use Rattle.lra_stories.specs.Drawn.{top_of, row, rows, opening, lanes, framed}
 

@@ -11,8 +11,8 @@ use Rattle.lra_model.specs.History.{History}
 use Rattle.lra_ids.specs.Addresses.{is_address}
 use Rattle.lra_rows.specs.declared.found.ActionRow.{ActionRow}
 use Rattle.lra_auditor.specs.Verdicts.{IsTextOf, IsFault}
-use Rattle.lra_reports.specs.declared.fault.RunFault.{RunFault}
-use Rattle.lra_reports.specs.Report.{joined, ReportsAudit}
+use Rattle.lra_audits.specs.declared.fault.RunFault.{RunFault}
+use Rattle.lra_audits.specs.Report.{joined, ReportsAudit}
 use Rattle.lra_stories.specs.declared.wanted.Wanted.{Wanted}
 use Rattle.lra_stories.specs.declared.story.Story.{Story}
 use Rattle.lra_stories.specs.declared.explaining.Form.{Form}

@@ -7,7 +7,7 @@ use Rattle.std.specs.Fmt.{decimal}
 use Rattle.lra_model.specs.declared.status.ActionStatus.{ActionStatus}
 use Rattle.lra_model.specs.declared.status.ActionStatus.TheVariants as action
 use Rattle.lra_model.specs.Names.{action_status_name, outcome_name}
-use Rattle.lra_reports.specs.Report.{joined}
+use Rattle.lra_audits.specs.Report.{joined}
 use Rattle.lra_stories.specs.declared.facts.Fact.{Fact}
 use Rattle.lra_stories.specs.declared.facts.Fact.TheVariants.{Started, Joined, Left, Closes, Cancels, Skipped, Asked, Answered, Reported, Ended, Restarted, Renewed, NestedStarted, NestedCloses, NestedCancels, NestedEnded}
 use Rattle.lra_stories.specs.declared.facts.Told.{Told}

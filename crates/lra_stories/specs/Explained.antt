@@ -8,7 +8,7 @@ use Rattle.lra_model.specs.History.{History}
 use Rattle.lra_rows.specs.declared.found.ActionRow.{ActionRow}
 use Rattle.lra_rows.specs.Found.{found_action}
 use Rattle.lra_auditor.specs.Verdicts.{IsTextOf}
-use Rattle.lra_reports.specs.Report.{joined, line_feed, ReportsAudit}
+use Rattle.lra_audits.specs.Report.{joined, line_feed, ReportsAudit}
 use Rattle.lra_stories.specs.declared.wanted.Wanted.{Wanted}
 use Rattle.lra_stories.specs.declared.facts.Told.{Told}
 use Rattle.lra_stories.specs.declared.explaining.Form.{Form}

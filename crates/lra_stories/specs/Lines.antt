@@ -18,7 +18,7 @@ use Rattle.lra_auditor.specs.declared.listing.ListedAction.{ListedAction}
 use Rattle.lra_auditor.specs.declared.listing.ListedMember.{ListedMember}
 use Rattle.lra_auditor.specs.Listings.{listed_action, listing}
 use Rattle.lra_auditor.specs.Verdicts.{IsTextOf}
-use Rattle.lra_reports.specs.Report.{joined, line_feed, ReportsAudit}
+use Rattle.lra_audits.specs.Report.{joined, line_feed, ReportsAudit}
 use Rattle.lra_stories.specs.declared.listing.Choice.{Choice}
 use Rattle.lra_stories.specs.Times.{seconds_text}
 

@@ -10,7 +10,7 @@ use Rattle.lra_model.specs.declared.asks.Outcome.{Outcome}
 use Rattle.lra_model.specs.declared.asks.Outcome.TheVariants as outcome
 use Rattle.lra_model.specs.Words.{has_failed, is_silent}
 use Rattle.lra_model.specs.Names.{action_status_name}
-use Rattle.lra_reports.specs.Report.{joined, line_feed}
+use Rattle.lra_audits.specs.Report.{joined, line_feed}
 use Rattle.lra_stories.specs.declared.facts.Fact.{Fact}
 use Rattle.lra_stories.specs.declared.facts.Fact.TheVariants.{Started, Joined, Left, Closes, Cancels, Skipped, Asked, Answered, Reported, Ended, Restarted, Renewed, NestedStarted, NestedCloses, NestedCancels, NestedEnded}
 use Rattle.lra_stories.specs.declared.facts.Told.{Told}

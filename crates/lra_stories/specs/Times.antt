@@ -1,7 +1,7 @@
 -- Moments and lengths of time, as texts.
 use Rattle.std.specs.Prelude.{ℕ, ◌+◌, ◌-◌, ◌*◌, ◌/◌, ◌%◌, nat_lt, List, [], ◌∷◌, ◌++◌, codes, cond}
 use Rattle.std.specs.Fmt.{decimal}
-use Rattle.lra_reports.specs.Report.{joined}
+use Rattle.lra_audits.specs.Report.{joined}
 use Rattle.lra_stories.specs.declared.times.Date.{Date}
 
 -- the year of a day of four hundred years that begin with March, each counted from 0

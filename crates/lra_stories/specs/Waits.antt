@@ -14,7 +14,7 @@ use Rattle.lra_model.specs.Actions.{members_of, children}
 use Rattle.lra_rows.specs.declared.found.ActionRow.{ActionRow}
 use Rattle.lra_rows.specs.declared.found.MemberRow.{MemberRow}
 use Rattle.lra_rows.specs.Found.{found_action, found_member, found_addresses}
-use Rattle.lra_reports.specs.Report.{joined, line_feed}
+use Rattle.lra_audits.specs.Report.{joined, line_feed}
 use Rattle.lra_stories.specs.declared.facts.Fact.{Fact}
 use Rattle.lra_stories.specs.declared.facts.Fact.TheVariants.{Asked}
 use Rattle.lra_stories.specs.declared.facts.Told.{Told}

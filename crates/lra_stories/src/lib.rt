@@ -14,7 +14,7 @@ mod times;
 mod waits;
 mod wanted;
 
-pub use explaining::{Form, explain_run};
+pub use explaining::{Form, explain_run, missing_text};
 pub use facts::{Fact, Told};
 pub use listing::{Choice, list_run};
 pub use wanted::{Wanted, read_wanted};

@@ -5,7 +5,7 @@ mod memory;
 mod steps;
 
 use crate::pieces::{Pieces, Sink};
-use crate::rows::{parted, repeated, written_out};
+use crate::rows::{parted, written_out};
 use counter::{Still, worn_counter};
 use lra_commands::Counter;
 use lra_front::{StreamEnd, serve_stream};
@@ -101,36 +101,6 @@ fn answers_streams_whole_and_byte_by_byte(rt: HostRuntime) {
     for row in STREAMS.lines() {
         assert!(rt; row_is_answered(rt.alloc(), row), "{row}");
     }
-}
-
-/// A request, the reply to it, and the reply to the last that is taken.
-const REQUEST: &str = "GET /a HTTP/1.1\r\nHost: h\r\n\r\n";
-
-const REPLY: &str = "HTTP/1.1 404 Not Found\r
-Content-Type: application/json\r
-Content-Length: 22\r
-\r
-{\"error\":\"NoSuchPath\"}";
-
-const LAST_REPLY: &str = "HTTP/1.1 404 Not Found\r
-Content-Type: application/json\r
-Content-Length: 22\r
-Connection: close\r
-\r
-{\"error\":\"NoSuchPath\"}";
-
-/// Whether of 1,001 requests all but the last are answered.
-fn takes_a_thousand(alloc: Global) -> Option<bool> {
-    let stream = repeated(alloc, REQUEST, 1000, REQUEST).ok()?;
-    let replies = repeated(alloc, REPLY, 999, LAST_REPLY).ok()?;
-    let reader = Pieces::of(stream.as_str(), 4096);
-    Some(worn_answers(alloc, reader, replies.as_str(), "Done"))
-}
-
-// Of 1,001 requests the last isn't answered, and the reply to the one before it says that the stream is closed.
-#[test]
-fn takes_a_thousand_requests(rt: HostRuntime) {
-    assert!(rt; takes_a_thousand(rt.alloc()) == Some(true));
 }
 
 /// Whether a stream has no reply that comes up to here, and then ends or fails.

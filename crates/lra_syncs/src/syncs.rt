@@ -1,5 +1,7 @@
 //! Syncs of a disk.
 
+ghost use Rattle.std.specs.Prelude.{◌≡◌, ◌+◌, ◌-◌, ◌^◌, min, cond, nat_eq};
+
 use crate::histogram::Histogram;
 use crate::stopwatch::Stopwatch;
 use std::alloc::{AllocError, Global};
@@ -26,6 +28,33 @@ pub struct Syncs {
     writes: Histogram,
     /// How many writes were kept in all.
     kept: AtomicU64,
+    /// The moment from which `under_way` counts.
+    opened: Option<Instant>,
+    /// When the sync that is under way began, in milliseconds since then and one more, or 0 where none is.
+    under_way: AtomicU64,
+}
+
+/// Returns how many milliseconds lie between two moments.
+fn millis_between(from: Instant, to: Instant) -> u64 {
+    u64::try_from(to.saturating_duration_since(from).as_millis()).unwrap_or(u64::MAX)
+}
+
+/// Returns the mark of a sync that began so many milliseconds after the first moment: 0 is the mark of none.
+fn mark_of(began: u64) -> u64
+    ensures { result ≡ min (2 ^ 64 - 1) (began + 1) }
+{
+    began.saturating_add(1)
+}
+
+/// Returns how long a sync of that mark has been under way, at so many milliseconds after the first moment.
+fn age_at(mark: u64, now: u64) -> u64
+    ensures { result ≡ cond (nat_eq mark 0) 0 (now - (mark - 1)) }
+{
+    if mark == 0 {
+        0
+    } else {
+        now.saturating_sub(mark - 1)
+    }
 }
 
 impl Syncs {
@@ -36,6 +65,8 @@ impl Syncs {
             times: Histogram::new(alloc, &TIMES)?,
             writes: Histogram::new(alloc, &WRITES)?,
             kept: AtomicU64::new(0),
+            opened: stopwatch.now(),
+            under_way: AtomicU64::new(0),
         })
     }
 
@@ -60,6 +91,31 @@ impl Syncs {
         }
     }
 
+    /// Returns how many milliseconds after the first moment it is now, where the clock can be read.
+    fn passed(&self) -> Option<u64> {
+        Some(millis_between(self.opened?, self.stopwatch.now()?))
+    }
+
+    /// Returns how many milliseconds the sync that is under way has taken, or 0 where none is.
+    pub fn age(&self) -> u64 {
+        match self.passed() {
+            Some(now) => age_at(self.under_way.load(Ordering::SeqCst), now),
+            None => 0,
+        }
+    }
+
+    /// Takes down that a sync begins.
+    fn note_begin(&self) {
+        if let Some(now) = self.passed() {
+            self.under_way.store(mark_of(now), Ordering::SeqCst);
+        }
+    }
+
+    /// Takes down that none is under way any more.
+    fn note_end(&self) {
+        self.under_way.store(0, Ordering::SeqCst);
+    }
+
     /// One that began then has ended well, and so many writes are kept in all. Where no more are kept than before nothing is taken down.
     fn add(&self, began: Option<Instant>, writes: u64) {
         let before = self.kept.swap(writes, Ordering::SeqCst);
@@ -70,17 +126,24 @@ impl Syncs {
     }
 }
 
-/// When a sync begins, where anyone wants to know of it.
+/// Takes down that a sync begins, and returns when, where anyone wants to know of it.
 pub fn begin(syncs: &Option<Arc<Syncs>>) -> Option<Instant> {
     match syncs {
-        Some(syncs) => syncs.stopwatch.now(),
+        Some(syncs) => {
+            syncs.note_begin();
+            syncs.stopwatch.now()
+        }
         None => None,
     }
 }
 
-/// A sync that began then has ended well, and so many writes are kept in all.
-pub fn end(syncs: &Option<Arc<Syncs>>, began: Option<Instant>, writes: u64) {
-    if let Some(syncs) = syncs {
+/// Takes down that a sync has ended that began then. So many writes are kept in all, where it ended well.
+pub fn end(syncs: &Option<Arc<Syncs>>, began: Option<Instant>, kept: Option<u64>) {
+    let Some(syncs) = syncs else {
+        return;
+    };
+    syncs.note_end();
+    if let Some(writes) = kept {
         syncs.add(began, writes);
     }
 }

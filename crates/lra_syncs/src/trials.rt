@@ -12,7 +12,7 @@ const KEPT: [u64; 6] = [0, 1, 1, 3, 8, 1_009];
 fn taken_down<R: Timed>(rt: &R, alloc: Global) -> Option<[u64; 6]> {
     let syncs = Arc::new(alloc, Syncs::new(alloc, rt.stopwatch()).ok()?).ok();
     for writes in &KEPT {
-        end(&syncs, begin(&syncs), *writes);
+        end(&syncs, begin(&syncs), Some(*writes));
     }
     let writes = syncs.as_ref()?.writes();
     Some([

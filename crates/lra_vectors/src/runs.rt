@@ -4,13 +4,13 @@ mod again;
 mod fakes;
 mod salvage;
 
-use crate::texts::{Telling, assert_rows, assert_told, parted};
-use fakes::{Full, Halting, Halts, Shelf};
-use lra_reports::{Invocation, Question, RunFault, Sources, error_line, input_name, run};
-use lra_runs::{Task, play_file, read_task};
-use std::alloc::{AllocError, Global};
+use crate::texts::{assert_told, parted};
+use fakes::{Full, Halting, Halts};
+use lra_audits::{RunFault, error_line};
+use lra_reports::{Invocation, Sources, run};
+use lra_runs::play_file;
+use std::alloc::Global;
 use std::io::Write;
-use std::process::Abort;
 use std::str::from_utf8;
 
 /// The report that words ask for, if it is one.
@@ -22,10 +22,7 @@ fn report(words: &str) -> Option<Invocation<'_>> {
     if verb == "show" {
         return Some(Invocation::Show { file });
     }
-    if verb == "upgrade" {
-        return Some(Invocation::Upgrade { file });
-    }
-    (verb == "input").then_some(Invocation::AuditInput)
+    (verb == "upgrade").then_some(Invocation::Upgrade { file })
 }
 
 /// Carries out the report that words ask for, or plays a script.
@@ -63,8 +60,6 @@ const AUDITED: &str = "sound entries 3 actions 2 unended 2 closed 0 cancelled 0 
 
 const LISTED: &str = "action 1 * Active\naction 2 1 Active\nOk(0)";
 
-const UPGRADED: &str = "lra-journal 2 7\n1 0 enrol\n1 0 start 1 * 0\n1 5 start 2 1 0\nOk(0)";
-
 const CLOSED: &str =
     "lra-journal 1 7\n1 0 enrol\n1 0 start 1 * 0\n1 5 close 1 client\n1 5 end 1 Closed\n";
 
@@ -81,36 +76,6 @@ const SCRIPT: &str =
 
 const PLAYED: &str =
     "+ lra-journal 2 7\nclerk 1\n+ 1 0 enrol\naction 1\n+ 1 0 start 1 * 9\nmember 1\n+ 1 1 join 1 1 http://p.test/u http://p.test/c * * *\nnow Closing\n+ 1 5 close 1 client\nask 1 1 complete http://p.test/c\n+ 1 6 ask 1 1 complete\nrecorded\n+ 1 7 reply 1 done\n+ 1 7 end 1 Closed\nrefused NotAsked\nOk(1)";
-
-/// A script whose second line is none.
-const BAD: &str = "0 0 enrol\n1 0 enrol\n1 0 start * 0\n";
-
-const SHELF: Shelf = Shelf {
-    input: "lra-journal 1 7\n1 0 start 1 * 0\n",
-    journal: JOURNAL,
-    script: SCRIPT,
-    bad: BAD,
-};
-
-/// What words ask for of the shelf is printed so, with this outcome.
-fn assert_run<R: Abort + AllocGlobal>(rt: &R, words: &str, want: &str) {
-    assert_told(rt, words, told(rt.alloc(), &SHELF, words), want);
-}
-
-#[test]
-fn invocations_are_carried_out(rt: HostRuntime) {
-    assert_run(&rt, "input", "unsound line 2 clerk\nOk(1)");
-    assert_run(&rt, "audit journal", AUDITED);
-    assert_run(&rt, "show journal", LISTED);
-    assert_run(&rt, "upgrade journal", UPGRADED);
-    assert_run(&rt, "play script", PLAYED);
-    assert_run(
-        &rt,
-        "play bad",
-        "+ lra-journal 2 7\nclerk 1\n+ 1 0 enrol\nErr(Line(2))",
-    );
-    assert_run(&rt, "audit elsewhere", "Err(Read)");
-}
 
 /// What is asked for of a file, what is read there, what is printed with the outcome behind it, and the status.
 #[derive(Clone, Copy)]
@@ -246,117 +211,13 @@ fn a_growth_may_be_refused(rt: HostRuntime) {
     }
 }
 
-/// The line of a fault.
-fn line(alloc: Global, fault: RunFault) -> Option<String> {
-    error_line(alloc, fault, "a file").ok()
-}
-
 #[test]
-fn faults_are_told_in_a_line(rt: HostRuntime) {
-    let alloc = rt.alloc();
-    assert_told(
-        &rt,
-        "a read",
-        line(alloc, RunFault::Read),
-        "lra: cannot read a file\n",
-    );
-    assert_told(
-        &rt,
-        "a write",
-        line(alloc, RunFault::Write),
-        "lra: cannot write -\n",
-    );
-    assert_told(
-        &rt,
-        "a length",
-        line(alloc, RunFault::TooLong),
-        "lra: input too long\n",
-    );
-    assert_told(
-        &rt,
-        "memory",
-        line(alloc, RunFault::Memory),
-        "lra: out of memory\n",
-    );
+fn a_second_reading_that_fails_is_told_in_a_line(rt: HostRuntime) {
+    let line = error_line(rt.alloc(), RunFault::Changed, "a file");
     assert_told(
         &rt,
         "a second reading",
-        line(alloc, RunFault::Changed),
+        line.ok(),
         "lra: cannot read a file again\n",
     );
-    assert_told(
-        &rt,
-        "a line",
-        line(alloc, RunFault::Line(12)),
-        "lra: bad script line 12\n",
-    );
-    assert!(rt; input_name(Invocation::AuditInput) == "-");
-}
-
-/// The name of a report on standard input, or on the input `it`.
-fn reported(invocation: Invocation<'_>) -> &'static str {
-    match invocation {
-        Invocation::AuditInput => "audit of the input",
-        Invocation::Audit { file: "it" } => "audit",
-        Invocation::Show { file: "it" } => "show",
-        Invocation::Upgrade { file: "it" } => "upgrade",
-        _ => "another report",
-    }
-}
-
-/// The name of a task, or the words of the fault.
-fn task(alloc: Global, words: &[String]) -> Option<String> {
-    let name = match read_task(words) {
-        Ok(Task::Question(Question::Run(invocation))) => reported(invocation),
-        Ok(Task::Question(Question::Salvage { file: "it" })) => "salvage",
-        Ok(Task::Play { script: "it" }) => "play",
-        Ok(_) => "another task",
-        Err(usage) => return format!(in alloc; "{usage}").ok(),
-    };
-    String::from_str(alloc, name).ok()
-}
-
-/// The words of a text.
-fn words(alloc: Global, text: &str) -> Result<Vec<String>, AllocError> {
-    let mut words = Vec::new(alloc);
-    for word in text.split_whitespace() {
-        push_word(alloc, &mut words, word)?;
-    }
-    Ok(words)
-}
-
-fn push_word(alloc: Global, words: &mut Vec<String>, word: &str) -> Result<(), AllocError> {
-    let word = String::from_str(alloc, word)?;
-    Ok(words.push(word)?)
-}
-
-#[derive(Clone, Copy)]
-struct Tasks;
-
-impl Telling for Tasks {
-    fn tell(&self, alloc: Global, text: &str) -> Option<String> {
-        let words = words(alloc, text).ok()?;
-        let told = task(alloc, words.as_slice());
-        drop(words);
-        told
-    }
-}
-
-/// Words, and what they ask for.
-const TASKS: &str = "\
-audit it -> audit
-show it -> show
-upgrade it -> upgrade
-salvage it -> salvage
-salvage -> the words ask for nothing
-play it -> play
-it audit -> the words ask for nothing
-audits it -> the words ask for nothing
-audit -> the words ask for nothing
- -> audit of the input
-";
-
-#[test]
-fn words_are_tasks(rt: HostRuntime) {
-    assert_rows(&rt, &Tasks, TASKS);
 }

@@ -84,8 +84,13 @@ pub struct Tallies {
     denied: Denied,
     /// What the disk takes down of its syncs, where operators come in.
     syncs: Option<Arc<Syncs>>,
+    /// How many milliseconds a sync may take.
+    sync_limit: u64,
     /// The number behind that of the journal whose coordinator answered last that it has stopped, or 0.
     stopped: AtomicU64,
+    /// How many workers and callback workers have ended though the service goes on.
+    lost_workers: AtomicU64,
+    lost_callback_workers: AtomicU64,
 }
 
 /// The word for what a request asks for.
@@ -161,8 +166,12 @@ fn syncs_at(alloc: Global, post: Option<&Watchpost>) -> Result<Option<Arc<Syncs>
 }
 
 impl Tallies {
-    /// Nothing was, of a service where operators come in there, if any do.
-    pub fn new(alloc: Global, post: Option<&Watchpost>) -> Result<Tallies, Memory> {
+    /// Nothing was, of a service where operators come in there, if any do, and a sync may take so many seconds.
+    pub fn new(
+        alloc: Global,
+        post: Option<&Watchpost>,
+        sync_seconds: u64,
+    ) -> Result<Tallies, Memory> {
         Ok(Tallies {
             requests: Table::new(alloc, &REQUESTS)?,
             request_times: Histogram::new(alloc, &TIMES)?,
@@ -170,7 +179,10 @@ impl Tallies {
             callback_times: Histogram::new(alloc, &TIMES)?,
             denied: Denied::new(),
             syncs: syncs_at(alloc, post)?,
+            sync_limit: sync_seconds.saturating_mul(1_000),
             stopped: AtomicU64::new(0),
+            lost_workers: AtomicU64::new(0),
+            lost_callback_workers: AtomicU64::new(0),
         })
     }
 
@@ -180,6 +192,19 @@ impl Tallies {
             Some(syncs) => Arc::try_clone(syncs).ok(),
             None => None,
         }
+    }
+
+    /// Returns how many milliseconds the sync that is under way has taken, or 0 where none is.
+    pub fn sync_age(&self) -> u64 {
+        match &self.syncs {
+            Some(syncs) => syncs.age(),
+            None => 0,
+        }
+    }
+
+    /// Returns how many milliseconds a sync may take.
+    pub fn sync_limit(&self) -> u64 {
+        self.sync_limit
     }
 
     /// A request was denied, for its key, its host or its origin.
@@ -196,6 +221,31 @@ impl Tallies {
     /// Whether it is known of a journal's coordinator that it has stopped.
     pub fn has_stopped(&self, instance: Instance) -> bool {
         self.stopped.load(Ordering::SeqCst) == instance.number().saturating_add(1)
+    }
+
+    /// Notes that a worker has ended though the service goes on.
+    pub fn lose_worker(&self) {
+        self.lost_workers.fetch_add(1, Ordering::SeqCst);
+    }
+
+    /// Notes that a callback worker has ended though the service goes on.
+    pub fn lose_callback_worker(&self) {
+        self.lost_callback_workers.fetch_add(1, Ordering::SeqCst);
+    }
+
+    /// Notes that a callback worker stands again in the place of one that was lost.
+    pub fn regain_callback_worker(&self) {
+        self.lost_callback_workers.fetch_sub(1, Ordering::SeqCst);
+    }
+
+    /// Returns how many workers have ended though the service goes on.
+    pub fn lost_workers(&self) -> u64 {
+        self.lost_workers.load(Ordering::SeqCst)
+    }
+
+    /// Returns how many callback workers have.
+    pub fn lost_callback_workers(&self) -> u64 {
+        self.lost_callback_workers.load(Ordering::SeqCst)
     }
 
     /// A request was answered that was begun with at that moment.

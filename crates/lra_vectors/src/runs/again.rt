@@ -3,7 +3,8 @@
 use super::fakes::{Full, Halts};
 use super::shown;
 use crate::texts::{Telling, assert_rows, parted};
-use lra_reports::{RunFault, Sources, upgrade_twice};
+use lra_audits::RunFault;
+use lra_reports::{Sources, upgrade_twice};
 use std::alloc::Global;
 
 /// What comes of an upgrade of these bytes, and those at a second reading.

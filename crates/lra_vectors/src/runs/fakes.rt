@@ -1,46 +1,9 @@
 //! Inputs and outputs in memory, some of which fail.
 
-use lra_reports::{RunFault, Sources};
+use lra_audits::RunFault;
+use lra_reports::Sources;
 use std::io;
 use std::io::{ErrorKind, Read, Write};
-
-/// A text for standard input, and a few files.
-#[derive(Clone, Copy)]
-pub struct Shelf {
-    pub input: &'static str,
-    pub journal: &'static str,
-    pub script: &'static str,
-    pub bad: &'static str,
-}
-
-impl Sources for Shelf {
-    ghost use Rattle.std.specs.Prelude.{Some};
-
-    // Its text.
-    ghost standard = { λ shelf. Some shelf.input.now };
-
-    type Input = &'static [u8];
-
-    type File = &'static [u8];
-
-    fn input(&self) -> &'static [u8] {
-        self.input.as_bytes()
-    }
-
-    fn open(&self, name: &str) -> Result<&'static [u8], RunFault> {
-        match name {
-            "journal" => Ok(self.journal.as_bytes()),
-            "script" => Ok(self.script.as_bytes()),
-            "bad" => Ok(self.bad.as_bytes()),
-            _ => Err(RunFault::Read),
-        }
-    }
-
-    // Each is as a pipe.
-    fn open_again(&self, _name: &str) -> Option<&'static [u8]> {
-        None
-    }
-}
 
 /// One text, under every name, that comes haltingly.
 #[derive(Clone, Copy)]

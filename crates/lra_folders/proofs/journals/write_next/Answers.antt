@@ -1,5 +1,5 @@
 use Rattle.std.proofs.Common.{◌≡◌, ◌++◌, Ok, Option, Some, Result, refl, rules, subst}
-use Rattle.lra_reports.specs.declared.fault.RunFault.{RunFault}
+use Rattle.lra_audits.specs.declared.fault.RunFault.{RunFault}
 use Rattle.lra_folders.specs.declared.deed.Line.{Line}
 use Rattle.lra_folders.specs.Folders.{behind}
 use Rattle.lra_folders.specs.inner.Told.{IsTold}

@@ -1,6 +1,6 @@
 use Rattle.std.proofs.KnownBytes.{Appends-trans}
 use Rattle.std.proofs.lemmas.Result.{on_ok_weaker}
-use Rattle.lra_reports.proofs.Pieces.{IsFedOn-trans}
+use Rattle.lra_audits.proofs.Pieces.{IsFedOn-trans}
 use Rattle.lra_reports.proofs.taking.CopyingTaker.accept.Goals as goal
 
 pub returns-clause-took : goal.returns-clause-took

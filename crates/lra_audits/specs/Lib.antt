@@ -1,0 +1,5 @@
+pub mod Report
+pub mod Faults
+pub mod Taking
+pub mod Asked
+pub mod inner

@@ -1,0 +1,162 @@
+//! How far an audit, a listing or an upgrade has read, on a line of a terminal that is written again and again.
+
+use lra_audits::RunFault;
+use lra_opening::Herald;
+use lra_reports::{Sources, System};
+use std::alloc::Global;
+use std::io;
+use std::io::{Read, Write};
+use std::rt::Files;
+use std::sync::atomic::{AtomicBool, AtomicU64, Ordering};
+use std::time::Clock;
+
+/// How many milliseconds pass until the line is written first, and from one time to the next.
+const FIRST: u64 = 1000;
+
+const PAUSE: u64 = 200;
+
+/// A megabyte, in bytes.
+const MEGABYTE: u64 = 1_000_000;
+
+/// What clears the line.
+const BLANK: &str = "\r                                                \r";
+
+/// How far a run has read. Of what is told nothing is promised: where the clock or memory fails, or two threads tell at once, there is one line less.
+#[derive(Drop)]
+pub(crate) struct Gauge<'a, R, H> {
+    alloc: Global,
+    clock: &'a R,
+    herald: &'a H,
+    /// How many bytes there are.
+    all: u64,
+    /// How many were read.
+    read: AtomicU64,
+    /// The millisecond of the steady clock from which on the line is written.
+    due: AtomicU64,
+    /// Whether the line stands there.
+    stands: AtomicBool,
+}
+
+/// Returns the milliseconds of the steady clock.
+fn steady<R: Clock>(clock: &R) -> u64 {
+    match clock.monotonic() {
+        Ok(since) => u64::try_from(since.as_millis()).unwrap_or(u64::MAX),
+        Err(_) => 0,
+    }
+}
+
+impl<'a, R: Clock, H: Herald> Gauge<'a, R, H> {
+    /// One of so many bytes, of which none was read.
+    pub(crate) fn new(alloc: Global, clock: &'a R, herald: &'a H, all: u64) -> Gauge<'a, R, H> {
+        Gauge {
+            alloc,
+            clock,
+            herald,
+            all,
+            read: AtomicU64::new(0),
+            due: AtomicU64::new(steady(clock).saturating_add(FIRST)),
+            stands: AtomicBool::new(false),
+        }
+    }
+
+    /// Writes the line.
+    fn show(&self) {
+        let (read, all) = (
+            self.read.load(Ordering::SeqCst) / MEGABYTE,
+            self.all / MEGABYTE,
+        );
+        if let Ok(line) = format!(in self.alloc; "\rlra: {read} of {all} MB") {
+            self.stands.store(true, Ordering::SeqCst);
+            self.herald.tell(line.as_str());
+        }
+    }
+
+    /// Counts bytes that were read, and writes the line where it is due.
+    fn count(&self, bytes: u64) {
+        self.read.fetch_add(bytes, Ordering::SeqCst);
+        let now = steady(self.clock);
+        if now >= self.due.load(Ordering::SeqCst) {
+            self.due.store(now.saturating_add(PAUSE), Ordering::SeqCst);
+            self.show();
+        }
+    }
+
+    /// Clears the line, where it stands.
+    pub(crate) fn clear(&self) {
+        if self.stands.swap(false, Ordering::SeqCst) {
+            self.herald.tell(BLANK);
+        }
+    }
+}
+
+/// A reader that is counted. At its end, and where it fails, the line is cleared.
+#[derive(Drop)]
+pub(crate) struct Counted<'a, F, R, H> {
+    reader: F,
+    gauge: &'a Gauge<'a, R, H>,
+}
+
+impl<F: Read, R: Clock, H: Herald> Read for Counted<'_, F, R, H> {
+    ghost remaining = { λ c. F.remaining c.reader };
+
+    fn read(&mut self, buf: &mut [u8]) -> io::Result<usize> {
+        let outcome = self.reader.read(buf);
+        match &outcome {
+            Ok(count) if *count > 0 => self.gauge.count(*count as u64),
+            _ => self.gauge.clear(),
+        }
+        outcome
+    }
+}
+
+/// A writer before which the line is cleared.
+#[derive(Drop)]
+pub(crate) struct Tidy<'a, W, R, H> {
+    pub(crate) writer: W,
+    pub(crate) gauge: &'a Gauge<'a, R, H>,
+}
+
+impl<W: Write, R: Clock, H: Herald> Write for Tidy<'_, W, R, H> {
+    fn write(&mut self, bytes: &[u8]) -> io::Result<usize> {
+        self.gauge.clear();
+        self.writer.write(bytes)
+    }
+
+    fn flush(&mut self) -> io::Result<()> {
+        self.writer.flush()
+    }
+}
+
+/// The system's files, each of which is counted.
+#[derive(Drop)]
+pub(crate) struct Gauged<'a, R, H> {
+    pub(crate) system: System<'a, R>,
+    pub(crate) gauge: &'a Gauge<'a, R, H>,
+}
+
+impl<'a, R: Files + Input + Clock, H: Herald> Sources for Gauged<'a, R, H> {
+    type Input = R::Reader;
+
+    type File = Counted<'a, R::File, R, H>;
+
+    fn input(&self) -> R::Reader {
+        self.system.input()
+    }
+
+    fn open(&self, name: &str) -> Result<Counted<'a, R::File, R, H>, RunFault> {
+        match self.system.open(name) {
+            Ok(reader) => Ok(Counted {
+                reader,
+                gauge: self.gauge,
+            }),
+            Err(fault) => Err(fault),
+        }
+    }
+
+    fn open_again(&self, name: &str) -> Option<Counted<'a, R::File, R, H>> {
+        Some(Counted {
+            reader: self.system.open_again(name)?,
+            gauge: self.gauge,
+        })
+    }
+}

@@ -1,0 +1,36 @@
+//! Whether the identifiers of a service lead anywhere.
+
+use lra_opening::Herald;
+use lra_options::{Options, Word};
+use std::alloc::{AllocError, Global};
+
+/// Returns whether an address is each of a machine's own: one can listen there, and connect to it from nowhere else.
+fn is_unspecified(address: &str) -> bool {
+    let host = match address.rsplit_once(':') {
+        Some((host, _)) if !address.ends_with(']') => host,
+        _ => address,
+    };
+    host == "0.0.0.0" || host == "[::]"
+}
+
+/// Returns the line that warns of identifiers that begin with an address that leads nowhere.
+fn nowhere_line(alloc: Global, address: &str) -> Result<String, AllocError> {
+    format!(in alloc;
+        "lra: identifiers that begin with http://{address}/ lead nowhere: name by --base where clients reach this service\n"
+    )
+}
+
+/// Warns where the identifiers that a service gives at an address lead nowhere.
+pub(crate) fn warn_of_nowhere<H: Herald>(
+    alloc: Global,
+    options: &Options<'_>,
+    address: &str,
+    herald: &H,
+) {
+    if options.base.is_none()
+        && is_unspecified(address)
+        && let Ok(line) = nowhere_line(alloc, address)
+    {
+        herald.tell(line.as_str());
+    }
+}

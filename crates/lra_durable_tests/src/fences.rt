@@ -1,0 +1,27 @@
+//! Tests over the system's files that have the same bytes at each look, others at each look, none, and no end.
+
+use lra_fence::{Fenced, stands};
+use lra_files::SmallFault;
+use std::alloc::Global;
+use std::sync::Arc;
+
+/// Whether the file of a name has the bytes that it had at first, or why it is no fence.
+fn told<R: Fenced>(rt: &R, alloc: Global, path: &str) -> Result<bool, SmallFault> {
+    let fence = rt.fence(path)?;
+    match Arc::new(alloc, fence) {
+        Ok(fence) => Ok(stands(&Some(fence))),
+        Err(_) => Err(SmallFault::Memory),
+    }
+}
+
+#[test]
+fn a_fence_stands_as_long_as_its_bytes_stay(rt: HostRuntime) {
+    let alloc = rt.alloc();
+    assert!(rt; told(&rt, alloc, "/proc/version") == Ok(true));
+    assert!(rt; told(&rt, alloc, "/dev/null") == Ok(true));
+    assert!(rt; told(&rt, alloc, "/proc/sys/kernel/random/uuid") == Ok(false));
+    assert!(rt; told(&rt, alloc, "/dev/zero") == Err(SmallFault::TooLong));
+    assert!(rt; told(&rt, alloc, "/nowhere") == Err(SmallFault::File));
+    assert!(rt; told(&rt, alloc, "/") == Err(SmallFault::File));
+    assert!(rt; stands(&None));
+}

@@ -1,0 +1,56 @@
+-- What a family can't answer while it may lack a member.
+use Rattle.std.specs.Prelude.{◌≡◌, ◌⊎◌, ℕ, Bool, true, false, List, MatchOption, None, Option, Result, Ok, unwrap_or}
+use Rattle.lra_wire.specs.Request.{Request}
+use Rattle.lra_commands.specs.declared.refusal.Refusal.TheVariants as refusal
+use Rattle.lra_commands.specs.Counters.{Sight}
+use Rattle.lra_front.specs.declared.route.Route.{Route}
+use Rattle.lra_front.specs.declared.route.Route.TheVariants as route
+use Rattle.lra_front.specs.declared.denial.Denial.{Denial}
+use Rattle.lra_front.specs.declared.denial.Denial.TheVariants.{Refused}
+use Rattle.lra_front.specs.declared.answer.Answer.{Answer}
+use Rattle.lra_front.specs.declared.answer.Answer.TheVariants.{Denied}
+use Rattle.lra_front.specs.Routes.{route_of}
+use Rattle.lra_front.specs.Wishes.{LacksMemory}
+use Rattle.lra_steps.specs.declared.responder.Answered.{Answered}
+use Rattle.lra_family.specs.Counted.{name}
+use Rattle.lra_family.specs.Families.{member, newest}
+use Rattle.lra_family_front.specs.Naming.{instance_of}
+
+-- a route starts an action
+abbrev pub start_by : Result Route Denial → Bool
+start_by (Ok route.Start) = true
+start_by _ = false
+
+-- a request starts an action
+abbrev pub is_start : Request → Bool
+is_start request = start_by (route_of request.method request.target)
+
+-- What names an instance, or none, and starts an action or doesn't, isn't answered by a member that is surely in the
+-- family: a start that names none is the newest's,
+-- and an identifier may be that of one which isn't there yet.
+abbrev pub IsAstray : List Sight → Bool → Option ℕ → Type 0
+IsAstray ss start named = MatchOption named (start ≡ true) (λ i. member name i ss ≡ None)
+
+-- an answer is a refusal of what can't be done now, which reaches no member
+abbrev pub IsRefused : Answer → Type 0
+IsRefused answer = (answer ≡ Denied (Refused refusal.Stopped)) ⊎ (answer ≡ Denied (Refused refusal.Memory))
+
+module _ (tells : Option ℕ → Bool → Type 0) where
+  -- where a member that isn't there would answer a request, it is told that there is none
+  abbrev pub IsSure : List Sight → Request → Type 0
+  IsSure ss request = IsAstray ss (is_start request) (instance_of request) → tells (instance_of request) false
+
+  -- it is told that the member may still be lacked, which would answer
+  pub record Lacked (ss : List Sight) (request : Request) (answered : Answered) : Type 0 where
+    pub astray : IsAstray ss (is_start request) (instance_of request)
+    pub told : tells (instance_of request) true
+    pub whose : answered.instance ≡ unwrap_or (instance_of request) (newest name ss)
+    pub answer : answered.answer ≡ Denied (Refused refusal.Stopped)
+
+  -- memory is refused in reading what it names
+  abbrev pub IsUnread : Request → Answered → Type 0
+  IsUnread request answered = LacksMemory request × (answered.answer ≡ Denied (Refused refusal.Memory))
+
+  -- a request is refused, since what answers it may still be lacked, or since that can't be read
+  abbrev pub IsPutOff : List Sight → Request → Answered → Type 0
+  IsPutOff ss request answered = Lacked ss request answered ⊎ IsUnread request answered

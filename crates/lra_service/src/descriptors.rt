@@ -1,0 +1,89 @@
+//! How many descriptors the system lets a service have, and what comes of that.
+
+ghost use Rattle.std.specs.Prelude.{IfErr};
+ghost use Rattle.lra_opening.specs.Ends.{IsOfAddress};
+
+use lra_logs::{Event, Journalist};
+use lra_opening::{Herald, ServeFault};
+use lra_settings::{Settings, descriptors_needed, share_descriptors};
+use std::alloc::Global;
+use std::fs::File;
+use std::os::unix::fs::FileExt;
+use std::rt::Files;
+
+/// How much of the system's file of limits is read.
+const PIECE: usize = 4_096;
+
+/// The number behind the name of the limit of open files, in the system's table of limits.
+fn limit_in(table: &str) -> Option<u64> {
+    let (_, rest) = table.split_once("Max open files")?;
+    rest.trim_ascii_start()
+        .split(' ')
+        .next()?
+        .parse::<u64>()
+        .ok()
+}
+
+/// How many descriptors this process may have, where the system tells that and it is limited.
+fn descriptor_limit<R: Files<File = File>>(rt: &R) -> Option<u64> {
+    let file = File::open(rt, "/proc/self/limits").ok()?;
+    let mut piece = [0u8; PIECE];
+    let count = file.read_at(&mut piece, 0).ok()?;
+    limit_in(str::from_utf8(piece.as_slice().get(..count)?).ok()?)
+}
+
+/// Tells that connections and callbacks are fewer than asked for.
+fn tell_lowered<H: Herald + Journalist>(
+    alloc: Global,
+    herald: &H,
+    limit: u64,
+    asked: &Settings,
+    had: &Settings,
+) {
+    let (connections, callbacks) = (had.connections, had.callbacks);
+    let line = format!(in alloc;
+        "lra: at most {connections} connections and {callbacks} callbacks at once: the limit of open files is {limit}\n"
+    );
+    if let Ok(line) = line {
+        herald.tell(line.as_str());
+    }
+    herald.note(&Event::DescriptorsLowered {
+        asked: asked.connections.saturating_add(asked.callbacks),
+        had: connections.saturating_add(callbacks),
+    });
+}
+
+/// Tells that there are too few descriptors to serve.
+fn tell_too_few<H: Herald>(alloc: Global, herald: &H, limit: u64, taken: u64) {
+    let least = descriptors_needed(taken);
+    let line = format!(in alloc;
+        "lra: the limit of open files is {limit}, and at least {least} are needed\n"
+    );
+    if let Ok(line) = line {
+        herald.tell(line.as_str());
+    }
+}
+
+/// Returns the settings with no more connections and callbacks than the system has descriptors for, where others take
+/// so many. Where these are fewer than asked for, or too few to serve, that is told.
+pub fn fit_descriptors<R: Files<File = File>, H: Herald + Journalist>(
+    rt: &R,
+    alloc: Global,
+    herald: &H,
+    taken: u64,
+    settings: Settings,
+) -> Result<Settings, ServeFault>
+    ensures { IfErr result IsOfAddress }
+{
+    let Some(limit) = descriptor_limit(rt) else {
+        return Ok(settings);
+    };
+    let Some(fitting) = share_descriptors(limit, taken, &settings) else {
+        tell_too_few(alloc, herald, limit, taken);
+        return Err(ServeFault::Address);
+    };
+    if fitting != settings {
+        tell_lowered(alloc, herald, limit, &settings, &fitting);
+    }
+    Ok(fitting)
+}

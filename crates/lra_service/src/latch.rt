@@ -1,0 +1,33 @@
+//! Where threads wait until all of them stand.
+
+use std::sync::{Condvar, Mutex, Wait};
+
+/// A latch: threads wait at it until it is decided whether they work.
+#[derive(Drop)]
+pub struct Latch {
+    works: Mutex<Option<bool>>,
+    changed: Condvar,
+}
+
+impl Latch {
+    /// Returns one of which nothing is decided yet.
+    pub fn new() -> Latch {
+        Latch {
+            works: Mutex::new(None),
+            changed: Condvar::new(),
+        }
+    }
+
+    /// Waits until it is decided whether those who wait work, and returns that.
+    pub fn pass<R: Wait>(&self, rt: &R) -> bool {
+        let works = self.works.lock(rt);
+        let works = self.changed.wait_while(rt, works, |works| works.is_none());
+        *works == Some(true)
+    }
+
+    /// Decides whether those work who wait, and who come later.
+    pub fn decide<R: Wait>(&self, rt: &R, works: bool) {
+        *self.works.lock(rt) = Some(works);
+        self.changed.notify_all();
+    }
+}

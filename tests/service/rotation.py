@@ -1,0 +1,174 @@
+"""Rotations at which a call of the system fails: what was answered is in the journals."""
+import contextlib
+import fcntl
+import http.client
+import os
+import sys
+import threading
+import time
+
+import failing
+import folders
+import journal
+from participant import wait_until
+from service import Client, LeftOut, check, equal, id_of, number_of
+
+# How many connections there are, so that each worker has some.
+CONNECTIONS = 8
+# How many seconds pass until a journal that has ended is archived, and a bit.
+QUIET = 2.5
+# The calls of a rotation that fail in the test, each in a run of its own; tools/fail-rotation has all.
+SOME = (3, 4, 5, 6, 8, 13)
+# What may be answered while a journal can't be written, or a worker can't follow.
+ANSWERS = {200, 201, 202, 503}
+
+
+class Failing(folders.Folder):
+    """A service over a folder, one of whose calls fails."""
+
+    def __init__(self, setting, place, number, workers):
+        os.makedirs(f"{setting.folder}/{place}", exist_ok=True)
+        self.switch = f"{setting.folder}/{place}/switch"
+        super().__init__(Placed(setting, place), "--roll-after", "3", "--remember", "1", workers=workers)
+        self.plain = list(self.words)
+        self.words[:0] = [sys.executable, failing.__file__, self.folder, str(number), self.switch]
+
+    def first_line(self):
+        line = super().first_line()
+        if line.startswith(failing.REFUSED):
+            raise LeftOut(failing.REFUSED)
+        return line
+
+
+class Placed:
+    """A setting in a folder of its own below another's."""
+
+    def __init__(self, setting, place):
+        self.program = setting.program
+        self.folder = f"{setting.folder}/{place}"
+
+
+class Answered:
+    """What was answered: starts, joins, and ends."""
+
+    def __init__(self):
+        self.starts, self.joins, self.ends = [], [], []
+        self.asked_to_end = []
+
+    def call(self, client, method, path, **keys):
+        """The body of a reply that says that something was done, if it does."""
+        reply = client.call(method, path, **keys)
+        check(f"{method} {path} is answered {reply}", reply.code in ANSWERS)
+        return None if reply.code == 503 else reply.body
+
+    def start(self, client):
+        if body := self.call(client, "POST", "/lra-coordinator"):
+            self.starts.append(body["lra"])
+            return body["lra"]
+        return None
+
+    def join(self, client, action):
+        if body := self.call(client, "PUT", "/lra-coordinator/" + id_of(action), compensate="http://127.0.0.1:1/"):
+            self.joins.append(body["recovery"])
+
+    def close(self, client, action):
+        self.asked_to_end.append(action)
+        if self.call(client, "PUT", f"/lra-coordinator/{id_of(action)}/close"):
+            self.ends.append(action)
+
+
+def work(service, answered):
+    """Fills the first journal and ends all of it, waits until that may be archived, and begins more."""
+    with contextlib.ExitStack() as stack:
+        clients = [stack.enter_context(Client(service.port)) for _ in range(CONNECTIONS)]
+        actions = [answered.start(client) for client in clients[:3]]
+        check("the first journal takes no starts", all(actions))
+        with open(service.switch, "w", encoding="ascii"):
+            pass
+        # A service may have ended by itself, where nothing could be carried any more.
+        with contextlib.suppress(http.client.RemoteDisconnected, ConnectionError):
+            for client, action in zip(clients, actions):
+                answered.close(client, action)
+            time.sleep(QUIET)
+            for _ in range(2):
+                for client in clients:
+                    if action := answered.start(client):
+                        answered.join(client, action)
+                time.sleep(0.3)
+
+
+def check_journals(service, answered):
+    """Each start, join and end that was answered is in a journal, and what hasn't ended is served after a restart."""
+    kept = {"start": set(), "join": set(), "end": set()}
+    for where in (".", "ended"):
+        for name in service.journals(where):
+            for entry in journal.entries(os.path.join(service.folder, where, name + ".journal")):
+                if entry.deed in ("start", "join", "close"):
+                    kept["end" if entry.deed == "close" else entry.deed].add((name, entry.fields[0]))
+    def missing(what, uris):
+        return [uri for uri in uris if (folders.instance_of(uri), str(number_of(uri))) not in kept[what]]
+
+    equal("starts that no journal has", missing("start", answered.starts), [])
+    equal("joins that no journal has", missing("join", answered.joins), [])
+    equal("ends that no journal has", missing("end", answered.ends), [])
+    service.words = service.plain
+    wait_until("the folder's lock is free", lambda: is_free(service.folder))
+    with service:
+        with service.client() as client:
+            for action in answered.starts:
+                if action not in answered.asked_to_end:
+                    equal(f"the status of {action} after a restart", client.status(action), "Active")
+        service.kill()
+    folders.check_sound(service)
+
+
+def is_free(folder):
+    """Whether no service has a folder. (The program's watcher ends before it.)"""
+    handle = os.open(folder, os.O_RDONLY)
+    try:
+        fcntl.flock(handle, fcntl.LOCK_EX | fcntl.LOCK_NB)
+    except BlockingIOError:
+        return False
+    finally:
+        os.close(handle)
+    return True
+
+
+def try_one(setting, workers, number):
+    """Has one call of a rotation fail. Answers how many were counted."""
+    service = Failing(setting, f"{workers}-{number}", number, workers)
+    answered = Answered()
+    with service:
+        work(service, answered)
+        service.kill()
+    with open(service.switch, encoding="ascii") as it:
+        count = len(it.readlines())
+    check_journals(service, answered)
+    return count
+
+
+def try_each(setting, workers, numbers):
+    """Has each of these calls fail, each in a run of its own. Answers the counts of calls, and the faults of runs."""
+    counts, faults = {}, {}
+
+    def one(number):
+        try:
+            counts[number] = try_one(setting, workers, number)
+        except (AssertionError, OSError, LeftOut) as fault:
+            faults[number] = fault
+
+    threads = [threading.Thread(target=one, args=(it,)) for it in numbers]
+    for thread in threads:
+        thread.start()
+    for thread in threads:
+        thread.join()
+    for fault in faults.values():
+        if isinstance(fault, LeftOut):
+            raise fault
+    return counts, {number: str(fault) for number, fault in sorted(faults.items())}
+
+
+def test_what_was_answered_is_in_the_journals_whichever_call_of_a_rotation_fails(setting):
+    counts, faults = try_each(setting, 2, SOME)
+    equal("runs that lost something, by the call that failed", faults, {})
+    return f"{len(SOME)} of {max(counts.values())} calls fail"

@@ -1,0 +1,261 @@
+"""What the system has too few of, threads and descriptors: a service that lacks them says so, and one that serves answers."""
+import os
+import re
+import resource
+import shutil
+import subprocess
+import sys
+import time
+
+import blind
+import journal
+import operators
+from folders import Folder, put
+from files import SOUND
+from participant import wait_until
+from service import HOST, LATE, PATIENCE, LeftOut, Service, Telling, check, equal, free_port, is_ready, received
+
+# A user of no other process, and how many threads a service of two workers has at most.
+USER, THREADS = 61_234, 24
+# How many seconds an idle connection has to make room for a newcomer.
+ROOM = 1
+# The line that tells of lowered limits.
+LOWERED = re.compile(r"at most (\d+) connections and (\d+) callbacks at once: the limit of open files is 128\n")
+
+
+def as_user(setting, user, threads):
+    """The words with which a program is begun by a user who may have so many threads."""
+    for word in ("setpriv", "prlimit"):
+        if not shutil.which(word):
+            raise LeftOut(word)
+    if os.geteuid() != 0:
+        raise LeftOut("another user")
+    os.chmod(setting.folder, 0o755)
+    words = ["setpriv", f"--reuid={user}", f"--regid={user}", "--clear-groups", "prlimit", f"--nproc={threads}"]
+    return tuple(words)
+
+
+def given_away(setting, user):
+    """The program where that user may run it, and a place of the user's."""
+    program = f"{setting.folder}/program"
+    # By a process of its own: a file that is open for writing in one that another thread is just starting can't be run.
+    subprocess.run(["cp", setting.program, program], check=True)
+    os.chmod(program, 0o755)
+    place = f"{setting.folder}/place"
+    os.makedirs(place, exist_ok=True)
+    os.chown(place, user, user)
+    return program, place
+
+
+def ends_or_serves(words, address):
+    """Runs a service until it has ended or says that it serves. Answers its process in that case, and else nothing:
+    then it said why."""
+    process = subprocess.Popen(words, stdin=subprocess.PIPE, stdout=subprocess.PIPE, stderr=subprocess.PIPE)
+    check("nothing is said", is_ready(process.stdout, PATIENCE))
+    line = process.stdout.readline().decode()
+    if line:
+        equal("what is said", line, f"serving {address}\n")
+        return process
+    _, told = process.communicate(timeout=PATIENCE)
+    equal("what is told", (process.returncode, told.decode()), (2, f"lra: cannot serve {address}\n"))
+    return None
+
+
+def first_that_serves(setting, user, place_of, *options):
+    """Lets a service have one thread more each time, until it serves. Answers how many it wants, once it has answered
+    a request."""
+    program, place = given_away(setting, user)
+    address = f"{HOST}:{free_port()}"
+    for threads in range(1, THREADS):
+        words = [*as_user(setting, user, threads), program, "serve", *options, address, place_of(place), "2"]
+        process = ends_or_serves(words, address)
+        if process:
+            service = Service(program, place)
+            service.port = int(address.rsplit(":", 1)[1])
+            with service.client() as client:
+                equal("a status", client.status(client.start()), "Active")
+            process.kill()
+            process.communicate()
+            return threads
+    raise AssertionError("it never serves")
+
+
+def test_a_file_is_not_served_with_a_thread_too_few(setting):
+    """Two that answer, two that carry, two that look names up, one that reads standard input, and the first one."""
+    wanted = first_that_serves(setting, USER, lambda place: f"{place}/journal", "--stop-at-eof")
+    check(f"it serves with {wanted} threads", wanted >= 8)
+    return f"{wanted} threads"
+
+
+def test_a_folder_is_not_served_with_a_thread_too_few(setting):
+    """The same, and a thread for each journal, of which there are two."""
+
+    def two_journals(place):
+        for instance in (7, 8):
+            path = f"{place}/{instance:015x}.journal"
+            with open(path, "wb") as it:
+                it.write(SOUND.replace(b"journal 2 7", f"journal 2 {instance}".encode()))
+            os.chown(path, USER + 1, USER + 1)
+        return place
+
+    wanted = first_that_serves(setting, USER + 1, two_journals)
+    check(f"it serves with {wanted} threads", wanted >= 8)
+    return f"{wanted} threads"
+
+
+class Lean(operators.WatchedFolder):
+    """A service of a folder by a user who may have few threads, with a port for operators and a log."""
+
+    def __init__(self, setting, user):
+        super().__init__(setting, "--roll-after", "1", "--remember", "3600", "--log", "warn", key=None)
+        program, _ = given_away(setting, user)
+        os.chown(self.folder, user, user)
+        self.words[0] = program
+        self.words[:0] = as_user(setting, user, THREADS)
+        self.user = user
+
+    def crowd(self):
+        """Processes of the same user, which leave no thread for others."""
+        threads = len(os.listdir(f"/proc/{self.process.pid}/task"))
+        words = ("setpriv", f"--reuid={self.user}", f"--regid={self.user}", "--clear-groups", "sleep", "60")
+        return [subprocess.Popen(words) for _ in range(THREADS - threads)]
+
+
+def test_a_thread_that_is_refused_later_is_told_and_had_later(setting):
+    """The next journal wants one. Until it is there the newest goes on, and health is DOWN."""
+    with Lean(setting, USER + 2) as folder:
+        time.sleep(0.5)
+        others = folder.crowd()
+        try:
+            time.sleep(0.5)
+            actions = folder.first()
+            wait_until("that health is DOWN", lambda: not folder.is_ready())
+            check("it isn't told", "thread refused" in folder.told())
+            actions += folder.first(3)
+        finally:
+            for other in others:
+                other.kill()
+                other.wait()
+        wait_until("that health is UP", folder.is_ready)
+        with folder.client() as client:
+            equal("the statuses", {client.status(it) for it in actions}, {"Active"})
+        return f"{len(others)} others"
+
+
+class Blinded(operators.WatchedFolder):
+    """A service of a folder, with a port for operators and a log, whose threads that answer can be made to end."""
+
+    def __init__(self, setting):
+        super().__init__(setting, "--log", "warn", key=None)
+        self.mark = f"{setting.folder}/mark"
+        self.words[:0] = (sys.executable, blind.__file__, self.mark)
+
+    def first_line(self):
+        line = super().first_line()
+        if line.startswith(blind.REFUSED):
+            raise LeftOut(blind.REFUSED)
+        return line
+
+    def end_one(self):
+        """Has the next thread that answers and waits for events end."""
+        journal.write(self.mark, b"")
+        wait_until("that a thread waits", lambda: not os.path.exists(self.mark))
+
+
+def test_a_worker_that_ends_is_told_and_the_last_one_ends_the_service(setting):
+    with Blinded(setting) as folder:
+        check("it isn't ready", folder.is_ready())
+        folder.end_one()
+        wait_until("that health is DOWN", lambda: not folder.is_ready())
+        told = folder.told()
+        check(told, "error thread ended" in told and "a thread that answered has ended: the system tells no more" in told)
+        for _ in range(3):
+            folder.first()
+        folder.end_one()
+        equal("the status", folder.process.wait(PATIENCE), 2)
+        # The log tells the fault as well.
+        equal("what is told last", folder.told().splitlines()[-2:].count(f"lra: cannot serve {folder.address}"), 1)
+
+
+def limited(service, files):
+    """A service to which the system gives so many descriptors."""
+    if not shutil.which("prlimit"):
+        raise LeftOut("prlimit")
+    service.words[:0] = ("prlimit", f"--nofile={files}")
+    return service
+
+
+class Written(Telling):
+    """A service of a file by options."""
+
+    def __init__(self, setting, *options):
+        super().__init__(setting.program, setting.journal)
+        self.words[2:2] = options
+
+
+def until_closed(streams):
+    """Waits until one of the streams has ended, and answers its place."""
+    begun = time.monotonic()
+    while time.monotonic() - begun < LATE:
+        for place, stream in enumerate(streams):
+            if is_ready(stream, 0) and not received(stream)[0]:
+                return place
+        time.sleep(0.01)
+    raise AssertionError("none has ended")
+
+
+def answered(stream):
+    """Asks for something on a connection, and answers how long that took."""
+    begun = time.monotonic()
+    stream.sendall(b"GET /lra HTTP/1.1\r\nHost: h\r\n\r\n")
+    check("a reply", is_ready(stream, PATIENCE) and stream.recv(65536).startswith(b"HTTP/1.1 404 "))
+    return time.monotonic() - begun
+
+
+def test_who_has_been_idle_longest_makes_room_where_descriptors_are_few(setting):
+    """What was asked for is lowered to what there is, and that is told. Who has been idle longest gives way to a
+    newcomer, within a second."""
+    with limited(Written(setting, "--connections", "10000", "--log", "warn"), 128) as service:
+        told = LOWERED.findall(service.told())
+        equal("how often it is told", len(told), 1)
+        connections, callbacks = map(int, told[0])
+        check(f"{connections} and {callbacks}", 4 <= callbacks <= connections and connections + callbacks <= 64)
+        check(service.told(), f"descriptors lowered asked=11024 had={connections + callbacks}" in service.told())
+        streams = []
+        for _ in range(2 * connections):
+            stream = service.connect()
+            streams.append(stream)
+            seconds = answered(stream)
+            check(f"a newcomer waits for {seconds:.1f} s", seconds < ROOM)
+        # Those that came first were ended, and those that came last are still there.
+        check("the last are ended", all(answered(stream) < ROOM for stream in streams[-connections // 2 :]))
+        check("none of the first is ended", until_closed(streams[:4]) < 4)
+        return f"{connections} connections"
+
+
+def test_a_newcomer_has_room_where_the_system_has_no_descriptor_any_more(setting):
+    """What the system gives is lowered later, below what is open."""
+    with Written(setting) as service:
+        streams = [service.connect() for _ in range(40)]
+        for stream in streams:
+            answered(stream)
+        pid = service.process.pid
+        used = len(os.listdir(f"/proc/{pid}/fd"))
+        resource.prlimit(pid, resource.RLIMIT_NOFILE, (used, used))
+        for _ in range(10):
+            streams.append(service.connect())
+            seconds = answered(streams[-1])
+            check(f"a newcomer waits for {seconds:.1f} s", seconds < ROOM)
+        check("none of the first is ended", until_closed(streams[:8]) < 8)
+
+
+def test_a_folder_of_more_journals_than_descriptors_says_so(setting):
+    for instance in range(1, 13):
+        put(setting, f"{instance:015x}.journal", SOUND.replace(b"journal 2 7", f"journal 2 {instance}".encode()))
+    folder = limited(Folder(setting), 120)
+    done = subprocess.run(folder.words, stdin=subprocess.DEVNULL, capture_output=True, timeout=PATIENCE, check=False)
+    lines = done.stderr.decode().splitlines()
+    equal("the end", (done.returncode, done.stdout, lines[-1]), (2, b"", f"lra: cannot serve {folder.address}"))
+    check(f"{lines}", lines[0].startswith("lra: the limit of open files is 120, and at least "))
+    with limited(Folder(setting), 160) as folder:
+        equal("a start", len(folder.first()), 1)

@@ -1,0 +1,135 @@
+"""Which definitions a crate cites of the crates below it: modules of their `specs/`, their declared types and traits, and what these cite in turn."""
+import functools
+import glob
+import os
+import re
+
+ROOT = os.path.dirname(os.path.dirname(os.path.abspath(__file__)))
+# A module of a crate's definitions, as sources name it.
+NAMED = re.compile(r"Rattle\.(lra_\w+)\.specs((?:\.\w+)*)")
+# What begins the text of a declared type, trait or model, and its name. The text ends with the first line that closes it.
+DECLARED = re.compile(r"(?:pub(?:\([\w ]+\))? )?(?:struct|enum|union|trait|type) (\w+)|impl(?:<.*>)? Model for (\w+)")
+# Types that are brought in from another crate.
+BROUGHT = re.compile(r"^(?:pub )?use (lra_\w+)::([^;]*);", re.M)
+
+
+def read_sources(root=ROOT):
+    """The sources of all crates, by their path from the top on."""
+    found = {}
+    for part in ("src", "specs", "proofs"):
+        for path in glob.glob(f"{root}/crates/*/{part}/**/*", recursive=True):
+            if path.endswith((".rt", ".antt")):
+                with open(path, encoding="utf-8") as it:
+                    found[os.path.relpath(path, root)] = it.read()
+    return found
+
+
+def declared_in(text):
+    """The name and the text of each type, trait and model that a source declares."""
+    name, lines = "", []
+    for line in text.split("\n"):
+        begun = not name and DECLARED.match(line)
+        if begun:
+            name, lines = begun[1] or begun[2], []
+        if name:
+            lines.append(line)
+            if line.startswith("}") or line.endswith("{}") or line.endswith(";") and len(lines) == 1:
+                yield name, "\n".join(lines)
+                name = ""
+
+
+class Definitions:
+    """What is defined in the sources of all crates."""
+
+    def __init__(self, sources):
+        self.sources = sources
+        self.by_crate = {}
+        for path in sorted(sources):
+            self.by_crate.setdefault(path.split("/")[1], []).append(path)
+
+    def files(self, crate, *parts):
+        """A crate's files of these parts, each with its text."""
+        return [(it, self.sources[it]) for it in self.by_crate.get(crate, ()) if it.split("/")[2] in parts]
+
+    @functools.cache
+    def declarations(self, crate):
+        """Each type and trait that a crate declares, by name: the files that have it, each with its text of it."""
+        found = {}
+        for path, text in self.files(crate, "src"):
+            for name, declaration in declared_in(text):
+                found.setdefault(name, []).append((path, declaration))
+        return found
+
+    def module(self, crate, words):
+        """The file of a module of definitions, or, where none has its name, all of the crate's."""
+        for count in range(len(words), 0, -1):
+            path = f"crates/{crate}/specs/{'/'.join(words[:count])}.antt"
+            if path in self.sources:
+                return [(path, self.sources[path])]
+        return self.files(crate, "specs")
+
+    def declared(self, crate, words):
+        """The type or trait that a module is of, or, where none has its name, all that the crate declares."""
+        every = self.declarations(crate)
+        names = [it for it in words if it in every][:1] or every
+        return [it for name in names for it in every[name]]
+
+    def named(self, text):
+        """The definitions that a text names: a file for each, with its text of it."""
+        for crate, path in set(NAMED.findall(text)):
+            words = path.strip(".").split(".")
+            if words[0] == "declared":
+                yield from self.declared(crate, words[1:])
+            elif words[0] == "contracts":
+                yield from (it for it in self.files(crate, "src") if it[0].split("/")[3].removesuffix(".rt") in (words[1], "lib"))
+            else:
+                yield from self.module(crate, words)
+
+    def types_named(self, path, text):
+        """The types that a declaration names: those of its own crate, and those that its file brings in."""
+        words = set(re.findall(r"\b[A-Z]\w+", text))
+        crates = {path.split("/")[1]: words}
+        for crate, brought in BROUGHT.findall(self.sources[path]):
+            crates.setdefault(crate, set()).update(words & set(re.findall(r"\w+", brought)))
+        for crate, names in crates.items():
+            every = self.declarations(crate)
+            yield from (it for name in names & every.keys() for it in every[name])
+
+    def cited(self, crate):
+        """What a crate cites of those below it: a file from the top on for each definition, with its text, sorted."""
+        found, left = set(), [it for _, text in self.files(crate, "src", "specs", "proofs") for it in self.named(text)]
+        while left:
+            piece = left.pop()
+            if piece in found:
+                continue
+            found.add(piece)
+            path, text = piece
+            left.extend(self.named(text))
+            if path.endswith(".rt"):
+                left.extend(self.types_named(path, text))
+        return sorted(it for it in found if it[0].split("/")[1] != crate)
+
+
+def let_through():
+    """Changes below a crate of which what it cites tells wrongly, tried on sources made up for it; there are to be none."""
+    low = "crates/lra_low"
+    sources = {
+        f"{low}/src/lib.rt": "pub enum Kind {\n    One(Inner),\n}\n\npub struct Inner {\n    pub it: u64,\n}\n\npub fn code() {}\n",
+        f"{low}/specs/Words.antt": "use Rattle.lra_low.specs.Deep.{deep}\n\nword : ℕ\n",
+        f"{low}/specs/Deep.antt": "deep : ℕ\n",
+        f"{low}/specs/Other.antt": "other : ℕ\n",
+        "crates/lra_up/src/lib.rt": "ghost use Rattle.lra_low.specs.Words as words;\nghost use Rattle.lra_low.specs.declared.Kind.{Kind};\n",
+    }
+    changes = [
+        ("a definition that is cited", True, f"{low}/specs/Words.antt", "word : ℕ", "word : ℤ"),
+        ("a definition that a cited one cites", True, f"{low}/specs/Deep.antt", "ℕ", "ℤ"),
+        ("a type that is cited", True, f"{low}/src/lib.rt", "One(Inner)", "One(Inner, u8)"),
+        ("a type that a cited one has", True, f"{low}/src/lib.rt", "u64", "u32"),
+        ("a definition that isn't cited", False, f"{low}/specs/Other.antt", "ℕ", "ℤ"),
+        ("a body", False, f"{low}/src/lib.rt", "code() {}", "code() { }"),
+    ]
+    before = Definitions(sources).cited("lra_up")
+    for what, matters, path, old, new in changes:
+        after = Definitions({**sources, path: sources[path].replace(old, new)}).cited("lra_up")
+        if (after != before) != matters:
+            yield f"{what} has changed, which {'nothing tells' if matters else 'no sum should have'}"
