@@ -18,6 +18,9 @@ pub const BASE: &str = "base";
 /// The file in it that has the greatest instance of those journals in which nothing is begun any more since the folder was restored.
 pub const RESTORED: &str = "restored";
 
+/// The file in it that has the members which operators have given up and which aren't told any more that their action has ended.
+pub const GIVEN_UP: &str = "given-up";
+
 /// The names of what a folder has.
 #[derive(Debug, Drop)]
 pub struct Found {
@@ -51,7 +54,12 @@ pub fn stray_line(alloc: Global, folder: &str, name: &str) -> Result<String, All
 
 /// Whether a name is that of what a service keeps in its folder beside the journals: those that were put away, what it notes, and what is being made ready.
 pub fn is_kept(name: &str) -> bool {
-    name == ENDED || name == NEWEST || name == BASE || name == RESTORED || name.ends_with(".next")
+    is_noted(name) || name == ENDED || name.ends_with(".next")
+}
+
+/// Returns whether a name is that of a file in which a service notes something beside its journals.
+fn is_noted(name: &str) -> bool {
+    name == NEWEST || name == BASE || name == RESTORED || name == GIVEN_UP
 }
 
 /// Whether a name in a folder is that of a file, or of what can't be looked at: a pipe would be read for ever.

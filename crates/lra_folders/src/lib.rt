@@ -9,7 +9,7 @@ mod threads;
 
 pub use deed::Deed;
 pub use finding::{
-    BASE, ENDED, Found, NEWEST, RESTORED, find, is_folder, is_kept, names_in, stray_line,
+    BASE, ENDED, Found, GIVEN_UP, NEWEST, RESTORED, find, is_folder, is_kept, names_in, stray_line,
 };
 pub use journals::{FolderAudit, audit_journals, list_journals};
 pub use program::{answer_question, run_folder, tell_none, tell_others};

@@ -3,10 +3,12 @@
 
 mod fault;
 mod folder;
+mod given_up;
 mod header;
 mod reading;
 
 pub use fault::{RollingFault, fault_at, rolling_line, told};
 pub use folder::{Contents, Folder};
+pub use given_up::{GivenUp, given_up_in, given_up_line};
 pub use header::header_of;
 pub use reading::{Sound, Unsound, audit_all};

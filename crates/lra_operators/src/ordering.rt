@@ -16,19 +16,39 @@ use lra_wire::RequestRead;
 use serde_json::Value;
 use std::alloc::Global;
 
+/// How a member is given up.
+#[derive(Clone, Copy, Debug, PartialEq, Eq)]
+enum GivingUp {
+    /// It ends so, as it would report itself.
+    Ends(Ending),
+    /// It has ended, and isn't told any more that its action has.
+    Untold,
+}
+
+/// Returns how a member is given up by a word.
+fn giving_up_named(word: &str) -> Option<GivingUp> {
+    if word == "Ended" {
+        return Some(GivingUp::Untold);
+    }
+    match Ending::from_name(word.as_bytes()) {
+        Some(ending) => Some(GivingUp::Ends(ending)),
+        None => None,
+    }
+}
+
 /// How a member is given up, as the body of a request tells it: a form, or an object.
-fn ending_in(alloc: Global, body: &[u8]) -> Result<Option<Ending>, Memory> {
+fn giving_up_in(alloc: Global, body: &[u8]) -> Result<Option<GivingUp>, Memory> {
     if let Some(word) = in_form(alloc, body, "status")? {
-        return Ok(Ending::from_name(word.as_str().as_bytes()));
+        return Ok(giving_up_named(word.as_str()));
     }
     match Value::from_slice(alloc, body) {
         Ok(told) => {
-            let ending = match told.get("status").and_then(Value::as_str) {
-                Some(word) => Ending::from_name(word.as_bytes()),
+            let given = match told.get("status").and_then(Value::as_str) {
+                Some(word) => giving_up_named(word),
                 None => None,
             };
             drop(told);
-            Ok(ending)
+            Ok(given)
         }
         Err(error) if error.is_memory() => Err(Memory),
         Err(_) => Ok(None),
@@ -67,11 +87,25 @@ fn cancel<O: Overview>(overview: &mut O, target: &str) -> Result<Told, Trouble>
     give(overview, found.instance, &Order::Cancel { action })
 }
 
-/// Has the member that a target names end by its failure.
+/// Has a member that has ended not told any more that its action has.
+fn end_asking<O: Overview>(
+    overview: &mut O,
+    instance: Instance,
+    member: u64,
+) -> Result<Told, Trouble>
+    ensures { O.orders overview.new ≡ O.orders overview.old }
+{
+    match overview.end_asking(instance, member) {
+        Ok(()) => Ok(Told::Idle),
+        Err(fault) => Err(Trouble::from(fault)),
+    }
+}
+
+/// Has the member that a target names end by its failure, or not told any more that its action has ended.
 fn give_up<O: Overview>(
     overview: &mut O,
     target: &str,
-    ending: Option<Ending>,
+    given: Option<GivingUp>,
 ) -> Result<Told, Trouble>
     ensures { Orders target.now place.GiveUp (O.orders overview.old) (O.orders overview.new) }
 {
@@ -79,12 +113,13 @@ fn give_up<O: Overview>(
         return Err(Trouble::Refused(Refusal::NoSuchMember));
     };
     let member = found.number;
-    match ending {
-        Some(Ending::FailedToComplete) => {
+    match given {
+        Some(GivingUp::Untold) => end_asking(overview, found.instance, member),
+        Some(GivingUp::Ends(Ending::FailedToComplete)) => {
             let ending = Ending::FailedToComplete;
             give(overview, found.instance, &Order::Report { member, ending })
         }
-        Some(Ending::FailedToCompensate) => {
+        Some(GivingUp::Ends(Ending::FailedToCompensate)) => {
             let ending = Ending::FailedToCompensate;
             give(overview, found.instance, &Order::Report { member, ending })
         }
@@ -97,14 +132,14 @@ fn order_of<O: Overview>(
     overview: &mut O,
     target: &str,
     place: Place,
-    ending: Option<Ending>,
+    given: Option<GivingUp>,
 ) -> Result<Told, Trouble>
     ensures { Orders target.now place (O.orders overview.old) (O.orders overview.new) }
 {
     match place {
         Place::Close => close(overview, target),
         Place::Cancel => cancel(overview, target),
-        Place::GiveUp => give_up(overview, target, ending),
+        Place::GiveUp => give_up(overview, target, given),
         _ => Err(Trouble::Refused(Refusal::NoSuchAction)),
     }
 }
@@ -118,6 +153,6 @@ pub(crate) fn order_at<O: Overview>(
 ) -> Result<Told, Trouble>
     ensures { Orders (string_bytes request.now.target) place (O.orders overview.old) (O.orders overview.new) }
 {
-    let ending = ending_in(alloc, request.body.as_slice())?;
-    order_of(overview, request.target.as_str(), place, ending)
+    let given = giving_up_in(alloc, request.body.as_slice())?;
+    order_of(overview, request.target.as_str(), place, given)
 }

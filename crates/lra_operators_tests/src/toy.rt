@@ -211,4 +211,8 @@ impl Overview for Toy {
         self.given = self.given.saturating_add(1);
         Ok(Told::Now(ActionStatus::Cancelling))
     }
+
+    fn end_asking(&mut self, _instance: Instance, _member: u64) -> Result<(), CounterFault> {
+        Ok(())
+    }
 }

@@ -81,4 +81,8 @@ pub trait Overview {
     /// Gives an order to a journal's coordinator, now.
     fn give(&mut self, instance: Instance, order: &Order<'_>) -> Result<Told, CounterFault>
         ensures { Gives instance order.now (orders self.old) (orders self.new) };
+
+    /// Has a member of a journal that has ended not asked any more whether it knows that its action has. It writes nothing into the journal.
+    fn end_asking(&mut self, instance: Instance, member: u64) -> Result<(), CounterFault>
+        ensures { orders self.new ≡ orders self.old };
 }

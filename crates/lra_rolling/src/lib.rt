@@ -6,6 +6,7 @@ mod checking;
 mod conduct;
 mod crier;
 mod lookout;
+mod notes;
 mod opening;
 mod preparing;
 mod running;

@@ -2,12 +2,14 @@
 
 ghost use Rattle.std.specs.Prelude.{◌≡◌};
 
+use crate::notes::Notes;
 use crate::shift::Shift;
 use lra_audits::LONGEST;
 use lra_branch::Clerkship;
 use lra_clocks::{Clock as Moments, SystemClock};
 use lra_commands::{CounterFault, Known, Limits, Order, Query, Refusal, Told};
 use lra_ids::Base;
+use lra_journal_folder::GivenUp;
 use lra_model::{Instance, Memory};
 use lra_overview::{Facts, Overview};
 use lra_roster::Journal;
@@ -23,6 +25,8 @@ pub(crate) struct Tower<'a> {
     pub(crate) base: &'a Base,
     pub(crate) limits: Limits,
     pub(crate) tallies: Tallies,
+    /// Where members are noted that operators have given up.
+    pub(crate) notes: Notes,
 }
 
 impl Tower<'_> {
@@ -183,6 +187,25 @@ impl<'s, 'a: 's, R: Wait + Clock, H, B: Clerkship + Drop> Lookout<'_, 's, 'a, R,
         }
     }
 
+    /// Has a member not told any more that its action has ended, once that is noted on disk.
+    fn give_up_at(&self, journal: &Journal<B>, member: u64) -> Result<(), Refusal> {
+        let rt = self.shift.rt;
+        if journal.outcomes.give_up(rt, member).is_err() {
+            return Err(Refusal::Memory);
+        }
+        let given = GivenUp {
+            journal: journal.instance,
+            member,
+        };
+        if self.shift.tower.notes.add(rt, self.shift.alloc, given) {
+            journal.ring();
+            Ok(())
+        } else {
+            journal.outcomes.take_up(rt, member);
+            Err(Refusal::Stopped)
+        }
+    }
+
     /// How what names an instance is refused that has no desk: where there may be a journal of it by now, or still, it
     /// isn't said that there is none.
     fn lacking(&self, instance: Instance) -> CounterFault {
@@ -275,5 +298,18 @@ impl<'s, 'a: 's, R: Wait + Clock, H, B: Clerkship + Drop> Overview
         self.given.note(instance, &own);
         let moment = self.clock.now();
         self.give_at(place, moment, &own)
+    }
+
+    fn end_asking(&mut self, instance: Instance, member: u64) -> Result<(), CounterFault> {
+        let Some(place) = place_of(&self.desks, instance) else {
+            return Err(self.lacking(instance));
+        };
+        let _known = self.query_at(place, Query::MemberStatus { member })?;
+        match self.desks.get(place) {
+            Some(desk) => self
+                .give_up_at(&desk.journal, member)
+                .map_err(CounterFault::Refused),
+            None => Err(CounterFault::Refused(Refusal::NoSuchMember)),
+        }
     }
 }

@@ -6,6 +6,7 @@ ghost use Rattle.lra_opening.specs.Places.{IsRead};
 use crate::conduct::{Conduct, first_open, retire};
 use crate::crier::Crier;
 use crate::lookout::Tower;
+use crate::notes::Notes;
 use crate::opening::{Bench, Opener};
 use crate::preparing::Maker;
 use crate::shift::{Shift, duties_of};
@@ -17,7 +18,9 @@ use lra_branch::Clerkship;
 use lra_clocks::milliseconds;
 use lra_folders::stray_line;
 use lra_ids::Base;
-use lra_journal_folder::{Contents, Folder, RollingFault, Sound, Unsound, audit_all};
+use lra_journal_folder::{
+    Contents, Folder, GivenUp, RollingFault, Sound, Unsound, audit_all,
+};
 use lra_logs::{Event, Journalist};
 use lra_model::Instance;
 use lra_opening::{Herald, ServeFault};
@@ -92,6 +95,8 @@ struct Service<'a, R, V, H> {
     /// Where operators come in, and what they are told.
     tower: &'a Tower<'a>,
     conduct: Conduct<'a>,
+    /// The members that operators have given up.
+    given_up: &'a [GivenUp],
 }
 
 /// Where connections come in to so many threads.
@@ -124,6 +129,22 @@ fn secret_line(alloc: Global, is_read: bool) -> Result<String, AllocError> {
         ": those of before are unknown in a request's body unless --also-base names what they began with"
     };
     format!(in alloc; "lra: identifiers begin otherwise than they did{end}\n")
+}
+
+/// Has members of journals not told any more that their actions have ended.
+fn give_up_all<R: Wait, B: Drop>(
+    rt: &R,
+    watches: &[Watch<B>],
+    given_up: &[GivenUp],
+) -> Result<(), RollingFault> {
+    for given in given_up {
+        for watch in watches {
+            if watch.journal.instance == given.journal {
+                watch.journal.outcomes.give_up(rt, given.member)?;
+            }
+        }
+    }
+    Ok(())
 }
 
 /// The later of the moments up to which journals go.
@@ -342,6 +363,7 @@ impl<
         self.note_base()?;
         let first = first_open(self.conduct.restored(self.folder, contents)?);
         let watches = self.open(&mut maker, sounds, first, moment)?;
+        give_up_all(self.rt, &watches, self.given_up)?;
         let roster = self.roster(&watches)?;
         let door = make_doorway(self.rt, self.alloc, listener, input)?;
         let steward = self.steward(maker, watches);
@@ -394,6 +416,21 @@ impl<
     }
 }
 
+/// Where members are noted that operators give up, beside these, where any operators come in.
+fn notes_of<R: Files<File = File> + AllocGlobal + Clone + Drop>(
+    folder: &Folder<'_, R>,
+    is_watched: bool,
+    given_up: &[GivenUp],
+) -> Result<Notes, RollingFault> {
+    if !is_watched {
+        return Ok(Notes::new(None));
+    }
+    match folder.note_given_up(given_up) {
+        Ok(file) => Ok(Notes::new(Some(file))),
+        Err(_) => Err(RollingFault::Here(ServeFault::File)),
+    }
+}
+
 /// Serves the coordinators of a folder's journals at an address, as [`lra_service::serve_with`] does that of a file. What is begun, and names no journal,
 /// goes to the newest; once that is full, or has as many actions as it is to have, the next one takes its place. A journal that isn't the newest is put away
 /// once nothing of it is left to be done. Where there is a post for operators, one more thread answers them there, of all journals. A service that drains ends
@@ -436,11 +473,13 @@ pub fn serve_folder<
     let journals = u32::try_from(contents.journals.len()).unwrap_or(u32::MAX);
     let taken = taken_by_folder(workers, journals);
     let settings = fit_descriptors(rt, alloc, herald, taken, settings)?;
+    let given_up = folder.given_up(&contents)?;
     let tower = Tower {
         post: operators,
         base: &site.base,
         limits: limits_of(&settings),
         tallies: Tallies::new(alloc, operators, settings.sync_seconds)?,
+        notes: notes_of(&folder, operators.is_some(), given_up.as_slice())?,
     };
     let Ok(shelf) = Shelf::open(alloc, tower.tallies.syncs(), conduct.fence) else {
         return Err(RollingFault::Here(ServeFault::Run(RunFault::Memory)));
@@ -458,6 +497,7 @@ pub fn serve_folder<
         herald,
         tower: &tower,
         conduct,
+        given_up: given_up.as_slice(),
     };
     service.tell_others(&contents);
     match audit_all(rt, &folder, &contents, watcher, writer)? {

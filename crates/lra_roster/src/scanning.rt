@@ -3,7 +3,7 @@
 use crate::journal::Journal;
 use lra_branch::Clerkship;
 use lra_commands::{Known, Listing, Query, Row};
-use lra_rolls::is_settled;
+use lra_rolls::{is_done_with, is_settled};
 use std::sync::Wait;
 
 /// How many queries are made at once, before others are looked after.
@@ -27,6 +27,14 @@ impl<B: Clerkship + Drop> Journal<B> {
             self.query(rt, query),
             Some(Known::ActionIs(_) | Known::MemberIs(_))
         )
+    }
+
+    /// Whether a row is of a member that operators have given up.
+    fn has_given_up<R: Wait>(&self, rt: &R, row: &Row) -> bool {
+        match row {
+            Row::Member { member, .. } => self.outcomes.is_given_up(rt, *member),
+            Row::Action { .. } => false,
+        }
     }
 
     /// How many of a kind it has, where it had so many already.
@@ -113,7 +121,7 @@ impl Scan {
             place,
         };
         match journal.query(rt, query) {
-            Some(Known::Row { place, row }) if is_settled(&row) => {
+            Some(Known::Row { place, row }) if is_done_with(&row, journal.has_given_up(rt, &row)) => {
                 self.members = Some((action, place.saturating_add(1)));
                 Scanned::Further
             }

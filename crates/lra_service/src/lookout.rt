@@ -102,4 +102,12 @@ impl<V: Serving, R: Wait + Clock, L: WhichLock, H> Overview for Lookout<'_, '_, 
             Err(fault) => Err(fault),
         }
     }
+
+    fn end_asking(&mut self, instance: Instance, member: u64) -> Result<(), CounterFault> {
+        let _known = self.query(instance, Query::MemberStatus { member })?;
+        match self.shift.outcomes.give_up(self.shift.rt, member) {
+            Ok(()) => Ok(()),
+            Err(_) => Err(CounterFault::Refused(Refusal::Memory)),
+        }
+    }
 }

@@ -1,0 +1,39 @@
+//! Where members are noted that operators have given up.
+
+use lra_journal_folder::{GivenUp, given_up_line};
+use std::alloc::Global;
+use std::fs::File;
+use std::io::Write;
+use std::sync::{Mutex, Wait};
+
+/// The file of a folder in which members are noted that operators have given up.
+#[derive(Drop)]
+pub(crate) struct Notes {
+    file: Mutex<Option<File>>,
+}
+
+/// Adds a line to a file, and waits until that is on disk. The line feed before it ends what an earlier write left.
+fn add_line(file: &mut File, line: &str) -> bool {
+    let is_written = file.write_all(b"\n").is_ok() && file.write_all(line.as_bytes()).is_ok();
+    is_written && file.sync_data().is_ok()
+}
+
+impl Notes {
+    /// The notes of a file, if there is one.
+    pub(crate) fn new(file: Option<File>) -> Notes {
+        Notes {
+            file: Mutex::new(file),
+        }
+    }
+
+    /// Notes a member, and returns whether that is on disk.
+    pub(crate) fn add<R: Wait>(&self, rt: &R, alloc: Global, given: GivenUp) -> bool {
+        let Ok(line) = given_up_line(alloc, given) else {
+            return false;
+        };
+        match self.file.lock(rt).as_mut() {
+            Some(file) => add_line(file, line.as_str()),
+            None => false,
+        }
+    }
+}
