@@ -121,6 +121,7 @@ def test_the_operators_port_answers_as_described(setting):
         member.wait("complete")
         ask(f"/members/{id_of(recovery)}/give-up", "POST", json.dumps({"status": "FailedToComplete"}))
         ask(f"/members/{id_of(recovery)}/give-up", "POST", json.dumps({"status": "Lost"}))
+        ask(f"/members/{id_of(recovery)}/give-up", "POST", json.dumps({"status": "Ended"}))
         ask(f"/actions/{id_of(action)}")
     equal("what was asked", set(told.codes), told.operations(True))
     return f"{sum(map(len, told.codes.values()))} replies"

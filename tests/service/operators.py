@@ -414,6 +414,52 @@ def test_a_member_that_is_given_up_ends_its_action_as_failed(setting):
     audited(setting, setting.journal)
 
 
+def test_a_member_that_cannot_be_told_is_given_up(setting):
+    """It is asked no more, before and after a restart, its journal is archived, and has no word of it."""
+    folder = WatchedFolder(setting, "--retry-last", "200", *folders.SOON)
+    with Participant(lambda request: (200, b"") if request.path == "/compensate" else (500, b"")) as member:
+        with folder as service, service.client() as client:
+            actions = service.first(3)
+            recovery = client.join(actions[0], **member.addresses("compensate", "after"))
+            client.end(actions[0], "cancel")
+            member.wait("after", 3)
+            path = f"/members/{id_of(recovery)}/give-up"
+            reply = service.ask(path, "POST", json.dumps({"status": "Ended"}))
+            equal("the reply", (reply.code, json.loads(reply.body)), (200, {"status": "Done"}))
+            missing = id_of(recovery)[:-12] + "00ffffffffff"
+            check("another isn't there", service.ask(f"/members/{missing}/give-up", "POST", json.dumps({"status": "Ended"})).code in (404,))
+            noted = journal.read(service.path("given-up")).decode().split("\n")
+            check(f"it is noted: {noted}", any(it.endswith(" given up") for it in noted))
+            time.sleep(0.5)
+            before = len(member.at("after"))
+            time.sleep(1.5)
+            equal("how often it was asked since", len(member.at("after")) - before, 0)
+            for action in actions[1:]:
+                client.end(action, "cancel")
+            wait_until("its journal is archived", lambda: service.ended() == [folders.instance_of(actions[0])])
+        audited(setting, service.path(f"ended/{folders.instance_of(actions[0])}.journal"))
+
+
+def test_a_member_that_was_given_up_is_so_after_a_restart(setting):
+    """The folder notes it, so that it is asked no more, and its journal is archived then."""
+    folder = WatchedFolder(setting, "--retry-last", "200", *folders.SOON)
+    with Participant(lambda request: (200, b"") if request.path == "/compensate" else (500, b"")) as member:
+        with folder as service, service.client() as client:
+            actions = service.first(3)
+            recovery = client.join(actions[0], **member.addresses("compensate", "after"))
+            client.end(actions[0], "cancel")
+            member.wait("after", 3)
+            equal("the code", service.ask(f"/members/{id_of(recovery)}/give-up", "POST", json.dumps({"status": "Ended"})).code, 200)
+            time.sleep(0.5)
+        before = len(member.at("after"))
+        with folder as service, service.client() as client:
+            time.sleep(1.5)
+            equal("how often it was asked since", len(member.at("after")) - before, 0)
+            for action in actions[1:]:
+                client.end(action, "cancel")
+            wait_until("its journal is archived", lambda: service.ended() == [folders.instance_of(actions[0])])
+
+
 def test_a_give_up_needs_a_key_at_a_loopback_address_too(setting):
     with Watched(setting, key=None) as service, Participant(lambda request: (202, b"")) as member, service.client() as client:
         action = client.start()
