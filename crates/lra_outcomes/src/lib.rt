@@ -1,0 +1,12 @@
+//! What came of the last callbacks of a journal's members, where they weren't brought further.
+#![tactic(auto)]
+
+mod attempt;
+mod book;
+mod outcomes;
+mod reply;
+
+pub use attempt::Attempt;
+pub use book::MOST;
+pub use outcomes::Outcomes;
+pub use reply::{Reply, put_words};

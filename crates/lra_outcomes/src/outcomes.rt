@@ -1,0 +1,55 @@
+//! The callbacks that several threads note and read.
+
+use crate::attempt::Attempt;
+use crate::book::Book;
+use crate::reply::Reply;
+use std::alloc::{AllocError, Global};
+use std::sync::{Mutex, Wait};
+
+/// What came of the last callbacks of a journal's members, by member, where it didn't bring them further. Threads share
+/// it. [`MOST`](crate::MOST) members are remembered at most; what finds no room isn't, and is counted.
+#[derive(Drop)]
+pub struct Outcomes {
+    alloc: Global,
+    book: Mutex<Book>,
+}
+
+impl Outcomes {
+    /// None is remembered.
+    pub fn new(alloc: Global) -> Outcomes {
+        Outcomes {
+            alloc,
+            book: Mutex::new(Book::new(alloc)),
+        }
+    }
+
+    /// Remembers a member's callback that didn't bring it further, in place of the one before.
+    pub fn note<R: Wait>(&self, rt: &R, member: u64, address: &str, reply: Reply, moment: u64) {
+        match Attempt::new(self.alloc, address, reply, moment) {
+            Ok(attempt) => {
+                self.book.lock(rt).note(member, attempt);
+            }
+            Err(AllocError) => self.book.lock(rt).drop_one(),
+        }
+    }
+
+    /// Forgets a member, which got further.
+    pub fn forget<R: Wait>(&self, rt: &R, member: u64) {
+        self.book.lock(rt).forget(member);
+    }
+
+    /// Copies the last callback of a member, where it didn't bring it further.
+    pub fn find<R: Wait>(
+        &self,
+        rt: &R,
+        alloc: Global,
+        member: u64,
+    ) -> Result<Option<Attempt>, AllocError> {
+        self.book.lock(rt).find(alloc, member)
+    }
+
+    /// Returns how many callbacks found no room.
+    pub fn dropped<R: Wait>(&self, rt: &R) -> u64 {
+        self.book.lock(rt).dropped()
+    }
+}
