@@ -4,6 +4,8 @@ use crate::attempt::Attempt;
 use crate::book::Book;
 use crate::reply::Reply;
 use std::alloc::{AllocError, Global};
+use std::collections::HashSet;
+use std::sync::atomic::{AtomicBool, Ordering};
 use std::sync::{Mutex, Wait};
 
 /// What came of the last callbacks of a journal's members, by member, where it didn't bring them further. Threads share
@@ -12,6 +14,10 @@ use std::sync::{Mutex, Wait};
 pub struct Outcomes {
     alloc: Global,
     book: Mutex<Book>,
+    /// Members that aren't told any more that their action has ended, since operators gave them up.
+    given_up: Mutex<HashSet<u64>>,
+    /// There may be some.
+    gives_up: AtomicBool,
 }
 
 impl Outcomes {
@@ -20,6 +26,8 @@ impl Outcomes {
         Outcomes {
             alloc,
             book: Mutex::new(Book::new(alloc)),
+            given_up: Mutex::new(HashSet::new(alloc)),
+            gives_up: AtomicBool::new(false),
         }
     }
 
@@ -46,6 +54,23 @@ impl Outcomes {
         member: u64,
     ) -> Result<Option<Attempt>, AllocError> {
         self.book.lock(rt).find(alloc, member)
+    }
+
+    /// Has a member not told any more that its action has ended.
+    pub fn give_up<R: Wait>(&self, rt: &R, member: u64) -> Result<(), AllocError> {
+        self.given_up.lock(rt).insert(member)?;
+        self.gives_up.store(true, Ordering::SeqCst);
+        Ok(())
+    }
+
+    /// Has it told again.
+    pub fn take_up<R: Wait>(&self, rt: &R, member: u64) {
+        self.given_up.lock(rt).remove(&member);
+    }
+
+    /// Returns whether a member isn't told any more that its action has ended.
+    pub fn is_given_up<R: Wait>(&self, rt: &R, member: u64) -> bool {
+        self.gives_up.load(Ordering::SeqCst) && self.given_up.lock(rt).contains(&member)
     }
 
     /// Returns how many callbacks found no room.
