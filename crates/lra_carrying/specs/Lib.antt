@@ -1,3 +1,4 @@
 pub mod Carried
+pub mod Codes
 pub mod Steps
 pub mod inner

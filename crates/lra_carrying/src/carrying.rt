@@ -7,9 +7,10 @@ ghost use Rattle.lra_ids.specs.Addresses.{is_address};
 ghost use Rattle.lra_courier.specs.Callbacks.{Calling};
 ghost use Rattle.lra_courier.specs.Exchanges.{IsAnswer};
 ghost use Rattle.lra_carrying.specs.Carried.{IsReply, IsCarried, Comes, begun, room_of, went, finished, broken, tells};
+ghost use Rattle.lra_carrying.specs.Codes.{IsCoded};
 ghost use Rattle.lra_carrying.specs.Steps.{Takes, Steps};
 
-use crate::told::{Asked, look};
+use crate::told::{Asked, code_of, look};
 use lra_courier::{CallFault, Callback, SendFault};
 use lra_ids::Address;
 use lra_model::{Memory, Outcome};
@@ -190,6 +191,24 @@ impl Carrying {
             Some(Ok(outcome)) => Some(outcome),
             Some(Err(_)) => Some(Outcome::Silent),
             None => None,
+        }
+    }
+
+    /// Returns what it came to, where it came to something.
+    pub fn told(&self) -> Option<Result<Outcome, CallFault>>
+        ensures { result ≡ self.now.came }
+    {
+        self.came
+    }
+
+    /// Returns the code of the response whose outcome it came to. What was taken is read anew for it: it is for what an
+    /// outcome doesn't tell. Where memory is refused the call may be made again.
+    pub fn code(&self) -> Result<Option<u16>, Memory>
+        ensures { IfOk result (λ code. IfSome code (IsCoded self.now)) }
+    {
+        match self.came {
+            Some(Ok(_)) => code_of(self.alloc, self.kept.as_slice(), self.closed),
+            _ => Ok(None),
         }
     }
 

@@ -1,14 +1,16 @@
 //! What the bytes behind a request come to.
-ghost use Rattle.std.specs.Prelude.{◌≡◌, IsTrue};
+ghost use Rattle.std.specs.Prelude.{◌≡◌, true, false, IfOk, IfSome, IsTrue};
 ghost use Rattle.lra_courier.specs.Replies.{classify};
 ghost use Rattle.lra_model.specs.Words.{outcome_suits};
 ghost use Rattle.lra_wire.specs.Seen.{SeesResponse};
+ghost use Rattle.lra_carrying.specs.Codes.{HasCode};
 ghost use Rattle.lra_carrying.specs.inner.Told.{TellsSoFar, TellsAtEnd, Looks};
 
 use lra_courier::classify;
 use lra_model::{AskKind, Direction, Memory, Outcome};
 use lra_wire::{
-    Coming, Inbox, ResponseRead, SeenResponse, WireFault, read_response, response_front_seen,
+    Coming, Inbox, ResponseRead, SeenResponse, WireFault, read_response, response_front,
+    response_front_seen,
 };
 use std::alloc::{AllocError, Global};
 
@@ -86,6 +88,40 @@ pub(crate) fn look(
         return Ok(Some(told_at_end(alloc, bytes, asked)?));
     }
     Ok(None)
+}
+
+/// Returns the code of the response that bytes begin with, if it is whole before their end.
+fn code_ahead(alloc: Global, bytes: &[u8]) -> Result<Option<u16>, Memory>
+    ensures { IfOk result (λ code. IfSome code (HasCode false bytes.now)) }
+{
+    match response_front(alloc, bytes) {
+        Ok(Coming::Whole(response, _)) => Ok(Some(response.code)),
+        Err(WireFault::Memory) => Err(AllocError),
+        _ => Ok(None),
+    }
+}
+
+/// Returns the code of the response of a stream that ends with these bytes, if they are one.
+fn code_at_end(alloc: Global, bytes: &[u8]) -> Result<Option<u16>, Memory>
+    ensures { IfOk result (λ code. IfSome code (HasCode true bytes.now)) }
+{
+    let mut inbox = Inbox::new(alloc, bytes)?;
+    match read_response(alloc, &mut inbox) {
+        Ok(response) => Ok(Some(response.code)),
+        Err(WireFault::Memory) => Err(AllocError),
+        Err(_) => Ok(None),
+    }
+}
+
+/// Returns the code of the response that bytes begin with, where no more of them may come if they are closed.
+pub(crate) fn code_of(alloc: Global, bytes: &[u8], closed: bool) -> Result<Option<u16>, Memory>
+    ensures { IfOk result (λ code. IfSome code (HasCode closed bytes.now)) }
+{
+    let code = code_ahead(alloc, bytes)?;
+    if code.is_some() || !closed {
+        return Ok(code);
+    }
+    code_at_end(alloc, bytes)
 }
 
 impl Asked {

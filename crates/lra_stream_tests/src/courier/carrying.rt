@@ -117,10 +117,40 @@ fn carried(
     let mut carrying = Carrying::new(alloc, &asked()).ok()?;
     let mut sent = Vec::new(alloc);
     let told = moved(&mut carrying, bytes, size, rest, &mut sent);
-    let whole = sent.as_slice() == REQUEST;
+    let whole = sent.as_slice() == REQUEST && is_coded(alloc, &carrying, told, bytes);
     drop(sent);
     drop(carrying);
     if whole { told } else { None }
+}
+
+/// Whether it tells what it came to, and the code of a final response in the bytes where that is an outcome.
+fn is_coded(
+    alloc: Global,
+    carrying: &Carrying,
+    told: Option<Result<Outcome, CallFault>>,
+    bytes: &[u8],
+) -> bool {
+    if carrying.told() != told {
+        return false;
+    }
+    match carrying.code() {
+        Ok(Some(code)) => {
+            let head = format!(in alloc; "HTTP/1.1 {code} ");
+            let is_there = match &head {
+                Ok(head) => {
+                    let head = head.as_bytes();
+                    bytes
+                        .windows(head.len().max(1))
+                        .any(|window| window == head)
+                }
+                Err(_) => false,
+            };
+            drop(head);
+            code >= 200 && is_there && matches!(told, Some(Ok(_)))
+        }
+        Ok(None) => !matches!(told, Some(Ok(_))),
+        Err(AllocError) => false,
+    }
 }
 
 /// What `exchange` says of these bytes, and then the end.
