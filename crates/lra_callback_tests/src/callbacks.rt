@@ -7,6 +7,7 @@ use lra_clocks::{SystemClock, milliseconds};
 use lra_courier::Carriage;
 use lra_durable::Progress;
 use lra_model::Outcome;
+use lra_outcomes::{Outcomes, Reply, put_words};
 use lra_rules::Rules;
 use mio::Waker;
 use std::alloc::Global;
@@ -28,6 +29,8 @@ pub const PATIENCE: Patience = Patience {
 pub struct Count {
     done: u64,
     other: u64,
+    /// What is remembered of a member, if anything is of any.
+    reply: Option<Reply>,
 }
 
 impl Count {
@@ -40,6 +43,31 @@ impl Count {
     pub fn done(self) -> u64 {
         self.done
     }
+
+    /// Whether that is remembered of a member; of none, where it is empty.
+    pub fn says(self, alloc: Global, words: &str) -> bool {
+        let mut page = Vec::new(alloc);
+        let is_written = match self.reply {
+            Some(reply) => put_words(reply, &mut page).is_ok(),
+            None => true,
+        };
+        let says = is_written && page.as_slice() == words.as_bytes();
+        drop(page);
+        says
+    }
+}
+
+/// What is remembered of the first member of which anything is, at an address of that host.
+fn reply_in<R: Wait>(rt: &R, alloc: Global, outcomes: &Outcomes) -> Option<Reply> {
+    for member in 0..16 {
+        if let Ok(Some(attempt)) = outcomes.find(rt, alloc, member) {
+            let is_at_host = attempt.address.as_str().starts_with("http://");
+            let reply = attempt.reply;
+            drop(attempt);
+            return if is_at_host { Some(reply) } else { None };
+        }
+    }
+    None
 }
 
 /// Takes what there is memory for.
@@ -75,7 +103,11 @@ pub fn carry_within<R: Clock, C: Carriage>(
     wanted: u64,
     time: Duration,
 ) -> Count {
-    let mut count = Count { done: 0, other: 0 };
+    let mut count = Count {
+        done: 0,
+        other: 0,
+        reply: None,
+    };
     let Ok(start) = Instant::now(rt) else {
         return count;
     };
@@ -98,8 +130,13 @@ fn carry<R: Wait + Net + Clock>(
     rules: &Rules,
     held: Vec<Held>,
     wanted: u64,
+    patience: Patience,
 ) -> Count {
-    let mut count = Count { done: 0, other: 0 };
+    let mut count = Count {
+        done: 0,
+        other: 0,
+        reply: None,
+    };
     let Ok((poll, _bell)) = bell(rt) else {
         return count;
     };
@@ -107,7 +144,8 @@ fn carry<R: Wait + Net + Clock>(
         return count;
     };
     let (under_way, least_pause) = (AtomicU64::new(0), AtomicU64::new(0));
-    let share = Share::of(1, 1_024, 64, PATIENCE);
+    let outcomes = Outcomes::new(alloc);
+    let share = Share::of(1, 1_024, 64, patience);
     let clock = SystemClock::new(rt, 0);
     let bells: [Waker; 0] = [];
     let made = Callbacks::new(
@@ -122,18 +160,28 @@ fn carry<R: Wait + Net + Clock>(
         &least_pause,
         clock,
         &bells,
+        &outcomes,
     );
     if let Ok(mut callbacks) = made {
         take_all(&mut callbacks, held);
         count = carry_within(rt, &mut callbacks, wanted, Duration::from_secs(20));
         drop(callbacks);
     }
+    count.reply = reply_in(rt, alloc, &outcomes);
+    drop(outcomes);
     names.close(rt);
     count
 }
 
 /// The same while names are looked up.
-pub fn carry_under<R>(rt: &R, alloc: Global, rules: &Rules, held: Vec<Held>, wanted: u64) -> Count
+pub fn carry_under<R>(
+    rt: &R,
+    alloc: Global,
+    rules: &Rules,
+    held: Vec<Held>,
+    wanted: u64,
+    patience: Patience,
+) -> Count
 where
     R: Wait + Clock + Threads + Net<Listener = TcpListener, Stream = TcpStream> + Sync,
 {
@@ -141,7 +189,7 @@ where
     let bells: [Waker; 0] = [];
     let (count, _) = join(
         rt,
-        || carry(rt, alloc, &names, rules, held, wanted),
+        || carry(rt, alloc, &names, rules, held, wanted, patience),
         || names.run(rt, &bells),
     );
     count
@@ -153,7 +201,7 @@ where
     R: Wait + Clock + Threads + Net<Listener = TcpListener, Stream = TcpStream> + Sync,
 {
     let rules = Rules::none(alloc);
-    let count = carry_under(rt, alloc, &rules, held, wanted);
+    let count = carry_under(rt, alloc, &rules, held, wanted, PATIENCE);
     drop(rules);
     count
 }
@@ -198,23 +246,53 @@ fn a_member_is_called_beside_silent_ones(rt: HostRuntime) {
     assert!(rt; passed < Duration::from_secs(3));
 }
 
-/// How one of five members answers, how many bytes at once, and whether its errand is done then.
-fn manner(place: u64) -> (&'static str, usize, bool) {
+/// How one of nine members answers, how many bytes at once, whether its errand is done then, and what is remembered of it.
+fn manner(place: u64) -> (&'static str, usize, bool, &'static str) {
     match place {
-        0 => (DONE, 4096, true),
-        1 => (DONE, 1, true),
+        0 => (DONE, 4096, true, ""),
+        1 => (DONE, 1, true, ""),
         2 => (
             "HTTP/1.1 200 OK\r\nContent-Length: 11\r\n\r\n\"Completed\"",
             5,
             true,
+            "",
         ),
-        3 => ("HTTP/1.1 500 Oops\r\n\r\n", 4096, false),
-        _ => ("", 4096, false),
+        3 => ("HTTP/1.1 500 Oops\r\n\r\n", 4096, false, "answered 500"),
+        4 => (
+            "HTTP/1.1 200 OK\r\nContent-Length: 6\r\n\r\nActive",
+            4096,
+            false,
+            "answered 200 with a body that names no state",
+        ),
+        5 => (
+            "HTTP/1.1 202 Accepted\r\nContent-Length: 0\r\n\r\n",
+            4096,
+            false,
+            "answered 202: it is at it",
+        ),
+        6 => (
+            "HTTP/1.1 409 Conflict\r\nContent-Length: 0\r\n\r\n",
+            4096,
+            false,
+            "",
+        ),
+        7 => (
+            "SSH-2.0-OpenSSH\r\n\r\n",
+            4096,
+            false,
+            "the response isn't HTTP",
+        ),
+        _ => (
+            "",
+            4096,
+            false,
+            "the connection ended before the whole response",
+        ),
     }
 }
 
-/// Whether the errand of a member that answers so is done, if something comes of it.
-fn is_done_by<R>(rt: &R, alloc: Global, response: &str, at_once: usize) -> Option<bool>
+/// What comes of the errand of a member that answers so.
+fn count_by<R>(rt: &R, alloc: Global, response: &str, at_once: usize) -> Option<Count>
 where
     R: Wait + Clock + Threads + Net<Listener = TcpListener, Stream = TcpStream> + Sync,
 {
@@ -227,26 +305,27 @@ where
             let _ = serve(&listener, response, at_once);
         },
     );
-    if count.all() == 1 {
-        Some(count.done == 1)
-    } else {
-        None
-    }
+    if count.all() == 1 { Some(count) } else { None }
 }
 
 #[test]
 fn what_a_member_answers_comes_of_its_errand(rt: HostRuntime) {
-    for place in 0..5 {
-        let (response, at_once, is_done) = manner(place);
+    for place in 0..9 {
+        let (response, at_once, is_done, words) = manner(place);
+        let count = count_by(&rt, rt.alloc(), response, at_once);
         assert!(rt;
-            is_done_by(&rt, rt.alloc(), response, at_once) == Some(is_done),
+            count.is_some_and(|count| (count.done == 1) == is_done),
+            "{response}"
+        );
+        assert!(rt;
+            count.is_some_and(|count| count.says(rt.alloc(), words)),
             "{response}"
         );
     }
 }
 
-/// What comes of an errand to a port at which nobody listens, if anything does.
-fn is_done_at_no_port<R>(rt: &R, alloc: Global) -> Option<bool>
+/// What comes of errands to a port at which nobody listens, if anything does.
+fn count_at_no_port<R>(rt: &R, alloc: Global) -> Option<Count>
 where
     R: Wait + Clock + Threads + Net<Listener = TcpListener, Stream = TcpStream> + Sync,
 {
@@ -254,16 +333,38 @@ where
     drop(listener);
     let held = errands_at(alloc, (port, 1), (port, 1))?;
     let count = carry_by_name(rt, alloc, held, 2);
-    if count.all() == 2 {
-        Some(count.done > 0)
-    } else {
-        None
-    }
+    if count.all() == 2 { Some(count) } else { None }
 }
 
 #[test]
 fn nobody_listens(rt: HostRuntime) {
-    assert!(rt; is_done_at_no_port(&rt, rt.alloc()) == Some(false));
+    let count = count_at_no_port(&rt, rt.alloc());
+    assert!(rt; count.is_some_and(|count| count.done == 0));
+    assert!(rt; count.is_some_and(|count| count.says(rt.alloc(), "connection refused")));
+}
+
+/// What comes of an errand to a member that takes the connection and answers nothing, within a second.
+fn count_in_vain<R>(rt: &R, alloc: Global) -> Option<Count>
+where
+    R: Wait + Clock + Threads + Net<Listener = TcpListener, Stream = TcpStream> + Sync,
+{
+    let (listener, port) = listen(rt).ok()?;
+    let held = errands_at(alloc, (port, 1), (port, 0))?;
+    let rules = Rules::none(alloc);
+    let patience = Patience {
+        connect: 5_000,
+        reply: 800,
+    };
+    let count = carry_under(rt, alloc, &rules, held, 1, patience);
+    drop(rules);
+    drop(listener);
+    Some(count)
+}
+
+#[test]
+fn a_member_answers_too_late(rt: HostRuntime) {
+    let count = count_in_vain(&rt, rt.alloc());
+    assert!(rt; count.is_some_and(|count| count.says(rt.alloc(), "timed out after 1 s")));
 }
 
 /// How long one rests that has nothing under way, where something is due in so many milliseconds, if anything is.
@@ -276,6 +377,7 @@ fn rested<R: Wait + Net + Clock>(rt: &R, alloc: Global, millis: Option<u64>) -> 
     let bells: [Waker; 0] = [];
     let share = Share::of(1, 1_024, 64, PATIENCE);
     let clock = SystemClock::new(rt, 0);
+    let outcomes = Outcomes::new(alloc);
     let made = Callbacks::new(
         rt,
         alloc,
@@ -288,6 +390,7 @@ fn rested<R: Wait + Net + Clock>(rt: &R, alloc: Global, millis: Option<u64>) -> 
         &least_pause,
         clock,
         &bells,
+        &outcomes,
     );
     let Ok(mut callbacks) = made else {
         return None;

@@ -1,6 +1,6 @@
 //! Members where the rules let them be, and elsewhere.
 
-use crate::callbacks::{Count, DONE, carry_under, errands_at};
+use crate::callbacks::{Count, DONE, PATIENCE, carry_under, errands_at};
 use crate::members::{listen, serve_all};
 use lra_rules::{Rule, Rules};
 use std::alloc::Global;
@@ -26,25 +26,19 @@ where
     let rules = rules_of(alloc, rule)?;
     let (count, _) = join(
         rt,
-        || carry_under(rt, alloc, &rules, held, 2),
+        || carry_under(rt, alloc, &rules, held, 2, PATIENCE),
         || serve_all(&listener, DONE, answered),
     );
     drop(rules);
     Some(count)
 }
 
-/// How many came to silence, where nothing is answered; one that waits for its answer comes to nothing.
-fn silent_under<R>(rt: &R, alloc: Global, rule: &str) -> Option<u64>
-where
-    R: Wait + Clock + Threads + Net<Listener = TcpListener, Stream = TcpStream> + Sync,
-{
-    let count = count_under(rt, alloc, rule, 0)?;
-    Some(count.all().saturating_sub(count.done()))
-}
-
 #[test]
 fn what_no_rule_lets_is_not_called(rt: HostRuntime) {
-    assert!(rt; silent_under(&rt, rt.alloc(), "*") == Some(2));
+    let words = "the rules don't allow its address";
+    let count = count_under(&rt, rt.alloc(), "*", 0);
+    assert!(rt; count.is_some_and(|count| count.all() == 2 && count.done() == 0));
+    assert!(rt; count.is_some_and(|count| count.says(rt.alloc(), words)));
 }
 
 /// How many were done, where both are answered.

@@ -7,6 +7,7 @@ use lra_callbacks::{Callbacks, Names, Share, bell};
 use lra_clocks::SystemClock;
 use lra_courier::Carriage;
 use lra_durable::Progress;
+use lra_outcomes::Outcomes;
 use lra_rules::Rules;
 use mio::Waker;
 use std::alloc::Global;
@@ -71,6 +72,7 @@ fn asked_twice<R: Wait + Net + Clock>(rt: &R, alloc: Global, twice: Twice) -> Op
     let bells: [Waker; 0] = [];
     let share = Share::of(1, 1_024, 64, PATIENCE);
     let clock = SystemClock::new(rt, 0);
+    let outcomes = Outcomes::new(alloc);
     let made = Callbacks::new(
         rt,
         alloc,
@@ -83,6 +85,7 @@ fn asked_twice<R: Wait + Net + Clock>(rt: &R, alloc: Global, twice: Twice) -> Op
         &least_pause,
         clock,
         &bells,
+        &outcomes,
     );
     let Ok(mut callbacks) = made else {
         return None;

@@ -1,19 +1,22 @@
 //! An errand from when it is taken until something has come of it.
 
 ghost use Rattle.std.specs.Global.{Global};
-ghost use Rattle.std.specs.Prelude.{◌≡◌, Some, None, IfSome, IsTrue, String, option_map, string_bytes};
+ghost use Rattle.std.specs.Prelude.{◌≡◌, Some, None, IfOk, IfSome, IsTrue, String, option_map, string_bytes};
 ghost use Rattle.std.specs.Option.{ForSome};
 ghost use Rattle.lra_courier.specs.Sockets.{socket_text};
 ghost use Rattle.lra_durable.specs.Leaves.{MayLeave};
 ghost use Rattle.lra_callbacks.specs.Outcomes.{IsFor, MayCome};
 ghost use Rattle.lra_callbacks.specs.inner.Attempts.{outcome_of, Goes};
+ghost use Rattle.lra_callbacks.specs.inner.Ends.{Replies};
 
 use crate::pumping::{Moved, pump};
+use crate::replies::{End, reply_of};
 use lra_carrying::Carrying;
 use lra_core::Errand;
 use lra_courier::{Callback, socket_text};
 use lra_durable::{Disk, Due, Noted, Progress};
-use lra_model::Outcome;
+use lra_model::{Memory, Outcome};
+use lra_outcomes::Reply;
 use std::alloc::Global;
 use std::io::{Read, Write};
 use std::marker::Model;
@@ -187,6 +190,19 @@ impl<D: Disk> Attempt<D> {
         };
         flight.carrying.carried();
         flight.carrying.outcome().unwrap_or(Outcome::Silent)
+    }
+
+    /// Returns what is told of it where it ended so, unless it brought its member further. Where memory is refused nothing is known.
+    pub(crate) fn reply(&self, end: End) -> Result<Option<Reply>, Memory>
+        ensures { IfOk result (λ reply. Replies end self.now.flight reply) }
+    {
+        match &self.flight {
+            Some(flight) => {
+                let code = flight.carrying.code()?;
+                Ok(reply_of(end, flight.carrying.told(), code))
+            }
+            None => Ok(reply_of(end, None, None)),
+        }
     }
 
     /// The errand, and what has come of it.

@@ -1,7 +1,7 @@
 //! An errand with its socket.
 
 ghost use Rattle.std.specs.Global.{Global};
-ghost use Rattle.std.specs.Prelude.{◌≡◌, Some, IfSome, OnSome, IsTrue, String, option_map, string_bytes};
+ghost use Rattle.std.specs.Prelude.{◌≡◌, Some, IfOk, IfSome, OnOk, IsTrue, String, option_map, string_bytes};
 ghost use Rattle.std.specs.Option.{ForSome};
 ghost use Rattle.std.specs.Net.Socket.{socket_ip, socket_port};
 ghost use Rattle.lra_rules.specs.Texts.{host_in};
@@ -9,13 +9,17 @@ ghost use Rattle.lra_rules.specs.Rules.{let_address};
 ghost use Rattle.lra_courier.specs.Sockets.{socket_text};
 ghost use Rattle.lra_callbacks.specs.Outcomes.{MayCome};
 ghost use Rattle.lra_callbacks.specs.inner.Attempts.{outcome_of};
+ghost use Rattle.lra_callbacks.specs.inner.Ends.{Replies, limit_of};
 
 use crate::attempt::{Attempt, Leave};
 use crate::hosts::Target;
 use crate::pumping::Moved;
+use crate::replies::{End, end_of};
+use crate::share::Patience;
 use lra_core::Errand;
 use lra_durable::{Disk, Due, Noted, Progress};
-use lra_model::Outcome;
+use lra_model::{Memory, Outcome};
+use lra_outcomes::Reply;
 use lra_rules::Rules;
 use mio::net::TcpStream;
 use mio::{Interest, Registry, Token};
@@ -51,6 +55,8 @@ pub(crate) struct Call<D: Disk> {
     tried: usize,
     /// When it began to connect, in milliseconds.
     began: u64,
+    /// How it ended, or would if it did now.
+    end: End,
 }
 
 impl<D: Disk> Call<D> {
@@ -65,6 +71,7 @@ impl<D: Disk> Call<D> {
             host: 0,
             tried: 0,
             began: 0,
+            end: End::NotSent,
         }
     }
 
@@ -103,6 +110,21 @@ impl<D: Disk> Call<D> {
         attempt.finish()
     }
 
+    /// Returns what is told of it, unless it brought its member further. Where memory is refused nothing is known.
+    pub(crate) fn reply(&self) -> Result<Option<Reply>, Memory>
+        ensures { IfOk result (λ reply. Replies self.now.end self.now.attempt.flight reply) }
+    {
+        self.attempt.reply(self.end)
+    }
+
+    /// No address of its host is found.
+    pub(crate) fn miss(&mut self)
+        ensures errand { self.new.attempt.errand ≡ self.old.attempt.errand }
+        ensures end { self.new.end ≡ End.NoAddress }
+    {
+        self.end = End::NoAddress;
+    }
+
     pub(crate) fn host(&self) -> usize {
         self.host
     }
@@ -136,9 +158,14 @@ impl<D: Disk> Call<D> {
     {
         self.tried = self.tried.saturating_add(1);
         self.is_connected = false;
-        let Some(mut stream) = dial(rt, rules, to) else {
-            return false;
+        let mut stream = match dial(rt, rules, to) {
+            Ok(stream) => stream,
+            Err(end) => {
+                self.end = end;
+                return false;
+            }
         };
+        self.end = End::NotSent;
         let interests = Interest::READABLE | Interest::WRITABLE;
         let is_watched = registry
             .register(&mut stream, Token(key), interests)
@@ -154,6 +181,17 @@ impl<D: Disk> Call<D> {
         self.stream.take().is_some()
     }
 
+    /// Ends its socket, since a limit of time has passed, and tells whether it had one.
+    pub(crate) fn give_up(&mut self, patience: Patience) -> bool
+        ensures errand { self.new.attempt.errand ≡ self.old.attempt.errand }
+        ensures end { self.new.end ≡ End.TimedOut (limit_of self.old.is_connected patience) }
+    {
+        self.end = End::TimedOut {
+            limit: limit_of(self.is_connected, patience),
+        };
+        self.hang_up()
+    }
+
     /// Moves what can be moved.
     pub(crate) fn advance(&mut self, buffer: &mut [u8]) -> Seen
         ensures { self.new.attempt.errand ≡ self.old.attempt.errand }
@@ -166,9 +204,13 @@ impl<D: Disk> Call<D> {
             match connection_of(stream) {
                 Connection::Made => self.is_connected = true,
                 Connection::Pending => return Seen::Waits,
-                Connection::Failed => return Seen::Refused,
+                Connection::Failed => {
+                    self.end = End::NotConnected;
+                    return Seen::Refused;
+                }
             }
         }
+        self.end = End::Heard;
         match self.attempt.pump(stream, buffer) {
             Moved::Ended => Seen::Ended,
             Moved::Waits => {
@@ -182,14 +224,28 @@ impl<D: Disk> Call<D> {
     }
 }
 
-/// Begins to connect to a target that the rules let.
-fn dial<R: Net>(rt: &R, rules: &Rules, to: Target<'_>) -> Option<TcpStream>
-    ensures { OnSome result (IsTrue (let_address rules.now (host_in to.entry.socket.now) (socket_ip to.entry.address) (socket_port to.entry.address))) }
+/// Begins to connect to a target that the rules let. Else tells how that ends.
+fn dial<R: Net>(rt: &R, rules: &Rules, to: Target<'_>) -> Result<TcpStream, End>
+    ensures { OnOk result (IsTrue (let_address rules.now (host_in to.entry.socket.now) (socket_ip to.entry.address) (socket_port to.entry.address))) }
 {
     if !rules.let_socket(to.socket.as_bytes(), to.address) {
-        return None;
+        return Err(End::NotAllowed);
     }
-    TcpStream::connect(rt, to.address).ok()
+    match TcpStream::connect(rt, to.address) {
+        Ok(stream) => Ok(stream),
+        Err(error) => Err(end_of(error.kind())),
+    }
+}
+
+/// Returns the limit of time that has passed of a callback: that to connect, or that for the whole reply.
+fn limit_of(is_connected: bool, patience: Patience) -> u64
+    ensures { result ≡ limit_of is_connected patience }
+{
+    if is_connected {
+        patience.reply
+    } else {
+        patience.connect
+    }
 }
 
 /// Whether a socket is connected.

@@ -17,11 +17,12 @@ use lra_clocks::{Clock, SystemClock};
 use lra_core::Errand;
 use lra_courier::Carriage;
 use lra_durable::{Disk, Progress};
-use lra_model::{Memory, Outcome};
+use lra_model::Outcome;
+use lra_outcomes::Outcomes;
 use lra_rules::Rules;
 use mio::{Poll, Waker};
 use slab::Slab;
-use std::alloc::{AllocError, Global};
+use std::alloc::Global;
 use std::marker::Model;
 use std::net::Net;
 use std::sync::Wait;
@@ -55,6 +56,8 @@ pub struct Callbacks<'a, R, D: Disk> {
     bells: &'a [Waker],
     /// When it woke them last, by the office's clock.
     rang: u64,
+    /// What came of the members' last callbacks, for others to see.
+    outcomes: &'a Outcomes,
 }
 
 /// Those go on that wait no longer at a moment.
@@ -81,6 +84,26 @@ fn note<R: time::Clock>(
     }
 }
 
+/// Notes what is told of a callback that has ended, for who asks why a member hangs, and forgets a member that got further. Where
+/// memory is refused for that, what was noted before stays.
+fn tell_of<R: Wait + time::Clock, D: Disk>(
+    rt: &R,
+    outcomes: &Outcomes,
+    clock: &mut SystemClock<'_, R>,
+    call: &Call<D>,
+) {
+    let Some(errand) = call.errand() else {
+        return;
+    };
+    match call.reply() {
+        Ok(Some(reply)) => {
+            outcomes.note(rt, errand.member(), errand.address(), reply, clock.now());
+        }
+        Ok(None) => outcomes.forget(rt, errand.member()),
+        Err(_) => {}
+    }
+}
+
 impl<'a, R, D: Disk> Model for Callbacks<'a, R, D> {
     ghost use Rattle.std.specs.Prelude.{List, Option, map};
     ghost use Rattle.std.specs.Option.{option_and_then};
@@ -95,6 +118,7 @@ impl<'a, R: Wait + Net + time::Clock, D: Disk> Callbacks<'a, R, D> {
     /// None is under way. What the rules don't let is not connected to, and silent. The poll is one that [`bell`](crate::bell) gave, as the bells of all who carry. How many are is told there whenever one is taken or done.
     /// A member that was silent isn't asked again in the same stage until the least pause has passed, in milliseconds: 0 spares none, and `u64::MAX` never ends. Others may change
     /// it at any time; what came before it was told isn't known. Who waits so isn't counted as under way. The clock is the one by which its office's moments are given.
+    /// What came of the last callback of each member that it didn't bring further is noted in the outcomes. Where memory is refused the poll comes back.
     pub fn new(
         rt: &'a R,
         alloc: Global,
@@ -107,11 +131,13 @@ impl<'a, R: Wait + Net + time::Clock, D: Disk> Callbacks<'a, R, D> {
         least_pause: &'a AtomicU64,
         clock: SystemClock<'a, R>,
         bells: &'a [Waker],
-    ) -> Result<Callbacks<'a, R, D>, Memory>
+        outcomes: &'a Outcomes,
+    ) -> Result<Callbacks<'a, R, D>, Poll>
         ensures { IfOk result (λ made. made ≡ []) }
     {
-        let Some(traffic) = Traffic::new(alloc, poll, share) else {
-            return Err(AllocError);
+        let traffic = match Traffic::new(alloc, poll, share) {
+            Ok(traffic) => traffic,
+            Err(poll) => return Err(poll),
         };
         Ok(Callbacks {
             rt,
@@ -128,6 +154,7 @@ impl<'a, R: Wait + Net + time::Clock, D: Disk> Callbacks<'a, R, D> {
             clock,
             bells,
             rang: 0,
+            outcomes,
         })
     }
 
@@ -218,10 +245,20 @@ impl<'a, R: Wait + Net + time::Clock, D: Disk> Callbacks<'a, R, D> {
         for _ in 0..u64::MAX {
             match self.traffic.hosts.next(self.rt, self.names, now) {
                 Next::Goes(key, host) => self.start(key, host, now),
-                Next::Fails(key) => self.traffic.end(key),
+                Next::Fails(key) => self.miss(key),
                 Next::Nothing => return,
             }
         }
+    }
+
+    /// Nothing comes of one whose host isn't found.
+    fn miss(&mut self, key: usize)
+        ensures { self.new ≡ self.old }
+    {
+        if let Some(call) = self.calls.get_mut(key) {
+            call.miss();
+        }
+        self.traffic.end(key);
     }
 
     /// Has one set out to its host.
@@ -307,6 +344,19 @@ impl<'a, R: Wait + Net + time::Clock, D: Disk> Callbacks<'a, R, D> {
         }
     }
 
+    /// Nothing more will come of one whose time is up.
+    fn give_up(&mut self, key: usize)
+        ensures { self.new ≡ self.old }
+    {
+        let Some(call) = self.calls.get_mut(key) else {
+            return;
+        };
+        if call.give_up(self.share.patience) {
+            self.traffic.close(key, call.host());
+            self.traffic.end(key);
+        }
+    }
+
     /// The errand of one that has ended, and what came of it.
     fn remove(&mut self, key: usize) -> Option<(Errand, Outcome)>
         ensures some { IfSome result (λ came. Gains (errand_at self.new) (errand_at self.old) came.0 × MayCome D.took D.keeps came.0.ask came.0.kind came.1) }
@@ -316,6 +366,7 @@ impl<'a, R: Wait + Net + time::Clock, D: Disk> Callbacks<'a, R, D> {
             return None;
         };
         self.tell();
+        tell_of(self.rt, self.outcomes, &mut self.clock, &call);
         let came = call.finish();
         note(self.rt, &mut self.traffic, &mut self.sparing, &came);
         came
@@ -340,7 +391,7 @@ impl<'a, R: Wait + Net + time::Clock, D: Disk> Callbacks<'a, R, D> {
             let Some(key) = self.traffic.late(now) else {
                 return;
             };
-            self.finish(key);
+            self.give_up(key);
         }
     }
 

@@ -9,6 +9,7 @@ mod callbacks;
 mod hosts;
 mod names;
 mod pumping;
+mod replies;
 mod resting;
 mod share;
 mod silences;

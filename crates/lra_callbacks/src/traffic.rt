@@ -35,6 +35,24 @@ pub fn ring(bells: &[Waker]) {
     }
 }
 
+/// What is written while it is waited.
+#[derive(Drop)]
+struct Buffers {
+    events: Events,
+    bytes: Vec<u8>,
+    reported: Vec<usize>,
+}
+
+impl Buffers {
+    fn new(alloc: Global) -> Option<Buffers> {
+        Some(Buffers {
+            events: Events::with_capacity(alloc, MOST_EVENTS).ok()?,
+            bytes: Vec::from_elem(alloc, 0u8, BUFFER).ok()?,
+            reported: Vec::with_capacity(alloc, MOST_EVENTS).ok()?,
+        })
+    }
+}
+
 /// What goes on at the sockets, apart from the errands themselves. Each is named by the place of its errand.
 #[derive(Drop)]
 pub(crate) struct Traffic {
@@ -55,14 +73,23 @@ pub(crate) struct Traffic {
 }
 
 impl Traffic {
-    pub(crate) fn new(alloc: Global, poll: Poll, share: Share) -> Option<Traffic> {
-        Some(Traffic {
+    /// None is open. Where memory is refused the poll comes back.
+    pub(crate) fn new(alloc: Global, poll: Poll, share: Share) -> Result<Traffic, Poll> {
+        let Some(buffers) = Buffers::new(alloc) else {
+            return Err(poll);
+        };
+        let Buffers {
+            events,
+            bytes,
+            reported,
+        } = buffers;
+        Ok(Traffic {
             poll,
-            events: Events::with_capacity(alloc, MOST_EVENTS).ok()?,
-            buffer: Vec::from_elem(alloc, 0u8, BUFFER).ok()?,
+            events,
+            buffer: bytes,
             hosts: Hosts::new(alloc, share),
             agenda: Agenda::new(alloc),
-            reported: Vec::with_capacity(alloc, MOST_EVENTS).ok()?,
+            reported,
             unkept: VecDeque::new(alloc),
             ended: VecDeque::new(alloc),
             now: 0,

@@ -293,6 +293,7 @@ impl<
             &journal.stall.least_pause,
             self.clock(),
             &journal.bells,
+            &journal.outcomes,
         )
         .ok()
     }

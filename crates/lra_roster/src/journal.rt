@@ -4,6 +4,7 @@ use lra_branch::Clerkship;
 use lra_callbacks::ring;
 use lra_commands::{Known, Query};
 use lra_model::{Instance, Memory};
+use lra_outcomes::Outcomes;
 use lra_service::Stall;
 use lra_shelf::Leaf;
 use mio::Waker;
@@ -25,6 +26,8 @@ pub struct Journal<B> {
     pub stall: Stall,
     /// What wakes that one.
     pub bells: Vec<Waker>,
+    /// What came of its members' last callbacks.
+    pub outcomes: Outcomes,
     /// How many bytes it had when who carries was woken last.
     heard: AtomicU64,
     /// Nothing new is begun in it.
@@ -62,6 +65,7 @@ impl<B: Clerkship + Drop> Journal<B> {
             branch: Mutex::new(Some(branch)),
             stall,
             bells,
+            outcomes: Outcomes::new(alloc),
             heard: AtomicU64::new(0),
             is_reserved: AtomicBool::new(false),
             is_over: AtomicBool::new(false),

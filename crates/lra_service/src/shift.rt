@@ -25,6 +25,7 @@ use lra_ids::Instance;
 use lra_logs::{Event, Journalist, Tail};
 use lra_office::{Clerk, OfficeOf, Serving, WhichLock, Window};
 use lra_opening::{Herald, ServeFault};
+use lra_outcomes::Outcomes;
 use lra_overview::Facts;
 use lra_rounds::{Arrivals, Rounds, RoundsEnd, Times};
 use lra_settings::Settings;
@@ -81,6 +82,8 @@ pub(crate) struct Shift<'a, R, H> {
     end: Mutex<Option<FileEnd>>,
     /// What it takes, where that is told of.
     tail: Mutex<Option<Tail>>,
+    /// What came of the members' last callbacks.
+    pub(crate) outcomes: Outcomes,
 }
 
 impl<'a, R: Wait + Clock, H> Shift<'a, R, H> {
@@ -131,6 +134,7 @@ impl<'a, R: Wait + Clock, H> Shift<'a, R, H> {
             measure,
             end: Mutex::new(Some(end)),
             tail: Mutex::new(None),
+            outcomes: Outcomes::new(alloc),
         }
     }
 
@@ -308,6 +312,7 @@ impl<
             &stall.least_pause,
             self.clock(),
             &self.bells,
+            &self.outcomes,
         )
         .ok()
     }

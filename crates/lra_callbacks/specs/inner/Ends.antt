@@ -1,0 +1,18 @@
+-- What is told of a callback once it has ended, by its socket and by what was carried.
+use Rattle.std.specs.Prelude.{◌≡◌, ℕ, Bool, if◌then◌else◌, Option, Some, None, IfSome}
+use Rattle.lra_carrying.specs.Codes.{IsCoded}
+use Rattle.lra_outcomes.specs.declared.reply.Reply.{Reply}
+use Rattle.lra_callbacks.specs.declared.attempt.Flight.{Flight}
+use Rattle.lra_callbacks.specs.declared.replies.End.{End}
+use Rattle.lra_callbacks.specs.declared.share.Patience.{Patience}
+use Rattle.lra_callbacks.specs.inner.Replies.{reply_of}
+
+-- which limit of time passes: that to connect until there is a connection, and then that for the whole reply
+abbrev pub limit_of : Bool → Patience → ℕ
+limit_of is_connected patience = if is_connected then patience.reply else patience.connect
+
+-- what is told goes by what came of the bytes that were carried, and by the code of the response that they begin with
+abbrev pub Replies : End → Option Flight → Option Reply → Type 0
+Replies end None told = told ≡ reply_of end None None
+Replies end (Some flight) told =
+    (code : Option ℕ) × IfSome code (IsCoded flight.carrying) × (told ≡ reply_of end flight.carrying.came code)

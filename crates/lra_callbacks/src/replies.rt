@@ -1,0 +1,104 @@
+//! What is told of a callback that has ended.
+
+ghost use Rattle.std.specs.Prelude.{◌≡◌};
+ghost use Rattle.lra_callbacks.specs.inner.Replies as spec;
+
+use lra_courier::CallFault;
+use lra_model::Outcome;
+use lra_outcomes::Reply;
+use lra_wire::WireFault;
+use std::io::ErrorKind;
+
+/// How a callback ended, as far as its socket tells.
+#[derive(Clone, Copy, Debug, PartialEq, Eq)]
+pub(crate) enum End {
+    /// The request wasn't sent.
+    NotSent,
+    /// The rules for members don't let the address.
+    NotAllowed,
+    /// The name of the host has no address.
+    NoAddress,
+    /// The peer didn't take the connection.
+    NotConnected,
+    /// It took longer than so many milliseconds.
+    TimedOut { limit: u64 },
+    /// Its connection was made, and nothing more comes of it.
+    Heard,
+}
+
+/// Returns what is told of an end before anything came.
+fn reply_at(end: End) -> Reply
+    ensures { result ≡ spec.reply_at end }
+{
+    match end {
+        End::NotSent => Reply::NotSent,
+        End::NotAllowed => Reply::NotAllowed,
+        End::NoAddress => Reply::NoAddress,
+        End::NotConnected => Reply::NotConnected,
+        End::TimedOut { limit } => Reply::TimedOut {
+            seconds: limit.div_ceil(1_000),
+        },
+        End::Heard => Reply::Cut,
+    }
+}
+
+/// Returns what is told of a fault.
+fn reply_to(fault: CallFault) -> Reply
+    ensures { result ≡ spec.reply_to fault }
+{
+    match fault {
+        CallFault::Unreached => Reply::NotConnected,
+        CallFault::Send(_) => Reply::Cut,
+        CallFault::Reply(fault) => match fault {
+            WireFault::Cut | WireFault::Io | WireFault::Memory => Reply::Cut,
+            _ => Reply::NotHttp,
+        },
+    }
+}
+
+/// Returns what is told of a response of that code, if it didn't bring its member further.
+fn reply_with(outcome: Outcome, code: u16) -> Option<Reply>
+    ensures { result ≡ spec.reply_with outcome code }
+{
+    match outcome {
+        Outcome::Silent if code == 200 => Some(Reply::NoState { code }),
+        Outcome::Silent => Some(Reply::Answered { code }),
+        Outcome::Accepted => Some(Reply::AtIt { code }),
+        Outcome::Done | Outcome::Failed => None,
+    }
+}
+
+/// Returns what is told of a callback that ended so, by what came of its bytes, and by the code of the response. Nothing is told of
+/// one that brought its member further.
+pub(crate) fn reply_of(
+    end: End,
+    told: Option<Result<Outcome, CallFault>>,
+    code: Option<u16>,
+) -> Option<Reply>
+    ensures { result ≡ spec.reply_of end told code }
+{
+    match told {
+        None => Some(reply_at(end)),
+        Some(Err(fault)) => Some(reply_to(fault)),
+        Some(Ok(outcome)) => match code {
+            Some(code) => reply_with(outcome, code),
+            None => None,
+        },
+    }
+}
+
+/// Returns how a callback ended whose socket couldn't be had, by the system's reason.
+pub(crate) fn end_of(kind: ErrorKind) -> End {
+    match kind {
+        ErrorKind::ConnectionRefused
+        | ErrorKind::ConnectionReset
+        | ErrorKind::ConnectionAborted
+        | ErrorKind::HostUnreachable
+        | ErrorKind::NetworkUnreachable
+        | ErrorKind::NetworkDown
+        | ErrorKind::AddrNotAvailable
+        | ErrorKind::PermissionDenied
+        | ErrorKind::TimedOut => End::NotConnected,
+        _ => End::NotSent,
+    }
+}
