@@ -24,6 +24,8 @@ struct Twice {
     port: u16,
     /// How many milliseconds there are at least between two asks of a silent member.
     least_pause: u64,
+    /// The moment from which its office's clock goes on.
+    office: u64,
     /// How its action ends the second time.
     end: End,
 }
@@ -71,7 +73,7 @@ fn asked_twice<R: Wait + Net + Clock>(rt: &R, alloc: Global, twice: Twice) -> Op
     let (under_way, least_pause) = (AtomicU64::new(0), AtomicU64::new(twice.least_pause));
     let bells: [Waker; 0] = [];
     let share = Share::of(1, 1_024, 64, PATIENCE);
-    let clock = SystemClock::new(rt, 0);
+    let clock = SystemClock::new(rt, twice.office);
     let outcomes = Outcomes::new(alloc);
     let made = Callbacks::new(
         rt,
@@ -95,8 +97,8 @@ fn asked_twice<R: Wait + Net + Clock>(rt: &R, alloc: Global, twice: Twice) -> Op
     passed
 }
 
-/// How long it takes where nobody listens.
-fn silent_twice<R>(rt: &R, alloc: Global, least_pause: u64, end: End) -> Option<Duration>
+/// How long it takes where nobody listens, and the office's clock goes on from a moment.
+fn silent_at<R>(rt: &R, alloc: Global, least_pause: u64, office: u64, end: End) -> Option<Duration>
 where
     R: Wait + Clock + Net<Listener = TcpListener, Stream = TcpStream>,
 {
@@ -108,9 +110,18 @@ where
         Twice {
             port,
             least_pause,
+            office,
             end,
         },
     )
+}
+
+/// How long it takes where nobody listens.
+fn silent_twice<R>(rt: &R, alloc: Global, least_pause: u64, end: End) -> Option<Duration>
+where
+    R: Wait + Clock + Net<Listener = TcpListener, Stream = TcpStream>,
+{
+    silent_at(rt, alloc, least_pause, 0, end)
 }
 
 #[test]
@@ -145,6 +156,7 @@ where
     let twice = Twice {
         port,
         least_pause: u64::MAX,
+        office: 0,
         end: End::Close,
     };
     let (asked, _) = join(
@@ -158,5 +170,17 @@ where
 #[test]
 fn a_member_that_answers_is_asked_again_at_once(rt: HostRuntime) {
     let asked = answered_twice(&rt, rt.alloc()).unwrap_or(Duration::MAX);
+    assert!(rt; asked < Duration::from_millis(900));
+}
+
+#[test]
+fn near_the_end_of_the_clock_a_silent_member_is_spared(rt: HostRuntime) {
+    assert!(rt; silent_at(&rt, rt.alloc(), 0, u64::MAX, End::Close).is_none());
+}
+
+#[test]
+fn a_minute_before_that_it_is_asked_at_once(rt: HostRuntime) {
+    let moment = u64::MAX - 60_000;
+    let asked = silent_at(&rt, rt.alloc(), 0, moment, End::Close).unwrap_or(Duration::MAX);
     assert!(rt; asked < Duration::from_millis(900));
 }

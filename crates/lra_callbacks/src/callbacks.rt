@@ -117,7 +117,8 @@ impl<'a, R, D: Disk> Model for Callbacks<'a, R, D> {
 impl<'a, R: Wait + Net + time::Clock, D: Disk> Callbacks<'a, R, D> {
     /// None is under way. What the rules don't let is not connected to, and silent. The poll is one that [`bell`](crate::bell) gave, as the bells of all who carry. How many are is told there whenever one is taken or done.
     /// A member that was silent isn't asked again in the same stage until the least pause has passed, in milliseconds: 0 spares none, and `u64::MAX` never ends. Others may change
-    /// it at any time; what came before it was told isn't known. Who waits so isn't counted as under way. The clock is the one by which its office's moments are given.
+    /// it at any time; what came before it was told isn't known. Who waits so isn't counted as under way. The clock is the one by which its office's moments are given:
+    /// where it has ten seconds to go until the greatest moment, or less, silent members are spared for ten seconds at least.
     /// What came of the last callback of each member that it didn't bring further is noted in the outcomes. Where memory is refused the poll comes back.
     pub fn new(
         rt: &'a R,
@@ -425,6 +426,7 @@ impl<'a, R: Wait + Net + time::Clock, D: Disk> Callbacks<'a, R, D> {
         ensures { self.new ≡ self.old }
     {
         let now = self.clock.now();
+        self.sparing.tell_office(now);
         if next.is_some_and(|moment| moment <= now) {
             self.call_others(now);
         }

@@ -1,5 +1,8 @@
 //! Callbacks that wait, since their members were silent.
 
+ghost use Rattle.std.specs.Prelude.{◌≡◌};
+ghost use Rattle.lra_callbacks.specs.inner.Silences as spec;
+
 use crate::silences::Silences;
 use lra_core::Errand;
 use lra_model::Outcome;
@@ -7,12 +10,45 @@ use std::alloc::Global;
 use std::collections::BTreeSet;
 use std::sync::atomic::{AtomicU64, Ordering};
 
-/// Which members were silent, and the callbacks that wait since theirs was: a journal that is nearly full doesn't ask so often. All moments are in milliseconds, by one
-/// clock.
+/// How many milliseconds there are at least between two asks of a silent member once its office's clock has no more than that to go until the greatest moment.
+const LAST_PAUSE_MS: u64 = 10_000;
+
+/// Returns whether an office's clock at a moment is so near the greatest one that pauses end there: asks would follow each other at once.
+fn is_near_end(moment: u64) -> bool
+    ensures { result ≡ spec.is_near_end moment }
+{
+    u64::MAX - moment <= LAST_PAUSE_MS
+}
+
+/// Returns how many milliseconds there are at least between two asks of a silent member, where the office's clock is at a moment, and so many are told.
+fn pause_at(told: u64, moment: u64) -> u64
+    ensures { result ≡ spec.pause_at told moment }
+{
+    if is_near_end(moment) {
+        told.max(LAST_PAUSE_MS)
+    } else {
+        told
+    }
+}
+
+/// Returns as what an outcome counts, where the office's clock is at a moment.
+fn heard_at(outcome: Outcome, moment: u64) -> Outcome
+    ensures { result ≡ spec.heard_at outcome moment }
+{
+    match outcome {
+        Outcome::Accepted if is_near_end(moment) => Outcome::Silent,
+        _ => outcome,
+    }
+}
+
+/// Which members were silent, and the callbacks that wait since theirs was: a journal that is nearly full doesn't ask so often, and none does near the end of its
+/// clock. All moments are in milliseconds, and but for the office's by one clock, a steady one.
 #[derive(Drop)]
 pub(crate) struct Sparing<'a> {
     /// How long there is at least between two asks of a silent member. Whose journal it is may change that.
     least_pause: &'a AtomicU64,
+    /// The moment of the office's clock that was read last.
+    office: u64,
     silences: Silences,
     /// The callbacks that wait, by the moment until which they do and the place of their errands.
     waiting: BTreeSet<(u64, usize)>,
@@ -23,6 +59,7 @@ impl<'a> Sparing<'a> {
     pub(crate) fn new(alloc: Global, least_pause: &'a AtomicU64) -> Sparing<'a> {
         Sparing {
             least_pause,
+            office: 0,
             silences: Silences::new(alloc),
             waiting: BTreeSet::new(alloc),
         }
@@ -30,7 +67,14 @@ impl<'a> Sparing<'a> {
 
     /// How long there is at least between two asks of a silent member.
     fn pause(&self) -> u64 {
-        self.least_pause.load(Ordering::SeqCst)
+        pause_at(self.least_pause.load(Ordering::SeqCst), self.office)
+    }
+
+    /// Notes the moment of the office's clock.
+    pub(crate) fn tell_office(&mut self, moment: u64)
+        ensures { self.new.office ≡ moment }
+    {
+        self.office = moment;
     }
 
     /// Whether any member is spared.
@@ -68,8 +112,10 @@ impl<'a> Sparing<'a> {
         Some(key)
     }
 
-    /// Notes what came of an errand at a moment.
+    /// Notes what came of an errand at a moment. A member that is at it is asked again as one that was silent is, so near the end of the office's clock it is spared
+    /// like that one.
     pub(crate) fn note(&mut self, errand: &Errand, outcome: Outcome, now: u64) {
-        self.silences.note(errand, outcome, now);
+        self.silences
+            .note(errand, heard_at(outcome, self.office), now);
     }
 }

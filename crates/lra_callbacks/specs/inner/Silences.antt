@@ -1,7 +1,8 @@
 -- When members that were silent may be asked again.
-use Rattle.std.specs.Prelude.{◌≡◌, ◌⊎◌, ℕ, ◌+◌, ◌-◌, ◌^◌, Bool, true, Option, Some, None, if◌then◌else◌, min}
+use Rattle.std.specs.Prelude.{◌≡◌, ◌⊎◌, ℕ, ◌+◌, ◌-◌, ◌^◌, Bool, true, Option, Some, None, if◌then◌else◌, min, max, nat_le}
 use Rattle.lra_model.specs.declared.asks.AskKind.{AskKind}
 use Rattle.lra_model.specs.declared.asks.Outcome.{Outcome}
+use Rattle.lra_model.specs.declared.asks.Outcome.TheVariants.{Accepted, Silent}
 use Rattle.lra_model.specs.Words.{same_kind, is_silent}
 use Rattle.lra_model.specs.Wants.{stage_of}
 use Rattle.lra_commands.specs.Errands.{Asking}
@@ -21,3 +22,17 @@ again (Some silence) stage pause = if is_again silence stage then Some (min (sil
 abbrev pub Notes : Asking → Outcome → ℕ → Option Silence → Type 0
 Notes errand outcome moment known =
     (known ≡ None) ⊎ ((is_silent outcome ≡ true) × (known ≡ Some (record { stage = stage_of errand.kind errand.direction; moment = moment })))
+
+-- a clock at a moment has ten seconds to go, or less, until the greatest one (this project's choice)
+abbrev pub is_near_end : ℕ → Bool
+is_near_end moment = nat_le (2 ^ 64 - 1 - moment) 10_000
+
+-- how many milliseconds there are at least between two asks of a silent member: so many as are told, and ten seconds near the end of the clock, where due moments
+-- lie no further ahead
+abbrev pub pause_at : ℕ → ℕ → ℕ
+pause_at told moment = if is_near_end moment then max told 10_000 else told
+
+-- as what an outcome counts: near the end of the clock a member that is at it counts as one that was silent
+abbrev pub heard_at : Outcome → ℕ → Outcome
+heard_at Accepted moment = if is_near_end moment then Silent else Accepted
+heard_at outcome moment = outcome
