@@ -10,6 +10,7 @@ import time
 import failing
 import folders
 import journal
+import starving
 from participant import wait_until
 from service import Client, LeftOut, check, equal, id_of, number_of
 
@@ -19,24 +20,27 @@ CONNECTIONS = 8
 QUIET = 2.5
 # The calls of a rotation that fail in the test, each in a run of its own; tools/fail-rotation has all.
 SOME = (3, 4, 5, 6, 8, 13)
+# The same of those that want memory.
+SOME_MEMORY = (1, 2, 4, 8, 16, 32)
 # What may be answered while a journal can't be written, or a worker can't follow.
 ANSWERS = {200, 201, 202, 503}
 
 
 class Failing(folders.Folder):
-    """A service over a folder, one of whose calls fails."""
+    """A service over a folder, one of whose calls fails: of those that write, or of those that want memory."""
 
-    def __init__(self, setting, place, number, workers):
+    def __init__(self, setting, place, number, workers, way=failing):
         os.makedirs(f"{setting.folder}/{place}", exist_ok=True)
         self.switch = f"{setting.folder}/{place}/switch"
         super().__init__(Placed(setting, place), "--roll-after", "3", "--remember", "1", workers=workers)
         self.plain = list(self.words)
-        self.words[:0] = [sys.executable, failing.__file__, self.folder, str(number), self.switch]
+        self.refused = way.REFUSED
+        self.words[:0] = [sys.executable, way.__file__, self.folder, str(number), self.switch]
 
     def first_line(self):
         line = super().first_line()
-        if line.startswith(failing.REFUSED):
-            raise LeftOut(failing.REFUSED)
+        if line.startswith(self.refused):
+            raise LeftOut(self.refused)
         return line
 
 
@@ -134,9 +138,9 @@ def is_free(folder):
     return True
 
 
-def try_one(setting, workers, number):
+def try_one(setting, workers, number, way=failing):
     """Has one call of a rotation fail. Answers how many were counted."""
-    service = Failing(setting, f"{workers}-{number}", number, workers)
+    service = Failing(setting, f"{workers}-{number}", number, workers, way)
     answered = Answered()
     with service:
         work(service, answered)
@@ -147,13 +151,13 @@ def try_one(setting, workers, number):
     return count
 
 
-def try_each(setting, workers, numbers):
+def try_each(setting, workers, numbers, way=failing):
     """Has each of these calls fail, each in a run of its own. Answers the counts of calls, and the faults of runs."""
     counts, faults = {}, {}
 
     def one(number):
         try:
-            counts[number] = try_one(setting, workers, number)
+            counts[number] = try_one(setting, workers, number, way)
         except (AssertionError, OSError, LeftOut) as fault:
             faults[number] = fault
 
@@ -172,3 +176,9 @@ def test_what_was_answered_is_in_the_journals_whichever_call_of_a_rotation_fails
     counts, faults = try_each(setting, 2, SOME)
     equal("runs that lost something, by the call that failed", faults, {})
     return f"{len(SOME)} of {max(counts.values())} calls fail"
+
+
+def test_what_was_answered_is_in_the_journals_whichever_memory_of_a_rotation_is_refused(setting):
+    counts, faults = try_each(setting, 2, SOME_MEMORY, starving)
+    equal("runs that lost something, by the call that failed", faults, {})
+    return f"{len(SOME_MEMORY)} of {max(counts.values())} calls fail"
