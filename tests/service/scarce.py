@@ -1,4 +1,4 @@
-"""What the system has too few of, threads and descriptors: a service that lacks them says so, and one that serves answers."""
+"""What the system has too little of, threads, descriptors and memory: a service that lacks them says so, and one that serves answers."""
 import os
 import re
 import resource
@@ -10,9 +10,10 @@ import time
 import blind
 import journal
 import operators
-from folders import Folder, put
+import refusing
+from folders import Folder, instance_of, put
 from files import SOUND
-from participant import wait_until
+from participant import Participant, wait_until
 from service import HOST, LATE, PATIENCE, LeftOut, Service, Telling, check, equal, free_port, is_ready, received
 
 # A user of no other process, and how many threads a service of two workers has at most.
@@ -175,6 +176,45 @@ def test_a_worker_that_ends_is_told_and_the_last_one_ends_the_service(setting):
         equal("the status", folder.process.wait(PATIENCE), 2)
         # The log tells the fault as well.
         equal("what is told last", folder.told().splitlines()[-2:].count(f"lra: cannot serve {folder.address}"), 1)
+
+
+class Refusing(operators.WatchedFolder):
+    """A service of a folder, with a port for operators and a log: threads that begin while a file is there get no memory."""
+
+    def __init__(self, setting):
+        super().__init__(setting, "--roll-after", "2", "--remember", "3600", "--log", "warn", key=None)
+        self.flag = f"{setting.folder}/flag"
+        self.words[:0] = (sys.executable, refusing.__file__, self.flag)
+
+    def first_line(self):
+        line = super().first_line()
+        if line.startswith(refusing.REFUSED):
+            raise LeftOut(refusing.REFUSED)
+        return line
+
+
+def test_a_callback_thread_that_is_refused_memory_goes_on(setting):
+    """The next journal's begins while there is none. Until there is, health is DOWN and says whose callbacks stand still."""
+    with Refusing(setting) as folder, Participant() as member:
+        time.sleep(0.5)
+        journal.write(folder.flag, b"")
+        folder.first(2)
+        wait_until("the next journal", lambda: len(folder.journals()) == 2)
+        wait_until("that health is DOWN", lambda: not folder.is_ready())
+        newest = max(folder.journals())
+        threads = next(it for it in folder.read("/health/live", 503)["checks"] if it["name"] == "threads")
+        equal("whose callbacks stand still", threads["data"].get("callbacks_of"), newest)
+        check(folder.told(), f"error callbacks stand journal={newest}" in folder.told())
+        with folder.client() as client:
+            action = client.start()
+            equal("the journal", instance_of(action), newest)
+            client.join(action, **member.addresses("compensate"))
+            client.end(action, "cancel")
+        time.sleep(1)
+        equal("requests", member.requests, [])
+        os.remove(folder.flag)
+        member.wait("compensate")
+        wait_until("that health is UP", folder.is_ready)
 
 
 def limited(service, files):

@@ -35,6 +35,7 @@ const FACTS: Facts = Facts {
     sync_limit: 5_000,
     lost_workers: 0,
     lost_callback_workers: 0,
+    standing: None,
 };
 
 /// The service, and how many orders it was given.

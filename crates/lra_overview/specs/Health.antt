@@ -1,6 +1,7 @@
 -- When a service is well.
-use Rattle.std.specs.Prelude.{ℕ, ◌-◌, nat_lt, nat_le, nat_eq, Bool, true, false, ◌&&◌, not, cond, List, [], ◌∷◌, codes, Option, Some, None, is_some}
-use Rattle.std.specs.Fmt.{decimal}
+use Rattle.std.specs.Prelude.{ℕ, ◌-◌, nat_lt, nat_le, nat_eq, Bool, true, false, ◌&&◌, not, cond, List, [], ◌∷◌, ◌++◌, length, replicate, codes, Option, Some, None, is_some}
+use Rattle.std.specs.Fmt.{decimal, digits}
+use Rattle.std.specs.Option.{option_map_or}
 use Rattle.lra_overview.specs.declared.overview.Facts.{Facts}
 use Rattle.lra_overview.specs.declared.health.Probe.{Probe}
 use Rattle.lra_overview.specs.declared.health.Probe.TheVariants as probe
@@ -147,9 +148,21 @@ abbrev pub lost : Facts → List ℕ
 lost facts =
     joined (measured (codes "ended_workers") facts.lost_workers ∷ codes "," ∷ measured (codes "ended_callback_workers") facts.lost_callback_workers ∷ [])
 
--- whether all threads go on
+-- the name of a journal, without its end: fifteen hexadecimal digits in lower case, zeros in front
+unfoldable pub stem : ℕ → List ℕ
+stem i = replicate (15 - length (digits 16 false i)) 48 ++ digits 16 false i
+
+-- that a journal's callbacks stand still
+abbrev pub journal_standing : ℕ → List ℕ
+journal_standing i = joined (codes ",\"callbacks_of\":\"" ∷ stem i ∷ codes "\"" ∷ [])
+
+-- whose callbacks stand still, if any do
+abbrev pub standing : Facts → List ℕ
+standing facts = option_map_or journal_standing facts.standing []
+
+-- whether all threads go on, and whose callbacks stand still where they don't
 abbrev pub threads : Facts → List ℕ
-threads facts = joined (check (codes "threads") (has_threads facts) ∷ codes ",\"data\":{" ∷ lost facts ∷ codes "}}" ∷ [])
+threads facts = joined (check (codes "threads") (has_threads facts) ∷ codes ",\"data\":{" ∷ lost facts ∷ standing facts ∷ codes "}}" ∷ [])
 
 -- how long the sync under way has taken, and how long it may
 abbrev pub ages : Facts → List ℕ

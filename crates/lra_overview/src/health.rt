@@ -5,6 +5,7 @@ ghost use Rattle.lra_overview.specs.Health as spec;
 
 use crate::laying::{put, put_number};
 use crate::overview::Facts;
+use lra_ids::Instance;
 use lra_model::Memory;
 
 /// What is asked of a service's health.
@@ -241,6 +242,35 @@ fn put_openings(
     put_starts(page, facts)
 }
 
+/// Adds the name of a journal, without its end.
+#[tactic(auto, using(crate::proofs::Stems::written))]
+fn put_stem(page: &mut Vec<u8>, journal: Instance) -> Result<(), Memory>
+    ensures { OnOk result (page.new.items ≡ page.old.items ++ spec.stem journal) }
+{
+    let number = journal.number();
+    let stem = format!(in *page.allocator(); "{number:015x}")?;
+    page.extend_from_slice(stem.as_str().as_bytes())
+}
+
+/// Adds that a journal's callbacks stand still.
+fn put_journal_standing(page: &mut Vec<u8>, journal: Instance) -> Result<(), Memory>
+    ensures { OnOk result (page.new.items ≡ page.old.items ++ spec.journal_standing journal) }
+{
+    put(page, ",\"callbacks_of\":\"")?;
+    put_stem(page, journal)?;
+    put(page, "\"")
+}
+
+/// Adds whose callbacks stand still, if any do.
+fn put_standing(page: &mut Vec<u8>, facts: &Facts) -> Result<(), Memory>
+    ensures { OnOk result (page.new.items ≡ page.old.items ++ spec.standing facts.now) }
+{
+    match facts.standing {
+        Some(journal) => put_journal_standing(page, journal),
+        None => Ok(()),
+    }
+}
+
 /// Adds how many workers and callback workers have ended.
 fn put_lost(page: &mut Vec<u8>, facts: &Facts) -> Result<(), Memory>
     ensures { OnOk result (page.new.items ≡ page.old.items ++ spec.lost facts.now) }
@@ -250,13 +280,14 @@ fn put_lost(page: &mut Vec<u8>, facts: &Facts) -> Result<(), Memory>
     put_data(page, "ended_callback_workers", facts.lost_callback_workers)
 }
 
-/// Adds whether all threads go on.
+/// Adds whether all threads go on, and whose callbacks stand still where they don't.
 fn put_threads(page: &mut Vec<u8>, facts: &Facts) -> Result<(), Memory>
     ensures { OnOk result (page.new.items ≡ page.old.items ++ spec.threads facts.now) }
 {
     begin_check(page, "threads", has_threads(facts))?;
     put(page, ",\"data\":{")?;
     put_lost(page, facts)?;
+    put_standing(page, facts)?;
     put(page, "}}")
 }
 

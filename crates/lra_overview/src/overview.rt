@@ -43,6 +43,8 @@ pub struct Facts {
     /// How many workers and callback workers have ended though the service goes on.
     pub lost_workers: u64,
     pub lost_callback_workers: u64,
+    /// A journal whose callbacks stand still, if any do.
+    pub standing: Option<Instance>,
 }
 
 /// Where operators' questions are asked and their orders given: one office, or those of several journals, each known by its instance.

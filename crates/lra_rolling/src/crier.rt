@@ -6,7 +6,8 @@ use mio::{Events, Poll, Waker};
 use std::alloc::Global;
 use std::net::Net;
 use std::sync::{Arc, Mutex, Wait};
-use std::time::Duration;
+use std::thread;
+use std::time::{Clock, Duration};
 
 /// How many events are reported at once.
 const MOST_EVENTS: usize = 8;
@@ -22,6 +23,20 @@ pub(crate) struct Crier {
     pub(crate) bells: Vec<Waker>,
 }
 
+/// Makes room for events, once there is memory, or nothing where no one answers any more by then.
+fn find_room<R: Wait + Clock>(rt: &R, alloc: Global, ending: &Arc<Ending>) -> Option<Events> {
+    for _ in rt.forever() {
+        if let Ok(events) = Events::with_capacity(alloc, MOST_EVENTS) {
+            return Some(events);
+        }
+        if ending.is_over() {
+            return None;
+        }
+        thread::sleep(rt, Duration::from_millis(LOOK));
+    }
+    unreachable!()
+}
+
 impl Crier {
     /// One, if what it waits with can be had.
     pub(crate) fn new<R: Net>(rt: &R, alloc: Global) -> Option<Crier> {
@@ -35,7 +50,7 @@ impl Crier {
     }
 
     /// Wakes those who carry, as it is woken, until no one answers any more.
-    pub(crate) fn run<R: Wait, B: Drop>(
+    pub(crate) fn run<R: Wait + Clock, B: Drop>(
         &self,
         rt: &R,
         alloc: Global,
@@ -45,7 +60,7 @@ impl Crier {
         let Some(mut poll) = self.poll.lock(rt).take() else {
             return;
         };
-        let Ok(mut events) = Events::with_capacity(alloc, MOST_EVENTS) else {
+        let Some(mut events) = find_room(rt, alloc, ending) else {
             drop(poll);
             return;
         };

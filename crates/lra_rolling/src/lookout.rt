@@ -274,6 +274,7 @@ impl<'s, 'a: 's, R: Wait + Clock, H, B: Clerkship + Drop> Overview
             sync_limit: self.shift.tower.tallies.sync_limit(),
             lost_workers: self.shift.tower.tallies.lost_workers(),
             lost_callback_workers: self.shift.tower.tallies.lost_callback_workers(),
+            standing: self.shift.tower.tallies.standing(),
         }
     }
 

@@ -1,6 +1,6 @@
 //! What the threads of a service over a folder share, and what each does.
 
-ghost use Rattle.std.specs.Prelude.{◌≡◌, [], IfSome};
+ghost use Rattle.std.specs.Prelude.{◌≡◌, [], IfOk, IfSome};
 
 use crate::crier::Crier;
 use crate::lookout::{Lookout, Tower};
@@ -11,6 +11,7 @@ use lra_clocks::{Clock, SystemClock};
 use lra_durable::Progress;
 use lra_family_front::Household;
 use lra_logs::{Event, Journalist};
+use lra_model::Instance;
 use lra_opening::Herald;
 use lra_reserve::Reserved;
 use lra_roster::{Journal, Kin, Reservations, Roster};
@@ -23,6 +24,7 @@ use lra_settings::Settings;
 use lra_shelf::{Shelf, ShelfDisk};
 use lra_watchpost::{CountedCarriage, attend};
 use lra_workers::{Gate, Go, WorkerEnd};
+use mio::Poll;
 use std::alloc::{AllocError, Global};
 use std::net::{Net, TcpListener, TcpStream};
 use std::sync::atomic::{AtomicBool, AtomicU64, Ordering};
@@ -103,12 +105,12 @@ pub(crate) struct Shift<'s, 'a, R: Wait, H, B> {
 
 /// What one who carries for a journal is let do: as at a file's, until the journal is put away.
 #[derive(Drop)]
-struct JournalGate<'a, R: Wait, B> {
-    gate: CarrierGate<'a, R, ShelfDisk>,
+struct JournalGate<'a, R: Wait, B, J> {
+    gate: CarrierGate<'a, R, ShelfDisk, J>,
     journal: &'a Journal<B>,
 }
 
-impl<R: Wait + time::Clock + Net, B: Drop> Gate for JournalGate<'_, R, B> {
+impl<R: Wait + time::Clock + Net, B: Drop, J: Journalist> Gate for JournalGate<'_, R, B, J> {
     fn more(&mut self) -> bool {
         !self.journal.is_over() && self.gate.more()
     }
@@ -122,6 +124,10 @@ impl<R: Wait + time::Clock + Net, B: Drop> Gate for JournalGate<'_, R, B> {
     }
 
     fn answered(&mut self, _ask: u64) {}
+
+    fn pause(&mut self) {
+        self.gate.pause();
+    }
 }
 
 impl<'s, 'a: 's, R: Wait + time::Clock, H, B> Shift<'s, 'a, R, H, B> {
@@ -276,11 +282,14 @@ impl<
         self.names.run(self.rt, &self.crier.bells);
     }
 
-    /// The callbacks of one who carries for a journal: none are under way.
-    fn callbacks<'b>(&'b self, journal: &'b Journal<B>) -> Option<Callbacks<'b, R, ShelfDisk>>
-        ensures { IfSome result (λ made. made ≡ []) }
+    /// Tries to make the callbacks of one who carries for a journal: none are under way. Where memory is refused the poll is given back.
+    fn try_callbacks<'b>(
+        &'b self,
+        journal: &'b Journal<B>,
+        poll: Poll,
+    ) -> Result<Callbacks<'b, R, ShelfDisk>, Poll>
+        ensures { IfOk result (λ made. made ≡ []) }
     {
-        let poll = journal.stall.poll.lock(self.rt).take()?;
         Callbacks::new(
             self.rt,
             self.alloc,
@@ -295,40 +304,86 @@ impl<
             &journal.bells,
             &journal.outcomes,
         )
-        .ok()
+    }
+
+    /// Makes them, once there is memory, as long as the gate lets turns be made.
+    fn callbacks<'b>(
+        &'b self,
+        journal: &'b Journal<B>,
+        poll: Poll,
+        gate: &mut JournalGate<'_, R, B, H>,
+    ) -> Option<Callbacks<'b, R, ShelfDisk>>
+        ensures { IfSome result (λ made. made ≡ []) }
+    {
+        let mut poll = poll;
+        for _ in self.rt.forever() {
+            match self.try_callbacks(journal, poll) {
+                Ok(made) => return Some(made),
+                Err(back) => poll = back,
+            }
+            gate.pause();
+            if !gate.more() {
+                drop(poll);
+                return None;
+            }
+        }
+        unreachable!()
+    }
+
+    /// Enrols a clerk of a journal's coordinator, once that can be done, as long as the gate lets turns be made.
+    fn enrol(&self, journal: &Journal<B>, gate: &mut JournalGate<'_, R, B, H>) -> Option<B> {
+        for _ in self.rt.forever() {
+            if let Some(branch) = journal.fork(self.rt, self.clock().now()) {
+                return Some(branch);
+            }
+            gate.pause();
+            if !gate.more() {
+                return None;
+            }
+        }
+        unreachable!()
     }
 
     /// What one who carries for a journal is let do.
-    fn gate<'b>(&'b self, journal: &'b Journal<B>) -> JournalGate<'b, R, B> {
+    fn gate<'b>(&'b self, journal: &'b Journal<B>) -> JournalGate<'b, R, B, H> {
         JournalGate {
             gate: CarrierGate::new(
                 self.rt,
                 self.ending,
                 self.progress(),
                 &journal.stall.under_way,
+                &self.tower.tallies,
+                self.herald,
+                journal.instance,
             ),
             journal,
         }
     }
 
-    /// Lets limits fire and carries errands of a journal, many at once. Where that can't be begun no one answers any more.
-    pub(crate) fn carry(&self, journal: &Journal<B>) {
-        let Some(branch) = journal.fork(self.rt, self.clock().now()) else {
-            self.door.close();
+    /// Lets limits fire and carries errands of a journal, many at once, with a poll of its own.
+    fn carry_with(&self, journal: &Journal<B>, poll: Poll) {
+        let mut gate = self.gate(journal);
+        let Some(branch) = self.enrol(journal, &mut gate) else {
+            drop(poll);
             return;
         };
-        match self.callbacks(journal) {
-            Some(callbacks) => {
-                let tallies = &self.tower.tallies;
-                let mut counted = CountedCarriage::new(self.alloc, callbacks, self.rt, tallies);
-                let end = branch.carry(&mut counted, &mut self.gate(journal), &mut self.clock());
-                drop(counted);
-                self.tell_end(end);
-            }
-            None => {
-                drop(branch);
-                self.door.close();
-            }
+        let Some(callbacks) = self.callbacks(journal, poll, &mut gate) else {
+            drop(branch);
+            return;
+        };
+        let tallies = &self.tower.tallies;
+        let mut counted = CountedCarriage::new(self.alloc, callbacks, self.rt, tallies);
+        let end = branch.carry(&mut counted, &mut gate, &mut self.clock());
+        drop(counted);
+        self.tell_end(end, journal.instance);
+    }
+
+    /// Lets limits fire and carries errands of a journal, many at once. Where it has no place for that no one answers any more.
+    pub(crate) fn carry(&self, journal: &Journal<B>) {
+        let poll = journal.stall.poll.lock(self.rt).take();
+        match poll {
+            Some(poll) => self.carry_with(journal, poll),
+            None => self.door.close(),
         }
     }
 
@@ -337,10 +392,11 @@ impl<
         self.door.close();
     }
 
-    /// Tells why one who carried has ended, unless the disk has failed: then the program ends, and says so.
-    fn tell_end(&self, end: WorkerEnd) {
+    /// Tells why the one who carried for a journal has ended, unless the disk has failed: then the program ends, and says so.
+    fn tell_end(&self, end: WorkerEnd, journal: Instance) {
         if !self.progress().has_failed(self.rt) {
-            lose_callback_worker(self.alloc, self.herald, &self.tower.tallies, end);
+            let tallies = &self.tower.tallies;
+            lose_callback_worker(self.alloc, self.herald, tallies, end, Some(journal));
         }
     }
 

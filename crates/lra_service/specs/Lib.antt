@@ -1,4 +1,5 @@
 pub mod Limited
 pub mod Outcomes
 pub mod Sited
+pub mod Stamina
 pub mod inner

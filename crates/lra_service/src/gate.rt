@@ -1,48 +1,98 @@
 //! What those who carry are let do.
 
 use crate::ending::Ending;
+use crate::stamina::{is_longest, pause_after};
 use lra_clocks::{seconds_on, time_until};
 use lra_durable::{Disk, Progress};
+use lra_ids::Instance;
+use lra_logs::{Event, Journalist};
+use lra_watchpost::Tallies;
 use lra_workers::{Gate, Go};
 use std::sync::atomic::{AtomicU64, Ordering};
 use std::sync::{Arc, Wait};
-use std::time::{Clock, Instant};
+use std::thread;
+use std::time::{Clock, Duration, Instant};
 
 /// How many seconds what is under way has, once the service is to end.
 const PARTING: u64 = 10;
 
 /// Lets one who carries make turns as long as someone answers. Once the service is to end, nothing is begun in them any more, and they are made
-/// until nothing is under way, 10 s after at most, unless the disk has failed.
+/// until nothing is under way, 10 s after at most, unless the disk has failed. Where memory is refused it pauses, for longer each time in a row; once the pause is
+/// the longest, the journal's callbacks are noted to stand still, until a turn goes well.
 #[derive(Drop)]
-pub struct CarrierGate<'a, R, D: Disk> {
+pub struct CarrierGate<'a, R, D: Disk, J> {
     rt: &'a R,
     ending: &'a Arc<Ending>,
     progress: &'a Progress<D>,
     /// How many errands are under way.
     under_way: &'a AtomicU64,
+    tallies: &'a Tallies,
+    journalist: &'a J,
+    /// The journal whose callbacks it carries.
+    journal: Instance,
     /// Until when turns are made, once the service is to end.
     until: Option<Instant>,
+    /// How often memory was refused in a row, and whether that is so since a turn was let be made.
+    refusals: u64,
+    is_refused: bool,
+    /// Whether the callbacks were noted to stand still.
+    stands: bool,
 }
 
-impl<'a, R, D: Disk> CarrierGate<'a, R, D> {
-    /// One of a carrier that tells there how many errands it has under way.
+impl<'a, R, D: Disk, J> CarrierGate<'a, R, D, J> {
+    /// One of a carrier that tells there how many errands it has under way, of a journal.
     pub fn new(
         rt: &'a R,
         ending: &'a Arc<Ending>,
         progress: &'a Progress<D>,
         under_way: &'a AtomicU64,
-    ) -> CarrierGate<'a, R, D> {
+        tallies: &'a Tallies,
+        journalist: &'a J,
+        journal: Instance,
+    ) -> CarrierGate<'a, R, D, J> {
         CarrierGate {
             rt,
             ending,
             progress,
             under_way,
+            tallies,
+            journalist,
+            journal,
             until: None,
+            refusals: 0,
+            is_refused: false,
+            stands: false,
+        }
+    }
+
+    /// Notes that another turn begins. Where no memory was refused in the last one, that went well, and pauses begin anew.
+    fn turn(&mut self) {
+        if self.is_refused {
+            self.is_refused = false;
+            return;
+        }
+        self.refusals = 0;
+        if self.stands {
+            self.stands = false;
+            self.tallies.go_on(self.journal);
         }
     }
 }
 
-impl<R: Wait + Clock, D: Disk> CarrierGate<'_, R, D> {
+impl<R, D: Disk, J: Journalist> CarrierGate<'_, R, D, J> {
+    /// Notes that the callbacks stand still, where that wasn't noted.
+    fn stand(&mut self) {
+        if !self.stands {
+            self.stands = true;
+            self.tallies.stand(self.journal);
+            self.journalist.note(&Event::CallbacksStand {
+                journal: self.journal,
+            });
+        }
+    }
+}
+
+impl<R: Wait + Clock, D: Disk, J> CarrierGate<'_, R, D, J> {
     /// Whether what is under way has some time left. Where the clock can't be read it has none.
     fn has_time(&mut self) -> bool {
         if self.until.is_none() {
@@ -55,8 +105,9 @@ impl<R: Wait + Clock, D: Disk> CarrierGate<'_, R, D> {
     }
 }
 
-impl<R: Wait + Clock, D: Disk> Gate for CarrierGate<'_, R, D> {
+impl<R: Wait + Clock, D: Disk, J: Journalist> Gate for CarrierGate<'_, R, D, J> {
     fn more(&mut self) -> bool {
+        self.turn();
         if !self.ending.is_asked() {
             return !self.ending.is_over();
         }
@@ -74,4 +125,14 @@ impl<R: Wait + Clock, D: Disk> Gate for CarrierGate<'_, R, D> {
     }
 
     fn answered(&mut self, _ask: u64) {}
+
+    fn pause(&mut self) {
+        self.is_refused = true;
+        self.refusals = self.refusals.saturating_add(1);
+        if is_longest(self.refusals) {
+            self.stand();
+        }
+        let pause = pause_after(self.refusals);
+        thread::sleep(self.rt, Duration::from_millis(pause));
+    }
 }

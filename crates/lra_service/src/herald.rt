@@ -1,5 +1,6 @@
 //! What a service tells of its threads, and who is told.
 
+use lra_ids::Instance;
 use lra_logs::{Event, Journalist, Level, Logbook, Port};
 use lra_opening::Herald;
 use lra_rounds::RoundsEnd;
@@ -83,13 +84,14 @@ pub fn lose_worker<H: Herald + Journalist>(herald: &H, tallies: &Tallies, end: R
     }
 }
 
-/// Tells that a thread that carried has ended though the service goes on, and why. Where it has ended with the service
-/// nothing is told.
+/// Tells that a thread that carried has ended though the service goes on, and why; and where it was a journal's last one,
+/// that this journal's callbacks stand still. Where it has ended with the service nothing is told.
 pub fn lose_callback_worker<H: Herald + Journalist>(
     alloc: Global,
     herald: &H,
     tallies: &Tallies,
     end: WorkerEnd,
+    last_of: Option<Instance>,
 ) {
     let WorkerEnd::Refused(refusal) = end else {
         return;
@@ -99,5 +101,11 @@ pub fn lose_callback_worker<H: Herald + Journalist>(
         Err(_) => herald.tell("lra: a thread that carried has ended\n"),
     }
     herald.note(&Event::ThreadEnded);
-    tallies.lose_callback_worker();
+    match last_of {
+        Some(journal) => {
+            tallies.stand(journal);
+            herald.note(&Event::CallbacksStand { journal });
+        }
+        None => tallies.lose_callback_worker(),
+    }
 }

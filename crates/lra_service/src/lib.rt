@@ -20,6 +20,7 @@ mod running;
 mod shares;
 mod shift;
 mod spot;
+mod stamina;
 mod starting;
 mod terms;
 

@@ -79,6 +79,7 @@ impl Measure {
             sync_limit: self.tallies.sync_limit(),
             lost_workers: self.tallies.lost_workers(),
             lost_callback_workers: self.tallies.lost_callback_workers(),
+            standing: self.tallies.standing(),
         }
     }
 }

@@ -1,6 +1,6 @@
 //! The threads of a service.
 
-ghost use Rattle.std.specs.Prelude.{◌≡◌, [], IfSome};
+ghost use Rattle.std.specs.Prelude.{◌≡◌, [], IfOk, IfSome};
 ghost use Rattle.lra_ticket.specs.Locks.{lock_id};
 ghost use Rattle.lra_service.specs.inner.Opened.{IsAt};
 
@@ -30,8 +30,8 @@ use lra_overview::Facts;
 use lra_rounds::{Arrivals, Rounds, RoundsEnd, Times};
 use lra_settings::Settings;
 use lra_watchpost::{CountedCarriage, Vitals, Watchpost, attend};
-use lra_workers::{WorkerEnd, run_carrier};
-use mio::Waker;
+use lra_workers::{Gate, WorkerEnd, run_carrier};
+use mio::{Poll, Waker};
 use std::alloc::Global;
 use std::marker::Brand;
 use std::net::{Net, TcpListener, TcpStream};
@@ -66,6 +66,8 @@ pub(crate) struct Shift<'a, R, H> {
     answering: AtomicU64,
     /// How many clerks work.
     working: AtomicU64,
+    /// How many of those who carry haven't ended.
+    carrying: AtomicU64,
     /// The places of those who carry.
     stalls: Vec<Stall>,
     /// What wakes them, once something may be due.
@@ -126,6 +128,7 @@ impl<'a, R: Wait + Clock, H> Shift<'a, R, H> {
             times: times_of(settings),
             answering: AtomicU64::new(workers as u64),
             working: AtomicU64::new(0),
+            carrying: AtomicU64::new(workers as u64),
             share: share_of(settings, workers),
             stalls,
             bells,
@@ -295,11 +298,14 @@ impl<
         SystemClock::new(self.rt, self.moment)
     }
 
-    /// The callbacks of one who carries: none are under way.
-    fn callbacks<'b>(&'b self, stall: &'b Stall) -> Option<Callbacks<'b, R, JournalFile>>
-        ensures { IfSome result (λ made. made ≡ []) }
+    /// Tries to make the callbacks of one who carries: none are under way. Where memory is refused the poll is given back.
+    fn try_callbacks<'b>(
+        &'b self,
+        stall: &'b Stall,
+        poll: Poll,
+    ) -> Result<Callbacks<'b, R, JournalFile>, Poll>
+        ensures { IfOk result (λ made. made ≡ []) }
     {
-        let poll = stall.poll.lock(self.rt).take()?;
         Callbacks::new(
             self.rt,
             self.alloc,
@@ -314,12 +320,47 @@ impl<
             &self.bells,
             &self.outcomes,
         )
-        .ok()
     }
 
-    /// What one who carries is let do.
-    fn gate<'b>(&'b self, stall: &'b Stall) -> CarrierGate<'b, R, JournalFile> {
-        CarrierGate::new(self.rt, self.ending, self.progress, &stall.under_way)
+    /// Makes them, once there is memory, as long as the gate lets turns be made.
+    fn callbacks<'b>(
+        &'b self,
+        stall: &'b Stall,
+        poll: Poll,
+        gate: &mut CarrierGate<'_, R, JournalFile, H>,
+    ) -> Option<Callbacks<'b, R, JournalFile>>
+        ensures { IfSome result (λ made. made ≡ []) }
+    {
+        let mut poll = poll;
+        for _ in self.rt.forever() {
+            match self.try_callbacks(stall, poll) {
+                Ok(made) => return Some(made),
+                Err(back) => poll = back,
+            }
+            gate.pause();
+            if !gate.more() {
+                drop(poll);
+                return None;
+            }
+        }
+        unreachable!()
+    }
+
+    /// What one who carries is let do, for a journal.
+    fn gate<'b>(
+        &'b self,
+        stall: &'b Stall,
+        journal: Instance,
+    ) -> CarrierGate<'b, R, JournalFile, H> {
+        CarrierGate::new(
+            self.rt,
+            self.ending,
+            self.progress,
+            &stall.under_way,
+            &self.measure.tallies,
+            self.herald,
+            journal,
+        )
     }
 
     /// Has what the file takes told of, as that of a journal.
@@ -349,31 +390,44 @@ impl<
         }
     }
 
-    /// Lets limits fire and carries errands, many at once. Where that can't be begun no one answers any more.
+    /// Lets limits fire and carries errands, many at once, at a place whose poll was taken.
+    fn carry_at<V: Serving>(&self, stall: &Stall, poll: Poll, office: &OfficeOf<V>, clerk: Clerk<V>)
+        requires { IsAt V.setting office.now clerk }
+    {
+        let journal = office.instance();
+        let mut gate = self.gate(stall, journal);
+        let Some(callbacks) = self.callbacks(stall, poll, &mut gate) else {
+            drop(clerk);
+            return;
+        };
+        let tallies = &self.measure.tallies;
+        let mut counted = CountedCarriage::new(self.alloc, callbacks, self.rt, tallies);
+        let (clerk, end) = run_carrier(
+            self.rt,
+            office,
+            clerk,
+            &mut counted,
+            &mut gate,
+            &mut self.clock(),
+        );
+        drop(counted);
+        drop(clerk);
+        self.tell_end(end, journal);
+    }
+
+    /// Takes the poll of the one who carries there.
+    fn take_poll(&self, place: u32) -> Option<(&Stall, Poll)> {
+        let stall = self.stalls.get(place as usize)?;
+        let poll = stall.poll.lock(self.rt).take()?;
+        Some((stall, poll))
+    }
+
+    /// Lets limits fire and carries errands, many at once. Where there is no place for that no one answers any more.
     fn carry<V: Serving>(&self, place: u32, office: &OfficeOf<V>, clerk: Clerk<V>)
         requires { IsAt V.setting office.now clerk }
     {
-        let Some(stall) = self.stalls.get(place as usize) else {
-            drop(clerk);
-            self.door.close();
-            return;
-        };
-        match self.callbacks(stall) {
-            Some(callbacks) => {
-                let tallies = &self.measure.tallies;
-                let mut counted = CountedCarriage::new(self.alloc, callbacks, self.rt, tallies);
-                let (clerk, end) = run_carrier(
-                    self.rt,
-                    office,
-                    clerk,
-                    &mut counted,
-                    &mut self.gate(stall),
-                    &mut self.clock(),
-                );
-                drop(counted);
-                drop(clerk);
-                self.tell_end(end);
-            }
+        match self.take_poll(place) {
+            Some((stall, poll)) => self.carry_at(stall, poll, office, clerk),
             None => {
                 drop(clerk);
                 self.door.close();
@@ -381,10 +435,13 @@ impl<
         }
     }
 
-    /// Tells why one who carried has ended, unless the disk has failed: then the program ends, and says so.
-    fn tell_end(&self, end: WorkerEnd) {
+    /// Tells why one who carried has ended, unless the disk has failed: then the program ends, and says so. With the last one
+    /// the journal's callbacks stand still.
+    fn tell_end(&self, end: WorkerEnd, journal: Instance) {
+        let is_last = self.carrying.fetch_sub(1, Ordering::SeqCst) <= 1;
         if !self.progress.has_failed(self.rt) {
-            lose_callback_worker(self.alloc, self.herald, &self.measure.tallies, end);
+            let last_of = is_last.then_some(journal);
+            lose_callback_worker(self.alloc, self.herald, &self.measure.tallies, end, last_of);
         }
     }
 

@@ -91,6 +91,8 @@ pub struct Tallies {
     /// How many workers and callback workers have ended though the service goes on.
     lost_workers: AtomicU64,
     lost_callback_workers: AtomicU64,
+    /// The number behind that of the journal whose callbacks were noted last to stand still, or 0.
+    standing: AtomicU64,
 }
 
 /// The word for what a request asks for.
@@ -183,6 +185,7 @@ impl Tallies {
             stopped: AtomicU64::new(0),
             lost_workers: AtomicU64::new(0),
             lost_callback_workers: AtomicU64::new(0),
+            standing: AtomicU64::new(0),
         })
     }
 
@@ -236,6 +239,29 @@ impl Tallies {
     /// Notes that a callback worker stands again in the place of one that was lost.
     pub fn regain_callback_worker(&self) {
         self.lost_callback_workers.fetch_sub(1, Ordering::SeqCst);
+    }
+
+    /// Notes that a callback worker is lost, and that a journal's callbacks stand still with it.
+    pub fn stand(&self, journal: Instance) {
+        let number = journal.number().saturating_add(1);
+        self.standing.store(number, Ordering::SeqCst);
+        self.lose_callback_worker();
+    }
+
+    /// Notes that a journal's callbacks go on, which stood still.
+    pub fn go_on(&self, journal: Instance) {
+        let number = journal.number().saturating_add(1);
+        // Where those of another were noted since, these are named.
+        let _ = self
+            .standing
+            .compare_exchange(number, 0, Ordering::SeqCst, Ordering::SeqCst);
+        self.regain_callback_worker();
+    }
+
+    /// Returns the journal whose callbacks were noted last to stand still, if any do.
+    pub fn standing(&self) -> Option<Instance> {
+        let number = self.standing.load(Ordering::SeqCst);
+        Instance::new(number.checked_sub(1)?)
     }
 
     /// Returns how many workers have ended though the service goes on.

@@ -1,6 +1,6 @@
 -- What stays true of the errands that are under way.
 use Rattle.std.proofs.Common.{◌≡◌, ℕ, zero, suc, Bool, true, false, [], ◌∷◌, ◌++◌, Option, Some, None, inl, inr, refl, sym, ap, ◌∙◌, subst, append_assoc, append-nil}
-use Rattle.std.specs.Prelude.{◌==◌, Result, Ok, Err, OnOk, MatchResult}
+use Rattle.std.specs.Prelude.{◌==◌, Result, Ok, Err, MatchResult}
 use Rattle.std.specs.Option.{option_map_or, option_or}
 use Rattle.std.proofs.lemmas.Bool.{eqb-true, eqb-false}
 use Rattle.std.proofs.lemmas.Option.{same_Some}
@@ -22,10 +22,15 @@ use Rattle.lra_commands.specs.Calls.{Call}
 use Rattle.lra_commands.specs.declared.refusal.Refusal.TheVariants.{NotAsked}
 use Rattle.lra_courier.specs.Carriages.{Places, AreSame, AreFree, Gains}
 use Rattle.lra_office.specs.declared.fault.OfficeRefusal.TheVariants as office
-use Rattle.lra_office.specs.Orders.{IsNotGiven}
-use Rattle.lra_workers.specs.Work.{Post, Does, WorksIn, Works}
+use Rattle.lra_office.specs.declared.fault.OfficeRefusal.{OfficeRefusal}
+use Rattle.lra_office.specs.Orders.{IsNotGiven, IsLookedAhead}
+use Rattle.lra_workers.specs.declared.worker.WorkerEnd.{WorkerEnd}
+use Rattle.lra_workers.specs.declared.worker.WorkerEnd.TheVariants.{Ended, Held, Refused}
+use Rattle.lra_workers.specs.Work.{Post, Does, Fails, WorksIn, Works, WorksUpTo}
+use Rattle.lra_workers.specs.Carrying.{GoesOn, CarriesIn, Carries, EndsCarrying}
 use Rattle.lra_workers.specs.inner.Held.{AreOfAsks}
 use Rattle.lra_workers.proofs.Working.{works_none}
+use Rattle.lra_workers.proofs.CarryingOn.{foretold_seen, carries_none}
 
 -- ---- an ask in a history is one in each that goes on from it
 
@@ -95,8 +100,49 @@ module _ {O K : Type 0} (setting : O → Setting) (gives : ℕ → AskKind → O
   pub worked : (s t : Post O K) → ((r : Post O K) → Works setting gives tells r s → Works setting gives tells r t) → IsPrefix s.view.seen t.view.seen
   worked s t h = let w = h s (works_none setting gives tells s) in worked_in w.0 s t w.1
 
-  -- after a call that isn't refused each errand is of an ask in what is seen then
-  pub held_on : {A E : Type 0} (s t : Post O K) (places : Places) (r : Result A E) (F : Post O K → E → Type 0) → ((x : Post O K) → Works setting gives tells x s → MatchResult r (λ _. Works setting gives tells x t) (F x))
-      → AreOfAsks s.view.seen places → OnOk r (AreOfAsks t.view.seen places)
-  held_on s t places (Ok a) F h asks = asks_stay s.view.seen t.view.seen places (worked s t h) asks
-  held_on s t places (Err e) F h asks = tt
+  -- nor does a refusal take anything away of it
+  not_given : (g : Setting) (v w : View O) (c : Call) (r : OfficeRefusal) → IsNotGiven g v c r w → IsPrefix v.seen w.seen
+  not_given g v w c office.Worn h = subst (λ (x : View O). IsPrefix v.seen x.seen) (sym h) (prefix_refl v.seen)
+  not_given g v w c (office.Refused r) (J, met, back, after) = subst (λ (x : View O). IsPrefix v.seen x.seen) (sym after) met.begins
+
+  pub works_seen : (s t : Post O K) → Works setting gives tells s t → IsPrefix s.view.seen t.view.seen
+  works_seen s t w = worked_in w.0 s t w.1
+
+  pub fails_seen : (s t : Post O K) (r : OfficeRefusal) → Fails setting gives tells s r t → IsPrefix s.view.seen t.view.seen
+  fails_seen s t r f = not_given (setting s.view.origin) s.view t.view f.call r f.given
+
+  foreseen : (g : Setting) (v w : View O) (r : Result (Option ℕ) OfficeRefusal) → IsLookedAhead g v r w → IsPrefix v.seen w.seen
+  foreseen g v w (Ok next) h = foretold_seen g v w next h
+  foreseen g v w (Err office.Worn) h = subst (λ (x : View O). IsPrefix v.seen x.seen) (sym h) (prefix_refl v.seen)
+  foreseen g v w (Err (office.Refused r)) h = absurd h
+
+  steps_seen : (s t : Post O K) → GoesOn setting gives tells s t → IsPrefix s.view.seen t.view.seen
+  steps_seen s t (inl look) = foreseen (setting s.view.origin) s.view t.view (Ok look.0) look.1.told
+  steps_seen s t (inr f) = fails_seen s t _ f
+
+  carried_in : (n : ℕ) (s t : Post O K) → CarriesIn setting gives tells n s t → IsPrefix s.view.seen t.view.seen
+  unfolding CarriesIn
+  carried_in zero s t h = works_seen s t h
+  carried_in (suc n) s t (u, v, before, step, h) =
+      prefix_trans s.view.seen v.view.seen t.view.seen (prefix_trans s.view.seen u.view.seen v.view.seen (carried_in n s u before) (steps_seen u v step)) (works_seen v t h)
+
+  pub carries_seen : (s t : Post O K) → Carries setting gives tells s t → IsPrefix s.view.seen t.view.seen
+  carries_seen s t h = carried_in h.0 s t h.1
+
+  ended_seen : (s t : Post O K) (end : WorkerEnd) → EndsCarrying setting gives tells s end t → IsPrefix s.view.seen t.view.seen
+  ended_seen s t Ended h = carries_seen s t h
+  ended_seen s t Held h = carries_seen s t h
+  ended_seen s t (Refused r) (u, before, inl f, ends) = prefix_trans s.view.seen u.view.seen t.view.seen (carries_seen s u before) (fails_seen u t r f)
+  ended_seen s t (Refused r) (u, before, inr look, ends) = prefix_trans s.view.seen u.view.seen t.view.seen (carries_seen s u before) (foreseen (setting u.view.origin) u.view t.view (Err r) look.told)
+
+  -- whoever carries has seen all that it had, however that ended
+  pub carried : {A : Type 0} (s t : Post O K) (r : Result A WorkerEnd)
+      → ((x : Post O K) → Carries setting gives tells x s → MatchResult r (λ _. Carries setting gives tells x t) (λ end. EndsCarrying setting gives tells x end t)) → IsPrefix s.view.seen t.view.seen
+  carried s t (Ok y) h = carries_seen s t (h s (carries_none setting gives tells s))
+  carried s t (Err end) h = ended_seen s t end (h s (carries_none setting gives tells s))
+
+  -- the same of a worker's calls
+  pub worked_up_to : {A : Type 0} (s t : Post O K) (r : Result A OfficeRefusal)
+      → ((x : Post O K) → Works setting gives tells x s → MatchResult r (λ _. Works setting gives tells x t) (λ e. WorksUpTo setting gives tells x e t)) → IsPrefix s.view.seen t.view.seen
+  worked_up_to s t (Ok y) h = works_seen s t (h s (works_none setting gives tells s))
+  worked_up_to s t (Err r) h = let (u, before, f, ends) = h s (works_none setting gives tells s) in prefix_trans s.view.seen u.view.seen t.view.seen (works_seen s u before) (fails_seen u t r f)

@@ -1,22 +1,24 @@
 //! A worker that has many errands under way.
 
-ghost use Rattle.std.specs.Prelude.{◌≡◌, ◌⊎◌, ℕ, OnOk, IfOk, IfErr, MatchResult};
+ghost use Rattle.std.specs.Prelude.{◌≡◌, ◌⊎◌, false, ℕ, IfOk, IfErr, MatchResult};
+ghost use Rattle.lra_model.specs.declared.asks.Outcome.{Outcome as OutcomeValue};
 ghost use Rattle.lra_office.specs.Clerks.{clerk_view, IsClerkOf};
 ghost use Rattle.lra_commands.specs.Given.{IsOfAsk};
 ghost use Rattle.lra_schedule.specs.Schedules.{IsFirstMoment};
 ghost use Rattle.lra_courier.specs.Carriages.{AreFree};
 ghost use Rattle.lra_office.specs.Stops.{HasStopped};
-ghost use Rattle.lra_workers.specs.Work.{Post, post, Works, TellsWhy, EndsWork};
-ghost use Rattle.lra_workers.specs.Carrying.{Carries, EndsCarrying};
+ghost use Rattle.lra_workers.specs.Work.{Post, post, TellsWhy};
+ghost use Rattle.lra_workers.specs.Carrying.{Carries, EndsCarrying, is_for_memory};
 ghost use Rattle.lra_workers.specs.inner.Held.{AreOfAsks};
 
 use crate::gate::Gate;
-use crate::worker::{WorkerEnd, fire, next_errand, record};
+use crate::worker::{WorkerEnd, after_refusal, fire, next_errand};
+use lra_commands::Refusal;
 use lra_core::Errand;
 use lra_courier::{Carriage, Courier};
 use lra_front::Clock;
 use lra_model::Outcome;
-use lra_office::{Clerk, OfficeOf, Serving};
+use lra_office::{Clerk, OfficeOf, OfficeRefusal, Serving};
 use std::marker::PhantomData;
 use std::sync::Wait;
 
@@ -36,6 +38,60 @@ impl<C: Carriage> Courier for Unheard<C> {
     ghost suits = { λ ask kind outcome given. C.suits ask kind outcome given };
 }
 
+/// Whether a carrier has ended for want of memory alone.
+fn is_for_memory(end: WorkerEnd) -> bool
+    ensures { result ≡ is_for_memory end }
+{
+    end == WorkerEnd::Refused(OfficeRefusal::Refused(Refusal::Memory))
+}
+
+/// Records what came of an errand. One whose ask isn't outstanding any more is let go. Where memory is refused it is recorded after a pause, as long as the gate
+/// lets turns be made.
+fn note<V: Serving, R: Wait, C: Carriage, G: Gate, K: Clock>(
+    rt: &R,
+    office: &OfficeOf<V>,
+    clerk: &mut Clerk<V>,
+    gate: &mut G,
+    clock: &mut K,
+    errand: Errand,
+    outcome: Outcome,
+) -> Result<(), WorkerEnd>
+    requires clerk { IsClerkOf office.now.lock clerk.old }
+    requires of_ask { IsOfAsk (clerk_view clerk.old).seen errand }
+    requires given { C.gives errand.ask errand.kind outcome }
+    ensures clerk { IsClerkOf office.now.lock clerk.new }
+    ensures number { clerk.new.number ≡ clerk.old.number }
+    ensures work { (s : Post V.Origin K) → Carries V.setting C.gives K.tells s (post (clerk_view clerk.old) clock.old)
+        → MatchResult result (λ _. Carries V.setting C.gives K.tells s (post (clerk_view clerk.new) clock.new)) (λ end. EndsCarrying V.setting C.gives K.tells s end (post (clerk_view clerk.new) clock.new)) }
+    ensures why { IfErr result (TellsWhy (G.is_shut gate.new) (G.holds gate.new) (HasStopped V.origin V.history V.lawful V.has_stopped (clerk_view clerk.new)) (clerk_view clerk.new).seen) }
+{
+    let ask = errand.ask();
+    let mut errand = errand;
+    for _ in rt.forever() {
+        let moment = clock.now();
+        match office.record(rt, clerk, moment, errand, outcome) {
+            Ok(_) => {
+                gate.answered(ask);
+                return Ok(());
+            }
+            Err((refusal, back)) => {
+                if refusal != OfficeRefusal::Refused(Refusal::Memory) {
+                    back.discard();
+                    return after_refusal(refusal);
+                }
+                gate.pause();
+                if gate.more() {
+                    errand = back;
+                } else {
+                    back.discard();
+                    return Err(WorkerEnd::Ended);
+                }
+            }
+        }
+    }
+    unreachable!()
+}
+
 /// Hands an errand over to be carried. Where memory is refused it is recorded that nothing came of it, so that its member is asked again.
 fn hand_over<V: Serving, R: Wait, C: Carriage, G: Gate, K: Clock>(
     rt: &R,
@@ -51,14 +107,14 @@ fn hand_over<V: Serving, R: Wait, C: Carriage, G: Gate, K: Clock>(
     requires of_ask { IsOfAsk (clerk_view clerk.old).seen errand }
     ensures clerk { IsClerkOf office.now.lock clerk.new }
     ensures number { clerk.new.number ≡ clerk.old.number }
-    ensures held { OnOk result (AreOfAsks (clerk_view clerk.new).seen (C.held carriage.new)) }
-    ensures work { (s : Post V.Origin K) → Works V.setting C.gives K.tells s (post (clerk_view clerk.old) clock.old)
-        → MatchResult result (λ _. Works V.setting C.gives K.tells s (post (clerk_view clerk.new) clock.new)) (λ end. EndsWork V.setting C.gives K.tells s end (post (clerk_view clerk.new) clock.new)) }
+    ensures held { AreOfAsks (clerk_view clerk.new).seen (C.held carriage.new) }
+    ensures work { (s : Post V.Origin K) → Carries V.setting C.gives K.tells s (post (clerk_view clerk.old) clock.old)
+        → MatchResult result (λ _. Carries V.setting C.gives K.tells s (post (clerk_view clerk.new) clock.new)) (λ end. EndsCarrying V.setting C.gives K.tells s end (post (clerk_view clerk.new) clock.new)) }
     ensures why { IfErr result (TellsWhy (G.is_shut gate.new) (G.holds gate.new) (HasStopped V.origin V.history V.lawful V.has_stopped (clerk_view clerk.new)) (clerk_view clerk.new).seen) }
 {
     match carriage.take(errand) {
         Ok(()) => Ok(()),
-        Err(errand) => record::<V, R, Unheard<C>, G, K>(
+        Err(errand) => note::<V, R, C, G, K>(
             rt,
             office,
             clerk,
@@ -83,9 +139,9 @@ fn take_one<V: Serving, R: Wait, C: Carriage, G: Gate, K: Clock>(
     requires held { AreOfAsks (clerk_view clerk.old).seen (C.held carriage.old) }
     ensures clerk { IsClerkOf office.now.lock clerk.new }
     ensures number { clerk.new.number ≡ clerk.old.number }
-    ensures held { OnOk result (AreOfAsks (clerk_view clerk.new).seen (C.held carriage.new)) }
-    ensures work { (s : Post V.Origin K) → Works V.setting C.gives K.tells s (post (clerk_view clerk.old) clock.old)
-        → MatchResult result (λ _. Works V.setting C.gives K.tells s (post (clerk_view clerk.new) clock.new)) (λ end. EndsWork V.setting C.gives K.tells s end (post (clerk_view clerk.new) clock.new)) }
+    ensures held { AreOfAsks (clerk_view clerk.new).seen (C.held carriage.new) }
+    ensures work { (s : Post V.Origin K) → Carries V.setting C.gives K.tells s (post (clerk_view clerk.old) clock.old)
+        → MatchResult result (λ _. Carries V.setting C.gives K.tells s (post (clerk_view clerk.new) clock.new)) (λ end. EndsCarrying V.setting C.gives K.tells s end (post (clerk_view clerk.new) clock.new)) }
     ensures why { IfErr result (TellsWhy (G.is_shut gate.new) (G.holds gate.new) (HasStopped V.origin V.history V.lawful V.has_stopped (clerk_view clerk.new)) (clerk_view clerk.new).seen) }
 {
     match next_errand::<V, R, Unheard<C>, K>(rt, office, clerk, clock) {
@@ -111,9 +167,9 @@ fn take_due<V: Serving, R: Wait, C: Carriage, G: Gate, K: Clock>(
     requires held { AreOfAsks (clerk_view clerk.old).seen (C.held carriage.old) }
     ensures clerk { IsClerkOf office.now.lock clerk.new }
     ensures number { clerk.new.number ≡ clerk.old.number }
-    ensures held { OnOk result (AreOfAsks (clerk_view clerk.new).seen (C.held carriage.new)) }
-    ensures work { (s : Post V.Origin K) → Works V.setting C.gives K.tells s (post (clerk_view clerk.old) clock.old)
-        → MatchResult result (λ _. Works V.setting C.gives K.tells s (post (clerk_view clerk.new) clock.new)) (λ end. EndsWork V.setting C.gives K.tells s end (post (clerk_view clerk.new) clock.new)) }
+    ensures held { AreOfAsks (clerk_view clerk.new).seen (C.held carriage.new) }
+    ensures work { (s : Post V.Origin K) → Carries V.setting C.gives K.tells s (post (clerk_view clerk.old) clock.old)
+        → MatchResult result (λ _. Carries V.setting C.gives K.tells s (post (clerk_view clerk.new) clock.new)) (λ end. EndsCarrying V.setting C.gives K.tells s end (post (clerk_view clerk.new) clock.new)) }
     ensures why { IfErr result (TellsWhy (G.is_shut gate.new) (G.holds gate.new) (HasStopped V.origin V.history V.lawful V.has_stopped (clerk_view clerk.new)) (clerk_view clerk.new).seen) }
 {
     for _taken in 0..MOST_TAKEN {
@@ -142,15 +198,15 @@ fn record_one<V: Serving, R: Wait, C: Carriage, G: Gate, K: Clock>(
     requires held { AreOfAsks (clerk_view clerk.old).seen (C.held carriage.old) }
     ensures clerk { IsClerkOf office.now.lock clerk.new }
     ensures number { clerk.new.number ≡ clerk.old.number }
-    ensures held { OnOk result (AreOfAsks (clerk_view clerk.new).seen (C.held carriage.new)) }
-    ensures work { (s : Post V.Origin K) → Works V.setting C.gives K.tells s (post (clerk_view clerk.old) clock.old)
-        → MatchResult result (λ _. Works V.setting C.gives K.tells s (post (clerk_view clerk.new) clock.new)) (λ end. EndsWork V.setting C.gives K.tells s end (post (clerk_view clerk.new) clock.new)) }
+    ensures held { AreOfAsks (clerk_view clerk.new).seen (C.held carriage.new) }
+    ensures work { (s : Post V.Origin K) → Carries V.setting C.gives K.tells s (post (clerk_view clerk.old) clock.old)
+        → MatchResult result (λ _. Carries V.setting C.gives K.tells s (post (clerk_view clerk.new) clock.new)) (λ end. EndsCarrying V.setting C.gives K.tells s end (post (clerk_view clerk.new) clock.new)) }
     ensures why { IfErr result (TellsWhy (G.is_shut gate.new) (G.holds gate.new) (HasStopped V.origin V.history V.lawful V.has_stopped (clerk_view clerk.new)) (clerk_view clerk.new).seen) }
 {
     let Some((errand, outcome)) = carriage.done() else {
         return Ok(false);
     };
-    match record::<V, R, Unheard<C>, G, K>(rt, office, clerk, gate, clock, errand, outcome) {
+    match note::<V, R, C, G, K>(rt, office, clerk, gate, clock, errand, outcome) {
         Ok(()) => Ok(true),
         Err(end) => Err(end),
     }
@@ -169,9 +225,9 @@ fn record_done<V: Serving, R: Wait, C: Carriage, G: Gate, K: Clock>(
     requires held { AreOfAsks (clerk_view clerk.old).seen (C.held carriage.old) }
     ensures clerk { IsClerkOf office.now.lock clerk.new }
     ensures number { clerk.new.number ≡ clerk.old.number }
-    ensures held { OnOk result (AreOfAsks (clerk_view clerk.new).seen (C.held carriage.new)) }
-    ensures work { (s : Post V.Origin K) → Works V.setting C.gives K.tells s (post (clerk_view clerk.old) clock.old)
-        → MatchResult result (λ _. Works V.setting C.gives K.tells s (post (clerk_view clerk.new) clock.new)) (λ end. EndsWork V.setting C.gives K.tells s end (post (clerk_view clerk.new) clock.new)) }
+    ensures held { AreOfAsks (clerk_view clerk.new).seen (C.held carriage.new) }
+    ensures work { (s : Post V.Origin K) → Carries V.setting C.gives K.tells s (post (clerk_view clerk.old) clock.old)
+        → MatchResult result (λ _. Carries V.setting C.gives K.tells s (post (clerk_view clerk.new) clock.new)) (λ end. EndsCarrying V.setting C.gives K.tells s end (post (clerk_view clerk.new) clock.new)) }
     ensures why { IfErr result (TellsWhy (G.is_shut gate.new) (G.holds gate.new) (HasStopped V.origin V.history V.lawful V.has_stopped (clerk_view clerk.new)) (clerk_view clerk.new).seen) }
 {
     for _ in rt.forever() {
@@ -197,9 +253,9 @@ fn begin<V: Serving, R: Wait, C: Carriage, G: Gate, K: Clock>(
     requires held { AreOfAsks (clerk_view clerk.old).seen (C.held carriage.old) }
     ensures clerk { IsClerkOf office.now.lock clerk.new }
     ensures number { clerk.new.number ≡ clerk.old.number }
-    ensures held { OnOk result (AreOfAsks (clerk_view clerk.new).seen (C.held carriage.new)) }
-    ensures work { (s : Post V.Origin K) → Works V.setting C.gives K.tells s (post (clerk_view clerk.old) clock.old)
-        → MatchResult result (λ _. Works V.setting C.gives K.tells s (post (clerk_view clerk.new) clock.new)) (λ end. EndsWork V.setting C.gives K.tells s end (post (clerk_view clerk.new) clock.new)) }
+    ensures held { AreOfAsks (clerk_view clerk.new).seen (C.held carriage.new) }
+    ensures work { (s : Post V.Origin K) → Carries V.setting C.gives K.tells s (post (clerk_view clerk.old) clock.old)
+        → MatchResult result (λ _. Carries V.setting C.gives K.tells s (post (clerk_view clerk.new) clock.new)) (λ end. EndsCarrying V.setting C.gives K.tells s end (post (clerk_view clerk.new) clock.new)) }
     ensures why { IfErr result (TellsWhy (G.is_shut gate.new) (G.holds gate.new) (HasStopped V.origin V.history V.lawful V.has_stopped (clerk_view clerk.new)) (clerk_view clerk.new).seen) }
 {
     if let Err(refusal) = fire::<V, R, Unheard<C>, K>(rt, office, clerk, clock) {
@@ -221,7 +277,7 @@ fn begin_next<V: Serving, R: Wait, C: Carriage, G: Gate, K: Clock>(
     requires held { AreOfAsks (clerk_view clerk.old).seen (C.held carriage.old) }
     ensures clerk { IsClerkOf office.now.lock clerk.new }
     ensures number { clerk.new.number ≡ clerk.old.number }
-    ensures held { OnOk result (AreOfAsks (clerk_view clerk.new).seen (C.held carriage.new)) }
+    ensures held { AreOfAsks (clerk_view clerk.new).seen (C.held carriage.new) }
     ensures next { IfOk result (λ next. G.is_closing gate.new ⊎ IsFirstMoment (V.setting (clerk_view clerk.new).origin).limits (clerk_view clerk.new).seen next) }
     ensures work { (s : Post V.Origin K) → Carries V.setting C.gives K.tells s (post (clerk_view clerk.old) clock.old)
         → MatchResult result (λ _. Carries V.setting C.gives K.tells s (post (clerk_view clerk.new) clock.new)) (λ end. EndsCarrying V.setting C.gives K.tells s end (post (clerk_view clerk.new) clock.new)) }
@@ -253,9 +309,9 @@ fn carry_on<V: Serving, R: Wait, C: Carriage, G: Gate, K: Clock>(
     requires held { AreOfAsks (clerk_view clerk.old).seen (C.held carriage.old) }
     ensures clerk { IsClerkOf office.now.lock clerk.new }
     ensures number { clerk.new.number ≡ clerk.old.number }
-    ensures held { OnOk result (AreOfAsks (clerk_view clerk.new).seen (C.held carriage.new)) }
-    ensures work { (s : Post V.Origin K) → Works V.setting C.gives K.tells s (post (clerk_view clerk.old) clock.old)
-        → MatchResult result (λ _. Works V.setting C.gives K.tells s (post (clerk_view clerk.new) clock.new)) (λ end. EndsWork V.setting C.gives K.tells s end (post (clerk_view clerk.new) clock.new)) }
+    ensures held { AreOfAsks (clerk_view clerk.new).seen (C.held carriage.new) }
+    ensures work { (s : Post V.Origin K) → Carries V.setting C.gives K.tells s (post (clerk_view clerk.old) clock.old)
+        → MatchResult result (λ _. Carries V.setting C.gives K.tells s (post (clerk_view clerk.new) clock.new)) (λ end. EndsCarrying V.setting C.gives K.tells s end (post (clerk_view clerk.new) clock.new)) }
     ensures why { IfErr result (TellsWhy (G.is_shut gate.new) (G.holds gate.new) (HasStopped V.origin V.history V.lawful V.has_stopped (clerk_view clerk.new)) (clerk_view clerk.new).seen) }
 {
     carriage.carry(next);
@@ -275,7 +331,7 @@ fn take_turn<V: Serving, R: Wait, C: Carriage, G: Gate, K: Clock>(
     requires held { AreOfAsks (clerk_view clerk.old).seen (C.held carriage.old) }
     ensures clerk { IsClerkOf office.now.lock clerk.new }
     ensures number { clerk.new.number ≡ clerk.old.number }
-    ensures held { OnOk result (AreOfAsks (clerk_view clerk.new).seen (C.held carriage.new)) }
+    ensures held { AreOfAsks (clerk_view clerk.new).seen (C.held carriage.new) }
     ensures work { (s : Post V.Origin K) → Carries V.setting C.gives K.tells s (post (clerk_view clerk.old) clock.old)
         → MatchResult result (λ _. Carries V.setting C.gives K.tells s (post (clerk_view clerk.new) clock.new)) (λ end. EndsCarrying V.setting C.gives K.tells s end (post (clerk_view clerk.new) clock.new)) }
     ensures why { IfErr result (TellsWhy (G.is_shut gate.new) (G.holds gate.new) (HasStopped V.origin V.history V.lawful V.has_stopped (clerk_view clerk.new)) (clerk_view clerk.new).seen) }
@@ -290,7 +346,7 @@ fn take_turn<V: Serving, R: Wait, C: Carriage, G: Gate, K: Clock>(
 /// records what comes of each when it comes, turn by turn as long as the gate lets it. An errand is taken at once: the gate isn't asked to hold it. In each turn
 /// the carriage is told when something will be due next, so that it rests no longer.
 ///
-/// The errands that are under way when it ends stay in the carriage.
+/// Where the office is refused memory the gate pauses, and it goes on: that ends no carrier. The errands that are under way when it ends stay in the carriage.
 pub fn run_carrier<V: Serving, R: Wait, C: Carriage, G: Gate, K: Clock>(
     rt: &R,
     office: &OfficeOf<V>,
@@ -305,6 +361,7 @@ pub fn run_carrier<V: Serving, R: Wait, C: Carriage, G: Gate, K: Clock>(
     ensures number { result.0.number ≡ clerk.number }
     ensures work { EndsCarrying V.setting C.gives K.tells (post (clerk_view clerk) clock.old) result.1 (post (clerk_view result.0) clock.new) }
     ensures why { TellsWhy (G.is_shut gate.new) (G.holds gate.new) (HasStopped V.origin V.history V.lawful V.has_stopped (clerk_view result.0)) (clerk_view result.0).seen result.1 }
+    ensures memory { is_for_memory result.1 ≡ false }
 {
     let mut clerk = clerk;
     for _ in rt.forever() {
@@ -312,7 +369,10 @@ pub fn run_carrier<V: Serving, R: Wait, C: Carriage, G: Gate, K: Clock>(
             return (clerk, WorkerEnd::Ended);
         }
         if let Err(end) = take_turn(rt, office, &mut clerk, carriage, gate, clock) {
-            return (clerk, end);
+            if !is_for_memory(end) {
+                return (clerk, end);
+            }
+            gate.pause();
         }
     }
     unreachable!()

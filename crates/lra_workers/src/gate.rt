@@ -42,6 +42,10 @@ pub trait Gate {
 
     /// What came of an ask is recorded.
     fn answered(&mut self, ask: u64);
+
+    /// Pauses, since memory was refused: what was wanted is tried again after it. A gate of a running service sleeps for a while that grows as long as that is all
+    /// that comes.
+    fn pause(&mut self) {}
 }
 
 /// A gate that lets each turn be made until a flag is set, and holds no errand back.

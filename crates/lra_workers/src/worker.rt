@@ -74,7 +74,7 @@ fn is_let_go<G: Gate>(gate: &mut G, ask: u64) -> bool
 }
 
 /// How a worker goes on whose record is refused: an ask that isn't outstanding any more is passed over.
-fn after_refusal(refusal: OfficeRefusal) -> Result<(), WorkerEnd>
+pub(crate) fn after_refusal(refusal: OfficeRefusal) -> Result<(), WorkerEnd>
     ensures { MatchResult result (λ _. refusal ≡ fault.Refused NotAsked) (λ end. (refusal ≢ fault.Refused NotAsked) × (end ≡ worker.Refused refusal)) }
 {
     if refusal == OfficeRefusal::Refused(Refusal::NotAsked) {
@@ -105,7 +105,7 @@ pub(crate) fn next_errand<V: Serving, R: Wait, C: Courier, K: Clock>(
 }
 
 /// Records what came of an errand. One whose ask isn't outstanding any more is let go.
-pub(crate) fn record<V: Serving, R: Wait, C: Courier, G: Gate, K: Clock>(
+fn record<V: Serving, R: Wait, C: Courier, G: Gate, K: Clock>(
     rt: &R,
     office: &OfficeOf<V>,
     clerk: &mut Clerk<V>,

@@ -1,0 +1,25 @@
+//! How long a callback worker pauses that is refused memory.
+
+ghost use Rattle.std.specs.Prelude.{◌≡◌, ◌≤◌};
+ghost use Rattle.lra_service.specs.Stamina as spec;
+
+use lra_timers::pause;
+
+/// How many milliseconds it pauses at first, and at most.
+const FIRST_PAUSE_MS: u64 = 10;
+
+const LONGEST_PAUSE_MS: u64 = 1_000;
+
+/// Returns how many milliseconds it pauses that was refused memory so many times in a row.
+pub(crate) fn pause_after(refusals: u64) -> u64
+    ensures { result ≡ spec.pause_after refusals }
+{
+    pause(FIRST_PAUSE_MS, LONGEST_PAUSE_MS, refusals.max(1))
+}
+
+/// Returns whether that is as long as it ever pauses: then its callbacks count as standing still.
+pub(crate) fn is_longest(refusals: u64) -> bool
+    ensures { result ≡ spec.is_longest refusals }
+{
+    pause_after(refusals) == LONGEST_PAUSE_MS
+}
