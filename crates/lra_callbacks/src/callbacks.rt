@@ -11,7 +11,7 @@ use crate::hosts::Next;
 use crate::names::Names;
 use crate::resting::{SHORT_REST_MS, rest_before, rest_for};
 use crate::share::Share;
-use crate::sparing::Sparing;
+use crate::sparing::{Sparing, is_telling};
 use crate::traffic::{Traffic, ring};
 use lra_clocks::{Clock, SystemClock};
 use lra_core::Errand;
@@ -171,25 +171,32 @@ impl<'a, R: Wait + Net + time::Clock, D: Disk> Callbacks<'a, R, D> {
         self.tell();
     }
 
-    /// Has one wait whose member is spared, once the disk keeps what it has to. Tells whether it does.
+    /// Has one wait whose member is spared or was given up, once the disk keeps what it has to. Tells whether it does.
     fn holds(&mut self, key: usize) -> bool
         ensures { self.new ≡ self.old }
     {
-        if !self.sparing.is_on() {
-            return false;
-        }
-        let now = self.traffic.moment(self.rt);
         let Some(call) = self.calls.get(key) else {
             return false;
         };
         let Some(errand) = call.errand() else {
             return false;
         };
-        if !call.is_kept(self.rt, self.progress) || !self.sparing.holds(key, errand, now) {
+        let is_given_up = is_telling(errand.kind())
+            && self.outcomes.is_given_up(self.rt, errand.member());
+        if !is_given_up && !self.sparing.is_on() {
             return false;
         }
-        self.tell();
-        true
+        let now = self.traffic.moment(self.rt);
+        let is_held = call.is_kept(self.rt, self.progress)
+            && if is_given_up {
+                self.sparing.holds_for_good(key)
+            } else {
+                self.sparing.holds(key, errand, now)
+            };
+        if is_held {
+            self.tell();
+        }
+        is_held
     }
 
     /// Those leave the disk that may.

@@ -18,9 +18,7 @@ use lra_branch::Clerkship;
 use lra_clocks::milliseconds;
 use lra_folders::stray_line;
 use lra_ids::Base;
-use lra_journal_folder::{
-    Contents, Folder, GivenUp, RollingFault, Sound, Unsound, audit_all,
-};
+use lra_journal_folder::{Contents, Folder, GivenUp, RollingFault, Sound, Unsound, audit_all};
 use lra_logs::{Event, Journalist};
 use lra_model::Instance;
 use lra_opening::{Herald, ServeFault};

@@ -121,10 +121,11 @@ impl Scan {
             place,
         };
         match journal.query(rt, query) {
-            Some(Known::Row { place, row }) if is_done_with(&row, journal.has_given_up(rt, &row)) => {
-                self.members = Some((action, place.saturating_add(1)));
-                Scanned::Further
-            }
+            Some(Known::Row { place, row }) if is_done_with(&row, journal.has_given_up(rt, &row)) =>
+                {
+                    self.members = Some((action, place.saturating_add(1)));
+                    Scanned::Further
+                }
             Some(Known::NoMore) => {
                 self.members = None;
                 Scanned::Further
