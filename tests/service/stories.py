@@ -27,14 +27,15 @@ SCRIPT = f"""\
 STARTED = "line 4: started by clerk 1 at 2026-11-26T22:15:02.250Z, below action 1, with a limit of 5.000 s\n"
 MIDDLE = (
     STARTED
-    + "line 5: member 1 joined\n"
-    + "line 6: member 2 joined\n"
+    + "line 5: member 1 joined, compensate http://n.test/u, complete http://n.test/c\n"
+    + "line 6: member 2 joined, compensate http://n.test/v, complete http://n.test/d\n"
     + "line 7: member 2 left\n"
     + "line 8: its limit passed: it is Cancelling\n"
     + "line 9: member 1 is asked to compensate (ask 1)\n"
 )
 WAITING = "action 2 (nested in 1) is Cancelling\n" + MIDDLE + (
-    "waits for member 1, which is Compensating: ask 1, of line 9, has no answer since 2026-11-26T22:15:07.250Z\n"
+    "waits for member 1, which is Compensating\n"
+    "member 1 is asked to compensate at http://n.test/u: ask 1, of line 9, has no answer since 2026-11-26T22:15:07.250Z\n"
 )
 ENDED = "action 2 (nested in 1) is Cancelled\n" + MIDDLE + (
     "line 10: member 1 answered that it is compensated\n"
@@ -52,6 +53,48 @@ OUTER = (
     "line 8: action 2 below it is Cancelling\n"
     "line 11: action 2 below it is Cancelled\n"
     "waits for its client to close or cancel it\n"
+)
+# The second action's member gives no answer, twice.
+SILENCES = ((7000, "reply 1 silent"), (7100, "ask"), (7900, "reply 2 silent"))
+SILENT = "action 2 (nested in 1) is Cancelling\n" + MIDDLE + (
+    "line 10: member 1 gave no answer to ask 1\n"
+    "line 11: member 1 is asked to compensate (ask 2)\n"
+    "line 12: member 1 gave no answer to ask 2\n"
+    "waits for member 1, which is Compensating\n"
+    "member 1 is to be asked to compensate at http://n.test/u again, from 2026-11-26T22:15:09.350Z on by the default pauses\n"
+    "member 1 was called 2 times for that, last without an answer (line 12): the operators' page has the reason\n"
+)
+AT_IT = "action 2 (nested in 1) is Cancelling\n" + MIDDLE + (
+    "line 10: member 1 answered that it goes on\n"
+    "waits for member 1, which is Compensating\n"
+    "member 1 is to be asked to compensate at http://n.test/u again, from 2026-11-26T22:15:07.450Z on by the default pauses\n"
+    "member 1 was called once for that, last with the answer that it goes on (line 10)\n"
+)
+# An action that closed, and of which a member is still to be told; its addresses have marks that XML reads.
+NOTICES = (
+    (0, "start * 0"),
+    (0, "join 1 http://n.test/u http://n.test/c http://n.test/s http://n.test/f http://n.test/a'b?x=1&y=2"),
+    (0, "close 1"),
+    (0, "ask"),
+    (1000, "reply 1 done"),
+    (1000, "ask"),
+)
+TOLD = (
+    "action 1 is Closed\n"
+    "line 3: started by clerk 1 at 2026-11-26T22:15:01.250Z\n"
+    "line 4: member 1 joined, compensate http://n.test/u, complete http://n.test/c, status http://n.test/s, forget http://n.test/f, "
+    "after http://n.test/a'b?x=1&y=2\n"
+    "line 5: its client closes it: it is Closing\n"
+    "line 6: member 1 is asked to complete (ask 1)\n"
+    "line 7: member 1 answered that it is completed\n"
+    "line 8: it is Closed: all that it waited for has ended well\n"
+    "line 9: member 1 is told how the action ended (ask 2)\n"
+)
+OPEN_NOTICE = "member 1 is told how the action ended at http://n.test/a'b?x=1&y=2: ask 2, of line 9, has no answer since 2026-11-26T22:15:02.250Z\n"
+SILENT_NOTICE = (
+    "line 10: member 1 gave no answer to ask 2\n"
+    "member 1 is to be told how the action ended at http://n.test/a'b?x=1&y=2 again, from 2026-11-26T22:15:03.350Z on by the default pauses\n"
+    "member 1 was called once for that, last without an answer (line 10): the operators' page has the reason\n"
 )
 # The identifier of the second action at the instance of every script, 7.
 ID = "00000000-0000-8007-8000-000000000002"
@@ -94,6 +137,31 @@ def test_a_story_that_has_ended(setting):
 def test_a_story_that_ended_badly(setting):
     played(setting, (6100, "reply 1 failed"))
     equal("the action", explained(setting, "2"), (0, FAILED, ""))
+
+
+def test_a_story_of_a_member_that_gives_no_answer(setting):
+    """Its end says at which address it is called, how often it was in vain, and from when on it is called again."""
+    played(setting, *SILENCES)
+    equal("the action", explained(setting, "2"), (0, SILENT, ""))
+    played(setting, (6100, "reply 1 accepted"))
+    equal("a member that is at it", explained(setting, "2"), (0, AT_IT, ""))
+
+
+def notices(*more):
+    """A script of the action of which a member is still to be told, with more lines."""
+    return f"0 {AT} enrol\n" + "".join(f"1 {AT + moment} {words}\n" for moment, words in NOTICES + more)
+
+
+def test_a_story_that_has_ended_but_for_a_notice(setting):
+    """A member that is still to be told how the action ended stands there too, once it is asked and after a silence."""
+    write_played(setting, notices())
+    equal("it is asked", explained(setting, "1"), (0, TOLD + OPEN_NOTICE, ""))
+    write_played(setting, notices((2000, "reply 2 silent")))
+    equal("it gave no answer", explained(setting, "1"), (0, TOLD + SILENT_NOTICE, ""))
+    texts = pieces(drawn(setting, "1").output, "text")
+    equal("the lines of the picture", "".join(text for _, look, text in texts if look != "moment"), TOLD + SILENT_NOTICE)
+    write_played(setting, notices((2000, "reply 2 done")))
+    equal("it was told", explained(setting, "1"), (0, TOLD + "line 10: member 1 answered that it knows how the action ended\n", ""))
 
 
 def test_a_story_of_no_action(setting):
@@ -165,7 +233,7 @@ def pieces(picture, *names):
 def test_a_picture_of_a_story(setting):
     """Its texts are the lines of the story, and beside each entry's are its moment and its mark."""
     done, failed = (6100, "reply 1 done"), (6100, "reply 1 failed")
-    for more, name, lines in (((), "2", WAITING), ((done,), ID, ENDED), ((failed,), "2", FAILED), ((done,), "1", OUTER)):
+    for more, name, lines in (((), "2", WAITING), (SILENCES, "2", SILENT), ((done,), ID, ENDED), ((failed,), "2", FAILED), ((done,), "1", OUTER)):
         played(setting, *more)
         picture = drawn(setting, name)
         equal("the status, and what is told", (picture.status, picture.told), (0, ""))

@@ -1,12 +1,14 @@
 -- The picture of what happened to an action: a row for each line of its story, so that time goes down, and a lane each for the action, for its
--- members, and for the actions that are nested in it. Each text in it is made of words of this program and of numbers, which have no <, > or &: so
--- nothing is escaped.
+-- members, and for the actions that are nested in it. The lines may have addresses, and are escaped; all other text in it is made of words of this
+-- program and of numbers, which have no <, > or &.
 use Rattle.std.specs.Prelude.{ℕ, ◌+◌, ◌*◌, List, [], ◌∷◌, ◌++◌, map, length, codes}
 use Rattle.std.specs.List.{flat_map}
 use Rattle.std.specs.Fmt.{decimal}
 use Rattle.lra_model.specs.declared.status.ActionStatus.{ActionStatus}
 use Rattle.lra_model.specs.declared.status.ActionStatus.TheVariants as action
 use Rattle.lra_model.specs.Names.{action_status_name, outcome_name}
+use Rattle.lra_model.specs.History.{History}
+use Rattle.lra_escape.specs.Escapes.{escaped}
 use Rattle.lra_audits.specs.Report.{joined}
 use Rattle.lra_stories.specs.declared.facts.Fact.{Fact}
 use Rattle.lra_stories.specs.declared.facts.Fact.TheVariants.{Started, Joined, Left, Closes, Cancels, Skipped, Asked, Answered, Reported, Ended, Restarted, Renewed, NestedStarted, NestedCloses, NestedCancels, NestedEnded}
@@ -67,17 +69,17 @@ stretch status = joined (codes "<line x1=\"28\" y1=\"13\" x2=\"28\" y2=\"39\" cl
 abbrev pub moment_words : ℕ → List ℕ
 moment_words moment = joined (codes "<text x=\"112\" y=\"18\" class=\"moment\">" ∷ moment_text moment ∷ codes "</text>" ∷ [])
 
--- a line of the story, with its line feed, which no text of SVG shows
+-- a line of the story, escaped, with its line feed, which no text of SVG shows
 abbrev pub words : List ℕ → List ℕ
-words line = joined (codes "<text x=\"328\" y=\"18\">" ∷ line ∷ codes "</text>" ∷ [])
+words line = joined (codes "<text x=\"328\" y=\"18\">" ∷ escaped line ∷ codes "</text>" ∷ [])
 
 -- what stands in the first row: how the action is now
 abbrev pub head_row : List ℕ → List ℕ
 head_row head = joined (codes "<text x=\"20\" y=\"18\" class=\"head\">" ∷ head ∷ codes "</text>" ∷ [])
 
 -- what stands in the row of an entry: marks, when it was, and the line that tells of it
-abbrev pub told_row : Told → List ℕ
-told_row t = joined (stretch t.status ∷ mark t.status t.fact ∷ moment_words t.moment ∷ words (told_line t) ∷ [])
+abbrev pub told_row : History → Told → List ℕ
+told_row J t = joined (stretch t.status ∷ mark t.status t.fact ∷ moment_words t.moment ∷ words (told_line J t) ∷ [])
 
 -- what stands in the row of a note; where nothing is noted there is none
 abbrev pub note_rows : List ℕ → List (List ℕ)
@@ -85,16 +87,16 @@ note_rows [] = []
 note_rows (c ∷ note) = words (c ∷ note) ∷ []
 
 -- what stands in the rows: how the action is now; then each entry that concerns it, in order; then each note
-abbrev pub contents : List ℕ → List Told → List (List ℕ) → List (List ℕ)
-contents head ts notes = head_row head ∷ [] ++ map told_row ts ++ flat_map note_rows notes
+abbrev pub contents : History → List ℕ → List Told → List (List ℕ) → List (List ℕ)
+contents J head ts notes = head_row head ∷ [] ++ map (told_row J) ts ++ flat_map note_rows notes
 
 -- what the picture begins with: its size, and what it is of
 abbrev pub opening : List ℕ → ℕ → List ℕ
 opening head height =
     joined
-    (codes "<svg xmlns=\"http://www.w3.org/2000/svg\" version=\"1.1\" role=\"graphics-document document\" width=\"1280\" height=\""
+    (codes "<svg xmlns=\"http://www.w3.org/2000/svg\" version=\"1.1\" role=\"graphics-document document\" width=\"1600\" height=\""
     ∷ decimal height
-    ∷ codes "\" viewBox=\"0 0 1280 "
+    ∷ codes "\" viewBox=\"0 0 1600 "
     ∷ decimal height
     ∷ codes "\">\n<title>"
     ∷ head
@@ -110,6 +112,6 @@ lanes height = joined (codes "<path class=\"lane\" d=\"M56 26V" ∷ decimal heig
 abbrev pub framed : List ℕ → List (List ℕ) → List ℕ
 framed head cs = joined (opening head (top_of (length cs)) ∷ LOOKS.now ∷ lanes (top_of (length cs)) ∷ rows 0 cs ∷ codes "</svg>\n" ∷ [])
 
--- the picture of a story by its parts: how the action is now, what is told of it, and what is noted at the end
-unfoldable pub picture : List ℕ → List Told → List (List ℕ) → List ℕ
-picture head ts notes = framed head (contents head ts notes)
+-- the picture of a story of a history by its parts: how the action is now, what is told of it, and what is noted at the end
+unfoldable pub picture : History → List ℕ → List Told → List (List ℕ) → List ℕ
+picture J head ts notes = framed head (contents J head ts notes)

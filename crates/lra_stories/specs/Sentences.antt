@@ -8,8 +8,11 @@ use Rattle.lra_model.specs.declared.asks.Cause.{Cause}
 use Rattle.lra_model.specs.declared.asks.Cause.TheVariants as cause
 use Rattle.lra_model.specs.declared.asks.Outcome.{Outcome}
 use Rattle.lra_model.specs.declared.asks.Outcome.TheVariants as outcome
+use Rattle.lra_model.specs.Addresses.{Addresses}
 use Rattle.lra_model.specs.Words.{has_failed, is_silent}
 use Rattle.lra_model.specs.Names.{action_status_name}
+use Rattle.lra_model.specs.History.{History}
+use Rattle.lra_rows.specs.Found.{found_addresses}
 use Rattle.lra_audits.specs.Report.{joined, line_feed}
 use Rattle.lra_stories.specs.declared.facts.Fact.{Fact}
 use Rattle.lra_stories.specs.declared.facts.Fact.TheVariants.{Started, Joined, Left, Closes, Cancels, Skipped, Asked, Answered, Reported, Ended, Restarted, Renewed, NestedStarted, NestedCloses, NestedCancels, NestedEnded}
@@ -53,6 +56,28 @@ ended_text status =
     cond (has_failed status)
     (joined (codes "it is " ∷ action_status_name status ∷ codes ": all that it waited for has ended, and not all of it well" ∷ []))
     (joined (codes "it is " ∷ action_status_name status ∷ codes ": all that it waited for has ended well" ∷ []))
+
+-- an address that a member joined with, where it has it
+abbrev pub address_text : List ℕ → Option (List ℕ) → List ℕ
+address_text name None = []
+address_text name (Some u) = joined (codes ", " ∷ name ∷ codes " " ∷ u ∷ [])
+
+-- the addresses that a member joined with
+abbrev pub addresses_text : Addresses → List ℕ
+addresses_text u =
+    joined
+    (address_text (codes "compensate") u.compensate
+    ∷ address_text (codes "complete") u.complete
+    ∷ address_text (codes "status") u.status
+    ∷ address_text (codes "forget") u.forget
+    ∷ address_text (codes "after") u.after
+    ∷ []
+    )
+
+-- that a member joined, and with which addresses
+abbrev pub joined_text : ℕ → Option Addresses → List ℕ
+joined_text p None = joined (codes "member " ∷ decimal p ∷ codes " joined" ∷ [])
+joined_text p (Some u) = joined (codes "member " ∷ decimal p ∷ codes " joined" ∷ addresses_text u ∷ [])
 
 -- what a member is asked
 abbrev pub ask_words : AskKind → List ℕ
@@ -122,28 +147,28 @@ renewed_text (suc n) = joined (codes "its limit is set anew, to " ∷ length_tex
 abbrev pub nested_ended_text : ℕ → ActionStatus → List ℕ
 nested_ended_text b status = joined (codes "action " ∷ decimal b ∷ codes " below it is " ∷ action_status_name status ∷ [])
 
--- what is told of a fact, where the action has this status after it
-abbrev pub fact_text : ActionStatus → Fact → List ℕ
-fact_text status (Started by moment parent limit) = started_text by moment parent limit
-fact_text status (Joined p) = joined (codes "member " ∷ decimal p ∷ codes " joined" ∷ [])
-fact_text status (Left p) = joined (codes "member " ∷ decimal p ∷ codes " left" ∷ [])
-fact_text status (Closes why) = turned_text (close_reason why) status
-fact_text status (Cancels why) = turned_text (cancel_reason why) status
-fact_text status (Skipped p) = skipped_text p
-fact_text status (Asked n p kind) = asked_text n p kind
-fact_text status (Answered n p stage o) = answered_text n p stage o
-fact_text status (Reported p stage o) = reported_text p stage o
-fact_text status Ended = ended_text status
-fact_text status Restarted = restarted_text
-fact_text status (Renewed limit) = renewed_text limit
-fact_text status (NestedStarted b) = joined (codes "action " ∷ decimal b ∷ codes " started below it" ∷ [])
-fact_text status (NestedCloses b) = joined (codes "action " ∷ decimal b ∷ codes " below it is Closing" ∷ [])
-fact_text status (NestedCancels b) = joined (codes "action " ∷ decimal b ∷ codes " below it is Cancelling" ∷ [])
-fact_text status (NestedEnded b s) = nested_ended_text b s
+-- what is told of a fact of a history, where the action has this status after it
+abbrev pub fact_text : History → ActionStatus → Fact → List ℕ
+fact_text J status (Started by moment parent limit) = started_text by moment parent limit
+fact_text J status (Joined p) = joined_text p (found_addresses J p)
+fact_text J status (Left p) = joined (codes "member " ∷ decimal p ∷ codes " left" ∷ [])
+fact_text J status (Closes why) = turned_text (close_reason why) status
+fact_text J status (Cancels why) = turned_text (cancel_reason why) status
+fact_text J status (Skipped p) = skipped_text p
+fact_text J status (Asked n p kind) = asked_text n p kind
+fact_text J status (Answered n p stage o) = answered_text n p stage o
+fact_text J status (Reported p stage o) = reported_text p stage o
+fact_text J status Ended = ended_text status
+fact_text J status Restarted = restarted_text
+fact_text J status (Renewed limit) = renewed_text limit
+fact_text J status (NestedStarted b) = joined (codes "action " ∷ decimal b ∷ codes " started below it" ∷ [])
+fact_text J status (NestedCloses b) = joined (codes "action " ∷ decimal b ∷ codes " below it is Closing" ∷ [])
+fact_text J status (NestedCancels b) = joined (codes "action " ∷ decimal b ∷ codes " below it is Cancelling" ∷ [])
+fact_text J status (NestedEnded b s) = nested_ended_text b s
 
--- the line that tells of an entry
-abbrev pub told_line : Told → List ℕ
-told_line t = joined (codes "line " ∷ decimal t.line ∷ codes ": " ∷ fact_text t.status t.fact ∷ line_feed ∷ [])
+-- the line that tells of an entry of a history
+abbrev pub told_line : History → Told → List ℕ
+told_line J t = joined (codes "line " ∷ decimal t.line ∷ codes ": " ∷ fact_text J t.status t.fact ∷ line_feed ∷ [])
 
 -- the line that tells how an action is now
 abbrev pub head_line : ℕ → Option ℕ → ActionStatus → List ℕ

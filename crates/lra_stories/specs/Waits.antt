@@ -1,23 +1,32 @@
--- What is noted at the end of an action's story: what it waits for, or which of those below it failed.
-use Rattle.std.specs.Prelude.{ℕ, ◌==◌, Bool, false, ◌&&◌, not, List, [], ◌∷◌, ◌++◌, map, codes, Option, Some, None, is_some, cond}
-use Rattle.std.specs.Option.{option_map_or}
-use Rattle.std.specs.List.{find}
+-- What is noted at the end of an action's story: what it waits for, or which of those below it failed, and what its members are asked.
+use Rattle.std.specs.Prelude.{ℕ, zero, suc, ◌-◌, ◌==◌, Bool, false, ◌&&◌, not, List, [], ◌∷◌, ◌++◌, map, filter, length, slice_get, codes, Option, Some, None, option_map, is_some, cond}
+use Rattle.std.specs.Option.{option_map_or, option_and_then}
+use Rattle.std.specs.List.{find, flat_map}
 use Rattle.std.specs.Fmt.{decimal}
 use Rattle.lra_model.specs.declared.status.ActionStatus.{ActionStatus}
 use Rattle.lra_model.specs.declared.status.ActionStatus.TheVariants as action
 use Rattle.lra_model.specs.declared.status.MemberStatus.{MemberStatus}
+use Rattle.lra_model.specs.declared.asks.AskKind.{AskKind}
+use Rattle.lra_model.specs.declared.asks.AskKind.TheVariants as ask
 use Rattle.lra_model.specs.Addresses.{Addresses}
-use Rattle.lra_model.specs.Words.{is_active, has_ended, has_failed, has_finished_cancelling, is_done_completing, is_done_compensating, member_has_failed, has_gone}
+use Rattle.lra_model.specs.Words.{is_active, has_ended, has_failed, has_finished_cancelling, is_done_completing, is_done_compensating, member_has_failed, has_gone, same_kind, is_undecided, is_silent}
 use Rattle.lra_model.specs.Names.{action_status_name, member_status_name}
 use Rattle.lra_model.specs.History.{History}
 use Rattle.lra_model.specs.Actions.{members_of, children}
 use Rattle.lra_rows.specs.declared.found.ActionRow.{ActionRow}
+use Rattle.lra_model.specs.Wants.{stage_of}
 use Rattle.lra_rows.specs.declared.found.MemberRow.{MemberRow}
-use Rattle.lra_rows.specs.Found.{found_action, found_member, found_addresses}
+use Rattle.lra_rows.specs.declared.found.AskRow.{AskRow}
+use Rattle.lra_rows.specs.Found.{found_action, found_member, found_addresses, found_ask}
+use Rattle.lra_commands.specs.Due.{due_after}
+use Rattle.lra_commands.specs.Errands.{address_for}
+use Rattle.lra_commands.specs.Terms.{usual}
 use Rattle.lra_audits.specs.Report.{joined, line_feed}
 use Rattle.lra_stories.specs.declared.facts.Fact.{Fact}
-use Rattle.lra_stories.specs.declared.facts.Fact.TheVariants.{Asked}
+use Rattle.lra_stories.specs.declared.facts.Fact.TheVariants.{Asked, Answered}
 use Rattle.lra_stories.specs.declared.facts.Told.{Told}
+use Rattle.lra_stories.specs.Facts.{stage_reported}
+use Rattle.lra_stories.specs.Sentences.{ask_words}
 use Rattle.lra_stories.specs.Times.{moment_text, length_text}
 
 -- whether an action with this status waits for a member with that one, that can be compensated: it hasn't left, and isn't done (MicroProfile LRA
@@ -45,10 +54,6 @@ is_ask n t = of_fact t.fact
     of_fact (Asked m p kind) = m == n
     of_fact _ = false
 
--- that a member is to be asked
-abbrev pub unasked_line : ℕ → MemberStatus → List ℕ
-unasked_line p s = joined (codes "waits for member " ∷ decimal p ∷ codes ", which is " ∷ member_status_name s ∷ codes ": it is to be asked\n" ∷ [])
-
 -- which line asked, and since which moment there is no answer
 abbrev pub open_text : ℕ → ℕ → ℕ → List ℕ
 open_text n line moment = joined (codes "ask " ∷ decimal n ∷ codes ", of line " ∷ decimal line ∷ codes ", has no answer since " ∷ moment_text moment ∷ [])
@@ -58,31 +63,113 @@ abbrev pub since_text : ℕ → Option Told → List ℕ
 since_text n (Some t) = open_text n t.line t.moment
 since_text n None = joined (codes "ask " ∷ decimal n ∷ codes " has no answer" ∷ [])
 
--- that a member is asked, and since when
-abbrev pub asked_line : ℕ → MemberStatus → ℕ → Option Told → List ℕ
-asked_line p s n o = joined (codes "waits for member " ∷ decimal p ∷ codes ", which is " ∷ member_status_name s ∷ codes ": " ∷ since_text n o ∷ line_feed ∷ [])
-
--- that an action waits for a member: the ask of it that is outstanding, or that it is to be asked
-abbrev pub waiting_line : List Told → ℕ → MemberRow → List ℕ
-waiting_line ts p r = of_ask r.outstanding
-  where
-    of_ask : Option ℕ → List ℕ
-    of_ask (Some n) = asked_line p r.status n (find (is_ask n) ts)
-    of_ask None = unasked_line p r.status
+-- that an action waits for a member
+abbrev pub waiting_line : ℕ → MemberStatus → List ℕ
+waiting_line p s = joined (codes "waits for member " ∷ decimal p ∷ codes ", which is " ∷ member_status_name s ∷ line_feed ∷ [])
 
 -- that a member has failed
 abbrev pub failed_line : ℕ → MemberStatus → List ℕ
 failed_line p s = joined (codes "member " ∷ decimal p ∷ codes " is " ∷ member_status_name s ∷ line_feed ∷ [])
 
 -- what is noted of a member's row: that the action waits for it; or, of an action that has failed, that it failed
-abbrev pub row_note : History → List Told → ActionStatus → ℕ → MemberRow → List ℕ
-row_note J ts status p r =
-    cond (waits_for_member status r.status && can_compensate J p) (waiting_line ts p r)
+abbrev pub row_note : History → ActionStatus → ℕ → MemberRow → List ℕ
+row_note J status p r =
+    cond (waits_for_member status r.status && can_compensate J p) (waiting_line p r.status)
     (cond (has_failed status && member_has_failed r.status) (failed_line p r.status) [])
 
+-- the address of a member that an ask of a kind goes to
+abbrev pub address_at : History → ℕ → AskKind → Option (List ℕ)
+address_at J p kind = option_and_then (address_for kind) (found_addresses J p)
+
+-- at which address
+abbrev pub at_text : Option (List ℕ) → List ℕ
+at_text None = []
+at_text (Some u) = codes " at " ++ u
+
+-- that a member is asked, at which address, and since when
+abbrev pub open_line : ℕ → AskKind → Option (List ℕ) → List ℕ → List ℕ
+open_line p kind u since = joined (codes "member " ∷ decimal p ∷ codes " is " ∷ ask_words kind ∷ at_text u ∷ codes ": " ∷ since ∷ line_feed ∷ [])
+
+-- from when on a member is asked again that was asked so often in vain, the last time at that moment, by the pauses that a service has unless others are set
+abbrev pub again_text : ℕ → Option ℕ → List ℕ
+again_text zero before = []
+again_text (suc k) before = joined (codes " again, from " ∷ moment_text (due_after usual (suc k) before) ∷ codes " on by the default pauses" ∷ [])
+
+-- that a member is to be asked, at which address, and when
+abbrev pub want_line : ℕ → AskKind → Option (List ℕ) → List ℕ → List ℕ
+want_line p kind u again = joined (codes "member " ∷ decimal p ∷ codes " is to be " ∷ ask_words kind ∷ at_text u ∷ again ∷ line_feed ∷ [])
+
+-- what is noted of the ask that was made of a member, and is outstanding
+abbrev pub asked_note : History → List Told → ℕ → ℕ → AskRow → List ℕ
+asked_note J ts p n x = open_line p x.kind (address_at J p x.kind) (since_text n (find (is_ask n) ts))
+
+-- what is noted of what a member wants to be asked
+abbrev pub wanted_note : History → ℕ → MemberRow → AskKind → List ℕ
+wanted_note J p r kind = want_line p kind (address_at J p kind) (again_text r.k r.last)
+
+-- what a member is asked, or is to be asked next, whether or not the action waits for it: at which address, and since when or from when on
+abbrev pub ask_note : History → List Told → ℕ → MemberRow → List ℕ
+ask_note J ts p r = of_ask r.outstanding
+  where
+    of_ask : Option ℕ → List ℕ
+    of_ask (Some n) = option_map_or (asked_note J ts p n) (found_ask J n) []
+    of_ask None = option_map_or (wanted_note J p r) r.want []
+
+-- the stage of what a member of a status wants: a status ask is of the one that the member is in
+abbrev pub stage_wanted : MemberStatus → AskKind → AskKind
+stage_wanted s ask.Status = stage_reported s
+stage_wanted s kind = kind
+
+-- the stage of what a member is asked, or is to be asked next
+abbrev pub stage_now : History → MemberRow → Option AskKind
+stage_now J r = of_ask r.outstanding
+  where
+    of_ask : Option ℕ → Option AskKind
+    of_ask (Some n) = option_map (λ (x : AskRow). stage_of x.kind x.direction) (found_ask J n)
+    of_ask None = option_map (stage_wanted r.status) r.want
+
+-- whether that is an answer of a member in a stage after which it is asked again, or none
+abbrev pub is_repeat : ℕ → AskKind → Told → Bool
+is_repeat p stage t = of_fact t.fact
+  where
+    of_fact : Fact → Bool
+    of_fact (Answered n q s o) = (q == p) && (same_kind s stage && is_undecided o)
+    of_fact _ = false
+
+-- how often
+abbrev pub times_text : ℕ → List ℕ
+times_text n = cond (n == 1) (codes "once") (joined (decimal n ∷ codes " times" ∷ []))
+
+-- what the last of the calls came to that are told, as far as the journal has it
+abbrev pub last_text : Told → List ℕ
+last_text t = of_fact t.fact
+  where
+    of_fact : Fact → List ℕ
+    of_fact (Answered n q s o) =
+        cond (is_silent o)
+        (joined (codes "without an answer (line " ∷ decimal t.line ∷ codes "): the operators' page has the reason" ∷ []))
+        (joined (codes "with the answer that it goes on (line " ∷ decimal t.line ∷ codes ")" ∷ []))
+    of_fact _ = []
+
+-- how often a member was called for what it is asked now, and what came of the last call
+abbrev pub repeats_line : ℕ → List Told → List ℕ
+repeats_line p ts =
+    option_map_or
+    (λ (t : Told). joined (codes "member " ∷ decimal p ∷ codes " was called " ∷ times_text (length ts) ∷ codes " for that, last " ∷ last_text t ∷ line_feed ∷ []))
+    (slice_get ts (length ts - 1))
+    []
+
+-- what is noted of how often a member was called for what it is asked, or is to be asked next
+abbrev pub repeats_note : History → List Told → ℕ → MemberRow → List ℕ
+repeats_note J ts p r = option_map_or (λ (stage : AskKind). repeats_line p (filter (is_repeat p stage) ts)) (stage_now J r) []
+
+-- what is noted of a member's row: a line each, or nothing
+abbrev pub row_notes : History → List Told → ActionStatus → ℕ → MemberRow → List (List ℕ)
+row_notes J ts status p r = row_note J status p r ∷ ask_note J ts p r ∷ repeats_note J ts p r ∷ []
+
 -- what is noted of a member
-abbrev pub member_note : History → List Told → ActionStatus → ℕ → List ℕ
-member_note J ts status p = option_map_or (row_note J ts status p) (found_member J p) []
+abbrev pub member_notes : History → List Told → ActionStatus → ℕ → List (List ℕ)
+member_notes J ts status p = option_map_or (row_notes J ts status p) (found_member J p) []
 
 -- what is noted of a nested action that has a status now: that the action waits for it; or, of an action that has failed, that it failed
 abbrev pub nested_note : ActionStatus → ℕ → ActionStatus → List ℕ
@@ -106,4 +193,4 @@ own_note r = cond (is_active r.status) (client_line r.limit r.since) []
 
 -- what is noted of an action, then of its members, and then of those nested directly in it: a line each, or nothing
 abbrev pub notes : History → List Told → ℕ → ActionRow → List (List ℕ)
-notes J ts a r = own_note r ∷ [] ++ map (member_note J ts r.status) (members_of J a) ++ map (action_note J r.status) (children J a)
+notes J ts a r = own_note r ∷ [] ++ flat_map (member_notes J ts r.status) (members_of J a) ++ map (action_note J r.status) (children J a)

@@ -1,8 +1,10 @@
-//! The picture of what happened to an action: an SVG document that stands alone. Each text in it is made of words of this program and of numbers, so
-//! nothing is escaped.
+//! The picture of what happened to an action: an SVG document that stands alone. The lines of the story may have addresses, and are escaped.
 
 ghost use Rattle.std.specs.Prelude.{◌≡◌, ◌+◌, ◌++◌, ◌∷◌, [], ℕ, List, IfOk, OnOk, map, string_bytes};
 ghost use Rattle.std.specs.List.{flat_map};
+ghost use Rattle.lra_model.specs.History.{History};
+ghost use Rattle.lra_laws.specs.Sheets.{StandsFor};
+ghost use Rattle.lra_escape.specs.Escapes.{escaped};
 ghost use Rattle.lra_stories.specs.Drawn as drawn;
 ghost use Rattle.lra_stories.specs.Sentences.{told_line as told_words};
 ghost use Rattle.lra_stories.specs.inner.Draws.{Draws};
@@ -10,7 +12,9 @@ ghost use Rattle.lra_stories.specs.inner.Draws.{Draws};
 use crate::facts::{Fact, Told};
 use crate::sentences::told_line;
 use crate::times::moment_text;
+use lra_escape::escape;
 use lra_model::{ActionStatus, Memory};
+use lra_rows::Rows;
 use std::alloc::{AllocError, Global};
 
 /// How the picture looks, by day and by night.
@@ -117,18 +121,31 @@ fn moment_words(alloc: Global, moment: u64) -> Result<String, Memory>
     format!(in alloc; "<text x=\"112\" y=\"18\" class=\"moment\">{moment}</text>")
 }
 
+/// A text as XML spells it.
+fn escaped(alloc: Global, text: &str) -> Result<String, Memory>
+    ensures { IfOk result (λ spelled. string_bytes spelled ≡ escaped text.now) }
+{
+    let mut bytes = Vec::new(alloc);
+    escape(&mut bytes, text)?;
+    match String::from_utf8(bytes) {
+        Ok(spelled) => Ok(spelled),
+        Err(_) => Err(AllocError),
+    }
+}
+
 /// A line of the story.
 fn words(alloc: Global, line: &str) -> Result<String, Memory>
     ensures { IfOk result (λ text. string_bytes text ≡ drawn.words line.now) }
 {
+    let line = escaped(alloc, line)?;
     format!(in alloc; "<text x=\"328\" y=\"18\">{line}</text>")
 }
 
 /// The line that tells of an entry.
-fn told_words(alloc: Global, told: &Told) -> Result<String, Memory>
-    ensures { IfOk result (λ text. string_bytes text ≡ drawn.words (told_words told.now)) }
+fn told_words(alloc: Global, rows: &Rows, told: &Told) -> Result<String, Memory>
+    ensures { (J : History) → StandsFor rows.now.sheet J → IfOk result (λ text. string_bytes text ≡ drawn.words (told_words J told.now)) }
 {
-    let line = told_line(alloc, told)?;
+    let line = told_line(alloc, rows, told)?;
     words(alloc, &line)
 }
 
@@ -140,13 +157,13 @@ fn head_row(alloc: Global, head: &str) -> Result<String, Memory>
 }
 
 /// What stands in the row of an entry.
-fn told_row(alloc: Global, told: &Told) -> Result<String, Memory>
-    ensures { IfOk result (λ text. string_bytes text ≡ drawn.told_row told.now) }
+fn told_row(alloc: Global, rows: &Rows, told: &Told) -> Result<String, Memory>
+    ensures { (J : History) → StandsFor rows.now.sheet J → IfOk result (λ text. string_bytes text ≡ drawn.told_row J told.now) }
 {
     let stretch = stretch(alloc, told.status)?;
     let mark = mark(alloc, told.status, told.fact)?;
     let moment = moment_words(alloc, told.moment)?;
-    let words = told_words(alloc, told)?;
+    let words = told_words(alloc, rows, told)?;
     format!(in alloc; "{stretch}{mark}{moment}{words}")
 }
 
@@ -194,11 +211,12 @@ impl Drawing {
 }
 
 /// Adds the row of each entry that is told.
-fn put_told(drawing: &mut Drawing, told: &[Told]) -> Result<(), Memory>
-    ensures { (cs : List (List ℕ)) → Draws drawing.old cs → OnOk result (Draws drawing.new (cs ++ map drawn.told_row told.now)) }
+fn put_told(drawing: &mut Drawing, rows: &Rows, told: &[Told]) -> Result<(), Memory>
+    ensures { (J : History) (cs : List (List ℕ)) → StandsFor rows.now.sheet J → Draws drawing.old cs
+        → OnOk result (Draws drawing.new (cs ++ map (drawn.told_row J) told.now)) }
 {
     for place in 0..told.len() {
-        let content = told_row(drawing.alloc, &told[place])?;
+        let content = told_row(drawing.alloc, rows, &told[place])?;
         drawing.put_row(&content)?;
     }
     Ok(())
@@ -219,7 +237,7 @@ fn opening(alloc: Global, head: &str, height: u64) -> Result<String, Memory>
     ensures { IfOk result (λ text. string_bytes text ≡ drawn.opening head.now height) }
 {
     format!(in alloc;
-        "<svg xmlns=\"http://www.w3.org/2000/svg\" version=\"1.1\" role=\"graphics-document document\" width=\"1280\" height=\"{height}\" viewBox=\"0 0 1280 {height}\">\n<title>{head}</title>\n"
+        "<svg xmlns=\"http://www.w3.org/2000/svg\" version=\"1.1\" role=\"graphics-document document\" width=\"1600\" height=\"{height}\" viewBox=\"0 0 1600 {height}\">\n<title>{head}</title>\n"
     )
 }
 
@@ -244,16 +262,17 @@ fn framed(drawing: &Drawing, head: &str) -> Result<String, Memory>
 /// The picture of a story: how the action is now, what is told of it, and what is noted at the end.
 pub(crate) fn draw(
     alloc: Global,
+    rows: &Rows,
     head: &str,
     told: &[Told],
     notes: &[String],
 ) -> Result<String, Memory>
-    ensures { IfOk result (λ text. string_bytes text ≡ drawn.picture head.now told.now (map string_bytes notes.now)) }
+    ensures { (J : History) → StandsFor rows.now.sheet J → IfOk result (λ text. string_bytes text ≡ drawn.picture J head.now told.now (map string_bytes notes.now)) }
 {
     let mut drawing = Drawing::new(alloc);
     let first = head_row(alloc, head)?;
     drawing.put_row(&first)?;
-    put_told(&mut drawing, told)?;
+    put_told(&mut drawing, rows, told)?;
     put_notes(&mut drawing, notes)?;
     framed(&drawing, head)
 }

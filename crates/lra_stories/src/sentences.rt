@@ -1,12 +1,18 @@
 //! The sentences in which facts are told.
 
 ghost use Rattle.std.specs.Prelude.{◌≡◌, IfOk, string_bytes};
+ghost use Rattle.std.specs.Option.{option_copied};
+ghost use Rattle.lra_model.specs.History.{History};
 ghost use Rattle.lra_model.specs.Words.{is_silent};
+ghost use Rattle.lra_laws.specs.Sheets.{StandsFor};
+ghost use Rattle.lra_rows.specs.Found.{found_addresses};
 ghost use Rattle.lra_stories.specs.Sentences as sentences;
 
 use crate::facts::{Fact, Told};
 use crate::times::{length_text, moment_text};
 use lra_model::{ActionStatus, AskKind, Cause, Memory, Outcome};
+use lra_packed::Packed;
+use lra_rows::Rows;
 use std::alloc::Global;
 
 /// Which action it is nested in, if it is.
@@ -87,8 +93,43 @@ fn ended_text(alloc: Global, status: ActionStatus) -> Result<String, Memory>
     }
 }
 
+/// An address that a member joined with, where it has it.
+fn address_text(alloc: Global, name: &str, address: Option<&str>) -> Result<String, Memory>
+    ensures { IfOk result (λ text. string_bytes text ≡ sentences.address_text name.now (option_copied address.entry)) }
+{
+    match address {
+        Some(address) => format!(in alloc; ", {name} {address}"),
+        None => Ok(String::new(alloc)),
+    }
+}
+
+/// The addresses that a member joined with.
+fn addresses_text(alloc: Global, uris: &Packed) -> Result<String, Memory>
+    ensures { IfOk result (λ text. string_bytes text ≡ sentences.addresses_text uris.now) }
+{
+    let compensate = address_text(alloc, "compensate", uris.compensate())?;
+    let complete = address_text(alloc, "complete", uris.complete())?;
+    let status = address_text(alloc, "status", uris.status())?;
+    let forget = address_text(alloc, "forget", uris.forget())?;
+    let after = address_text(alloc, "after", uris.after())?;
+    format!(in alloc; "{compensate}{complete}{status}{forget}{after}")
+}
+
+/// That a member joined, and with which addresses.
+fn joined_text(alloc: Global, rows: &Rows, member: u64) -> Result<String, Memory>
+    ensures { (J : History) → StandsFor rows.now.sheet J → IfOk result (λ text. string_bytes text ≡ sentences.joined_text member (found_addresses J member)) }
+{
+    match rows.addresses(member) {
+        Some(uris) => {
+            let addresses = addresses_text(alloc, uris)?;
+            format!(in alloc; "member {member} joined{addresses}")
+        }
+        None => format!(in alloc; "member {member} joined"),
+    }
+}
+
 /// What a member is asked.
-fn ask_words(kind: AskKind) -> &'static str
+pub(crate) fn ask_words(kind: AskKind) -> &'static str
     ensures { result.now ≡ sentences.ask_words kind }
 {
     match kind {
@@ -146,7 +187,7 @@ fn outcome_words(stage: AskKind, outcome: Outcome) -> &'static str
 }
 
 /// Whether a member gave no answer.
-fn is_silent(outcome: Outcome) -> bool
+pub(crate) fn is_silent(outcome: Outcome) -> bool
     ensures { result ≡ is_silent outcome }
 {
     matches!(outcome, Outcome::Silent)
@@ -226,8 +267,8 @@ fn nested_ended_text(alloc: Global, action: u64, status: ActionStatus) -> Result
 }
 
 /// What is told of a fact, where the action has this status after it.
-fn fact_text(alloc: Global, status: ActionStatus, fact: Fact) -> Result<String, Memory>
-    ensures { IfOk result (λ text. string_bytes text ≡ sentences.fact_text status fact) }
+fn fact_text(alloc: Global, rows: &Rows, status: ActionStatus, fact: Fact) -> Result<String, Memory>
+    ensures { (J : History) → StandsFor rows.now.sheet J → IfOk result (λ text. string_bytes text ≡ sentences.fact_text J status fact) }
 {
     match fact {
         Fact::Started {
@@ -236,7 +277,7 @@ fn fact_text(alloc: Global, status: ActionStatus, fact: Fact) -> Result<String, 
             parent,
             limit,
         } => started_text(alloc, by, moment, parent, limit),
-        Fact::Joined { member } => format!(in alloc; "member {member} joined"),
+        Fact::Joined { member } => joined_text(alloc, rows, member),
         Fact::Left { member } => format!(in alloc; "member {member} left"),
         Fact::Closes { cause } => turned_text(alloc, close_reason(cause), status),
         Fact::Cancels { cause } => turned_text(alloc, cancel_reason(cause), status),
@@ -266,11 +307,11 @@ fn fact_text(alloc: Global, status: ActionStatus, fact: Fact) -> Result<String, 
 }
 
 /// The line that tells of an entry.
-pub(crate) fn told_line(alloc: Global, told: &Told) -> Result<String, Memory>
-    ensures { IfOk result (λ text. string_bytes text ≡ sentences.told_line told.now) }
+pub(crate) fn told_line(alloc: Global, rows: &Rows, told: &Told) -> Result<String, Memory>
+    ensures { (J : History) → StandsFor rows.now.sheet J → IfOk result (λ text. string_bytes text ≡ sentences.told_line J told.now) }
 {
     let line = told.line;
-    let words = fact_text(alloc, told.status, told.fact)?;
+    let words = fact_text(alloc, rows, told.status, told.fact)?;
     format!(in alloc; "line {line}: {words}\n")
 }
 

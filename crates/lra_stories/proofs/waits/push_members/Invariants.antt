@@ -1,9 +1,10 @@
 use Rattle.std.proofs.Common.{◌≡◌, ◌++◌, map, take, string_bytes}
+use Rattle.std.specs.List.{flat_map}
 use Rattle.lra_model.specs.History.{History}
 use Rattle.lra_laws.specs.Sheets.{StandsFor}
-use Rattle.lra_stories.specs.Waits.{member_note}
+use Rattle.lra_stories.specs.Waits.{member_notes}
 use Rattle.lra_stories.proofs.waits.push_members.Given as goal
 
-abbrev pub invariant-loop-place : goal.invariant-loop-place
-invariant-loop-place l = (J : History) → StandsFor l.story.rows.sheet J
-    → map string_bytes l.notes.items ≡ map string_bytes l.fn.notes.items ++ map (member_note J l.story.told.items l.status) (take l.place l.members)
+abbrev pub invariant-loop-member : goal.invariant-loop-member
+invariant-loop-member l = (J : History) → StandsFor l.story.rows.sheet J
+    → map string_bytes l.notes.items ≡ map string_bytes l.fn.notes.items ++ flat_map (member_notes J l.story.told.items l.status) (take l.member-index l.members)

@@ -1,9 +1,0 @@
-use Rattle.std.proofs.Common.{arith}
-use Rattle.lra_stories.specs.Waits.{member_note}
-use Rattle.lra_stories.proofs.Writing.{note_more}
-use Rattle.lra_stories.proofs.waits.push_members.Goals as goal
-
-pub loop-place-preserved : goal.loop-place-preserved
-loop-place-preserved c = λ J h.
-    note_more (member_note J c.args.story.now.told.items c.args.status) c.args.members.now c.loop-place.place 0 c.args.notes.now.items c.loop-place.notes.items c.push.new.self.items c.in_ok-note.note
-    (omega (arith, c.loop-place-test.true)) (c.in_ok-note.ensures J h) (c.loop-place.invariant J h) c.in_ok-push.ensures.items
