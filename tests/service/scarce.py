@@ -20,6 +20,8 @@ from service import HOST, LATE, PATIENCE, LeftOut, Service, Telling, check, equa
 USER, THREADS = 61_234, 24
 # How many seconds an idle connection has to make room for a newcomer.
 ROOM = 1
+# How many seconds lie between two newcomers at least: idle times are kept in milliseconds, and one of a millisecond counts as another of it.
+APART = 0.005
 # The line that tells of lowered limits.
 LOWERED = re.compile(r"at most (\d+) connections and (\d+) callbacks at once: the limit of open files is 128\n")
 
@@ -263,6 +265,7 @@ def test_who_has_been_idle_longest_makes_room_where_descriptors_are_few(setting)
         check(service.told(), f"descriptors lowered asked=11024 had={connections + callbacks}" in service.told())
         streams = []
         for _ in range(2 * connections):
+            time.sleep(APART)
             stream = service.connect()
             streams.append(stream)
             seconds = answered(stream)
