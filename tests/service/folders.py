@@ -6,6 +6,7 @@ import re
 import shutil
 import socket
 import subprocess
+import tempfile
 import time
 import uuid
 
@@ -213,6 +214,31 @@ def test_a_journal_that_can_not_be_put_away_stays_served_until_it_can(setting):
         wait_until("it is put away", lambda: first not in folder.journals())
         wait_until("it is gone", lambda: all(folder.missing(action) for action in actions))
         equal("what is among those that were put away", os.listdir(folder.path("ended")), [first + ".journal"])
+        folder.kill()
+        equal("the journals that are sound", check_sound(folder), 2)
+
+
+def test_a_journal_that_can_not_be_put_away_is_told_of_once_for_each_reason(setting):
+    """A file has its name already; then the folder lies on another disk; then it can be put away."""
+    with tempfile.TemporaryDirectory() as elsewhere, Folder(setting, *SOON) as folder, folder.client() as client:
+        if os.stat(elsewhere).st_dev == os.stat(folder.folder).st_dev:
+            raise LeftOut("a second disk")
+        actions = folder.first(3)
+        first = instance_of(actions[0])
+        os.makedirs(folder.path("ended"))
+        put(setting, f"ended/{first}.journal", b"another's")
+        for action in actions:
+            client.end(action, "close")
+        line = f"lra: cannot put away {folder.path(first)}.journal\n"
+        wait_until("that it can't be put away", lambda: line in folder.told())
+        shutil.rmtree(folder.path("ended"))
+        os.symlink(elsewhere, folder.path("ended"))
+        wait_until("that it can't for another reason", lambda: folder.told().count(line) == 2)
+        time.sleep(5)
+        equal("what is told", folder.told(), 2 * line)
+        equal("the statuses", {client.status(action) for action in actions}, {"Closed"})
+        os.remove(folder.path("ended"))
+        wait_until("it is put away", lambda: folder.ended() == [first])
         folder.kill()
         equal("the journals that are sound", check_sound(folder), 2)
 
