@@ -384,8 +384,13 @@ def test_a_journal_that_is_put_away_is_told_no_more(setting):
         with service.client() as client:
             for action in actions:
                 client.end(action, "close")
+        before = measures(service)
+        equal("the journals before it is put away", before["lra_journals"], 2)
         wait_until("it is put away", lambda: service.ended())
         wait_until("one journal is left", lambda: measures(service)["lra_journals"] == 1)
+        after = measures(service)
+        fallen = [name for name, number in before.items() if name.split("{")[0].endswith("_total") and after.get(name, 0) < number]
+        equal("what has fallen that counts on and on", fallen, [])
         refusal(service.ask("/actions/" + id_of(actions[0])), 404, "NoSuchAction")
 
 
