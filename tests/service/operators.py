@@ -271,10 +271,28 @@ def test_members_that_hold_up_an_end_are_counted(setting):
         equal("none while it is active", (found[silent], found[waiting]), (0, 0))
         client.end(action, "close")
         wait_until("one is silent", lambda: measures(service)[silent] == 1)
-        equal("it was asked in vain", service.read("/actions/" + id_of(action))["awaits"], {"member": id_of(recovery)})
+        shown = service.read("/actions/" + id_of(action))
+        equal("it was asked in vain", shown["awaits"], {"member": id_of(recovery)})
+        last = next(it["last"] for it in shown["members"] if it["member"] == id_of(recovery))
+        equal("what came of it", (last["address"], last["reply"]), (gone + "complete", "connection refused"))
+        page = service.ask("/page/actions/" + id_of(action)).body
+        check("its reply, its age and its address", re.search(rf"connection refused, [0-9]+ s ago<br><code>{re.escape(gone)}complete</code>", page))
+        check("when it is asked next", re.search(r"complete (now|in [0-9]+ s), in vain [0-9]+ times|is being asked", service.ask("/").body))
         reply = service.ask(f"/members/{id_of(recovery)}/give-up", "POST", json.dumps({"status": "FailedToComplete"}))
         equal("it is given up", reply.code, 200)
         wait_until("none is silent", lambda: measures(service)[silent] == 0)
+
+
+def test_a_member_that_is_at_it_is_not_silent(setting):
+    with Watched(setting) as service, Participant(lambda request: (202, b"")) as member, service.client() as client:
+        action = client.start()
+        client.join(action, **member.addresses("complete", "compensate"))
+        client.end(action, "close")
+        member.wait("complete", 4)
+        wait_until("it is at it", lambda: measures(service)["lra_members_at_it"] == 1)
+        equal("and not silent", measures(service)['lra_members_overdue{why="silent"}'], 0)
+        told = service.read("/actions/" + id_of(action))["members"][0]["last"]
+        equal("what it answered", (told["address"], told["reply"]), (member.uri("complete"), "answered 202: it is at it"))
 
 
 def scraped(port, measure):
@@ -380,7 +398,8 @@ def test_a_journal_that_is_put_away_is_told_no_more(setting):
     with WatchedFolder(setting, *folders.SOON) as service:
         actions = service.first(3)
         service.wait_for(2)
-        equal("the journals", measures(service)["lra_journals"], 2)
+        found = measures(service)
+        equal("the journals", found["lra_journals"], 2)
         with service.client() as client:
             for action in actions:
                 client.end(action, "close")
@@ -391,6 +410,8 @@ def test_a_journal_that_is_put_away_is_told_no_more(setting):
         after = measures(service)
         fallen = [name for name, number in before.items() if name.split("{")[0].endswith("_total") and after.get(name, 0) < number]
         equal("what has fallen that counts on and on", fallen, [])
+        total = "lra_actions_started_total"
+        check("no total falls", measures(service)[total] >= found[total] >= len(actions))
         refusal(service.ask("/actions/" + id_of(actions[0])), 404, "NoSuchAction")
 
 
@@ -416,6 +437,9 @@ def test_a_member_that_is_given_up_ends_its_action_as_failed(setting):
         reply = service.ask(path, "POST", json.dumps({"status": "FailedToComplete"}))
         equal("the reply", (reply.code, json.loads(reply.body)), (200, {"status": "FailedToComplete"}))
         wait_until("the action has failed", lambda: client.status(action) == "FailedToClose")
+        wait_until("it is counted", lambda: measures(service)["lra_actions_failed_total"] == 1)
+        check("the page finds it", id_of(action) in service.ask("/?state=FailedToClose").body)
+        check("where it is asked for", id_of(action) not in service.ask("/?state=FailedToCancel").body and id_of(action) not in service.ask("/").body)
     audited(setting, setting.journal)
 
 

@@ -3,8 +3,8 @@
 ghost use Rattle.std.specs.Prelude.{◌≡◌};
 
 use lra_ids::Instance;
-use lra_model::Memory;
-use lra_overview::{Census, Counts, Overview, Trouble, count_all};
+use lra_model::{ActionStatus, Memory};
+use lra_overview::{Census, Counts, Overview, Totals, Trouble, Waiting, count_all};
 use std::alloc::Global;
 
 /// For how many milliseconds a count is good.
@@ -35,6 +35,8 @@ pub struct Memo {
     moment: u64,
     /// The newest last.
     journals: Vec<Counted>,
+    /// What those journals had that left, as was counted last.
+    gone: Totals,
 }
 
 /// Which marks are kept, where they become too many: each second one.
@@ -93,12 +95,32 @@ impl Counted {
         let Some(oldest) = self.counts.oldest else {
             return 0;
         };
+        self.age_of(oldest, moment).unwrap_or(0)
+    }
+
+    /// Returns for how many milliseconds an action is known of, at a moment.
+    fn age_of(&self, action: u64, moment: u64) -> Option<u64> {
         for mark in self.marks.as_slice() {
-            if mark.actions >= oldest {
-                return moment.saturating_sub(mark.moment);
+            if mark.actions >= action {
+                return Some(moment.saturating_sub(mark.moment));
             }
         }
-        0
+        None
+    }
+
+    /// Adds to actions that haven't ended for how long they are known of, at a moment.
+    pub(crate) fn add_ages(&self, waiting: &mut Vec<Waiting>, moment: u64) {
+        for each in waiting.iter_mut() {
+            each.age = self.age_of(each.row.action, moment);
+        }
+    }
+
+    /// Whether an action has a status, as was counted last.
+    fn has(&self, status: ActionStatus) -> bool {
+        self.counts
+            .shares
+            .iter()
+            .any(|share| share.status.is_same(status) && share.count > 0)
     }
 }
 
@@ -162,6 +184,17 @@ impl Memo {
         Ok(())
     }
 
+    /// Lets go of the journals that aren't served any more. What they had stays in the totals.
+    fn leave<O: Overview>(&mut self, overview: &O) {
+        for counted in self.journals.as_slice() {
+            if !is_served(overview, counted.instance) {
+                self.gone.add(&counted.counts);
+            }
+        }
+        self.journals
+            .retain(|counted| is_served(overview, counted.instance));
+    }
+
     /// Counts anew.
     fn renew<O: Overview>(
         &mut self,
@@ -171,8 +204,7 @@ impl Memo {
     ) -> Result<(), Trouble>
         ensures { O.orders overview.new ≡ O.orders overview.old }
     {
-        self.journals
-            .retain(|counted| is_served(overview, counted.instance));
+        self.leave(overview);
         self.add_new(alloc, overview)?;
         self.count_each(alloc, overview, moment)?;
         self.moment = moment;
@@ -197,6 +229,23 @@ impl Memo {
             }
         }
         self.newest()
+    }
+
+    /// Returns the first journal in which an action has a status, or else the newest.
+    pub(crate) fn first_with(&self, status: ActionStatus) -> Option<&Counted> {
+        for counted in self.journals.as_slice() {
+            if counted.has(status) {
+                return Some(counted);
+            }
+        }
+        self.newest()
+    }
+
+    /// Returns how many there ever were, in those journals too that left.
+    pub(crate) fn totals(&self) -> Totals {
+        let mut totals = self.gone;
+        totals.add(&self.total());
+        totals
     }
 
     /// How many there are in all journals.
@@ -237,6 +286,7 @@ impl Memo {
         Memo {
             moment: 0,
             journals: Vec::new(alloc),
+            gone: Totals::none(),
         }
     }
 }

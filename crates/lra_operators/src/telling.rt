@@ -13,9 +13,10 @@ use lra_commands::{Listing, Query, Refusal};
 use lra_ids::{Instance, read_id};
 use lra_model::{ActionStatus, Memory};
 use lra_overview::{
-    Answered, Counts, Facts, Forms, Names, Node, Overview, Probe, Shown, Trouble, Waiting,
-    all_waiting, is_up, list_actions, list_unended, put_action, put_action_page, put_actions,
-    put_health, put_home, put_metrics, show_action, tree_of,
+    Answered, Counts, Facts, Forms, Home, Line, Listed, Names, Node, Overview, Probe, Shown,
+    Trouble, Waiting, all_waiting, is_up, lines_of, list_actions, list_unended, members_in,
+    put_action, put_action_page, put_actions, put_health, put_home, put_metrics, show_action,
+    tree_of,
 };
 use std::alloc::Global;
 
@@ -66,6 +67,8 @@ struct Wanted {
     status: Option<ActionStatus>,
     from: u64,
     most: u64,
+    /// The moment at which it is asked for.
+    moment: u64,
 }
 
 /// A text of a query.
@@ -149,6 +152,7 @@ fn wanted_in<O: Overview>(
         status,
         from,
         most,
+        moment: 0,
     })
 }
 
@@ -223,7 +227,14 @@ fn put_measures(page: &mut Vec<u8>, facts: &Facts, memo: &Memo) -> Result<(), Tr
         Some(counted) => counted.counts,
         None => Counts::none(),
     };
-    put_metrics(page, facts, &memo.total(), &newest, memo.age(facts.moment))?;
+    put_metrics(
+        page,
+        facts,
+        &memo.total(),
+        &memo.totals(),
+        &newest,
+        memo.age(facts.moment),
+    )?;
     Ok(())
 }
 
@@ -270,16 +281,18 @@ pub(crate) fn tell_actions<O: Overview>(
 }
 
 /// Adds an action with its members.
-fn lay_action(reply: &mut Reply, names: &Names<'_>, shown: &Shown) -> Result<(), Memory> {
-    let waiting = Waiting {
-        row: shown.row,
-        awaited: shown.awaited,
-    };
+fn lay_action(
+    reply: &mut Reply,
+    names: &Names<'_>,
+    shown: &Shown,
+    lines: &[Line],
+) -> Result<(), Memory> {
+    let waiting = Waiting::new(shown.row, shown.awaited);
     put_action(
         &mut reply.text,
         names,
         &waiting,
-        shown.members.as_slice(),
+        lines,
         shown.nested.as_slice(),
         shown.is_cut,
     )
@@ -295,10 +308,26 @@ pub(crate) fn tell_action<O: Overview>(
 {
     let found = action_named(overview, target)?;
     let shown = show_action(alloc, overview, found.instance, found.number)?;
-    let names = Names::new(alloc, found.instance, overview.base());
-    let mut reply = empty(alloc, Kind::Json);
-    let added = lay_action(&mut reply, &names, &shown);
+    let told = tell_shown(alloc, overview, found.instance, &shown);
     drop(shown);
+    told
+}
+
+/// An action with its members, and what came of their last callbacks.
+fn tell_shown<O: Overview>(
+    alloc: Global,
+    overview: &mut O,
+    instance: Instance,
+    shown: &Shown,
+) -> Result<Reply, Trouble>
+    ensures { O.orders overview.new ≡ O.orders overview.old }
+{
+    let moment = overview.facts().moment;
+    let lines = lines_of(alloc, overview, instance, shown.members.as_slice(), moment)?;
+    let names = Names::new(alloc, instance, overview.base());
+    let mut reply = empty(alloc, Kind::Json);
+    let added = lay_action(&mut reply, &names, shown, lines.as_slice());
+    drop(lines);
     added?;
     Ok(reply)
 }
@@ -310,7 +339,24 @@ struct Hanging {
     next: Option<u64>,
 }
 
-/// What hasn't ended in a journal, as its census knows where such is.
+/// The actions of a journal that are wanted: those of a status, or else those that haven't ended, as its census knows where such are.
+fn list_wanted<O: Overview>(
+    alloc: Global,
+    overview: &mut O,
+    counted: &Counted,
+    wanted: Wanted,
+) -> Result<Listed, Trouble>
+    ensures { O.orders overview.new ≡ O.orders overview.old }
+{
+    let most = wanted.most as usize;
+    let Wanted { instance, from, .. } = wanted;
+    match wanted.status {
+        Some(_) => list_actions(alloc, overview, instance, wanted.status, from, most),
+        None => list_unended(alloc, overview, instance, &counted.census, from, most),
+    }
+}
+
+/// What is wanted of a journal, with what it waits for.
 fn find_hanging<O: Overview>(
     alloc: Global,
     overview: &mut O,
@@ -319,23 +365,41 @@ fn find_hanging<O: Overview>(
 ) -> Result<Hanging, Trouble>
     ensures { O.orders overview.new ≡ O.orders overview.old }
 {
-    let instance = wanted.instance;
-    let most = wanted.most as usize;
-    let listed = list_unended(
-        alloc,
-        overview,
+    let Wanted {
         instance,
-        &counted.census,
-        wanted.from,
-        most,
-    )?;
+        moment,
+        ..
+    } = wanted;
+    let listed = list_wanted(alloc, overview, counted, wanted)?;
     let next = listed.next;
-    let gathered = all_waiting(alloc, overview, instance, listed.rows.as_slice());
+    let gathered = all_waiting(alloc, overview, instance, listed.rows.as_slice(), moment);
     drop(listed);
     match gathered {
-        Ok(waiting) => Ok(Hanging { waiting, next }),
+        Ok(waiting) => Ok(hanging_of(counted, wanted, waiting, next)),
         Err(trouble) => Err(trouble),
     }
+}
+
+/// What is wanted of a journal, with how long that is known of which hasn't ended.
+fn hanging_of(
+    counted: &Counted,
+    wanted: Wanted,
+    waiting: Vec<Waiting>,
+    next: Option<u64>,
+) -> Hanging {
+    let mut waiting = waiting;
+    if is_open(wanted.status) {
+        counted.add_ages(&mut waiting, wanted.moment);
+    }
+    Hanging { waiting, next }
+}
+
+/// Whether actions are wanted that haven't ended.
+fn is_open(status: Option<ActionStatus>) -> bool {
+    matches!(
+        status,
+        None | Some(ActionStatus::Active | ActionStatus::Closing | ActionStatus::Cancelling)
+    )
 }
 
 /// Adds the first page, of what was counted and what hangs.
@@ -344,17 +408,18 @@ fn lay_home(
     names: &Names<'_>,
     forms: &Forms<'_>,
     total: &Counts,
+    state: Option<ActionStatus>,
     found: &Hanging,
 ) -> Result<Reply, Trouble> {
     let mut reply = empty(alloc, Kind::Page);
-    put_home(
-        &mut reply.text,
-        names,
-        forms,
-        total.shares.as_slice(),
-        found.waiting.as_slice(),
-        found.next,
-    )?;
+    let home = Home {
+        shares: total.shares.as_slice(),
+        overdue: total.overdue,
+        state,
+        rows: found.waiting.as_slice(),
+        next: found.next,
+    };
+    put_home(&mut reply.text, names, forms, &home)?;
     Ok(reply)
 }
 
@@ -372,7 +437,7 @@ fn show_journal<O: Overview>(
     let instance = wanted.instance;
     let found = find_hanging(alloc, overview, counted, wanted)?;
     let names = Names::new(alloc, instance, overview.base());
-    lay_home(alloc, &names, forms, total, &found)
+    lay_home(alloc, &names, forms, total, wanted.status, &found)
 }
 
 /// The first page, of what was counted.
@@ -382,14 +447,22 @@ fn show_home<O: Overview>(
     known: &Memo,
     forms: &Forms<'_>,
     target: &str,
+    moment: u64,
 ) -> Result<Reply, Trouble>
     ensures { O.orders overview.new ≡ O.orders overview.old }
 {
     let total = known.total();
-    let Some(first) = known.first_open() else {
+    let first = match status_in(alloc, query_in(target))? {
+        Some(status) => known.first_with(status),
+        None => known.first_open(),
+    };
+    let Some(first) = first else {
         return Err(Trouble::NoSuchJournal);
     };
-    let wanted = wanted_in(alloc, overview, first.instance, target)?;
+    let wanted = Wanted {
+        moment,
+        ..wanted_in(alloc, overview, first.instance, target)?
+    };
     match known.journal(wanted.instance) {
         Some(counted) => show_journal(alloc, overview, counted, &total, forms, wanted),
         None => Err(Trouble::NoSuchJournal),
@@ -408,7 +481,7 @@ pub(crate) fn tell_home<O: Overview>(
 {
     let moment = overview.facts().moment;
     let known = Memo::look(memo, alloc, overview, moment)?;
-    show_home(alloc, overview, known, forms, target)
+    show_home(alloc, overview, known, forms, target, moment)
 }
 
 /// Adds an action's page.
@@ -418,9 +491,10 @@ fn lay_tree(
     forms: &Forms<'_>,
     row: &Waiting,
     nodes: &[Node],
+    lines: &[Line],
 ) -> Result<Reply, Trouble> {
     let mut reply = empty(alloc, Kind::Page);
-    put_action_page(&mut reply.text, names, forms, row, nodes)?;
+    put_action_page(&mut reply.text, names, forms, row, nodes, lines)?;
     Ok(reply)
 }
 
@@ -437,8 +511,34 @@ pub(crate) fn tell_tree<O: Overview>(
     let found = find_named(overview, id).ok_or(Trouble::Refused(Refusal::NoSuchAction))?;
     let row = show_row(alloc, overview, found.instance, found.number)?;
     let nodes = tree_of(alloc, overview, found.instance, found.number)?;
-    let names = Names::new(alloc, found.instance, overview.base());
-    lay_tree(alloc, &names, forms, &row, nodes.as_slice())
+    show_tree(
+        alloc,
+        overview,
+        forms,
+        found.instance,
+        &row,
+        nodes.as_slice(),
+    )
+}
+
+/// An action's page, with what came of its members' last callbacks.
+fn show_tree<O: Overview>(
+    alloc: Global,
+    overview: &mut O,
+    forms: &Forms<'_>,
+    instance: Instance,
+    row: &Waiting,
+    nodes: &[Node],
+) -> Result<Reply, Trouble>
+    ensures { O.orders overview.new ≡ O.orders overview.old }
+{
+    let moment = overview.facts().moment;
+    let members = members_in(alloc, nodes)?;
+    let gathered = lines_of(alloc, overview, instance, members.as_slice(), moment);
+    drop(members);
+    let lines = gathered?;
+    let names = Names::new(alloc, instance, overview.base());
+    lay_tree(alloc, &names, forms, row, nodes, lines.as_slice())
 }
 
 /// A path without its first piece.
@@ -459,10 +559,7 @@ fn show_row<O: Overview>(
     ensures { O.orders overview.new ≡ O.orders overview.old }
 {
     let shown = show_action(alloc, overview, instance, action)?;
-    let waiting = Waiting {
-        row: shown.row,
-        awaited: shown.awaited,
-    };
+    let waiting = Waiting::new(shown.row, shown.awaited);
     drop(shown);
     Ok(waiting)
 }

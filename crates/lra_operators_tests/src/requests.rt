@@ -18,6 +18,8 @@ lra_actions_started_total 3
 lra_members_joined_total 2
 lra_members_overdue{why="silent"} 1
 lra_members_overdue{why="waiting"} 0
+lra_members_at_it 0
+lra_actions_failed_total 0
 lra_oldest_unended_seconds 0.000
 process_cpu_seconds_total 1.23
 lra_journal_room_ratio{limit="bytes"} 0.750000
@@ -51,14 +53,20 @@ lra_oldest_unended_seconds 1.500
 |GET /actions/00000000-0000-8007-8000-000000000002 HTTP/1.1~Host: [::1]:1~~
 0 HTTP/1.1 200 OK
 "status":"Closing","parent":"00000000-0000-8007-8000-000000000001","awaits":{"member":
-"status":"Completing","ask":7,"next":null}
-"status":"Active","ask":null,"next":{"kind":"complete","repeats":3,"due":90000}}],"nested":[],"cut":false}
+"status":"Completing","ask":7,"next":null,"last":null}
+"status":"Active","ask":null,"next":{"kind":"complete","repeats":3,"due":90000},"last":{"address":"http://m.test/\"<'complete&'>","reply":"the response isn't HTTP","moment":9000}}],"nested":[],"cut":false}
 |GET / HTTP/1.1~Host: localhost~~
 0 HTTP/1.1 200 OK
 Content-Type: text/html; charset=utf-8
 name="token" value="&quot;&gt;&lt;script&gt;&#39;&amp;">
 00000000-0000-8007-8000-000000000001
 </code>, asked</td>
+<td data-is="next">is being asked</td>
+<a class="FailedToClose" href="/?state=FailedToClose">FailedToClose</a>
+1 silent, 0 to be asked by now, 0 at it
+<td data-is="there">over 9 s</td>
+<details><summary>Cancel</summary>
+<button>Yes, cancel</button>
 !<script
 !000003
 |GET /page/actions/00000000-0000-8007-8000-000000000001 HTTP/1.1~Host: localhost~~
@@ -71,7 +79,25 @@ height="104"
 <path class="branch" d="M56 47V91h20"/>
 <rect width="12" height="12" class="Active" x="78" y="85"/>
 is being asked
+complete in 70 s, in vain 3 times
+the response isn&#39;t HTTP, 10 s ago<br><code>http://m.test/&quot;&lt;&#39;complete&amp;&#39;&gt;</code>
 !Give up
+!'>
+|GET /?state=Closed HTTP/1.1~Host: localhost~~
+0 HTTP/1.1 200 OK
+<h2>Closed, the oldest first</h2>
+00000000-0000-8007-8000-000000000003
+!000002
+!All actions
+|GET /?state=Closing&limit=1 HTTP/1.1~Host: localhost~~
+0 HTTP/1.1 200 OK
+<a href="/?state=Closing&amp;from=00000000-0000-8007-8000-000000000003">
+|GET /?state=FailedToClose HTTP/1.1~Host: localhost~~
+0 HTTP/1.1 200 OK
+<p>None.</p>
+|GET /?state=Failed HTTP/1.1~Host: localhost~~
+0 HTTP/1.1 400 Bad Request
+BadQuery
 |GET /page/'<none>' HTTP/1.1~Host: localhost~~
 0 HTTP/1.1 404 Not Found
 Content-Security-Policy: default-src 'none'
@@ -141,7 +167,7 @@ Forged
 Cancelling
 |GET /page/actions/00000000-0000-8007-8000-000000000001 HTTP/1.1~Host: h~Authorization: bearer secret~~
 0 HTTP/1.1 200 OK
-value="FailedToComplete"><button>Give up"##;
+value="FailedToComplete"><button>Yes, give up"##;
 
 /// What a request is replied, behind how many orders were given for it.
 fn replied(

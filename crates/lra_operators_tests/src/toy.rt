@@ -6,6 +6,7 @@ ghost use Rattle.lra_ids.specs.Addresses.{is_base};
 use lra_commands::{Awaited, CounterFault, Known, Listing, Order, Query, Refusal, Row, Told, Want};
 use lra_ids::{Address, Base, Instance, base_of};
 use lra_model::{ActionStatus, AskKind, MemberStatus, Memory};
+use lra_outcomes::{Attempt, Reply};
 use lra_overview::{Facts, Overview};
 use std::alloc::Global;
 
@@ -206,6 +207,22 @@ impl Overview for Toy {
 
     fn query(&mut self, _instance: Instance, query: Query) -> Result<Known, CounterFault> {
         told(query).ok_or(CounterFault::Refused(Refusal::NoSuchAction))
+    }
+
+    fn attempt(
+        &mut self,
+        alloc: Global,
+        _instance: Instance,
+        member: u64,
+    ) -> Result<Option<Attempt>, Memory> {
+        if member != 2 {
+            return Ok(None);
+        }
+        Ok(Some(Attempt {
+            address: String::from_str(alloc, "http://m.test/\"<'complete&'>")?,
+            reply: Reply::NotHttp,
+            moment: FACTS.moment,
+        }))
     }
 
     fn give(&mut self, _instance: Instance, _order: &Order<'_>) -> Result<Told, CounterFault> {

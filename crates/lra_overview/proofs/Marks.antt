@@ -11,11 +11,10 @@ use Rattle.lra_model.specs.declared.status.MemberStatus.TheVariants as member_st
 use Rattle.lra_escape.specs.Escapes.{spelled, escaped}
 use Rattle.lra_overview.specs.declared.gather.MemberRow.{MemberRow}
 use Rattle.lra_overview.specs.declared.gather.Waiting.{Waiting}
-use Rattle.lra_overview.specs.declared.tree.Node.{Node}
-use Rattle.lra_overview.specs.declared.tree.NodeOf.{NodeOf}
-use Rattle.lra_overview.specs.declared.tree.NodeOf.TheVariants as node_of
-use Rattle.lra_overview.specs.Pages.{begin, fields, cancel_form, cancel_at, give_up_form, give_up_at, give_up, waiting, full_table, home, member, line_of, line, action, plain}
-use Rattle.lra_overview.specs.Marks.{marks, HomeKeepsMarks, ActionKeepsMarks, PlainKeepsMarks}
+use Rattle.lra_overview.specs.declared.attempts.Line.{Line}
+use Rattle.lra_overview.specs.declared.html.Home.{Home}
+use Rattle.lra_overview.specs.Pages.{begin, fields, cancel_form, cancel_at, give_up_form, give_up_at, give_up, waiting, full_table, home, line, action, reply, plain, no_rows}
+use Rattle.lra_overview.specs.Marks.{marks, HomeKeepsMarks, ActionKeepsMarks, ReplyKeepsMarks, PlainKeepsMarks}
 
 -- no mark stands in what is spelled for a byte
 abbrev HasNone : ℕ → Type 0
@@ -94,23 +93,23 @@ same_table_where false i none token word k rows = same_full_table i token word k
 
 pub home_keeps_marks : HomeKeepsMarks
 unfolding home
-home_keeps_marks i base other token word k shares rows next =
-    simp (filter-append, none_escaped, same_table_where (length rows == 0) i (codes "<p>All actions have ended.</p>\n") token word k rows)
+home_keeps_marks i base other token word k h =
+    simp (filter-append, none_escaped, same_table_where (length h.rows.now == 0) i (no_rows h.state) token word k h.rows.now)
 
-same_member : (i : ℕ) (token word : List ℕ) (k : Bool) (row : MemberRow) → marks (member i token k row) ≡ marks (member i word k row)
-same_member i token word k row = simp (filter-append, same_give_up i token word k row)
+same_line : (i : ℕ) (token word : List ℕ) (k : Bool) (l : Line) → marks (line i token k l) ≡ marks (line i word k l)
+unfolding line
+same_line i token word k l = simp (filter-append, same_give_up i token word k l.row)
 
-same_line_of : (i : ℕ) (token word : List ℕ) (k : Bool) (n : NodeOf) → marks (line_of i token k n) ≡ marks (line_of i word k n)
-same_line_of i token word k (node_of.Action row) = refl
-same_line_of i token word k (node_of.Member row) = same_member i token word k row
-
-same_lines : (i : ℕ) (token word : List ℕ) (k : Bool) (nodes : List Node) → marks (flat_map (line i token k) nodes) ≡ marks (flat_map (line i word k) nodes)
-same_lines i token word k nodes = same_flat (line i token k) (line i word k) (λ n. same_line_of i token word k n.of) nodes
+same_lines : (i : ℕ) (token word : List ℕ) (k : Bool) (lines : List Line) → marks (flat_map (line i token k) lines) ≡ marks (flat_map (line i word k) lines)
+same_lines i token word k lines = same_flat (line i token k) (line i word k) (same_line i token word k) lines
 
 pub action_keeps_marks : ActionKeepsMarks
 unfolding action
-action_keeps_marks i base other token word k w nodes =
-    simp (filter-append, none_escaped, same_cancel i token word k w.row.action w.row.status, same_lines i token word k nodes)
+action_keeps_marks i base other token word k w nodes lines =
+    simp (filter-append, none_escaped, same_cancel i token word k w.row.action w.row.status, same_lines i token word k lines)
+
+pub reply_keeps_marks : ReplyKeepsMarks
+reply_keeps_marks ms words told address other = simp (filter-append, none_escaped)
 
 pub plain_keeps_marks : PlainKeepsMarks
 unfolding plain

@@ -13,17 +13,21 @@ use Rattle.lra_overview.specs.declared.gather.ActionRow.{ActionRow}
 use Rattle.lra_overview.specs.declared.gather.MemberRow.{MemberRow}
 use Rattle.lra_overview.specs.declared.gather.Waiting.{Waiting}
 use Rattle.lra_overview.specs.declared.shares.Share.{Share}
+use Rattle.lra_overview.specs.declared.attempts.Tried.{Tried}
+use Rattle.lra_overview.specs.declared.attempts.Line.{Line}
+use Rattle.lra_overview.specs.declared.overdue.Overdue.{Overdue}
+use Rattle.lra_overview.specs.declared.html.Home.{Home}
 use Rattle.lra_overview.specs.declared.tree.Node.{Node}
 use Rattle.lra_overview.specs.declared.tree.NodeOf.{NodeOf}
 use Rattle.lra_overview.specs.declared.tree.NodeOf.TheVariants as node_of
 use Rattle.lra_escape.specs.Escapes.{escaped}
 use Rattle.lra_overview.specs.declared.html.TheConstants.{HEAD, LOOKS, TABLES, NIGHT}
 use Rattle.lra_overview.specs.Laying.{joined, id_of}
-use Rattle.lra_overview.specs.Pages.{begin, fields, cancel_form, cancel_at, cancel, give_up_at, give_up, share, awaited, awaited_member, waiting, full_table, table, next, home, want, next_ask, member, line_of, line, members, open_end, wait_at, heading, parent, action, plain}
+use Rattle.lra_overview.specs.Pages.{begin, fields, cancel_form, cancel_at, cancel, give_up_at, give_up, share, awaited, awaited_member, age, want_now, want_in, next_ask, ask_in, waits_at, waiting, full_table, no_rows, table, next, overdue, title, counts, home, tried, line, members, open_end, wait_at, heading, parent, action, plain}
 use Rattle.lra_overview.specs.Pictures as pictures
 use Rattle.lra_overview.specs.Pictures.{picture}
 use Rattle.lra_overview.specs.Marks.{refers, HomeRefers, ActionRefers, PlainRefers}
-use Rattle.lra_overview.proofs.Refers.{skip_escaped, skip_id, skip_decimal, skip_action, skip_member, skip_kind, skip_key, refers_flat, skip_by, refers_head, refers_looks, refers_tables, refers_night, refers_escaped, refers_joined}
+use Rattle.lra_overview.proofs.Refers.{skip_escaped, skip_id, skip_decimal, skip_span, skip_action, skip_member, skip_kind, skip_key, refers_flat, skip_by, refers_head, refers_looks, refers_tables, refers_night, refers_escaped, refers_joined}
 
 r_fields : (token : List ℕ) (k : Bool) → refers (fields token k) ≡ true
 r_fields token true = simp (append_assoc, skip_escaped, skip_key)
@@ -49,9 +53,9 @@ s_cancel i token k a s y = skip_by (cancel_at i token k a s) y (r_cancel i token
 abbrev form_of : ℕ → List ℕ → Bool → ℕ → List ℕ → List ℕ
 form_of i token k p ending =
     joined
-    (joined (codes "<form method=\"post\" action=\"/members/" ∷ id_of i p ∷ codes "/give-up\">" ∷ [])
+    (joined (codes "<details><summary>Give up</summary><form method=\"post\" action=\"/members/" ∷ id_of i p ∷ codes "/give-up\">Have it count as failed for good?" ∷ [])
     ∷ fields token k
-    ∷ joined (codes "<input type=\"hidden\" name=\"status\" value=\"" ∷ ending ∷ codes "\"><button>Give up</button></form>" ∷ [])
+    ∷ joined (codes "<input type=\"hidden\" name=\"status\" value=\"" ∷ ending ∷ codes "\"><button>Yes, give up</button></form></details>" ∷ [])
     ∷ []
     )
 
@@ -96,9 +100,44 @@ r_awaited i (Some (wanted.Member p ask)) = r_awaited_member i p ask
 s_awaited : (i : ℕ) (w : Option Awaited) (y : List ℕ) → refers ((awaited i w) ++ y) ≡ refers y
 s_awaited i w y = skip_by (awaited i w) y (r_awaited i w)
 
+r_age : (a : Option ℕ) → refers (age a) ≡ true
+r_age None = refl
+r_age (Some ms) = simp (append_assoc, skip_span)
+
+s_age : (a : Option ℕ) (y : List ℕ) → refers ((age a) ++ y) ≡ refers y
+s_age a y = skip_by (age a) y (r_age a)
+
+r_want_now : (w : Want) → refers (want_now w) ≡ true
+r_want_now w = simp (append_assoc, skip_kind, skip_decimal)
+
+r_want_in : (w : Want) (left : ℕ) → refers (want_in w left) ≡ true
+r_want_in w left = simp (append_assoc, skip_kind, skip_span, skip_decimal)
+
+r_want_where : (b : Bool) (w : Want) (left : ℕ) → refers (cond b (want_now w) (want_in w left)) ≡ true
+r_want_where true w left = r_want_now w
+r_want_where false w left = r_want_in w left
+
+r_next_ask : (ask : Option ℕ) (w : Option Want) (left : ℕ) → refers (next_ask ask w left) ≡ true
+r_next_ask (Some n) w left = refl
+r_next_ask None (Some w) left = r_want_where (left == 0) w left
+r_next_ask None None left = refl
+
+s_next_ask : (ask : Option ℕ) (w : Option Want) (left : ℕ) (y : List ℕ) → refers ((next_ask ask w left) ++ y) ≡ refers y
+s_next_ask ask w left y = skip_by (next_ask ask w left) y (r_next_ask ask w left)
+
+r_waits : (i : ℕ) (s : ActionStatus) (w : Option Awaited) → refers (waits_at i s w) ≡ true
+r_waits i action_status.Active w = r_awaited i w
+r_waits i action_status.Closing w = r_awaited i w
+r_waits i action_status.Cancelling w = r_awaited i w
+r_waits i _ w = refl
+
+s_waits : (i : ℕ) (s : ActionStatus) (w : Option Awaited) (y : List ℕ) → refers ((waits_at i s w) ++ y) ≡ refers y
+s_waits i s w y = skip_by (waits_at i s w) y (r_waits i s w)
+
 r_waiting : (i : ℕ) (token : List ℕ) (k : Bool) (w : Waiting) → refers (waiting i token k w) ≡ true
 unfolding waiting
-r_waiting i token k w = simp (append_assoc, skip_id, skip_action, s_awaited i w.awaited, s_cancel i token k w.row.action w.row.status)
+r_waiting i token k w =
+    simp (append_assoc, skip_id, skip_action, s_age w.age, s_waits i w.row.status w.awaited, s_next_ask (ask_in w.awaited) w.want w.left, s_cancel i token k w.row.action w.row.status)
 
 s_waiting : (i : ℕ) (token : List ℕ) (k : Bool) (w : Waiting) (y : List ℕ) → refers ((waiting i token k w) ++ y) ≡ refers y
 s_waiting i token k w y = skip_by (waiting i token k w) y (r_waiting i token k w)
@@ -115,19 +154,27 @@ r_full_table i token k rows = simp (append_assoc, s_rows i token k rows)
 s_full_table : (i : ℕ) (token : List ℕ) (k : Bool) (rows : List Waiting) (y : List ℕ) → refers ((full_table i token k rows) ++ y) ≡ refers y
 s_full_table i token k rows y = skip_by (full_table i token k rows) y (r_full_table i token k rows)
 
-r_table_where : (b : Bool) (i : ℕ) (token : List ℕ) (k : Bool) (rows : List Waiting) → refers (cond b (codes "<p>All actions have ended.</p>\n") (full_table i token k rows)) ≡ true
-r_table_where true i token k rows = refl
-r_table_where false i token k rows = r_full_table i token k rows
+r_no_rows : (state : Option ActionStatus) → refers (no_rows state) ≡ true
+r_no_rows None = refl
+r_no_rows (Some s) = refl
 
-s_table_where : (b : Bool) (i : ℕ) (token : List ℕ) (k : Bool) (rows : List Waiting) (y : List ℕ) → refers ((cond b (codes "<p>All actions have ended.</p>\n") (full_table i token k rows)) ++ y) ≡ refers y
-s_table_where b i token k rows y = skip_by (cond b (codes "<p>All actions have ended.</p>\n") (full_table i token k rows)) y (r_table_where b i token k rows)
+r_table_where : (b : Bool) (i : ℕ) (token : List ℕ) (k : Bool) (state : Option ActionStatus) (rows : List Waiting)
+    → refers (cond b (no_rows state) (full_table i token k rows)) ≡ true
+r_table_where true i token k state rows = r_no_rows state
+r_table_where false i token k state rows = r_full_table i token k rows
 
-r_next : (i : ℕ) (from : Option ℕ) → refers (next i from) ≡ true
-r_next i None = refl
-r_next i (Some a) = simp (append_assoc, skip_id)
+r_next : (i : ℕ) (state : Option ActionStatus) (from : Option ℕ) → refers (next i state from) ≡ true
+r_next i None None = refl
+r_next i (Some s) None = refl
+r_next i None (Some a) = simp (append_assoc, skip_id)
+r_next i (Some s) (Some a) = simp (append_assoc, skip_action, skip_id)
 
-s_next : (i : ℕ) (from : Option ℕ) (y : List ℕ) → refers ((next i from) ++ y) ≡ refers y
-s_next i from y = skip_by (next i from) y (r_next i from)
+r_overdue : (o : Overdue) → refers (overdue o) ≡ true
+r_overdue o = simp (append_assoc, skip_decimal)
+
+r_title : (state : Option ActionStatus) → refers (title state) ≡ true
+r_title None = refl
+r_title (Some s) = simp (append_assoc, skip_action)
 
 r_shares : (shares : List Share) → refers (flat_map share shares) ≡ true
 r_shares shares = refers_flat share r_share shares
@@ -141,59 +188,45 @@ r_begin base =
     (HEAD.now ∷ LOOKS.now ∷ TABLES.now ∷ NIGHT.now ∷ codes "<p>The coordinator at <code>" ∷ escaped base ∷ codes "</code></p></header><main>\n" ∷ [])
     (refers_head, (refers_looks, (refers_tables, (refers_night, (refl, (refers_escaped base, (refl, tt)))))))
 
+r_counts : (h : Home) → refers (counts h) ≡ true
+r_counts h =
+    refers_joined
+    (codes "<ul class=\"counts\">\n" ∷ flat_map share h.shares.now ∷ overdue h.overdue ∷ title h.state ∷ [])
+    (refl, (r_shares h.shares.now, (r_overdue h.overdue, (r_title h.state, tt))))
+
 pub home_refers : HomeRefers
 unfolding home
-home_refers i base token k shares rows from =
+home_refers i base token k h =
     refers_joined
     (begin base
-    ∷ codes "<ul class=\"counts\">\n"
-    ∷ flat_map share shares
-    ∷ codes "</ul>\n<h2>Not ended, the oldest first</h2>\n"
-    ∷ table i token k rows
-    ∷ next i from
+    ∷ counts h
+    ∷ table i token k h.state h.rows.now
+    ∷ next i h.state h.next
     ∷ codes "</main></body></html>\n"
     ∷ []
     )
-    (r_begin base, (refl, (r_shares shares, (refl, (r_table_where (length rows == 0) i token k rows, (r_next i from, (refl, tt)))))))
+    (r_begin base, (r_counts h, (r_table_where (length h.rows.now == 0) i token k h.state h.rows.now, (r_next i h.state h.next, (refl, tt)))))
 
-r_want : (w : Want) → refers (want w) ≡ true
-r_want w = simp (append_assoc, skip_kind, skip_decimal)
+r_tried : (t : Option Tried) → refers (tried t) ≡ true
+r_tried None = refl
+r_tried (Some t) = simp (append_assoc, skip_escaped, skip_span)
 
-s_want : (w : Want) (y : List ℕ) → refers ((want w) ++ y) ≡ refers y
-s_want w y = skip_by (want w) y (r_want w)
+s_tried : (t : Option Tried) (y : List ℕ) → refers ((tried t) ++ y) ≡ refers y
+s_tried t y = skip_by (tried t) y (r_tried t)
 
-r_next_ask : (ask : Option ℕ) (w : Option Want) → refers (next_ask ask w) ≡ true
-r_next_ask (Some n) w = refl
-r_next_ask None (Some w) = r_want w
-r_next_ask None None = refl
+r_line : (i : ℕ) (token : List ℕ) (k : Bool) (l : Line) → refers (line i token k l) ≡ true
+unfolding line
+r_line i token k l =
+    simp (append_assoc, skip_id, skip_member, s_next_ask l.row.ask l.row.want l.left, s_tried l.tried, s_give_up i token k l.row)
 
-s_next_ask : (ask : Option ℕ) (w : Option Want) (y : List ℕ) → refers ((next_ask ask w) ++ y) ≡ refers y
-s_next_ask ask w y = skip_by (next_ask ask w) y (r_next_ask ask w)
+r_lines : (i : ℕ) (token : List ℕ) (k : Bool) (lines : List Line) → refers (flat_map (line i token k) lines) ≡ true
+r_lines i token k lines = refers_flat (line i token k) (r_line i token k) lines
 
-r_member : (i : ℕ) (token : List ℕ) (k : Bool) (row : MemberRow) → refers (member i token k row) ≡ true
-r_member i token k row = simp (append_assoc, skip_id, skip_member, s_next_ask row.ask row.want, s_give_up i token k row)
+s_lines : (i : ℕ) (token : List ℕ) (k : Bool) (lines : List Line) (y : List ℕ) → refers ((flat_map (line i token k) lines) ++ y) ≡ refers y
+s_lines i token k lines y = skip_by (flat_map (line i token k) lines) y (r_lines i token k lines)
 
-s_member : (i : ℕ) (token : List ℕ) (k : Bool) (row : MemberRow) (y : List ℕ) → refers ((member i token k row) ++ y) ≡ refers y
-s_member i token k row y = skip_by (member i token k row) y (r_member i token k row)
-
-r_line_of : (i : ℕ) (token : List ℕ) (k : Bool) (n : NodeOf) → refers (line_of i token k n) ≡ true
-r_line_of i token k (node_of.Action row) = refl
-r_line_of i token k (node_of.Member row) = r_member i token k row
-
-s_line_of : (i : ℕ) (token : List ℕ) (k : Bool) (n : NodeOf) (y : List ℕ) → refers ((line_of i token k n) ++ y) ≡ refers y
-s_line_of i token k n y = skip_by (line_of i token k n) y (r_line_of i token k n)
-
-r_lines : (i : ℕ) (token : List ℕ) (k : Bool) (nodes : List Node) → refers (flat_map (line i token k) nodes) ≡ true
-r_lines i token k nodes = refers_flat (line i token k) (λ n. r_line_of i token k n.of) nodes
-
-s_lines : (i : ℕ) (token : List ℕ) (k : Bool) (nodes : List Node) (y : List ℕ) → refers ((flat_map (line i token k) nodes) ++ y) ≡ refers y
-s_lines i token k nodes y = skip_by (flat_map (line i token k) nodes) y (r_lines i token k nodes)
-
-r_members : (i : ℕ) (token : List ℕ) (k : Bool) (nodes : List Node) → refers (members i token k nodes) ≡ true
-r_members i token k nodes = simp (append_assoc, s_lines i token k nodes)
-
-s_members : (i : ℕ) (token : List ℕ) (k : Bool) (nodes : List Node) (y : List ℕ) → refers ((members i token k nodes) ++ y) ≡ refers y
-s_members i token k nodes y = skip_by (members i token k nodes) y (r_members i token k nodes)
+r_members : (i : ℕ) (token : List ℕ) (k : Bool) (lines : List Line) → refers (members i token k lines) ≡ true
+r_members i token k lines = simp (append_assoc, s_lines i token k lines)
 
 r_open_end : (i : ℕ) (w : Option Awaited) → refers (open_end i w) ≡ true
 r_open_end i w = simp (append_assoc, s_awaited i w)
@@ -270,7 +303,7 @@ s_picture i nodes y = skip_by (picture i nodes) y (r_picture i nodes)
 
 pub action_refers : ActionRefers
 unfolding action
-action_refers i base token k w nodes =
+action_refers i base token k w nodes lines =
     refers_joined
     (begin base
     ∷ heading i w
@@ -278,7 +311,7 @@ action_refers i base token k w nodes =
     ∷ cancel i token k w.row
     ∷ codes "<h2>Tree</h2>\n<div class=\"tree\">"
     ∷ picture i nodes
-    ∷ members i token k nodes
+    ∷ members i token k lines
     ∷ []
     ) (
       r_begin base,
@@ -286,7 +319,7 @@ action_refers i base token k w nodes =
         r_heading i w,
         (
           r_parent i w.row.parent,
-          (r_cancel i token k w.row.action w.row.status, (refl, (r_picture i nodes, (r_members i token k nodes, tt)))),
+          (r_cancel i token k w.row.action w.row.status, (refl, (r_picture i nodes, (r_members i token k lines, tt)))),
         ),
       ),
     )

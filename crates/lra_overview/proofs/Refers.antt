@@ -1,6 +1,6 @@
 -- Each `&` of a page begins a reference, whatever is told in it.
 use Rattle.std.proofs.Common.{◌≡◌, ℕ, zero, suc, ◌==◌, ◌+◌, ◌-◌, ◌/◌, ◌%◌, ◌<◌, Bool, true, false, List, [], ◌∷◌, ◌++◌, inl, inr, refl, sym, ◌∙◌, subst, arith}
-use Rattle.std.specs.Prelude.{cond, not, nat_lt, if◌then◌else◌, ◌&&◌, ◌||◌}
+use Rattle.std.specs.Prelude.{cond, codes, not, nat_lt, if◌then◌else◌, ◌&&◌, ◌||◌}
 use Rattle.std.specs.List.{flat_map, list_any}
 use Rattle.std.specs.Fmt.{decimal, digits, digits_onto, digit_glyph}
 use Rattle.std.proofs.lemmas.Bool.Decides.{eqb_tells}
@@ -15,7 +15,7 @@ use Rattle.lra_model.specs.Names.{action_status_name, member_status_name, ask_ki
 use Rattle.lra_ids.specs.Identifiers.{id_text, id_bytes}
 use Rattle.lra_escape.specs.Escapes.{spelled, escaped}
 use Rattle.lra_overview.specs.declared.html.TheConstants.{HEAD, LOOKS, TABLES, NIGHT, KEY}
-use Rattle.lra_overview.specs.Laying.{joined, has_id, id_of}
+use Rattle.lra_overview.specs.Laying.{joined, has_id, id_of, span_count, span_unit, span}
 use Rattle.lra_overview.specs.Marks.{begins, references, goes_on, refers}
 
 -- ---- tests
@@ -190,6 +190,15 @@ refers_kind_name ask.Status = refl
 refers_kind_name ask.Forget = refl
 refers_kind_name ask.After = refl
 
+unit_where : (t : Bool) (x y : List ℕ) → refers x ≡ true → refers y ≡ true → refers (if t then x else y) ≡ true
+unit_where true x y p q = p
+unit_where false x y p q = q
+
+refers_unit : (ms : ℕ) → refers (span_unit ms) ≡ true
+refers_unit ms =
+    unit_where (nat_lt ms 120000) (codes " s") _ refl
+    (unit_where (nat_lt ms 7200000) (codes " min") _ refl (unit_where (nat_lt ms 172800000) (codes " h") (codes " d") refl refl))
+
 pub refers_head : refers HEAD.now ≡ true
 refers_head = refl
 
@@ -205,6 +214,15 @@ refers_night = refl
 pub refers_key : refers KEY.now ≡ true
 refers_key = refl
 
+-- texts one after another, of which each refers
+abbrev pub AllRefer : List (List ℕ) → Type 0
+AllRefer [] = Unit {0}
+AllRefer (text ∷ texts) = (refers text ≡ true) × AllRefer texts
+
+pub refers_joined : (texts : List (List ℕ)) → AllRefer texts → refers (joined texts) ≡ true
+refers_joined [] h = refl
+refers_joined (text ∷ texts) h = skip text (joined texts) h.0 ∙ refers_joined texts h.1
+
 -- each before what follows it
 pub skip_escaped : (text y : List ℕ) → refers (escaped text ++ y) ≡ refers y
 skip_escaped text y = skip (escaped text) y (refers_escaped text)
@@ -214,6 +232,13 @@ skip_id i n y = skip (id_of i n) y (refers_id_where (has_id n) i n)
 
 pub skip_decimal : (n : ℕ) (y : List ℕ) → refers (decimal n ++ y) ≡ refers y
 skip_decimal n y = skip (decimal n) y (refers_plain (decimal n) (plain_decimal n))
+
+refers_span : (ms : ℕ) → refers (span ms) ≡ true
+unfolding span
+refers_span ms = refers_joined (decimal (span_count ms) ∷ span_unit ms ∷ []) (refers_plain (decimal (span_count ms)) (plain_decimal (span_count ms)), (refers_unit ms, tt))
+
+pub skip_span : (ms : ℕ) (y : List ℕ) → refers (span ms ++ y) ≡ refers y
+skip_span ms y = skip (span ms) y (refers_span ms)
 
 pub skip_action : (s : ActionStatus) (y : List ℕ) → refers (action_status_name s ++ y) ≡ refers y
 skip_action s y = skip (action_status_name s) y (refers_action_name s)
@@ -234,12 +259,3 @@ refers_flat f h (x ∷ xs) = skip (f x) (flat_map f xs) (h x) ∙ refers_flat f 
 
 pub skip_by : (x y : List ℕ) → refers x ≡ true → refers (x ++ y) ≡ refers y
 skip_by = skip
-
--- texts one after another, of which each refers
-abbrev pub AllRefer : List (List ℕ) → Type 0
-AllRefer [] = Unit {0}
-AllRefer (text ∷ texts) = (refers text ≡ true) × AllRefer texts
-
-pub refers_joined : (texts : List (List ℕ)) → AllRefer texts → refers (joined texts) ≡ true
-refers_joined [] h = refl
-refers_joined (text ∷ texts) h = skip text (joined texts) h.0 ∙ refers_joined texts h.1

@@ -1,6 +1,7 @@
 pub mod Orders
 pub mod Health
 pub mod Laying
+pub mod Standings
 pub mod Pictures
 pub mod Pages
 pub mod Lists

@@ -1,12 +1,15 @@
 -- Lists and actions in JSON.
-use Rattle.std.specs.Prelude.{ℕ, Bool, true, false, cond, List, [], ◌∷◌, ◌++◌, codes, Option, Some, None}
+use Rattle.std.specs.Prelude.{ℕ, Bool, true, false, cond, List, [], ◌∷◌, ◌++◌, codes, string_bytes, Option, Some, None}
 use Rattle.std.specs.Fmt.{decimal}
+use Rattle.json.specs.Print.{quoted}
 use Rattle.lra_model.specs.Names.{action_status_name, member_status_name, ask_kind_name}
 use Rattle.lra_commands.specs.declared.query.Awaited.{Awaited}
 use Rattle.lra_commands.specs.declared.query.Awaited.TheVariants as wanted
 use Rattle.lra_commands.specs.declared.query.Want.{Want}
 use Rattle.lra_overview.specs.declared.gather.ActionRow.{ActionRow}
 use Rattle.lra_overview.specs.declared.gather.MemberRow.{MemberRow}
+use Rattle.lra_overview.specs.declared.attempts.Tried.{Tried}
+use Rattle.lra_overview.specs.declared.attempts.Line.{Line}
 use Rattle.lra_overview.specs.declared.gather.Waiting.{Waiting}
 use Rattle.lra_overview.specs.Laying.{joined, id_of}
 
@@ -50,12 +53,37 @@ abbrev pub member_fields : ℕ → MemberRow → List ℕ
 member_fields i m =
     joined (codes "{\"member\":\"" ∷ id_of i m.member ∷ codes "\",\"status\":\"" ∷ member_status_name m.status ∷ codes "\",\"ask\":" ∷ [])
 
+-- the last callback of a member that hasn't brought it further
+abbrev pub last : Option Tried → List ℕ
+last None = codes "null"
+last (Some t) =
+    joined
+    (codes "{\"address\":"
+    ∷ quoted (string_bytes t.address)
+    ∷ codes ",\"reply\":"
+    ∷ quoted (string_bytes t.words)
+    ∷ codes ",\"moment\":"
+    ∷ decimal t.moment
+    ∷ codes "}"
+    ∷ []
+    )
+
 -- a member
-abbrev pub member : ℕ → MemberRow → List ℕ
-member i m = joined (member_fields i m ∷ number m.ask ∷ codes ",\"next\":" ∷ want m.want ∷ codes "}" ∷ [])
+unfoldable pub member : ℕ → Line → List ℕ
+member i l =
+    joined
+    (member_fields i l.row
+    ∷ number l.row.ask
+    ∷ codes ",\"next\":"
+    ∷ want l.row.want
+    ∷ codes ",\"last\":"
+    ∷ last l.tried
+    ∷ codes "}"
+    ∷ []
+    )
 
 -- the members of an action, from its first one on or from a further one
-abbrev pub members : ℕ → Bool → List MemberRow → List ℕ
+abbrev pub members : ℕ → Bool → List Line → List ℕ
 members i is_first [] = []
 members i is_first (m ∷ ms) = before is_first ++ (member i m ++ members i false ms)
 
@@ -78,7 +106,7 @@ abbrev pub cut : Bool → List ℕ
 cut is_cut = cond is_cut (codes "],\"cut\":true}\n") (codes "],\"cut\":false}\n")
 
 -- an action, with its members, its nested actions and what it waits for
-unfoldable pub action : ℕ → Waiting → List MemberRow → List ActionRow → Bool → List ℕ
+unfoldable pub action : ℕ → Waiting → List Line → List ActionRow → Bool → List ℕ
 action i w ms nested is_cut =
     joined
     (head i w ∷ codes ",\"members\":[" ∷ members i true ms ∷ codes "],\"nested\":[" ∷ rows i true nested ∷ cut is_cut ∷ [])

@@ -1,8 +1,9 @@
 -- That no text from elsewhere is read as markup.
-use Rattle.std.specs.Prelude.{◌≡◌, ℕ, ◌==◌, Bool, true, false, ◌&&◌, if◌then◌else◌, List, [], ◌∷◌, codes, filter, Option}
+use Rattle.std.specs.Prelude.{◌≡◌, ℕ, ◌==◌, Bool, true, false, ◌&&◌, if◌then◌else◌, List, [], ◌∷◌, codes, filter}
 use Rattle.std.specs.List.{list_any}
 use Rattle.lra_escape.specs.Escapes.{is_bare}
-use Rattle.lra_overview.specs.declared.shares.Share.{Share}
+use Rattle.lra_overview.specs.declared.attempts.Line.{Line}
+use Rattle.lra_overview.specs.declared.html.Home.{Home}
 use Rattle.lra_overview.specs.declared.gather.Waiting.{Waiting}
 use Rattle.lra_overview.specs.declared.tree.Node.{Node}
 use Rattle.lra_overview.specs.Pages as pages
@@ -13,13 +14,17 @@ marks text = filter is_bare text
 
 -- the first page has the same marks whatever the base is, and the token of its forms
 abbrev pub HomeKeepsMarks : Type 0
-HomeKeepsMarks = (i : ℕ) (base other token word : List ℕ) (have_key : Bool) (shares : List Share) (rows : List Waiting) (next : Option ℕ)
-    → marks (pages.home i base token have_key shares rows next) ≡ marks (pages.home i other word have_key shares rows next)
+HomeKeepsMarks = (i : ℕ) (base other token word : List ℕ) (have_key : Bool) (h : Home)
+    → marks (pages.home i base token have_key h) ≡ marks (pages.home i other word have_key h)
 
 -- so does an action's page
 abbrev pub ActionKeepsMarks : Type 0
-ActionKeepsMarks = (i : ℕ) (base other token word : List ℕ) (have_key : Bool) (w : Waiting) (nodes : List Node)
-    → marks (pages.action i base token have_key w nodes) ≡ marks (pages.action i other word have_key w nodes)
+ActionKeepsMarks = (i : ℕ) (base other token word : List ℕ) (have_key : Bool) (w : Waiting) (nodes : List Node) (lines : List Line)
+    → marks (pages.action i base token have_key w nodes lines) ≡ marks (pages.action i other word have_key w nodes lines)
+
+-- what is told of a member's last callback has the same marks whatever its address is, and the words of what came of it
+abbrev pub ReplyKeepsMarks : Type 0
+ReplyKeepsMarks = (ms : ℕ) (words told address other : List ℕ) → marks (pages.reply words ms address) ≡ marks (pages.reply told ms other)
 
 -- and a page of one sentence, whatever text it tells
 abbrev pub PlainKeepsMarks : Type 0
@@ -46,13 +51,13 @@ refers (b ∷ text) = (if b == 38 then goes_on text else true) && refers text
 
 -- each `&` of the first page begins a reference, whatever is told in it
 abbrev pub HomeRefers : Type 0
-HomeRefers = (i : ℕ) (base token : List ℕ) (have_key : Bool) (shares : List Share) (rows : List Waiting) (next : Option ℕ)
-    → refers (pages.home i base token have_key shares rows next) ≡ true
+HomeRefers = (i : ℕ) (base token : List ℕ) (have_key : Bool) (h : Home)
+    → refers (pages.home i base token have_key h) ≡ true
 
 -- so does each of an action's page
 abbrev pub ActionRefers : Type 0
-ActionRefers = (i : ℕ) (base token : List ℕ) (have_key : Bool) (w : Waiting) (nodes : List Node)
-    → refers (pages.action i base token have_key w nodes) ≡ true
+ActionRefers = (i : ℕ) (base token : List ℕ) (have_key : Bool) (w : Waiting) (nodes : List Node) (lines : List Line)
+    → refers (pages.action i base token have_key w nodes lines) ≡ true
 
 -- and of a page of one sentence, where that of the sentence do
 abbrev pub PlainRefers : Type 0

@@ -1,5 +1,5 @@
 -- The pages for a browser.
-use Rattle.std.specs.Prelude.{ℕ, ◌==◌, Bool, true, cond, List, [], ◌∷◌, length, codes, Option, Some, None}
+use Rattle.std.specs.Prelude.{ℕ, ◌==◌, Bool, true, cond, List, [], ◌∷◌, length, codes, string_bytes, Option, Some, None}
 use Rattle.std.specs.List.{flat_map}
 use Rattle.std.specs.Fmt.{decimal}
 use Rattle.lra_model.specs.declared.status.ActionStatus.{ActionStatus}
@@ -16,10 +16,12 @@ use Rattle.lra_overview.specs.declared.gather.ActionRow.{ActionRow}
 use Rattle.lra_overview.specs.declared.gather.MemberRow.{MemberRow}
 use Rattle.lra_overview.specs.declared.gather.Waiting.{Waiting}
 use Rattle.lra_overview.specs.declared.tree.Node.{Node}
-use Rattle.lra_overview.specs.declared.tree.NodeOf.{NodeOf}
-use Rattle.lra_overview.specs.declared.tree.NodeOf.TheVariants as node_of
+use Rattle.lra_overview.specs.declared.attempts.Tried.{Tried}
+use Rattle.lra_overview.specs.declared.attempts.Line.{Line}
+use Rattle.lra_overview.specs.declared.overdue.Overdue.{Overdue}
+use Rattle.lra_overview.specs.declared.html.Home.{Home}
 use Rattle.lra_overview.specs.declared.html.TheConstants.{HEAD, LOOKS, TABLES, NIGHT, KEY}
-use Rattle.lra_overview.specs.Laying.{joined, id_of}
+use Rattle.lra_overview.specs.Laying.{joined, id_of, span}
 use Rattle.lra_overview.specs.Pictures.{picture}
 
 -- what each page begins with: how it looks, and the base of the coordinator, which is escaped
@@ -39,9 +41,9 @@ fields token needs_key =
 abbrev pub cancel_form : ℕ → List ℕ → Bool → ℕ → List ℕ
 cancel_form i token have_key a =
     joined
-    (joined (codes "<form method=\"post\" action=\"/actions/" ∷ id_of i a ∷ codes "/cancel\">" ∷ [])
+    (joined (codes "<details><summary>Cancel</summary><form method=\"post\" action=\"/actions/" ∷ id_of i a ∷ codes "/cancel\">Cancel it, and all that is nested in it?" ∷ [])
     ∷ fields token have_key
-    ∷ codes "<button>Cancel</button></form>"
+    ∷ codes "<button>Yes, cancel</button></form></details>"
     ∷ []
     )
 
@@ -58,9 +60,9 @@ cancel i token have_key row = cancel_at i token have_key row.action row.status
 abbrev pub give_up_form : ℕ → List ℕ → ℕ → List ℕ → List ℕ
 give_up_form i token p ending =
     joined
-    (joined (codes "<form method=\"post\" action=\"/members/" ∷ id_of i p ∷ codes "/give-up\">" ∷ [])
+    (joined (codes "<details><summary>Give up</summary><form method=\"post\" action=\"/members/" ∷ id_of i p ∷ codes "/give-up\">Have it count as failed for good?" ∷ [])
     ∷ fields token true
-    ∷ joined (codes "<input type=\"hidden\" name=\"status\" value=\"" ∷ ending ∷ codes "\"><button>Give up</button></form>" ∷ [])
+    ∷ joined (codes "<input type=\"hidden\" name=\"status\" value=\"" ∷ ending ∷ codes "\"><button>Yes, give up</button></form></details>" ∷ [])
     ∷ []
     )
 
@@ -86,11 +88,13 @@ share s =
     joined
     (codes "<li><b>"
     ∷ decimal s.count
-    ∷ codes "</b><span class=\""
+    ∷ codes "</b><a class=\""
+    ∷ action_status_name s.status
+    ∷ codes "\" href=\"/?state="
     ∷ action_status_name s.status
     ∷ codes "\">"
     ∷ action_status_name s.status
-    ∷ codes "</span></li>\n"
+    ∷ codes "</a></li>\n"
     ∷ []
     )
 
@@ -117,58 +121,144 @@ action_cells i row =
     ∷ action_status_name row.status
     ∷ codes "\">"
     ∷ action_status_name row.status
-    ∷ codes "</span></td><td>"
+    ∷ codes "</span></td><td data-is=\"there\">"
     ∷ []
     )
 
--- an action that hasn't ended
+-- for how long an action is there at least, where that is known
+abbrev pub age : Option ℕ → List ℕ
+age None = []
+age (Some ms) = joined (codes "over " ∷ span ms ∷ [])
+
+-- what a member is to be asked next, at once
+abbrev pub want_now : Want → List ℕ
+want_now w = joined (ask_kind_name w.kind ∷ codes " now, in vain " ∷ decimal w.repeats ∷ codes " times" ∷ [])
+
+-- the same, in so many milliseconds
+abbrev pub want_in : Want → ℕ → List ℕ
+want_in w left = joined (ask_kind_name w.kind ∷ codes " in " ∷ span left ∷ codes ", in vain " ∷ decimal w.repeats ∷ codes " times" ∷ [])
+
+-- what a member is to be asked next, and when
+abbrev pub want : Want → ℕ → List ℕ
+want w left = cond (left == 0) (want_now w) (want_in w left)
+
+-- what a member is being asked, or is to be asked next
+abbrev pub next_ask : Option ℕ → Option Want → ℕ → List ℕ
+next_ask (Some n) w left = codes "is being asked"
+next_ask None (Some w) left = want w left
+next_ask None None left = []
+
+-- the ask of the member that is waited for, where one is outstanding
+abbrev pub ask_in : Option Awaited → Option ℕ
+ask_in (Some (wanted.Member p ask)) = ask
+ask_in (Some (wanted.Action a)) = None
+ask_in None = None
+
+-- what an action waits for that hasn't ended
+abbrev pub waits_at : ℕ → ActionStatus → Option Awaited → List ℕ
+waits_at i action_status.Active w = awaited i w
+waits_at i action_status.Closing w = awaited i w
+waits_at i action_status.Cancelling w = awaited i w
+waits_at i _ w = []
+
+-- the same of an action's row
+abbrev pub waits : ℕ → Waiting → List ℕ
+waits i w = waits_at i w.row.status w.awaited
+
+-- what an action waits for, and when that is asked next of which this ask is outstanding, if one is
+abbrev pub asked_cells : ℕ → Waiting → Option ℕ → List ℕ
+asked_cells i w ask = joined (waits i w ∷ codes "</td><td data-is=\"next\">" ∷ next_ask ask w.want w.left ∷ [])
+
+-- what an action waits for, and when that is asked next
+abbrev pub wait_cells : ℕ → Waiting → List ℕ
+wait_cells i w = asked_cells i w (ask_in w.awaited)
+
+-- an action's line
 unfoldable pub waiting : ℕ → List ℕ → Bool → Waiting → List ℕ
-waiting i token have_key w = joined (action_cells i w.row ∷ awaited i w.awaited ∷ codes "</td><td>" ∷ cancel i token have_key w.row ∷ codes "</td></tr>\n" ∷ [])
+waiting i token have_key w =
+    joined
+    (action_cells i w.row
+    ∷ age w.age
+    ∷ codes "</td><td data-is=\"waits for\">"
+    ∷ wait_cells i w
+    ∷ codes "</td><td>"
+    ∷ cancel i token have_key w.row
+    ∷ codes "</td></tr>\n"
+    ∷ []
+    )
 
 -- a table of some
 abbrev pub full_table : ℕ → List ℕ → Bool → List Waiting → List ℕ
 full_table i token have_key rows =
     joined
-    (codes "<table><thead><tr><th>Action</th><th>Status</th><th>Waits for</th><th></th></tr></thead><tbody>\n"
+    (codes "<table><thead><tr><th>Action</th><th>Status</th><th>There</th><th>Waits for</th><th>Next ask</th><th></th></tr></thead><tbody>\n"
     ∷ flat_map (waiting i token have_key) rows
     ∷ codes "</tbody></table>\n"
     ∷ []
     )
 
--- a table of those that haven't ended, or that there are none
-abbrev pub table : ℕ → List ℕ → Bool → List Waiting → List ℕ
-table i token have_key rows = cond (length rows == 0) (codes "<p>All actions have ended.</p>\n") (full_table i token have_key rows)
+-- that no action is listed
+abbrev pub no_rows : Option ActionStatus → List ℕ
+no_rows None = codes "<p>All actions have ended.</p>\n"
+no_rows (Some s) = codes "<p>None.</p>\n"
+
+-- a table of those that are listed, or that there are none
+abbrev pub table : ℕ → List ℕ → Bool → Option ActionStatus → List Waiting → List ℕ
+table i token have_key state rows = cond (length rows == 0) (no_rows state) (full_table i token have_key rows)
 
 -- a link to those that follow, where there may be more
-abbrev pub next : ℕ → Option ℕ → List ℕ
-next i None = []
-next i (Some a) = joined (codes "<p><a href=\"/?from=" ∷ id_of i a ∷ codes "\">Those after these</a></p>\n" ∷ [])
+abbrev pub next : ℕ → Option ActionStatus → Option ℕ → List ℕ
+next i state None = []
+next i None (Some a) = joined (codes "<p><a href=\"/?from=" ∷ id_of i a ∷ codes "\">Those after these</a></p>\n" ∷ [])
+next i (Some s) (Some a) =
+    joined (codes "<p><a href=\"/?state=" ∷ action_status_name s ∷ codes "&amp;from=" ∷ id_of i a ∷ codes "\">Those after these</a></p>\n" ∷ [])
 
--- the first page: counts by status, and the actions that haven't ended
-unfoldable pub home : ℕ → List ℕ → List ℕ → Bool → List Share → List Waiting → Option ℕ → List ℕ
-home i base token have_key shares rows from =
+-- how many members hold up ends
+abbrev pub overdue : Overdue → List ℕ
+overdue o =
+    joined
+    (codes "</ul>\n<p>Members that hold up ends: "
+    ∷ decimal o.silent
+    ∷ codes " silent, "
+    ∷ decimal o.waiting
+    ∷ codes " to be asked by now, "
+    ∷ decimal o.at_it
+    ∷ codes " at it</p>\n"
+    ∷ []
+    )
+
+-- which actions are listed: those that haven't ended, or those of a status
+abbrev pub title : Option ActionStatus → List ℕ
+title None = codes "<h2>Not ended, the oldest first</h2>\n"
+title (Some s) =
+    joined (codes "<h2>" ∷ action_status_name s ∷ codes ", the oldest first</h2>\n<p><a href=\"/\">Those that have not ended</a></p>\n" ∷ [])
+
+-- what the first page counts, and which actions it lists
+abbrev pub counts : Home → List ℕ
+counts h = joined (codes "<ul class=\"counts\">\n" ∷ flat_map share h.shares.now ∷ overdue h.overdue ∷ title h.state ∷ [])
+
+-- the first page: counts by status, and the actions that haven't ended, or those of a status
+unfoldable pub home : ℕ → List ℕ → List ℕ → Bool → Home → List ℕ
+home i base token have_key h =
     joined
     (begin base
-    ∷ codes "<ul class=\"counts\">\n"
-    ∷ flat_map share shares
-    ∷ codes "</ul>\n<h2>Not ended, the oldest first</h2>\n"
-    ∷ table i token have_key rows
-    ∷ next i from
+    ∷ counts h
+    ∷ table i token have_key h.state h.rows.now
+    ∷ next i h.state h.next
     ∷ codes "</main></body></html>\n"
     ∷ []
     )
 
 -- ---- an action's page
 
--- what a member is to be asked next
-abbrev pub want : Want → List ℕ
-want w = joined (ask_kind_name w.kind ∷ codes ", in vain " ∷ decimal w.repeats ∷ codes " times" ∷ [])
+-- what came of a member's last callback, how long ago, and at which address: both texts are escaped
+abbrev pub reply : List ℕ → ℕ → List ℕ → List ℕ
+reply words ms address = joined (escaped words ∷ codes ", " ∷ span ms ∷ codes " ago<br><code>" ∷ escaped address ∷ codes "</code>" ∷ [])
 
--- what a member is being asked, or is to be asked next
-abbrev pub next_ask : Option ℕ → Option Want → List ℕ
-next_ask (Some n) w = codes "is being asked"
-next_ask None (Some w) = want w
-next_ask None None = []
+-- that, where it is remembered
+abbrev pub tried : Option Tried → List ℕ
+tried None = []
+tried (Some t) = reply (string_bytes t.words) t.age (string_bytes t.address)
 
 -- what a member's line begins with: its identifier and how it stands
 abbrev pub member_cells : ℕ → MemberRow → List ℕ
@@ -180,30 +270,30 @@ member_cells i row =
     ∷ member_status_name row.status
     ∷ codes "\">"
     ∷ member_status_name row.status
-    ∷ codes "</span></td><td>"
+    ∷ codes "</span></td><td data-is=\"next\">"
     ∷ []
     )
 
--- a member
-abbrev pub member : ℕ → List ℕ → Bool → MemberRow → List ℕ
-member i token have_key row =
-    joined (member_cells i row ∷ next_ask row.ask row.want ∷ codes "</td><td>" ∷ give_up i token have_key row ∷ codes "</td></tr>\n" ∷ [])
-
--- the line of a node, if it is a member
-abbrev pub line_of : ℕ → List ℕ → Bool → NodeOf → List ℕ
-line_of i token have_key (node_of.Action row) = []
-line_of i token have_key (node_of.Member row) = member i token have_key row
-
--- the line of a node in the table of members
-abbrev pub line : ℕ → List ℕ → Bool → Node → List ℕ
-line i token have_key node = line_of i token have_key node.of
+-- a member's line
+unfoldable pub line : ℕ → List ℕ → Bool → Line → List ℕ
+line i token have_key l =
+    joined
+    (member_cells i l.row
+    ∷ next_ask l.row.ask l.row.want l.left
+    ∷ codes "</td><td data-is=\"last\">"
+    ∷ tried l.tried
+    ∷ codes "</td><td>"
+    ∷ give_up i token have_key l.row
+    ∷ codes "</td></tr>\n"
+    ∷ []
+    )
 
 -- the members of a tree, and the page's end
-abbrev pub members : ℕ → List ℕ → Bool → List Node → List ℕ
-members i token have_key nodes =
+abbrev pub members : ℕ → List ℕ → Bool → List Line → List ℕ
+members i token have_key lines =
     joined
-    (codes "</div>\n<h2>Members</h2>\n<table><thead><tr><th>Member</th><th>Status</th><th>Next ask</th><th></th></tr></thead><tbody>\n"
-    ∷ flat_map (line i token have_key) nodes
+    (codes "</div>\n<h2>Members</h2>\n<table><thead><tr><th>Member</th><th>Status</th><th>Next ask</th><th>Last reply</th><th></th></tr></thead><tbody>\n"
+    ∷ flat_map (line i token have_key) lines
     ∷ codes "</tbody></table>\n</main></body></html>\n"
     ∷ []
     )
@@ -248,8 +338,8 @@ parent i None = []
 parent i (Some a) = joined (codes "<p>Nested in <a href=\"/page/actions/" ∷ id_of i a ∷ codes "\"><code>" ∷ id_of i a ∷ codes "</code></a></p>\n" ∷ [])
 
 -- an action's page: how it stands, its tree as a picture, and the members of all that is shown
-unfoldable pub action : ℕ → List ℕ → List ℕ → Bool → Waiting → List Node → List ℕ
-action i base token have_key w nodes =
+unfoldable pub action : ℕ → List ℕ → List ℕ → Bool → Waiting → List Node → List Line → List ℕ
+action i base token have_key w nodes lines =
     joined
     (begin base
     ∷ heading i w
@@ -257,7 +347,7 @@ action i base token have_key w nodes =
     ∷ cancel i token have_key w.row
     ∷ codes "<h2>Tree</h2>\n<div class=\"tree\">"
     ∷ picture i nodes
-    ∷ members i token have_key nodes
+    ∷ members i token have_key lines
     ∷ []
     )
 

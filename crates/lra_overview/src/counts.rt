@@ -1,12 +1,12 @@
 //! How many there are.
 
-ghost use Rattle.std.specs.Prelude.{◌≡◌};
+ghost use Rattle.std.specs.Prelude.{◌≡◌, ◌≤◌, ◌<◌, ◌+◌, ◌^◌};
 
 use crate::census::Census;
 use crate::faults::Trouble;
 use crate::overdue::{Overdue, count_overdue};
 use crate::overview::Overview;
-use crate::shares::{NONE, Shares, add_shares};
+use crate::shares::{NONE, Shares, add_shares, count_failed};
 use crate::unended::list_unended;
 use lra_commands::{CounterFault, Known, Query, Refusal};
 use lra_ids::Instance;
@@ -45,6 +45,47 @@ impl Counts {
         self.actions = self.actions.saturating_add(others.actions);
         self.members = self.members.saturating_add(others.members);
         self.overdue.add(&others.overdue);
+    }
+}
+
+/// Returns how many there are of what never gets fewer: as many as those had that are gone, and as many as are there.
+pub fn grown(base: u64, current: u64) -> u64
+    ensures keeps { base ≤ result }
+    ensures has { current ≤ result }
+    ensures sum { base + current < 2 ^ 64 → result ≡ base + current }
+{
+    base.saturating_add(current)
+}
+
+/// How many actions and members there ever were, and how many actions ended as failed, of some journals. They never get fewer.
+#[derive(Clone, Copy)]
+pub struct Totals {
+    pub actions: u64,
+    pub members: u64,
+    pub failed: u64,
+}
+
+impl Totals {
+    ghost use Rattle.std.specs.Prelude.{◌≤◌};
+
+    /// Returns those of no journal.
+    pub fn none() -> Totals {
+        Totals {
+            actions: 0,
+            members: 0,
+            failed: 0,
+        }
+    }
+
+    /// Adds those of a journal, or of several.
+    pub fn add(&mut self, counts: &Counts)
+        ensures actions { self.old.actions ≤ self.new.actions }
+        ensures members { self.old.members ≤ self.new.members }
+        ensures failed { self.old.failed ≤ self.new.failed }
+    {
+        self.actions = grown(self.actions, counts.actions);
+        self.members = grown(self.members, counts.members);
+        self.failed = grown(self.failed, count_failed(&counts.shares));
     }
 }
 
@@ -114,7 +155,7 @@ pub fn count_all<O: Overview>(
     let members = count_members(overview, instance)?;
     let shares = census.count(overview, instance)?;
     let oldest = oldest(alloc, overview, instance, census)?;
-    let overdue = count_overdue(overview, instance, census, moment)?;
+    let overdue = count_overdue(alloc, overview, instance, census, moment)?;
     Ok(Counts {
         shares,
         actions,

@@ -3,6 +3,7 @@
 ghost use Rattle.std.specs.Prelude.{◌≡◌};
 
 use crate::faults::Trouble;
+use crate::laying::left_until;
 use crate::overview::Overview;
 use lra_commands::{Awaited, Known, Listing, Query, Row, Want};
 use lra_ids::Instance;
@@ -38,11 +39,29 @@ pub struct Listed {
     pub next: Option<u64>,
 }
 
-/// An action that hasn't ended, and what it waits for.
+/// An action, and what it waits for.
 #[derive(Clone, Copy)]
 pub struct Waiting {
     pub row: ActionRow,
     pub awaited: Option<Awaited>,
+    /// What the member is to be asked next that it waits for, and how many milliseconds are left until then.
+    pub want: Option<Want>,
+    pub left: u64,
+    /// For how many milliseconds at least it is there, where that is known.
+    pub age: Option<u64>,
+}
+
+impl Waiting {
+    /// Returns an action of which nothing more is known than what it waits for.
+    pub fn new(row: ActionRow, awaited: Option<Awaited>) -> Waiting {
+        Waiting {
+            row,
+            awaited,
+            want: None,
+            left: 0,
+            age: None,
+        }
+    }
 }
 
 /// An action with its members and the actions that are nested directly in it, and what it waits for.
@@ -54,6 +73,13 @@ pub struct Shown {
     pub awaited: Option<Awaited>,
     /// Whether there are more members or nested actions than are shown.
     pub is_cut: bool,
+}
+
+/// What holds an action's end, and its place among the action's rows.
+#[derive(Clone, Copy)]
+struct Held {
+    place: u64,
+    awaited: Awaited,
 }
 
 /// A row, and its place.
@@ -196,12 +222,12 @@ pub fn list_actions<O: Overview>(
     }
 }
 
-/// What an action waits for, if anything.
-pub fn waits_for<O: Overview>(
+/// Returns the first row that holds an action's end, and its place.
+fn held_by<O: Overview>(
     overview: &mut O,
     instance: Instance,
     action: u64,
-) -> Result<Option<Awaited>, Trouble>
+) -> Result<Option<Held>, Trouble>
     ensures { O.orders overview.new ≡ O.orders overview.old }
 {
     let mut from = 0;
@@ -214,7 +240,7 @@ pub fn waits_for<O: Overview>(
             },
         )?;
         match known {
-            Known::Awaits { place: _, awaited } => return Ok(Some(awaited)),
+            Known::Awaits { place, awaited } => return Ok(Some(Held { place, awaited })),
             Known::Further(next) => from = next,
             _ => return Ok(None),
         }
@@ -222,33 +248,95 @@ pub fn waits_for<O: Overview>(
     Ok(None)
 }
 
+/// What an action waits for, if anything.
+pub fn waits_for<O: Overview>(
+    overview: &mut O,
+    instance: Instance,
+    action: u64,
+) -> Result<Option<Awaited>, Trouble>
+    ensures { O.orders overview.new ≡ O.orders overview.old }
+{
+    match held_by(overview, instance, action)? {
+        Some(held) => Ok(Some(held.awaited)),
+        None => Ok(None),
+    }
+}
+
+/// Returns what a member at a place of an action's members is to be asked next.
+fn want_at<O: Overview>(
+    overview: &mut O,
+    instance: Instance,
+    action: u64,
+    held: Held,
+) -> Result<Option<Want>, Trouble>
+    ensures { O.orders overview.new ≡ O.orders overview.old }
+{
+    let Awaited::Member { member, ask: None } = held.awaited else {
+        return Ok(None);
+    };
+    let of = Listing::Members { action };
+    let place = held.place;
+    match overview.query(instance, Query::Row { of, place })? {
+        Known::Row {
+            row: Row::Member {
+                member: found,
+                want,
+                ..
+            },
+            ..
+        } if found == member => Ok(want),
+        _ => Ok(None),
+    }
+}
+
+/// Returns an action with what it waits for, and when that is asked next, at a moment.
+fn waiting_of<O: Overview>(
+    overview: &mut O,
+    instance: Instance,
+    row: ActionRow,
+    moment: u64,
+) -> Result<Waiting, Trouble>
+    ensures { O.orders overview.new ≡ O.orders overview.old }
+{
+    let Some(held) = held_by(overview, instance, row.action)? else {
+        return Ok(Waiting::new(row, None));
+    };
+    let want = want_at(overview, instance, row.action, held)?;
+    Ok(Waiting {
+        want,
+        left: left_until(want.map_or(0, |want| want.due), moment),
+        ..Waiting::new(row, Some(held.awaited))
+    })
+}
+
 /// Adds what each of some actions waits for.
 fn add_waiting<O: Overview>(
     overview: &mut O,
     instance: Instance,
     rows: &[ActionRow],
+    moment: u64,
     waiting: &mut Vec<Waiting>,
 ) -> Result<(), Trouble>
     ensures { O.orders overview.new ≡ O.orders overview.old }
 {
     for row in rows {
-        let awaited = waits_for(overview, instance, row.action)?;
-        waiting.push(Waiting { row: *row, awaited })?;
+        waiting.push(waiting_of(overview, instance, *row, moment)?)?;
     }
     Ok(())
 }
 
-/// What each of some actions waits for.
+/// Returns what each of some actions waits for, and when that is asked next, at a moment.
 pub fn all_waiting<O: Overview>(
     alloc: Global,
     overview: &mut O,
     instance: Instance,
     rows: &[ActionRow],
+    moment: u64,
 ) -> Result<Vec<Waiting>, Trouble>
     ensures { O.orders overview.new ≡ O.orders overview.old }
 {
     let mut waiting = Vec::new(alloc);
-    match add_waiting(overview, instance, rows, &mut waiting) {
+    match add_waiting(overview, instance, rows, moment, &mut waiting) {
         Ok(()) => Ok(waiting),
         Err(trouble) => Err(trouble),
     }

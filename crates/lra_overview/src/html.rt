@@ -4,12 +4,14 @@ ghost use Rattle.std.specs.Prelude.{◌≡◌, ◌++◌, OnOk};
 ghost use Rattle.std.specs.List.{flat_map};
 ghost use Rattle.lra_overview.specs.Pages as pages;
 
+use crate::attempts::{Line, Tried};
 use crate::gather::{ActionRow, MemberRow, Waiting};
 use crate::names::Names;
+use crate::overdue::Overdue;
 use crate::pieces::Piece;
 use crate::shares::Share;
 use crate::svg::put_tree;
-use crate::tree::{Node, NodeOf};
+use crate::tree::Node;
 use lra_commands::{Awaited, Want};
 use lra_model::{ActionStatus, MemberStatus, Memory};
 
@@ -24,11 +26,11 @@ pub struct Forms<'a> {
 
 /// The field of a form for the key.
 const KEY: &str =
-    "<input type=\"password\" name=\"key\" placeholder=\"key\" aria-label=\"key\" autocomplete=\"off\">";
+    "<input type=\"password\" name=\"key\" placeholder=\"key\" aria-label=\"key\" autocomplete=\"new-password\">";
 
 /// What each page begins with.
 const HEAD: &str =
-    "<!DOCTYPE html>\n<html lang=\"en\"><head><meta charset=\"utf-8\"><meta name=\"viewport\" content=\"width=device-width\"><title>Raxunto</title><style>\n";
+    "<!DOCTYPE html>\n<html lang=\"en\"><head><meta charset=\"utf-8\"><meta name=\"viewport\" content=\"width=device-width,initial-scale=1\"><title>Raxunto</title><style>\n";
 
 /// How a page looks, by day.
 const LOOKS: &str =
@@ -49,13 +51,15 @@ const TABLES: &str =
 th,td{text-align:left;padding:.4rem .7rem;border-bottom:1px solid var(--line);vertical-align:middle}
 th{font-weight:600;color:var(--dim);font-size:.85rem}
 code,svg text{font:13px ui-monospace,monospace}
-form{display:inline-flex;gap:.4rem;margin:0}
+form{display:flex;flex-wrap:wrap;gap:.4rem;margin:.4rem 0;align-items:center}
+summary{cursor:pointer;color:var(--link)}td code{overflow-wrap:anywhere}
 input,button{font:inherit;font-size:.85rem;padding:.15rem .6rem;border:1px solid var(--line);border-radius:.35rem;background:var(--paper);color:var(--ink)}
 input{width:7rem}button{cursor:pointer}button:hover{border-color:var(--bad);color:var(--bad)}
 .Active,.Closing,.Cancelling,.Completing,.Compensating{color:var(--wait)}
 .Closed,.Completed{color:var(--go)}.Cancelled,.Compensated,.Left{color:var(--dim)}
 .FailedToClose,.FailedToCancel,.FailedToComplete,.FailedToCompensate{color:var(--bad)}
 .tree{overflow-x:auto;background:var(--card);border:1px solid var(--line);padding:.5rem}
+@media(max-width:48rem){header,main{padding:.8rem}table,tbody,tr,td{display:block}thead,td:empty{display:none}td{border:0;padding:.1rem .7rem}tr{border-bottom:1px solid var(--line);padding:.4rem 0}td[data-is]:before{content:attr(data-is);color:var(--dim);margin-right:.5rem}}
 svg text{fill:var(--ink)}svg circle,svg rect{fill:currentColor}svg .branch{fill:none;stroke:var(--line);stroke-width:2}
 ";
 
@@ -87,11 +91,13 @@ fn put_share(page: &mut Vec<u8>, names: &Names<'_>, share: &Share) -> Result<(),
     let pieces = [
         Piece::Own("<li><b>"),
         Piece::Number(share.count),
-        Piece::Own("</b><span class=\""),
+        Piece::Own("</b><a class=\""),
+        Piece::Action(share.status),
+        Piece::Own("\" href=\"/?state="),
         Piece::Action(share.status),
         Piece::Own("\">"),
         Piece::Action(share.status),
-        Piece::Own("</span></li>\n"),
+        Piece::Own("</a></li>\n"),
     ];
     names.put_all(page, &pieces)
 }
@@ -142,13 +148,16 @@ fn put_cancel_form(
     ensures { OnOk result (page.new.items ≡ page.old.items ++ pages.cancel_form names.now.instance forms.now.token.now forms.now.have_key action) }
 {
     let opening = [
-        Piece::Own("<form method=\"post\" action=\"/actions/"),
+        Piece::Own("<details><summary>Cancel</summary><form method=\"post\" action=\"/actions/"),
         Piece::Id(action),
-        Piece::Own("/cancel\">"),
+        Piece::Own("/cancel\">Cancel it, and all that is nested in it?"),
     ];
     names.put_all(page, &opening)?;
     put_fields(page, names, forms.token, forms.have_key)?;
-    names.put_all(page, &[Piece::Own("<button>Cancel</button></form>")])
+    names.put_all(
+        page,
+        &[Piece::Own("<button>Yes, cancel</button></form></details>")],
+    )
 }
 
 /// Adds a form that cancels an action, where it is one that may be.
@@ -177,16 +186,16 @@ fn put_give_up_form(
     ensures { OnOk result (page.new.items ≡ page.old.items ++ pages.give_up_form names.now.instance token.now member ending.now) }
 {
     let opening = [
-        Piece::Own("<form method=\"post\" action=\"/members/"),
+        Piece::Own("<details><summary>Give up</summary><form method=\"post\" action=\"/members/"),
         Piece::Id(member),
-        Piece::Own("/give-up\">"),
+        Piece::Own("/give-up\">Have it count as failed for good?"),
     ];
     names.put_all(page, &opening)?;
     put_fields(page, names, token, true)?;
     let closing = [
         Piece::Own("<input type=\"hidden\" name=\"status\" value=\""),
         Piece::Own(ending),
-        Piece::Own("\"><button>Give up</button></form>"),
+        Piece::Own("\"><button>Yes, give up</button></form></details>"),
     ];
     names.put_all(page, &closing)
 }
@@ -280,7 +289,116 @@ fn put_awaited(
     }
 }
 
-/// Adds an action that hasn't ended.
+/// Adds for how long an action is there at least, where that is known.
+fn put_age(page: &mut Vec<u8>, names: &Names<'_>, age: Option<u64>) -> Result<(), Memory>
+    ensures { OnOk result (page.new.items ≡ page.old.items ++ pages.age age) }
+{
+    match age {
+        None => Ok(()),
+        Some(age) => names.put_all(page, &[Piece::Own("over "), Piece::Span(age)]),
+    }
+}
+
+/// Adds what a member is to be asked next, at once.
+fn put_want_now(page: &mut Vec<u8>, names: &Names<'_>, want: Want) -> Result<(), Memory>
+    ensures { OnOk result (page.new.items ≡ page.old.items ++ pages.want_now want) }
+{
+    let pieces = [
+        Piece::Kind(want.kind),
+        Piece::Own(" now, in vain "),
+        Piece::Number(want.repeats),
+        Piece::Own(" times"),
+    ];
+    names.put_all(page, &pieces)
+}
+
+/// Adds what a member is to be asked next, in so many milliseconds.
+fn put_want_in(page: &mut Vec<u8>, names: &Names<'_>, want: Want, left: u64) -> Result<(), Memory>
+    ensures { OnOk result (page.new.items ≡ page.old.items ++ pages.want_in want left) }
+{
+    let pieces = [
+        Piece::Kind(want.kind),
+        Piece::Own(" in "),
+        Piece::Span(left),
+        Piece::Own(", in vain "),
+        Piece::Number(want.repeats),
+        Piece::Own(" times"),
+    ];
+    names.put_all(page, &pieces)
+}
+
+/// Adds what a member is to be asked next, and when.
+fn put_want(page: &mut Vec<u8>, names: &Names<'_>, want: Want, left: u64) -> Result<(), Memory>
+    ensures { OnOk result (page.new.items ≡ page.old.items ++ pages.want want left) }
+{
+    if left == 0 {
+        put_want_now(page, names, want)
+    } else {
+        put_want_in(page, names, want, left)
+    }
+}
+
+/// Adds what a member is being asked, or is to be asked next.
+fn put_next_ask(
+    page: &mut Vec<u8>,
+    names: &Names<'_>,
+    ask: Option<u64>,
+    want: Option<Want>,
+    left: u64,
+) -> Result<(), Memory>
+    ensures { OnOk result (page.new.items ≡ page.old.items ++ pages.next_ask ask want left) }
+{
+    match (ask, want) {
+        (Some(_), _) => names.put_all(page, &[Piece::Own("is being asked")]),
+        (None, Some(want)) => put_want(page, names, want, left),
+        (None, None) => Ok(()),
+    }
+}
+
+/// Returns the ask of the member that is waited for, where one is outstanding.
+fn ask_in(awaited: &Option<Awaited>) -> Option<u64>
+    ensures { result ≡ pages.ask_in awaited.now }
+{
+    match awaited {
+        Some(Awaited::Member { member: _, ask }) => *ask,
+        _ => None,
+    }
+}
+
+/// Adds what an action waits for, where it hasn't ended.
+fn put_waits(page: &mut Vec<u8>, names: &Names<'_>, waiting: &Waiting) -> Result<(), Memory>
+    ensures { OnOk result (page.new.items ≡ page.old.items ++ pages.waits names.now.instance waiting.now) }
+{
+    match waiting.row.status {
+        ActionStatus::Active | ActionStatus::Closing | ActionStatus::Cancelling => {
+            put_awaited(page, names, &waiting.awaited)
+        }
+        _ => Ok(()),
+    }
+}
+
+/// Adds what an action waits for, and when that is asked next of which this ask is outstanding, if one is.
+fn put_asked_cells(
+    page: &mut Vec<u8>,
+    names: &Names<'_>,
+    waiting: &Waiting,
+    ask: Option<u64>,
+) -> Result<(), Memory>
+    ensures { OnOk result (page.new.items ≡ page.old.items ++ pages.asked_cells names.now.instance waiting.now ask) }
+{
+    put_waits(page, names, waiting)?;
+    names.put_all(page, &[Piece::Own("</td><td data-is=\"next\">")])?;
+    put_next_ask(page, names, ask, waiting.want, waiting.left)
+}
+
+/// Adds what an action waits for, and when that is asked next.
+fn put_wait_cells(page: &mut Vec<u8>, names: &Names<'_>, waiting: &Waiting) -> Result<(), Memory>
+    ensures { OnOk result (page.new.items ≡ page.old.items ++ pages.wait_cells names.now.instance waiting.now) }
+{
+    put_asked_cells(page, names, waiting, ask_in(&waiting.awaited))
+}
+
+/// Adds an action's line.
 fn put_waiting(
     page: &mut Vec<u8>,
     names: &Names<'_>,
@@ -298,10 +416,12 @@ fn put_waiting(
         Piece::Action(waiting.row.status),
         Piece::Own("\">"),
         Piece::Action(waiting.row.status),
-        Piece::Own("</span></td><td>"),
+        Piece::Own("</span></td><td data-is=\"there\">"),
     ];
     names.put_all(page, &opening)?;
-    put_awaited(page, names, &waiting.awaited)?;
+    put_age(page, names, waiting.age)?;
+    names.put_all(page, &[Piece::Own("</td><td data-is=\"waits for\">")])?;
+    put_wait_cells(page, names, waiting)?;
     names.put_all(page, &[Piece::Own("</td><td>")])?;
     put_cancel(page, names, forms, waiting.row)?;
     names.put_all(page, &[Piece::Own("</td></tr>\n")])
@@ -322,7 +442,7 @@ fn put_rows(
     Ok(())
 }
 
-/// Adds a table of actions that haven't ended, of which there are some.
+/// Adds a table of actions, of which there are some.
 fn put_full_table(
     page: &mut Vec<u8>,
     names: &Names<'_>,
@@ -334,38 +454,68 @@ fn put_full_table(
     names.put_all(
         page,
         &[Piece::Own(
-            "<table><thead><tr><th>Action</th><th>Status</th><th>Waits for</th><th></th></tr></thead><tbody>\n",
+            "<table><thead><tr><th>Action</th><th>Status</th><th>There</th><th>Waits for</th><th>Next ask</th><th></th></tr></thead><tbody>\n",
         )],
     )?;
     put_rows(page, names, forms, rows)?;
     names.put_all(page, &[Piece::Own("</tbody></table>\n")])
 }
 
-/// Adds a table of actions that haven't ended, or that there are none.
+/// Adds that no action is listed.
+fn put_no_rows(
+    page: &mut Vec<u8>,
+    names: &Names<'_>,
+    state: Option<ActionStatus>,
+) -> Result<(), Memory>
+    ensures { OnOk result (page.new.items ≡ page.old.items ++ pages.no_rows state) }
+{
+    match state {
+        None => names.put_all(page, &[Piece::Own("<p>All actions have ended.</p>\n")]),
+        Some(_) => names.put_all(page, &[Piece::Own("<p>None.</p>\n")]),
+    }
+}
+
+/// Adds a table of actions, or that there are none.
 fn put_table(
     page: &mut Vec<u8>,
     names: &Names<'_>,
     forms: &Forms<'_>,
+    state: Option<ActionStatus>,
     rows: &[Waiting],
 ) -> Result<(), Memory>
-    ensures { OnOk result (page.new.items ≡ page.old.items ++ pages.table names.now.instance forms.now.token.now forms.now.have_key rows.now) }
+    ensures { OnOk result (page.new.items ≡ page.old.items ++ pages.table names.now.instance forms.now.token.now forms.now.have_key state rows.now) }
 {
     if rows.is_empty() {
-        names.put_all(page, &[Piece::Own("<p>All actions have ended.</p>\n")])
+        put_no_rows(page, names, state)
     } else {
         put_full_table(page, names, forms, rows)
     }
 }
 
 /// Adds a link to the actions that follow, where there may be more.
-fn put_next(page: &mut Vec<u8>, names: &Names<'_>, next: Option<u64>) -> Result<(), Memory>
-    ensures { OnOk result (page.new.items ≡ page.old.items ++ pages.next names.now.instance next) }
+fn put_next(
+    page: &mut Vec<u8>,
+    names: &Names<'_>,
+    state: Option<ActionStatus>,
+    next: Option<u64>,
+) -> Result<(), Memory>
+    ensures { OnOk result (page.new.items ≡ page.old.items ++ pages.next names.now.instance state next) }
 {
-    match next {
-        None => Ok(()),
-        Some(action) => {
+    match (next, state) {
+        (None, _) => Ok(()),
+        (Some(action), None) => {
             let pieces = [
                 Piece::Own("<p><a href=\"/?from="),
+                Piece::Id(action),
+                Piece::Own("\">Those after these</a></p>\n"),
+            ];
+            names.put_all(page, &pieces)
+        }
+        (Some(action), Some(status)) => {
+            let pieces = [
+                Piece::Own("<p><a href=\"/?state="),
+                Piece::Action(status),
+                Piece::Own("&amp;from="),
                 Piece::Id(action),
                 Piece::Own("\">Those after these</a></p>\n"),
             ];
@@ -374,50 +524,104 @@ fn put_next(page: &mut Vec<u8>, names: &Names<'_>, next: Option<u64>) -> Result<
     }
 }
 
-/// Adds the first page: counts by status, and the actions that haven't ended, the oldest first, with the action to go on from, if there may be more.
-pub fn put_home(
-    page: &mut Vec<u8>,
-    names: &Names<'_>,
-    forms: &Forms<'_>,
-    shares: &[Share],
-    rows: &[Waiting],
-    next: Option<u64>,
-) -> Result<(), Memory>
-    ensures { OnOk result (page.new.items ≡ page.old.items ++ pages.home names.now.instance names.now.base.now forms.now.token.now forms.now.have_key shares.now rows.now next) }
-{
-    begin(page, names)?;
-    names.put_all(page, &[Piece::Own("<ul class=\"counts\">\n")])?;
-    put_shares(page, names, shares)?;
-    names.put_all(
-        page,
-        &[Piece::Own("</ul>\n<h2>Not ended, the oldest first</h2>\n")],
-    )?;
-    put_table(page, names, forms, rows)?;
-    put_next(page, names, next)?;
-    names.put_all(page, &[Piece::Own("</main></body></html>\n")])
-}
-
-/// Adds what a member is to be asked next.
-fn put_want(page: &mut Vec<u8>, names: &Names<'_>, want: Want) -> Result<(), Memory>
-    ensures { OnOk result (page.new.items ≡ page.old.items ++ pages.want want) }
+/// Adds how many members hold up ends.
+fn put_overdue(page: &mut Vec<u8>, names: &Names<'_>, overdue: &Overdue) -> Result<(), Memory>
+    ensures { OnOk result (page.new.items ≡ page.old.items ++ pages.overdue overdue.now) }
 {
     let pieces = [
-        Piece::Kind(want.kind),
-        Piece::Own(", in vain "),
-        Piece::Number(want.repeats),
-        Piece::Own(" times"),
+        Piece::Own("</ul>\n<p>Members that hold up ends: "),
+        Piece::Number(overdue.silent),
+        Piece::Own(" silent, "),
+        Piece::Number(overdue.waiting),
+        Piece::Own(" to be asked by now, "),
+        Piece::Number(overdue.at_it),
+        Piece::Own(" at it</p>\n"),
     ];
     names.put_all(page, &pieces)
 }
 
-/// Adds what a member is being asked, or is to be asked next.
-fn put_next_ask(page: &mut Vec<u8>, names: &Names<'_>, row: MemberRow) -> Result<(), Memory>
-    ensures { OnOk result (page.new.items ≡ page.old.items ++ pages.next_ask row.ask row.want) }
+/// Adds which actions are listed.
+fn put_title(
+    page: &mut Vec<u8>,
+    names: &Names<'_>,
+    state: Option<ActionStatus>,
+) -> Result<(), Memory>
+    ensures { OnOk result (page.new.items ≡ page.old.items ++ pages.title state) }
 {
-    match (row.ask, row.want) {
-        (Some(_), _) => names.put_all(page, &[Piece::Own("is being asked")]),
-        (None, Some(want)) => put_want(page, names, want),
-        (None, None) => Ok(()),
+    match state {
+        None => names.put_all(
+            page,
+            &[Piece::Own("<h2>Not ended, the oldest first</h2>\n")],
+        ),
+        Some(status) => {
+            let pieces = [
+                Piece::Own("<h2>"),
+                Piece::Action(status),
+                Piece::Own(
+                    ", the oldest first</h2>\n<p><a href=\"/\">Those that have not ended</a></p>\n",
+                ),
+            ];
+            names.put_all(page, &pieces)
+        }
+    }
+}
+
+/// What the first page is of.
+#[derive(Clone, Copy)]
+pub struct Home<'a> {
+    /// How many actions have each status, and how many members hold up ends.
+    pub shares: &'a [Share],
+    pub overdue: Overdue,
+    /// The status of which the listed actions are, or else they haven't ended.
+    pub state: Option<ActionStatus>,
+    /// The actions that are listed, and the action to go on from, if there may be more.
+    pub rows: &'a [Waiting],
+    pub next: Option<u64>,
+}
+
+/// Adds what the first page counts, and which actions it lists.
+fn put_counts(page: &mut Vec<u8>, names: &Names<'_>, home: &Home<'_>) -> Result<(), Memory>
+    ensures { OnOk result (page.new.items ≡ page.old.items ++ pages.counts home.now) }
+{
+    names.put_all(page, &[Piece::Own("<ul class=\"counts\">\n")])?;
+    put_shares(page, names, home.shares)?;
+    put_overdue(page, names, &home.overdue)?;
+    put_title(page, names, home.state)
+}
+
+/// Adds the first page: counts by status, and the actions that haven't ended, or those of a status, the oldest first.
+pub fn put_home(
+    page: &mut Vec<u8>,
+    names: &Names<'_>,
+    forms: &Forms<'_>,
+    home: &Home<'_>,
+) -> Result<(), Memory>
+    ensures { OnOk result (page.new.items ≡ page.old.items ++ pages.home names.now.instance names.now.base.now forms.now.token.now forms.now.have_key home.now) }
+{
+    begin(page, names)?;
+    put_counts(page, names, home)?;
+    put_table(page, names, forms, home.state, home.rows)?;
+    put_next(page, names, home.state, home.next)?;
+    names.put_all(page, &[Piece::Own("</main></body></html>\n")])
+}
+
+/// Adds what came of a member's last callback, and at which address.
+fn put_tried(page: &mut Vec<u8>, names: &Names<'_>, tried: &Option<Tried>) -> Result<(), Memory>
+    ensures { OnOk result (page.new.items ≡ page.old.items ++ pages.tried tried.now) }
+{
+    match tried {
+        None => Ok(()),
+        Some(tried) => {
+            let pieces = [
+                Piece::Told(tried.words.as_str()),
+                Piece::Own(", "),
+                Piece::Span(tried.age),
+                Piece::Own(" ago<br><code>"),
+                Piece::Told(tried.address.as_str()),
+                Piece::Own("</code>"),
+            ];
+            names.put_all(page, &pieces)
+        }
     }
 }
 
@@ -426,10 +630,11 @@ fn put_member(
     page: &mut Vec<u8>,
     names: &Names<'_>,
     forms: &Forms<'_>,
-    row: MemberRow,
+    line: &Line,
 ) -> Result<(), Memory>
-    ensures { OnOk result (page.new.items ≡ page.old.items ++ pages.member names.now.instance forms.now.token.now forms.now.have_key row) }
+    ensures { OnOk result (page.new.items ≡ page.old.items ++ pages.line names.now.instance forms.now.token.now forms.now.have_key line.now) }
 {
+    let row = line.row;
     let opening = [
         Piece::Own("<tr><td><code>"),
         Piece::Id(row.member),
@@ -437,41 +642,28 @@ fn put_member(
         Piece::Member(row.status),
         Piece::Own("\">"),
         Piece::Member(row.status),
-        Piece::Own("</span></td><td>"),
+        Piece::Own("</span></td><td data-is=\"next\">"),
     ];
     names.put_all(page, &opening)?;
-    put_next_ask(page, names, row)?;
+    put_next_ask(page, names, row.ask, row.want, line.left)?;
+    names.put_all(page, &[Piece::Own("</td><td data-is=\"last\">")])?;
+    put_tried(page, names, &line.tried)?;
     names.put_all(page, &[Piece::Own("</td><td>")])?;
     put_give_up(page, names, forms, row)?;
     names.put_all(page, &[Piece::Own("</td></tr>\n")])
 }
 
-/// Adds the line of a node in the table of members, if it is one.
-fn put_node_line(
-    page: &mut Vec<u8>,
-    names: &Names<'_>,
-    forms: &Forms<'_>,
-    node: Node,
-) -> Result<(), Memory>
-    ensures { OnOk result (page.new.items ≡ page.old.items ++ pages.line names.now.instance forms.now.token.now forms.now.have_key node) }
-{
-    match node.of {
-        NodeOf::Action(_) => Ok(()),
-        NodeOf::Member(row) => put_member(page, names, forms, row),
-    }
-}
-
-/// Adds the lines of a tree's members.
+/// Adds the lines of members.
 fn put_lines(
     page: &mut Vec<u8>,
     names: &Names<'_>,
     forms: &Forms<'_>,
-    nodes: &[Node],
+    lines: &[Line],
 ) -> Result<(), Memory>
-    ensures { OnOk result (page.new.items ≡ page.old.items ++ flat_map (pages.line names.now.instance forms.now.token.now forms.now.have_key) nodes.now) }
+    ensures { OnOk result (page.new.items ≡ page.old.items ++ flat_map (pages.line names.now.instance forms.now.token.now forms.now.have_key) lines.now) }
 {
-    for node in nodes {
-        put_node_line(page, names, forms, *node)?;
+    for line in lines {
+        put_member(page, names, forms, line)?;
     }
     Ok(())
 }
@@ -481,17 +673,17 @@ fn put_members(
     page: &mut Vec<u8>,
     names: &Names<'_>,
     forms: &Forms<'_>,
-    nodes: &[Node],
+    lines: &[Line],
 ) -> Result<(), Memory>
-    ensures { OnOk result (page.new.items ≡ page.old.items ++ pages.members names.now.instance forms.now.token.now forms.now.have_key nodes.now) }
+    ensures { OnOk result (page.new.items ≡ page.old.items ++ pages.members names.now.instance forms.now.token.now forms.now.have_key lines.now) }
 {
     names.put_all(
         page,
         &[Piece::Own(
-            "</div>\n<h2>Members</h2>\n<table><thead><tr><th>Member</th><th>Status</th><th>Next ask</th><th></th></tr></thead><tbody>\n",
+            "</div>\n<h2>Members</h2>\n<table><thead><tr><th>Member</th><th>Status</th><th>Next ask</th><th>Last reply</th><th></th></tr></thead><tbody>\n",
         )],
     )?;
-    put_lines(page, names, forms, nodes)?;
+    put_lines(page, names, forms, lines)?;
     names.put_all(
         page,
         &[Piece::Own("</tbody></table>\n</main></body></html>\n")],
@@ -566,8 +758,9 @@ pub fn put_action_page(
     forms: &Forms<'_>,
     waiting: &Waiting,
     nodes: &[Node],
+    lines: &[Line],
 ) -> Result<(), Memory>
-    ensures { OnOk result (page.new.items ≡ page.old.items ++ pages.action names.now.instance names.now.base.now forms.now.token.now forms.now.have_key waiting.now nodes.now) }
+    ensures { OnOk result (page.new.items ≡ page.old.items ++ pages.action names.now.instance names.now.base.now forms.now.token.now forms.now.have_key waiting.now nodes.now lines.now) }
 {
     begin(page, names)?;
     put_heading(page, names, waiting)?;
@@ -575,7 +768,7 @@ pub fn put_action_page(
     put_cancel(page, names, forms, waiting.row)?;
     names.put_all(page, &[Piece::Own("<h2>Tree</h2>\n<div class=\"tree\">")])?;
     put_tree(page, names, nodes)?;
-    put_members(page, names, forms, nodes)
+    put_members(page, names, forms, lines)
 }
 
 /// Adds a page that tells one sentence of this program, and a text from elsewhere.

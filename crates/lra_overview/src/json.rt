@@ -3,7 +3,8 @@
 ghost use Rattle.std.specs.Prelude.{◌≡◌, ◌++◌, OnOk, true};
 ghost use Rattle.lra_overview.specs.Lists as lists;
 
-use crate::gather::{ActionRow, MemberRow, Waiting};
+use crate::attempts::{Line, Tried};
+use crate::gather::{ActionRow, Waiting};
 use crate::laying::{put, put_json};
 use crate::names::Names;
 use crate::pieces::Piece;
@@ -95,10 +96,32 @@ fn put_number_if(page: &mut Vec<u8>, names: &Names<'_>, number: Option<u64>) -> 
     }
 }
 
-/// Adds a member.
-fn put_member(page: &mut Vec<u8>, names: &Names<'_>, member: &MemberRow) -> Result<(), Memory>
-    ensures { OnOk result (page.new.items ≡ page.old.items ++ lists.member names.now.instance member.now) }
+/// Adds the last callback of a member that hasn't brought it further, or null.
+fn put_last(page: &mut Vec<u8>, names: &Names<'_>, tried: &Option<Tried>) -> Result<(), Memory>
+    ensures { OnOk result (page.new.items ≡ page.old.items ++ lists.last tried.now) }
 {
+    match tried {
+        None => names.put_all(page, &[Piece::Own("null")]),
+        Some(tried) => {
+            let pieces = [
+                Piece::Own("{\"address\":"),
+                Piece::Quoted(tried.address.as_str()),
+                Piece::Own(",\"reply\":"),
+                Piece::Quoted(tried.words.as_str()),
+                Piece::Own(",\"moment\":"),
+                Piece::Number(tried.moment),
+                Piece::Own("}"),
+            ];
+            names.put_all(page, &pieces)
+        }
+    }
+}
+
+/// Adds a member.
+fn put_member(page: &mut Vec<u8>, names: &Names<'_>, line: &Line) -> Result<(), Memory>
+    ensures { OnOk result (page.new.items ≡ page.old.items ++ lists.member names.now.instance line.now) }
+{
+    let member = line.row;
     let pieces = [
         Piece::Own("{\"member\":\""),
         Piece::Id(member.member),
@@ -110,11 +133,13 @@ fn put_member(page: &mut Vec<u8>, names: &Names<'_>, member: &MemberRow) -> Resu
     put_number_if(page, names, member.ask)?;
     names.put_all(page, &[Piece::Own(",\"next\":")])?;
     put_want(page, names, member.want)?;
+    names.put_all(page, &[Piece::Own(",\"last\":")])?;
+    put_last(page, names, &line.tried)?;
     names.put_all(page, &[Piece::Own("}")])
 }
 
 /// Adds the members of an action.
-fn put_members(page: &mut Vec<u8>, names: &Names<'_>, members: &[MemberRow]) -> Result<(), Memory>
+fn put_members(page: &mut Vec<u8>, names: &Names<'_>, members: &[Line]) -> Result<(), Memory>
     ensures { OnOk result (page.new.items ≡ page.old.items ++ lists.members names.now.instance true members.now) }
 {
     let mut is_first = true;
@@ -204,7 +229,7 @@ pub fn put_action(
     page: &mut Vec<u8>,
     names: &Names<'_>,
     waiting: &Waiting,
-    members: &[MemberRow],
+    members: &[Line],
     nested: &[ActionRow],
     is_cut: bool,
 ) -> Result<(), Memory>

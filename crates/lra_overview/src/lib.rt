@@ -1,6 +1,7 @@
 //! What operators see of a service, over whatever tells of its histories: the texts of its health, its metrics, its lists and its pages.
 #![tactic(auto)]
 
+mod attempts;
 mod census;
 mod counts;
 mod faults;
@@ -20,20 +21,21 @@ mod svg;
 mod tree;
 mod unended;
 
+pub use attempts::{Line, Tried, lines_of, members_in};
 pub use census::Census;
-pub use counts::{Counts, count_all};
+pub use counts::{Counts, Totals, count_all, grown};
 pub use faults::Trouble;
 pub use gather::{
     ActionRow, Listed, MemberRow, Shown, Waiting, all_waiting, list_actions, show_action, waits_for,
 };
 pub use health::{Answered, Probe, is_up, put_health};
-pub use html::{Forms, put_action_page, put_home, put_plain_page};
+pub use html::{Forms, Home, put_action_page, put_home, put_plain_page};
 pub use json::{put_action, put_actions, put_text};
 pub use laws::{pages_keep_marks, pages_refer};
 pub use laying::{put, put_number};
 pub use metrics::{Kind, describe, put_metrics, put_parts, whole};
 pub use names::Names;
-pub use overdue::Overdue;
+pub use overdue::{Overdue, Standing, standing_of};
 pub use overview::{Facts, Overview};
 pub use pieces::Piece;
 pub use shares::{Share, Shares};

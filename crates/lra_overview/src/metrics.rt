@@ -1,6 +1,6 @@
 //! What is measured of a service, in the text format 0.0.4 of Prometheus.
 
-use crate::counts::Counts;
+use crate::counts::{Counts, Totals};
 use crate::laying::{put, put_number};
 use crate::overdue::Overdue;
 use crate::overview::Facts;
@@ -93,8 +93,8 @@ fn labelled(page: &mut Vec<u8>, name: &str, label: &str, value: &str) -> Result<
     put(page, "\"} ")
 }
 
-/// Adds how many actions have each status, and how many there are.
-fn put_counts(page: &mut Vec<u8>, counts: &Counts) -> Result<(), Memory> {
+/// Adds how many actions have each status, and how many there ever were.
+fn put_counts(page: &mut Vec<u8>, counts: &Counts, totals: &Totals) -> Result<(), Memory> {
     describe(page, "lra_actions", Kind::Gauge, "Actions by their status.")?;
     for share in &counts.shares {
         labelled(page, "lra_actions", "state", share.status.name())?;
@@ -105,15 +105,22 @@ fn put_counts(page: &mut Vec<u8>, counts: &Counts) -> Result<(), Memory> {
         page,
         "lra_actions_started_total",
         Kind::Counter,
-        "Actions that were started since the journals that are served began.",
-        counts.actions,
+        "Actions that were started, of the journals that are served and of those that were archived since.",
+        totals.actions,
     )?;
     whole(
         page,
         "lra_members_joined_total",
         Kind::Counter,
-        "Members that joined since the journals that are served began.",
-        counts.members,
+        "Members that joined, of the journals that are served and of those that were archived since.",
+        totals.members,
+    )?;
+    whole(
+        page,
+        "lra_actions_failed_total",
+        Kind::Counter,
+        "Actions that ended as failed, of the journals that are served and of those that were archived since.",
+        totals.failed,
     )
 }
 
@@ -131,7 +138,14 @@ fn put_overdue(page: &mut Vec<u8>, overdue: &Overdue) -> Result<(), Memory> {
     put(page, "\n")?;
     labelled(page, name, "why", "waiting")?;
     put_number(page, overdue.waiting)?;
-    put(page, "\n")
+    put(page, "\n")?;
+    whole(
+        page,
+        "lra_members_at_it",
+        Kind::Gauge,
+        "Members of actions that are closing or cancelling that answered last that they are at it.",
+        overdue.at_it,
+    )
 }
 
 /// How many millionths of a limit are left.
@@ -295,10 +309,11 @@ pub fn put_metrics(
     page: &mut Vec<u8>,
     facts: &Facts,
     counts: &Counts,
+    totals: &Totals,
     newest: &Counts,
     oldest: u64,
 ) -> Result<(), Memory> {
-    put_counts(page, counts)?;
+    put_counts(page, counts, totals)?;
     put_overdue(page, &counts.overdue)?;
     parts(
         page,

@@ -2,7 +2,7 @@
 
 ghost use Rattle.std.specs.Prelude.{◌≡◌};
 
-use crate::laying::{behind, has_id, put, put_number};
+use crate::laying::{behind, has_id, put, put_json, put_number, put_span};
 use crate::pieces::Piece;
 use lra_ids::{Base, Instance};
 use lra_model::Memory;
@@ -68,7 +68,9 @@ impl Names<'_> {
         match piece {
             Piece::Own(text) => put(page, text),
             Piece::Told(text) => lra_escape::escape(page, text),
+            Piece::Quoted(text) => put_json(self.alloc, page, text),
             Piece::Number(number) => put_number(page, number),
+            Piece::Span(ms) => put_span(page, ms),
             Piece::Id(number) => self.put_id(page, number),
             Piece::Action(status) => put(page, status.name()),
             Piece::Member(status) => put(page, status.name()),

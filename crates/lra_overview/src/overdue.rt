@@ -1,13 +1,16 @@
 //! Members that hold up ends.
 
 ghost use Rattle.std.specs.Prelude.{◌≡◌};
+ghost use Rattle.lra_overview.specs.Standings as spec;
 
+use crate::attempts::is_at_it;
 use crate::census::{Census, STRETCH};
 use crate::faults::Trouble;
 use crate::overview::Overview;
 use lra_commands::{Known, Listing, Query, Row, Want};
 use lra_ids::Instance;
 use lra_model::ActionStatus;
+use std::alloc::Global;
 
 /// How many queries are asked for one count at most.
 const MOST: u64 = 1_000;
@@ -18,10 +21,40 @@ const IN_VAIN: u64 = 3;
 /// How many members of actions that are closing or cancelling hold these up. Those that are being asked aren't among them.
 #[derive(Clone, Copy)]
 pub struct Overdue {
-    /// They were asked in vain three times or more.
+    /// They were asked in vain three times or more, and are silent or answer what brings them no further.
     pub silent: u64,
     /// They weren't, and are to be asked by now.
     pub waiting: u64,
+    /// They answered last that they are at it.
+    pub at_it: u64,
+}
+
+/// How a member that isn't being asked holds up an end.
+#[derive(Clone, Copy, Debug, PartialEq, Eq)]
+pub enum Standing {
+    /// It answered last that it is at it.
+    AtIt,
+    /// It was asked in vain three times or more.
+    Silent,
+    /// It wasn't, and is to be asked by now.
+    Waiting,
+    /// It is asked later, and doesn't hold it up yet.
+    Timely,
+}
+
+/// Returns how a member holds up an end at a moment that was asked so often in vain, is to be asked from a moment on, and answered last that it is at it or didn't.
+pub fn standing_of(repeats: u64, due: u64, moment: u64, is_at_it: bool) -> Standing
+    ensures { result ≡ spec.standing_of repeats due moment is_at_it }
+{
+    if is_at_it {
+        Standing::AtIt
+    } else if repeats >= IN_VAIN {
+        Standing::Silent
+    } else if due <= moment {
+        Standing::Waiting
+    } else {
+        Standing::Timely
+    }
 }
 
 impl Overdue {
@@ -30,6 +63,7 @@ impl Overdue {
         Overdue {
             silent: 0,
             waiting: 0,
+            at_it: 0,
         }
     }
 
@@ -37,14 +71,16 @@ impl Overdue {
     pub fn add(&mut self, others: &Overdue) {
         self.silent = self.silent.saturating_add(others.silent);
         self.waiting = self.waiting.saturating_add(others.waiting);
+        self.at_it = self.at_it.saturating_add(others.at_it);
     }
 
-    /// Adds a member that is to be asked so, where it counts at a moment.
-    fn add_member(&mut self, want: &Want, moment: u64) {
-        if want.repeats >= IN_VAIN {
-            self.silent = self.silent.saturating_add(1);
-        } else if want.due <= moment {
-            self.waiting = self.waiting.saturating_add(1);
+    /// Adds a member that holds up an end so.
+    fn add_member(&mut self, standing: Standing) {
+        match standing {
+            Standing::AtIt => self.at_it = self.at_it.saturating_add(1),
+            Standing::Silent => self.silent = self.silent.saturating_add(1),
+            Standing::Waiting => self.waiting = self.waiting.saturating_add(1),
+            Standing::Timely => {}
         }
     }
 }
@@ -52,6 +88,7 @@ impl Overdue {
 /// A count that goes on: what was found, and how many queries may still be asked.
 #[derive(Clone, Copy)]
 struct Tally {
+    alloc: Global,
     moment: u64,
     found: Overdue,
     left: u64,
@@ -75,6 +112,20 @@ impl Tally {
         Ok(overview.query(instance, Query::Row { of, place })?)
     }
 
+    /// Returns how a member holds up an end that is to be asked so. One that was never asked in vain has answered nothing.
+    fn standing<O: Overview>(
+        &self,
+        overview: &mut O,
+        instance: Instance,
+        member: u64,
+        want: &Want,
+    ) -> Result<Standing, Trouble>
+        ensures { O.orders overview.new ≡ O.orders overview.old }
+    {
+        let is_at_it = want.repeats > 0 && is_at_it(self.alloc, overview, instance, member)?;
+        Ok(standing_of(want.repeats, want.due, self.moment, is_at_it))
+    }
+
     /// Adds the members of an action.
     fn add_members<O: Overview>(
         &mut self,
@@ -91,11 +142,13 @@ impl Tally {
                 Known::Row {
                     place,
                     row: Row::Member {
+                        member,
                         want: Some(want),
                         ..
                     },
                 } => {
-                    self.found.add_member(&want, self.moment);
+                    let standing = self.standing(overview, instance, member, &want)?;
+                    self.found.add_member(standing);
                     from = place.saturating_add(1);
                 }
                 Known::Row { place, .. } => from = place.saturating_add(1),
@@ -139,6 +192,7 @@ impl Tally {
 /// How many members hold up ends at a moment, of those actions that a census found to be closing or cancelling, those that were started first before the others: a thousand
 /// queries are asked at most.
 pub(crate) fn count_overdue<O: Overview>(
+    alloc: Global,
     overview: &mut O,
     instance: Instance,
     census: &Census,
@@ -147,6 +201,7 @@ pub(crate) fn count_overdue<O: Overview>(
     ensures { O.orders overview.new ≡ O.orders overview.old }
 {
     let mut tally = Tally {
+        alloc,
         moment,
         found: Overdue::none(),
         left: MOST,

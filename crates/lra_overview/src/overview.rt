@@ -3,6 +3,8 @@
 use lra_commands::{CounterFault, Known, Order, Query, Told};
 use lra_ids::{Base, Instance};
 use lra_model::Memory;
+use lra_outcomes::Attempt;
+use std::alloc::Global;
 
 /// What is known of a service beside its histories. Times are in milliseconds.
 #[derive(Clone, Copy)]
@@ -78,6 +80,15 @@ pub trait Overview {
 
     /// What a query is told of a journal's history. It gives no order.
     fn query(&mut self, instance: Instance, query: Query) -> Result<Known, CounterFault>
+        ensures { orders self.new ≡ orders self.old };
+
+    /// Returns the last callback of a journal's member that hasn't brought it further, where one is remembered.
+    fn attempt(
+        &mut self,
+        alloc: Global,
+        instance: Instance,
+        member: u64,
+    ) -> Result<Option<Attempt>, Memory>
         ensures { orders self.new ≡ orders self.old };
 
     /// Gives an order to a journal's coordinator, now.

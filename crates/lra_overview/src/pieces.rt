@@ -9,8 +9,12 @@ pub enum Piece<'a> {
     Own(&'static str),
     /// A text from elsewhere, escaped for HTML.
     Told(&'a str),
+    /// A text from elsewhere, as a JSON string. It belongs in no page.
+    Quoted(&'a str),
     /// A number in digits.
     Number(u64),
+    /// So many milliseconds, in words.
+    Span(u64),
     /// The identifier of an action or of a member. Of a number that no identifier has nothing is added.
     Id(u64),
     /// The word for how an action stands.

@@ -92,3 +92,17 @@ pub(crate) fn count_ending(shares: &Shares) -> u64 {
     }
     all
 }
+
+/// Returns how many have ended as failed.
+pub(crate) fn count_failed(shares: &Shares) -> u64 {
+    let mut all: u64 = 0;
+    for share in shares {
+        if matches!(
+            share.status,
+            ActionStatus::FailedToClose | ActionStatus::FailedToCancel
+        ) {
+            all = all.saturating_add(share.count);
+        }
+    }
+    all
+}

@@ -1,5 +1,5 @@
 use Rattle.std.proofs.Common.{◌≡◌}
-use Rattle.lra_overview.proofs.gather.waits_for.Given as goal
+use Rattle.lra_overview.proofs.gather.held_by.Given as goal
 
 -- no order was given so far
 abbrev pub invariant-loop-part : goal.invariant-loop-part
