@@ -525,6 +525,8 @@ def test_the_key_is_taken_as_a_browser_gives_it(setting):
         path = f"/actions/{id_of(action)}/cancel"
         refusal(service.ask(path, "POST", "key=", key=None, Authorization=basic(KEY), Content_Type=FORM), 403, "Forged")
         token = re.search(r'name="token" value="([0-9a-f]{32})"', page.body)[1]
+        refusal(service.ask(path, "POST", f"token={token}&key=another", key=None, Authorization=basic(KEY), Content_Type=FORM), 403, "WrongKey")
+        equal("nothing is ordered", client.status(action), "Active")
         reply = service.ask(path, "POST", f"token={token}&key=", key=None, Authorization=basic(KEY), Content_Type=FORM)
         equal("the form", (reply.code, reply.fields["Location"]), (303, "/"))
         equal("the status", client.status(action), "Cancelled")

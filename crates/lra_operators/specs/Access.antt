@@ -22,6 +22,11 @@ abbrev pub gives : Option (List ℕ) → Option (List ℕ) → Bool
 gives (Some given) (Some wanted) = bytes_eq given wanted
 gives _ _ = false
 
+-- whether a text that was given, if one was, is another than the one that is wanted, if one is: an empty one isn't
+abbrev pub mistakes : Option (List ℕ) → Option (List ℕ) → Bool
+mistakes (Some given) (Some wanted) = not (length given == 0) && not (bytes_eq given wanted)
+mistakes _ _ = false
+
 -- ---- heads
 
 -- whether a text begins with another
@@ -113,16 +118,18 @@ seen access request p = record {
   head_has_key = gives (bearer_of request.fields) (key_of access) || gives (password_of request.fields) (key_of access);
   bearer_has_key = gives (bearer_of request.fields) (key_of access);
   form_has_key = gives (form_value (codes "key") request.body) (key_of access);
+  form_mistakes_key = mistakes (form_value (codes "key") request.body) (key_of access);
   form_has_token = gives (form_value (codes "token") request.body) (Some access.token.now);
   is_json = is_json request.fields.content_type;
 }
 
--- of an order: with the key as Bearer it may be given; else it has the key, where one is wanted, in its head or in its form, and it is a form with the token, or says that it is no form.
+-- of an order: with the key as Bearer it may be given; else no other key is typed into its form, and it has the key, where one is wanted, in its head or in its form, and it is a form with the token, or says that it is no form.
 -- A browser sends the password of Basic with the form of any other place too, so that it alone doesn't do
 abbrev pub order_admission : Seen → Admission
 order_admission s =
     if s.is_give_up && not s.wants_key then admission.NeedsKey
     else if s.bearer_has_key then admission.Admitted
+    else if s.form_mistakes_key then admission.MistypedKey
     else if s.wants_key && not s.head_has_key && not s.form_has_key then admission.WrongKey
     else if s.form_has_token || s.is_json then admission.Admitted
     else admission.Forged

@@ -35,6 +35,8 @@ pub enum Admission {
     Forged,
     /// An order that needs a key, where there is none.
     NeedsKey,
+    /// Another key was typed into the form.
+    MistypedKey,
 }
 
 /// What of a request says whether it may be made.
@@ -52,6 +54,8 @@ pub struct Seen {
     pub bearer_has_key: bool,
     pub form_has_key: bool,
     pub form_has_token: bool,
+    /// Its form has another key, which isn't empty.
+    pub form_mistakes_key: bool,
     /// It says that its body is JSON.
     pub is_json: bool,
 }
@@ -69,6 +73,9 @@ impl Seen {
         }
         if self.bearer_has_key {
             return Admission::Admitted;
+        }
+        if self.form_mistakes_key {
+            return Admission::MistypedKey;
         }
         if self.wants_key && !self.head_has_key && !self.form_has_key {
             return Admission::WrongKey;
@@ -260,6 +267,16 @@ fn is_wanted(given: &str, wanted: Option<&str>) -> bool
     }
 }
 
+/// Whether a text is another than the one that is wanted, if one is. An empty one isn't.
+fn is_mistaken(given: &str, wanted: Option<&str>) -> bool
+    ensures { result ≡ spec.mistakes (Some given.now) (option_map (λ text. text.now) wanted.entry) }
+{
+    match wanted {
+        Some(wanted) => !given.is_empty() && !is_same(given.as_bytes(), wanted.as_bytes()),
+        None => false,
+    }
+}
+
 /// Whether the head of a request gives the key as `Bearer`, where there is one.
 fn bearer_gives(fields: &RequestFields, key: Option<&str>) -> bool
     ensures { result ≡ spec.gives (spec.bearer_of (what_fields fields.now)) (option_map (λ text. text.now) key.entry) }
@@ -299,6 +316,21 @@ fn form_gives(alloc: Global, form: &[u8], name: &str, wanted: Option<&str>) -> R
     }
 }
 
+/// Whether a form gives another text under a name than the one that is wanted, if one is. An empty one isn't.
+fn form_mistakes(
+    alloc: Global,
+    form: &[u8],
+    name: &str,
+    wanted: Option<&str>,
+) -> Result<bool, Memory>
+    ensures { IfOk result (λ b. b ≡ spec.mistakes (form_value name.now form.now) (option_map (λ text. text.now) wanted.entry)) }
+{
+    match in_form(alloc, form, name)? {
+        Some(given) => Ok(is_mistaken(given.as_str(), wanted)),
+        None => Ok(false),
+    }
+}
+
 impl<'a> Access<'a> {
     ghost use Rattle.std.specs.Prelude.{◌≡◌, string_bytes, option_map, IfOk};
     ghost use Rattle.lra_wire.specs.Request.{request_of};
@@ -323,6 +355,7 @@ impl<'a> Access<'a> {
         let fields = &request.fields;
         let basic_gives = basic_gives(alloc, fields, self.key)?;
         let form_has_key = form_gives(alloc, form, "key", self.key)?;
+        let form_mistakes_key = form_mistakes(alloc, form, "key", self.key)?;
         let form_has_token = form_gives(alloc, form, "token", Some(self.token))?;
         let bearer_has_key = bearer_gives(fields, self.key);
         Ok(Seen {
@@ -333,6 +366,7 @@ impl<'a> Access<'a> {
             head_has_key: bearer_has_key || basic_gives,
             bearer_has_key,
             form_has_key,
+            form_mistakes_key,
             form_has_token,
             is_json: is_json(&fields.content_type),
         })

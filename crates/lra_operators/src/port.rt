@@ -59,6 +59,8 @@ fn admission_told(admission: Admission) -> (StatusCode, &'static str) {
         Admission::WrongHost => (StatusCode::FORBIDDEN, "WrongHost"),
         Admission::Forged => (StatusCode::FORBIDDEN, "Forged"),
         Admission::NeedsKey => (StatusCode::FORBIDDEN, "NeedsKey"),
+        // Without `WWW-Authenticate`: what the browser has is right, and isn't to be asked for again.
+        Admission::MistypedKey => (StatusCode::FORBIDDEN, "WrongKey"),
     }
 }
 
