@@ -11,6 +11,7 @@ use lra_commands::{CounterFault, Known, Limits, Order, Query, Refusal, Told};
 use lra_ids::Base;
 use lra_journal_folder::GivenUp;
 use lra_model::{Instance, Memory};
+use lra_outcomes::Attempt;
 use lra_overview::{Facts, Overview};
 use lra_roster::Journal;
 use lra_watchpost::{Given, Tallies, Vitals, Watchpost, operators_order};
@@ -287,6 +288,21 @@ impl<'s, 'a: 's, R: Wait + Clock, H, B: Clerkship + Drop> Overview
             Some(place) => self.query_at(place, query),
             None => Err(self.lacking(instance)),
         }
+    }
+
+    fn attempt(
+        &mut self,
+        alloc: Global,
+        instance: Instance,
+        member: u64,
+    ) -> Result<Option<Attempt>, Memory> {
+        let Some(place) = place_of(&self.desks, instance) else {
+            return Ok(None);
+        };
+        let Some(desk) = self.desks.get(place) else {
+            return Ok(None);
+        };
+        desk.journal.outcomes.find(self.shift.rt, alloc, member)
     }
 
     fn give(&mut self, instance: Instance, order: &Order<'_>) -> Result<Told, CounterFault> {

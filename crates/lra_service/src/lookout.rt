@@ -6,8 +6,10 @@ use lra_commands::{Counter, CounterFault, Known, Order, Query, Refusal, Told};
 use lra_ids::{Base, Instance};
 use lra_model::Memory;
 use lra_office::{OfficeRefusal, Serving, WhichLock, Window};
+use lra_outcomes::Attempt;
 use lra_overview::{Facts, Overview};
 use lra_watchpost::{Given, operators_order};
+use std::alloc::Global;
 use std::sync::Wait;
 use std::time::Clock;
 
@@ -87,6 +89,15 @@ impl<V: Serving, R: Wait + Clock, L: WhichLock, H> Overview for Lookout<'_, '_, 
             Ok(known) => Ok(known),
             Err(refusal) => Err(fault_of(refusal)),
         }
+    }
+
+    fn attempt(
+        &mut self,
+        alloc: Global,
+        _instance: Instance,
+        member: u64,
+    ) -> Result<Option<Attempt>, Memory> {
+        self.shift.outcomes.find(self.shift.rt, alloc, member)
     }
 
     fn give(&mut self, instance: Instance, order: &Order<'_>) -> Result<Told, CounterFault> {
