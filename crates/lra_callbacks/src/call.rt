@@ -186,10 +186,10 @@ impl<D: Disk> Call<D> {
         ensures errand { self.new.attempt.errand ≡ self.old.attempt.errand }
         ensures end { self.new.end ≡ End.TimedOut (limit_of self.old.is_connected patience) }
     {
-        self.end = End::TimedOut {
-            limit: limit_of(self.is_connected, patience),
-        };
-        self.hang_up()
+        let limit = limit_of(self.is_connected, patience);
+        let had_socket = self.hang_up();
+        self.end = End::TimedOut { limit };
+        had_socket
     }
 
     /// Moves what can be moved.

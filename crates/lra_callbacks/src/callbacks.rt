@@ -263,9 +263,11 @@ impl<'a, R: Wait + Net + time::Clock, D: Disk> Callbacks<'a, R, D> {
     fn miss(&mut self, key: usize)
         ensures { self.new ≡ self.old }
     {
-        if let Some(call) = self.calls.get_mut(key) {
-            call.miss();
-        }
+        let Some(call) = self.calls.get_mut(key) else {
+            self.traffic.end(key);
+            return;
+        };
+        call.miss();
         self.traffic.end(key);
     }
 
