@@ -5,7 +5,7 @@ ghost use Rattle.lra_callbacks.specs.inner.Silences as spec;
 
 use crate::silences::Silences;
 use lra_core::Errand;
-use lra_model::{AskKind, Outcome};
+use lra_model::Outcome;
 use std::alloc::Global;
 use std::collections::BTreeSet;
 use std::sync::atomic::{AtomicU64, Ordering};
@@ -39,13 +39,6 @@ fn heard_at(outcome: Outcome, moment: u64) -> Outcome
         Outcome::Accepted if is_near_end(moment) => Outcome::Silent,
         _ => outcome,
     }
-}
-
-/// Returns whether an ask only tells a member that its action has ended, so that nothing waits for its answer.
-pub(crate) fn is_telling(kind: AskKind) -> bool
-    ensures { result ≡ spec.is_telling kind }
-{
-    matches!(kind, AskKind::Forget | AskKind::After)
 }
 
 /// Which members were silent, and the callbacks that wait since theirs was: a journal that is nearly full doesn't ask so often, and none does near the end of its

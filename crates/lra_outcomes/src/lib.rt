@@ -5,8 +5,10 @@ mod attempt;
 mod book;
 mod outcomes;
 mod reply;
+mod telling;
 
 pub use attempt::Attempt;
 pub use book::MOST;
 pub use outcomes::Outcomes;
 pub use reply::{Reply, put_words};
+pub use telling::is_telling;

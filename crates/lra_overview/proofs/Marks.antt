@@ -13,7 +13,7 @@ use Rattle.lra_overview.specs.declared.gather.MemberRow.{MemberRow}
 use Rattle.lra_overview.specs.declared.gather.Waiting.{Waiting}
 use Rattle.lra_overview.specs.declared.attempts.Line.{Line}
 use Rattle.lra_overview.specs.declared.html.Home.{Home}
-use Rattle.lra_overview.specs.Pages.{begin, fields, cancel_form, cancel_at, give_up_form, give_up_at, give_up, waiting, full_table, home, line, action, reply, plain, no_rows}
+use Rattle.lra_overview.specs.Pages.{begin, fields, cancel_form, cancel_at, give_up_form, give_up_at, told_form, wants_telling, give_up, waiting, full_table, home, line, action, reply, plain, no_rows}
 use Rattle.lra_overview.specs.Marks.{marks, HomeKeepsMarks, ActionKeepsMarks, ReplyKeepsMarks, PlainKeepsMarks}
 
 -- no mark stands in what is spelled for a byte
@@ -65,16 +65,24 @@ same_cancel : (i : ℕ) (token word : List ℕ) (k : Bool) (a : ℕ) (s : Action
 same_cancel i token word k a action_status.Active = same_cancel_form i token word k a
 same_cancel i token word k a _ = refl
 
-same_give_up_form : (i : ℕ) (token word : List ℕ) (p : ℕ) (ending : List ℕ) → marks (give_up_form i token p ending) ≡ marks (give_up_form i word p ending)
-same_give_up_form i token word p ending = simp (filter-append, none_escaped)
+same_give_up_form : (i : ℕ) (token word : List ℕ) (p : ℕ) (question ending : List ℕ) → marks (give_up_form i token p question ending) ≡ marks (give_up_form i word p question ending)
+same_give_up_form i token word p question ending = simp (filter-append, none_escaped)
 
 same_give_up_at : (i : ℕ) (token word : List ℕ) (p : ℕ) (s : MemberStatus) → marks (give_up_at i token p s) ≡ marks (give_up_at i word p s)
-same_give_up_at i token word p member_status.Completing = same_give_up_form i token word p (codes "FailedToComplete")
-same_give_up_at i token word p member_status.Compensating = same_give_up_form i token word p (codes "FailedToCompensate")
+same_give_up_at i token word p member_status.Completing = same_give_up_form i token word p (codes "Have it count as failed for good?") (codes "FailedToComplete")
+same_give_up_at i token word p member_status.Compensating = same_give_up_form i token word p (codes "Have it count as failed for good?") (codes "FailedToCompensate")
 same_give_up_at i token word p _ = refl
 
+same_told_form : (i : ℕ) (token word : List ℕ) (p : ℕ) → marks (told_form i token p) ≡ marks (told_form i word p)
+same_told_form i token word p = same_give_up_form i token word p (codes "Tell it no more how its action ended?") (codes "Ended")
+
+same_give_up_where : (b : Bool) (i : ℕ) (token word : List ℕ) (p : ℕ) (s : MemberStatus)
+    → marks (cond b (told_form i token p) (give_up_at i token p s)) ≡ marks (cond b (told_form i word p) (give_up_at i word p s))
+same_give_up_where true i token word p s = same_told_form i token word p
+same_give_up_where false i token word p s = same_give_up_at i token word p s
+
 same_give_up : (i : ℕ) (token word : List ℕ) (k : Bool) (row : MemberRow) → marks (give_up i token k row) ≡ marks (give_up i word k row)
-same_give_up i token word true row = same_give_up_at i token word row.member row.status
+same_give_up i token word true row = same_give_up_where (wants_telling row.want) i token word row.member row.status
 same_give_up i token word false row = refl
 
 same_waiting : (i : ℕ) (token word : List ℕ) (k : Bool) (w : Waiting) → marks (waiting i token k w) ≡ marks (waiting i word k w)

@@ -23,7 +23,7 @@ use Rattle.lra_overview.specs.declared.tree.NodeOf.TheVariants as node_of
 use Rattle.lra_escape.specs.Escapes.{escaped}
 use Rattle.lra_overview.specs.declared.html.TheConstants.{HEAD, LOOKS, TABLES, NIGHT}
 use Rattle.lra_overview.specs.Laying.{joined, id_of}
-use Rattle.lra_overview.specs.Pages.{begin, fields, cancel_form, cancel_at, cancel, give_up_at, give_up, share, awaited, awaited_member, age, want_now, want_in, next_ask, ask_in, waits_at, waiting, full_table, no_rows, table, next, overdue, title, counts, home, tried, line, members, open_end, wait_at, heading, parent, action, plain}
+use Rattle.lra_overview.specs.Pages.{begin, fields, cancel_form, cancel_at, cancel, give_up_at, told_form, wants_telling, give_up, share, awaited, awaited_member, age, want_now, want_in, next_ask, ask_in, waits_at, waiting, full_table, no_rows, table, next, overdue, title, counts, home, tried, line, members, open_end, wait_at, heading, parent, action, plain}
 use Rattle.lra_overview.specs.Pictures as pictures
 use Rattle.lra_overview.specs.Pictures.{picture}
 use Rattle.lra_overview.specs.Marks.{refers, HomeRefers, ActionRefers, PlainRefers}
@@ -50,30 +50,36 @@ s_cancel : (i : ℕ) (token : List ℕ) (k : Bool) (a : ℕ) (s : ActionStatus) 
 s_cancel i token k a s y = skip_by (cancel_at i token k a s) y (r_cancel i token k a s)
 
 -- the form that gives a member up, with the field for the key or without it
-abbrev form_of : ℕ → List ℕ → Bool → ℕ → List ℕ → List ℕ
-form_of i token k p ending =
+abbrev form_of : ℕ → List ℕ → Bool → ℕ → List ℕ → List ℕ → List ℕ
+form_of i token k p question ending =
     joined
-    (joined (codes "<details><summary>Give up</summary><form method=\"post\" action=\"/members/" ∷ id_of i p ∷ codes "/give-up\">Have it count as failed for good?" ∷ [])
+    (joined (codes "<details><summary>Give up</summary><form method=\"post\" action=\"/members/" ∷ id_of i p ∷ codes "/give-up\">" ∷ question ∷ [])
     ∷ fields token k
     ∷ joined (codes "<input type=\"hidden\" name=\"status\" value=\"" ∷ ending ∷ codes "\"><button>Yes, give up</button></form></details>" ∷ [])
     ∷ []
     )
 
-r_form_of : (i : ℕ) (token : List ℕ) (k : Bool) (p : ℕ) (ending : List ℕ) → refers ending ≡ true → refers (form_of i token k p ending) ≡ true
-r_form_of i token k p ending h =
+r_form_of : (i : ℕ) (token : List ℕ) (k : Bool) (p : ℕ) (question ending : List ℕ) → refers question ≡ true → refers ending ≡ true
+    → refers (form_of i token k p question ending) ≡ true
+r_form_of i token k p question ending q h =
+    let asks : (y : List ℕ) → refers (question ++ y) ≡ refers y = λ y. skip_by question y q in
     let after : (y : List ℕ) → refers (ending ++ y) ≡ refers y = λ y. skip_by ending y h in
-    simp (append_assoc, skip_id, s_fields token k, after)
+    simp (append_assoc, skip_id, s_fields token k, asks, after)
 
 r_give_up_at : (i : ℕ) (token : List ℕ) (p : ℕ) (s : MemberStatus) → refers (give_up_at i token p s) ≡ true
-r_give_up_at i token p member_status.Completing = r_form_of i token true p (codes "FailedToComplete") refl
-r_give_up_at i token p member_status.Compensating = r_form_of i token true p (codes "FailedToCompensate") refl
+r_give_up_at i token p member_status.Completing = r_form_of i token true p (codes "Have it count as failed for good?") (codes "FailedToComplete") refl refl
+r_give_up_at i token p member_status.Compensating = r_form_of i token true p (codes "Have it count as failed for good?") (codes "FailedToCompensate") refl refl
 r_give_up_at i token p _ = refl
 
 s_give_up_at : (i : ℕ) (token : List ℕ) (p : ℕ) (s : MemberStatus) (y : List ℕ) → refers ((give_up_at i token p s) ++ y) ≡ refers y
 s_give_up_at i token p s y = skip_by (give_up_at i token p s) y (r_give_up_at i token p s)
 
+r_give_up_where : (b : Bool) (i : ℕ) (token : List ℕ) (p : ℕ) (s : MemberStatus) → refers (cond b (told_form i token p) (give_up_at i token p s)) ≡ true
+r_give_up_where true i token p s = r_form_of i token true p (codes "Tell it no more how its action ended?") (codes "Ended") refl refl
+r_give_up_where false i token p s = r_give_up_at i token p s
+
 r_give_up : (i : ℕ) (token : List ℕ) (k : Bool) (row : MemberRow) → refers (give_up i token k row) ≡ true
-r_give_up i token true row = r_give_up_at i token row.member row.status
+r_give_up i token true row = r_give_up_where (wants_telling row.want) i token row.member row.status
 r_give_up i token false row = refl
 
 s_give_up : (i : ℕ) (token : List ℕ) (k : Bool) (row : MemberRow) (y : List ℕ) → refers ((give_up i token k row) ++ y) ≡ refers y

@@ -1,7 +1,8 @@
 -- The pages for a browser.
-use Rattle.std.specs.Prelude.{ℕ, ◌==◌, Bool, true, cond, List, [], ◌∷◌, length, codes, string_bytes, Option, Some, None}
+use Rattle.std.specs.Prelude.{ℕ, ◌==◌, Bool, true, false, cond, List, [], ◌∷◌, length, codes, string_bytes, Option, Some, None}
 use Rattle.std.specs.List.{flat_map}
 use Rattle.std.specs.Fmt.{decimal}
+use Rattle.std.specs.Option.{option_map_or}
 use Rattle.lra_model.specs.declared.status.ActionStatus.{ActionStatus}
 use Rattle.lra_model.specs.declared.status.ActionStatus.TheVariants as action_status
 use Rattle.lra_model.specs.declared.status.MemberStatus.{MemberStatus}
@@ -11,6 +12,7 @@ use Rattle.lra_commands.specs.declared.query.Awaited.{Awaited}
 use Rattle.lra_commands.specs.declared.query.Awaited.TheVariants as wanted
 use Rattle.lra_commands.specs.declared.query.Want.{Want}
 use Rattle.lra_escape.specs.Escapes.{escaped}
+use Rattle.lra_outcomes.specs.Telling.{is_telling}
 use Rattle.lra_overview.specs.declared.shares.Share.{Share}
 use Rattle.lra_overview.specs.declared.gather.ActionRow.{ActionRow}
 use Rattle.lra_overview.specs.declared.gather.MemberRow.{MemberRow}
@@ -57,10 +59,10 @@ abbrev pub cancel : ℕ → List ℕ → Bool → ActionRow → List ℕ
 cancel i token have_key row = cancel_at i token have_key row.action row.status
 
 -- a form that has a member end so
-abbrev pub give_up_form : ℕ → List ℕ → ℕ → List ℕ → List ℕ
-give_up_form i token p ending =
+abbrev pub give_up_form : ℕ → List ℕ → ℕ → List ℕ → List ℕ → List ℕ
+give_up_form i token p question ending =
     joined
-    (joined (codes "<details><summary>Give up</summary><form method=\"post\" action=\"/members/" ∷ id_of i p ∷ codes "/give-up\">Have it count as failed for good?" ∷ [])
+    (joined (codes "<details><summary>Give up</summary><form method=\"post\" action=\"/members/" ∷ id_of i p ∷ codes "/give-up\">" ∷ question ∷ [])
     ∷ fields token true
     ∷ joined (codes "<input type=\"hidden\" name=\"status\" value=\"" ∷ ending ∷ codes "\"><button>Yes, give up</button></form></details>" ∷ [])
     ∷ []
@@ -68,13 +70,21 @@ give_up_form i token p ending =
 
 -- that form, of a member that is to complete or to compensate: it is given up by its failure
 abbrev pub give_up_at : ℕ → List ℕ → ℕ → MemberStatus → List ℕ
-give_up_at i token p member_status.Completing = give_up_form i token p (codes "FailedToComplete")
-give_up_at i token p member_status.Compensating = give_up_form i token p (codes "FailedToCompensate")
+give_up_at i token p member_status.Completing = give_up_form i token p (codes "Have it count as failed for good?") (codes "FailedToComplete")
+give_up_at i token p member_status.Compensating = give_up_form i token p (codes "Have it count as failed for good?") (codes "FailedToCompensate")
 give_up_at i token p _ = []
 
--- the same of a member's row
+-- a member is only to be told how its action ended
+abbrev pub wants_telling : Option Want → Bool
+wants_telling want = option_map_or (λ w. is_telling w.kind) want false
+
+-- the form of a member that is only to be told how its action ended: it is given up by ending that
+abbrev pub told_form : ℕ → List ℕ → ℕ → List ℕ
+told_form i token p = give_up_form i token p (codes "Tell it no more how its action ended?") (codes "Ended")
+
+-- the form of a member's row, where there is something to give up
 abbrev pub give_up_where_asked : ℕ → List ℕ → MemberRow → List ℕ
-give_up_where_asked i token row = give_up_at i token row.member row.status
+give_up_where_asked i token row = cond (wants_telling row.want) (told_form i token row.member) (give_up_at i token row.member row.status)
 
 -- the form that gives a member up, where there is a key
 abbrev pub give_up : ℕ → List ℕ → Bool → MemberRow → List ℕ

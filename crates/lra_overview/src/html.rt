@@ -14,6 +14,7 @@ use crate::svg::put_tree;
 use crate::tree::Node;
 use lra_commands::{Awaited, Want};
 use lra_model::{ActionStatus, MemberStatus, Memory};
+use lra_outcomes::is_telling;
 
 /// What forms need to be taken.
 #[derive(Clone, Copy)]
@@ -181,14 +182,16 @@ fn put_give_up_form(
     names: &Names<'_>,
     token: &str,
     member: u64,
+    question: &'static str,
     ending: &'static str,
 ) -> Result<(), Memory>
-    ensures { OnOk result (page.new.items ≡ page.old.items ++ pages.give_up_form names.now.instance token.now member ending.now) }
+    ensures { OnOk result (page.new.items ≡ page.old.items ++ pages.give_up_form names.now.instance token.now member question.now ending.now) }
 {
     let opening = [
         Piece::Own("<details><summary>Give up</summary><form method=\"post\" action=\"/members/"),
         Piece::Id(member),
-        Piece::Own("/give-up\">Have it count as failed for good?"),
+        Piece::Own("/give-up\">"),
+        Piece::Own(question),
     ];
     names.put_all(page, &opening)?;
     put_fields(page, names, token, true)?;
@@ -200,7 +203,44 @@ fn put_give_up_form(
     names.put_all(page, &closing)
 }
 
-/// Adds a form that gives a member up, where it is being asked to end.
+/// What is asked back before a member that is waited for is given up.
+const AS_FAILED: &str = "Have it count as failed for good?";
+
+/// The same of a member that is only to be told how its action ended.
+const AS_TOLD: &str = "Tell it no more how its action ended?";
+
+/// Adds a form that gives a member of a status up, where it is being asked to end.
+fn put_give_up_at(
+    page: &mut Vec<u8>,
+    names: &Names<'_>,
+    token: &str,
+    member: u64,
+    status: MemberStatus,
+) -> Result<(), Memory>
+    ensures { OnOk result (page.new.items ≡ page.old.items ++ pages.give_up_at names.now.instance token.now member status) }
+{
+    match status {
+        MemberStatus::Completing => {
+            put_give_up_form(page, names, token, member, AS_FAILED, "FailedToComplete")
+        }
+        MemberStatus::Compensating => {
+            put_give_up_form(page, names, token, member, AS_FAILED, "FailedToCompensate")
+        }
+        _ => Ok(()),
+    }
+}
+
+/// Returns whether a member is only to be told how its action ended.
+fn wants_telling(want: Option<Want>) -> bool
+    ensures { result ≡ pages.wants_telling want }
+{
+    match want {
+        Some(want) => is_telling(want.kind),
+        None => false,
+    }
+}
+
+/// Adds a form that gives a member up, where it is being asked to end, or is only to be told how its action ended.
 fn put_give_up_where_asked(
     page: &mut Vec<u8>,
     names: &Names<'_>,
@@ -209,14 +249,10 @@ fn put_give_up_where_asked(
 ) -> Result<(), Memory>
     ensures { OnOk result (page.new.items ≡ page.old.items ++ pages.give_up_where_asked names.now.instance token.now row) }
 {
-    match row.status {
-        MemberStatus::Completing => {
-            put_give_up_form(page, names, token, row.member, "FailedToComplete")
-        }
-        MemberStatus::Compensating => {
-            put_give_up_form(page, names, token, row.member, "FailedToCompensate")
-        }
-        _ => Ok(()),
+    if wants_telling(row.want) {
+        put_give_up_form(page, names, token, row.member, AS_TOLD, "Ended")
+    } else {
+        put_give_up_at(page, names, token, row.member, row.status)
     }
 }
 

@@ -1,7 +1,6 @@
 -- When members that were silent may be asked again.
-use Rattle.std.specs.Prelude.{◌≡◌, ◌⊎◌, ℕ, ◌+◌, ◌-◌, ◌^◌, Bool, true, false, Option, Some, None, if◌then◌else◌, min, max, nat_le}
+use Rattle.std.specs.Prelude.{◌≡◌, ◌⊎◌, ℕ, ◌+◌, ◌-◌, ◌^◌, Bool, true, Option, Some, None, if◌then◌else◌, min, max, nat_le}
 use Rattle.lra_model.specs.declared.asks.AskKind.{AskKind}
-use Rattle.lra_model.specs.declared.asks.AskKind.TheVariants.{Forget, After}
 use Rattle.lra_model.specs.declared.asks.Outcome.{Outcome}
 use Rattle.lra_model.specs.declared.asks.Outcome.TheVariants.{Accepted, Silent}
 use Rattle.lra_model.specs.Words.{same_kind, is_silent}
@@ -37,9 +36,3 @@ pause_at told moment = if is_near_end moment then max told 10_000 else told
 abbrev pub heard_at : Outcome → ℕ → Outcome
 heard_at Accepted moment = if is_near_end moment then Silent else Accepted
 heard_at outcome moment = outcome
-
--- an ask only tells a member that its action has ended: nothing waits for its answer
-abbrev pub is_telling : AskKind → Bool
-is_telling Forget = true
-is_telling After = true
-is_telling kind = false
