@@ -11,7 +11,7 @@ import blind
 import journal
 import operators
 import refusing
-from folders import Folder, instance_of, put
+from folders import IN_USE, Folder, instance_of, put
 from files import SOUND
 from participant import Participant, wait_until
 from service import HOST, LATE, PATIENCE, LeftOut, Service, Telling, check, equal, free_port, is_ready, received
@@ -196,17 +196,18 @@ class Refusing(operators.WatchedFolder):
 
 
 def test_a_callback_thread_that_is_refused_memory_goes_on(setting):
-    """The next journal's begins while there is none. Until there is, health is DOWN and says whose callbacks stand still."""
+    """That of the next journal but one begins while there is none. Until there is, health is DOWN and says whose callbacks stand still."""
     with Refusing(setting) as folder, Participant() as member:
         time.sleep(0.5)
         journal.write(folder.flag, b"")
         folder.first(2)
-        wait_until("the next journal", lambda: len(folder.journals()) == 2)
         wait_until("that health is DOWN", lambda: not folder.is_ready())
-        newest = max(folder.journals())
         threads = next(it for it in folder.read("/health/live", 503)["checks"] if it["name"] == "threads")
-        equal("whose callbacks stand still", threads["data"].get("callbacks_of"), newest)
+        newest = threads["data"]["callbacks_of"]
         check(folder.told(), f"error callbacks stand journal={newest}" in folder.told())
+        folder.first(2)
+        wait_until("that it is the newest", lambda: max(folder.journals()) == newest)
+        time.sleep(IN_USE)
         with folder.client() as client:
             action = client.start()
             equal("the journal", instance_of(action), newest)
