@@ -43,7 +43,7 @@ module _ {O K : Type 0} (setting : O → Setting) (gives : ℕ → AskKind → O
   carries_on s a b more (zero, h) = (0, more s h)
   carries_on s a b more (suc n, (u, v, before, step, h)) = (suc n, (u, v, before, step, more v h))
 
-  carries_up_to : (s a b : Post O K) (r : OfficeRefusal) → ((x : Post O K) → Works setting gives tells x a → EndsWork setting gives tells x (Refused r) b) → Carries setting gives tells s a → CarriesUpTo setting gives tells s r b
+  pub carries_up_to : (s a b : Post O K) (r : OfficeRefusal) → ((x : Post O K) → Works setting gives tells x a → EndsWork setting gives tells x (Refused r) b) → Carries setting gives tells s a → CarriesUpTo setting gives tells s r b
   unfolding CarriesIn
   carries_up_to s a b r more (zero, h) = let (w, works, fails, ends) = more s h in (w, (0, works), inl fails, ends)
   carries_up_to s a b r more (suc n, (u, v, before, step, h)) = let (w, works, fails, ends) = more v h in (w, (suc n, (u, v, before, step, works)), inl fails, ends)

@@ -111,7 +111,7 @@ module _ {O K : Type 0} (setting : O → Setting) (gives : ℕ → AskKind → O
   pub fails_seen : (s t : Post O K) (r : OfficeRefusal) → Fails setting gives tells s r t → IsPrefix s.view.seen t.view.seen
   fails_seen s t r f = not_given (setting s.view.origin) s.view t.view f.call r f.given
 
-  foreseen : (g : Setting) (v w : View O) (r : Result (Option ℕ) OfficeRefusal) → IsLookedAhead g v r w → IsPrefix v.seen w.seen
+  pub foreseen : (g : Setting) (v w : View O) (r : Result (Option ℕ) OfficeRefusal) → IsLookedAhead g v r w → IsPrefix v.seen w.seen
   foreseen g v w (Ok next) h = foretold_seen g v w next h
   foreseen g v w (Err office.Worn) h = subst (λ (x : View O). IsPrefix v.seen x.seen) (sym h) (prefix_refl v.seen)
   foreseen g v w (Err (office.Refused r)) h = absurd h

@@ -1,10 +1,16 @@
 use Rattle.lra_office.specs.Clerks.{clerk_view}
 use Rattle.lra_workers.specs.Work.{post}
-use Rattle.lra_workers.proofs.Holding.{asks_stay, lost_asks, worked}
+use Rattle.lra_workers.proofs.Holding.{asks_stay, lost_asks, carried}
 use Rattle.lra_workers.proofs.carrier.record_one.Goals as goal
 
 pub returns-in-Ok-clause-held : goal.returns-in-Ok-clause-held
 returns-in-Ok-clause-held g c =
     asks_stay _ _ (g.C.Carriage.held c.done.new.self)
-    (worked g.V.Serving.setting g.C.Carriage.gives g.K.Clock.tells (post (clerk_view c.args.clerk.now) c.args.clock.now) (post (clerk_view c.record.new.clerk) c.record.new.clock) c.in-Ok.ensures.work)
+    (carried g.V.Serving.setting g.C.Carriage.gives g.K.Clock.tells (post (clerk_view c.args.clerk.now) c.args.clock.now) (post (clerk_view c.note.new.clerk) c.note.new.clock) c.note.result c.note.ensures.work)
+    (lost_asks _ (g.C.Carriage.held c.args.carriage.now) (g.C.Carriage.held c.done.new.self) _ c.in-Some.ensures.some.0 c.requires.held)
+
+pub returns-in-Err-clause-held : goal.returns-in-Err-clause-held
+returns-in-Err-clause-held g c =
+    asks_stay _ _ (g.C.Carriage.held c.done.new.self)
+    (carried g.V.Serving.setting g.C.Carriage.gives g.K.Clock.tells (post (clerk_view c.args.clerk.now) c.args.clock.now) (post (clerk_view c.note.new.clerk) c.note.new.clock) c.note.result c.note.ensures.work)
     (lost_asks _ (g.C.Carriage.held c.args.carriage.now) (g.C.Carriage.held c.done.new.self) _ c.in-Some.ensures.some.0 c.requires.held)
