@@ -1,4 +1,4 @@
-"""Rotations at which a call of the system fails: what was answered is in the journals."""
+"""Rotations at which a call of the system fails, or an allocation is refused: what was answered is in the journals."""
 import contextlib
 import fcntl
 import http.client
@@ -7,11 +7,12 @@ import sys
 import threading
 import time
 
+import allocations
 import failing
 import folders
 import journal
 import starving
-from participant import wait_until
+from participant import Participant, wait_until
 from service import Client, LeftOut, check, equal, id_of, number_of
 
 # How many connections there are, so that each worker has some.
@@ -22,12 +23,17 @@ QUIET = 2.5
 SOME = (3, 4, 5, 6, 8, 13)
 # The same of those that want memory.
 SOME_MEMORY = (1, 2, 4, 8, 16, 32)
+# How many allocations of a rotation are refused in the test, each in a run of its own; tools/fail-rotation --allocations has more.
+SOME_ALLOCATIONS = 8
 # What may be answered while a journal can't be written, or a worker can't follow.
 ANSWERS = {200, 201, 202, 503}
 
 
 class Failing(folders.Folder):
-    """A service over a folder, one of whose calls fails: of those that write, or of those that want memory."""
+    """A service over a folder, one of whose calls fails, from when that is switched on: of those that write, or of those that want memory. Where its journal has
+    no room it may end."""
+
+    goes_on = False
 
     def __init__(self, setting, place, number, workers, way=failing):
         os.makedirs(f"{setting.folder}/{place}", exist_ok=True)
@@ -42,6 +48,35 @@ class Failing(folders.Folder):
         if line.startswith(self.refused):
             raise LeftOut(self.refused)
         return line
+
+    def switch_on(self):
+        with open(self.switch, "w", encoding="ascii"):
+            pass
+
+    def counted(self):
+        """How many calls were counted."""
+        with open(self.switch, encoding="ascii") as it:
+            return len(it.readlines())
+
+
+class Refusing(folders.Folder):
+    """One of whose allocations is refused. It goes on after that."""
+
+    goes_on = True
+
+    def __init__(self, setting, place, number, workers, _way):
+        os.makedirs(f"{setting.folder}/{place}", exist_ok=True)
+        self.number, self.allocations = number, allocations.Allocations(f"{setting.folder}/{place}/allocations")
+        super().__init__(Placed(setting, place), "--roll-after", "3", "--remember", "1", workers=workers)
+        self.plain = list(self.words)
+        self.words[:0] = self.allocations.words()
+
+    def switch_on(self):
+        self.allocations.refuse(self.number)
+
+    def counted(self):
+        """How many allocations were counted."""
+        return self.allocations.counted()
 
 
 class Placed:
@@ -60,8 +95,12 @@ class Answered:
         self.asked_to_end = []
 
     def call(self, client, method, path, **keys):
-        """The body of a reply that says that something was done, if it does."""
-        reply = client.call(method, path, **keys)
+        """The body of a reply that says that something was done, if it does. A connection may be closed with no reply, too."""
+        try:
+            reply = client.call(method, path, **keys)
+        except (http.client.RemoteDisconnected, ConnectionResetError, BrokenPipeError):
+            client.connection.close()
+            return None
         check(f"{method} {path} is answered {reply}", reply.code in ANSWERS)
         return None if reply.code == 503 else reply.body
 
@@ -87,8 +126,7 @@ def work(service, answered):
         clients = [stack.enter_context(Client(service.port)) for _ in range(CONNECTIONS)]
         actions = [answered.start(client) for client in clients[:3]]
         check("the first journal takes no starts", all(actions))
-        with open(service.switch, "w", encoding="ascii"):
-            pass
+        service.switch_on()
         # A service may have ended by itself, where nothing could be carried any more.
         with contextlib.suppress(http.client.RemoteDisconnected, ConnectionError):
             for client, action in zip(clients, actions):
@@ -99,6 +137,25 @@ def work(service, answered):
                     if action := answered.start(client):
                         answered.join(client, action)
                 time.sleep(0.3)
+
+
+def check_goes_on(service, answered):
+    """Nobody of a service has stopped: all that it has is found by each worker, more is begun, members are asked, and what has ended is archived."""
+    left = [action for action in answered.starts if action not in answered.asked_to_end]
+    with contextlib.ExitStack() as stack:
+        member = stack.enter_context(Participant())
+        clients = [stack.enter_context(Client(service.port)) for _ in range(CONNECTIONS)]
+        for client in clients:
+            for action in left:
+                equal(f"the status of {action}", client.status(action), "Active")
+        action = clients[0].start()
+        clients[1].join(action, **member.addresses("compensate"))
+        clients[2].end(action, "cancel")
+        member.wait("compensate")
+        wait_until("its end", lambda: clients[3].status(action) == "Cancelled")
+    if len(answered.ends) == 3:
+        wait_until("the first journal is archived", lambda: folders.instance_of(answered.ends[0]) in service.ended())
+    equal("the status of the program", service.process.poll(), None)
 
 
 def check_journals(service, answered):
@@ -139,26 +196,31 @@ def is_free(folder):
 
 
 def try_one(setting, workers, number, way=failing):
-    """Has one call of a rotation fail. Answers how many were counted."""
-    service = Failing(setting, f"{workers}-{number}", number, workers, way)
+    """Has one call of a rotation fail, or one of its allocations. Answers how many were counted."""
+    kind = Refusing if way == allocations else Failing
+    service = kind(setting, f"{workers}-{number}", number, workers, way)
     answered = Answered()
     with service:
         work(service, answered)
+        count = service.counted()
+        if service.goes_on:
+            try:
+                check_goes_on(service, answered)
+            except (AssertionError, OSError) as fault:
+                raise AssertionError(f"{fault}; the program has the status {service.process.poll()} and told {service.told()[-500:]!r}") from fault
         service.kill()
-    with open(service.switch, encoding="ascii") as it:
-        count = len(it.readlines())
     check_journals(service, answered)
     return count
 
 
 def try_each(setting, workers, numbers, way=failing):
-    """Has each of these calls fail, each in a run of its own. Answers the counts of calls, and the faults of runs."""
+    """Has each of these calls or allocations fail, each in a run of its own. Answers the counts of them, and the faults of runs."""
     counts, faults = {}, {}
 
     def one(number):
         try:
             counts[number] = try_one(setting, workers, number, way)
-        except (AssertionError, OSError, LeftOut) as fault:
+        except Exception as fault:  # whatever it is, the run has failed
             faults[number] = fault
 
     threads = [threading.Thread(target=one, args=(it,)) for it in numbers]
@@ -169,7 +231,7 @@ def try_each(setting, workers, numbers, way=failing):
     for fault in faults.values():
         if isinstance(fault, LeftOut):
             raise fault
-    return counts, {number: str(fault) for number, fault in sorted(faults.items())}
+    return counts, {number: str(fault) or repr(fault) for number, fault in sorted(faults.items())}
 
 
 def test_what_was_answered_is_in_the_journals_whichever_call_of_a_rotation_fails(setting):
@@ -182,3 +244,10 @@ def test_what_was_answered_is_in_the_journals_whichever_memory_of_a_rotation_is_
     counts, faults = try_each(setting, 2, SOME_MEMORY, starving)
     equal("runs that lost something, by the call that failed", faults, {})
     return f"{len(SOME_MEMORY)} of {max(counts.values())} calls fail"
+
+
+def test_a_service_goes_on_whichever_allocation_of_a_rotation_is_refused(setting):
+    most = try_one(setting, 2, 0, allocations)
+    counts, faults = try_each(setting, 2, [1 + place * most // SOME_ALLOCATIONS for place in range(SOME_ALLOCATIONS)], allocations)
+    equal("runs that lost something, or ended, by the allocation that was refused", faults, {})
+    return f"{len(counts)} of {most} allocations are refused"

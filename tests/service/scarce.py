@@ -1,4 +1,5 @@
-"""What the system has too little of, threads, descriptors and memory: a service that lacks them says so, and one that serves answers."""
+"""What the system has too few of, threads, descriptors and memory: a service that lacks them says so, and one that serves answers."""
+import http.client
 import os
 import re
 import resource
@@ -7,6 +8,7 @@ import subprocess
 import sys
 import time
 
+import allocations
 import blind
 import journal
 import operators
@@ -14,7 +16,7 @@ import refusing
 from folders import IN_USE, Folder, instance_of, put
 from files import SOUND
 from participant import Participant, wait_until
-from service import HOST, LATE, PATIENCE, LeftOut, Service, Telling, check, equal, free_port, is_ready, received
+from service import HOST, LATE, PATIENCE, LeftOut, Service, Telling, check, equal, free_port, id_of, is_ready, received
 
 # A user of no other process, and how many threads a service of two workers has at most.
 USER, THREADS = 61_234, 24
@@ -303,3 +305,46 @@ def test_a_folder_of_more_journals_than_descriptors_says_so(setting):
     check(f"{lines}", lines[0].startswith("lra: the limit of open files is 120, and at least "))
     with limited(Folder(setting), 160) as folder:
         equal("a start", len(folder.first()), 1)
+
+
+# The most allocations that are refused of those by which an action is cancelled and its member asked, one in each turn.
+MOST_REFUSED = 200
+
+
+def until_done(client, method, path):
+    """Repeats a request for which there may be no memory until it is done: 503 or no reply at all says that it may not be."""
+
+    def is_done():
+        try:
+            return client.call(method, path).code in (200, 202)
+        except (http.client.RemoteDisconnected, ConnectionResetError, BrokenPipeError):
+            client.connection.close()
+            return False
+
+    wait_until(f"{method} {path}", is_done)
+
+
+def test_a_member_is_asked_whichever_allocation_is_refused(setting):
+    """Those who carry callbacks go on after one, as those who answer do."""
+    turns = []
+    for kind in (operators.Watched, operators.WatchedFolder):
+        service = kind(setting)
+        counter = allocations.Allocations(f"{setting.folder}/allocations")
+        service.words[:0] = counter.words()
+        with Participant() as member, service, service.client() as client:
+            for number in range(1, MOST_REFUSED):
+                action = client.start()
+                client.join(action, **member.addresses("compensate"))
+                counter.refuse(number)
+                until_done(client, "PUT", f"/lra-coordinator/{id_of(action)}/cancel")
+                member.wait("compensate", number)
+                until_done(client, "GET", "/lra-coordinator/" + id_of(action))
+                counted = counter.counted()
+                counter.refuse(0)
+                wait_until("its end", lambda: client.status(action) == "Cancelled")
+                if counted < number:
+                    break
+            turns.append(number)
+            wait_until("that it is ready", service.is_ready)
+            equal("the status of the program", service.process.poll(), None)
+    return f"{turns} turns"
