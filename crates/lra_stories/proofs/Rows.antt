@@ -37,6 +37,11 @@ four_parts s m o w s' m' o' w' is_s is_m is_o is_w =
     ∙ ap (λ (x : List ℕ). s' ++ (m' ++ (x ++ w))) is_o
     ∙ ap (λ (x : List ℕ). s' ++ (m' ++ (o' ++ x))) (is_w ∙ sym (append-nil w'))
 
+-- a text of five parts
+pub five_parts : (s m o w e s' m' o' w' e' : List ℕ) → s ≡ s' → m ≡ m' → o ≡ o' → w ≡ w' → e ≡ e' → s ++ (m ++ (o ++ (w ++ e))) ≡ joined (s' ∷ m' ∷ o' ∷ w' ∷ e' ∷ [])
+five_parts s m o w e s' m' o' w' e' is_s is_m is_o is_w is_e =
+    ap (λ (x : List ℕ). x ++ (m ++ (o ++ (w ++ e)))) is_s ∙ ap (λ (x : List ℕ). s' ++ x) (four_parts m o w e m' o' w' e' is_m is_o is_w is_e)
+
 -- a picture of these rows
 pub framed_is : (head : List ℕ) (cs : List (List ℕ)) (o l t : List ℕ) (n h : ℕ) → n ≡ length cs → h ≡ top_of n → o ≡ opening head h → l ≡ lanes h → t ≡ rows 0 cs
     → o ++ (LOOKS.now ++ (l ++ (t ++ codes "</svg>\n"))) ≡ framed head cs

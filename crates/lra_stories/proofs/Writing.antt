@@ -4,7 +4,7 @@ use Rattle.std.specs.Prelude.{IfOk, OnOk, Result, Ok, Err, String, string_bytes}
 use Rattle.std.specs.Option.{option_map_or}
 use Rattle.std.specs.List.{flat_map}
 use Rattle.std.specs.Io.KnownBytes.{Appends}
-use Rattle.std.proofs.lemmas.List.{map-append}
+use Rattle.std.proofs.lemmas.List.{map-append, flat_map_more, take_more}
 use Rattle.lra_model.specs.declared.version.Version.{Version}
 use Rattle.lra_model.specs.declared.rule.Rule.{Rule}
 use Rattle.lra_model.specs.History.{History}
@@ -30,6 +30,16 @@ note_more f xs i d first before after note lt is was now =
     ∙ ap (λ (t : List (List ℕ)). t ++ string_bytes note ∷ []) was
     ∙ ap (λ (n : List ℕ). (map string_bytes first ++ map f (take i xs)) ++ n ∷ []) is
     ∙ one_more f xs i d (map string_bytes first) lt
+
+-- what is made of one item more
+pub more_of : {X Y : Type 0} (f : X → List Y) (xs : List X) (i : ℕ) (d : X) (first before after more : List Y) → i < length xs → more ≡ f (get_or xs i d)
+    → before ≡ first ++ flat_map f (take i xs) → after ≡ before ++ more → after ≡ first ++ flat_map f (take (i + 1) xs)
+more_of f xs i d first before after more lt is was now =
+    now
+    ∙ ap (λ l. l ++ more) was
+    ∙ ap (λ l. (first ++ flat_map f (take i xs)) ++ l) is
+    ∙ flat_map_more f first (take i xs) (get_or xs i d)
+    ∙ ap (λ l. first ++ flat_map f l) (sym (take_more xs i d lt))
 
 -- texts one after another
 pub joined_texts : (notes : List (String Global)) → flat_map string_bytes notes ≡ joined (map string_bytes notes)

@@ -57,10 +57,14 @@ ended_text status =
     (joined (codes "it is " ∷ action_status_name status ∷ codes ": all that it waited for has ended, and not all of it well" ∷ []))
     (joined (codes "it is " ∷ action_status_name status ∷ codes ": all that it waited for has ended well" ∷ []))
 
+-- an address with its name
+abbrev pub named_text : List ℕ → List ℕ → List ℕ
+named_text name u = joined (codes ", " ∷ name ∷ codes " " ∷ u ∷ [])
+
 -- an address that a member joined with, where it has it
 abbrev pub address_text : List ℕ → Option (List ℕ) → List ℕ
 address_text name None = []
-address_text name (Some u) = joined (codes ", " ∷ name ∷ codes " " ∷ u ∷ [])
+address_text name (Some u) = named_text name u
 
 -- the addresses that a member joined with
 abbrev pub addresses_text : Addresses → List ℕ

@@ -1,5 +1,5 @@
 -- What is noted at the end of an action's story: what it waits for, or which of those below it failed, and what its members are asked.
-use Rattle.std.specs.Prelude.{ℕ, zero, suc, ◌-◌, ◌==◌, Bool, false, ◌&&◌, not, List, [], ◌∷◌, ◌++◌, map, filter, length, slice_get, codes, Option, Some, None, option_map, is_some, cond}
+use Rattle.std.specs.Prelude.{ℕ, ◌-◌, ◌==◌, Bool, false, ◌&&◌, not, List, [], ◌∷◌, ◌++◌, map, filter, length, slice_get, codes, Option, Some, None, option_map, is_some, cond}
 use Rattle.std.specs.Option.{option_map_or, option_and_then}
 use Rattle.std.specs.List.{find, flat_map}
 use Rattle.std.specs.Fmt.{decimal}
@@ -81,19 +81,26 @@ row_note J status p r =
 abbrev pub address_at : History → ℕ → AskKind → Option (List ℕ)
 address_at J p kind = option_and_then (address_for kind) (found_addresses J p)
 
--- at which address
+-- at an address
+abbrev pub place_text : List ℕ → List ℕ
+place_text u = codes " at " ++ u
+
+-- at which address, where there is one
 abbrev pub at_text : Option (List ℕ) → List ℕ
 at_text None = []
-at_text (Some u) = codes " at " ++ u
+at_text (Some u) = place_text u
 
 -- that a member is asked, at which address, and since when
 abbrev pub open_line : ℕ → AskKind → Option (List ℕ) → List ℕ → List ℕ
 open_line p kind u since = joined (codes "member " ∷ decimal p ∷ codes " is " ∷ ask_words kind ∷ at_text u ∷ codes ": " ∷ since ∷ line_feed ∷ [])
 
+-- that a member is asked again from a moment on
+abbrev pub from_text : ℕ → List ℕ
+from_text moment = joined (codes " again, from " ∷ moment_text moment ∷ codes " on by the default pauses" ∷ [])
+
 -- from when on a member is asked again that was asked so often in vain, the last time at that moment, by the pauses that a service has unless others are set
 abbrev pub again_text : ℕ → Option ℕ → List ℕ
-again_text zero before = []
-again_text (suc k) before = joined (codes " again, from " ∷ moment_text (due_after usual (suc k) before) ∷ codes " on by the default pauses" ∷ [])
+again_text k before = cond (k == 0) [] (from_text (due_after usual k before))
 
 -- that a member is to be asked, at which address, and when
 abbrev pub want_line : ℕ → AskKind → Option (List ℕ) → List ℕ → List ℕ
@@ -151,13 +158,13 @@ last_text t = of_fact t.fact
         (joined (codes "with the answer that it goes on (line " ∷ decimal t.line ∷ codes ")" ∷ []))
     of_fact _ = []
 
+-- that a member was called so often, and what came of the last call
+abbrev pub called_line : ℕ → ℕ → Told → List ℕ
+called_line p n t = joined (codes "member " ∷ decimal p ∷ codes " was called " ∷ times_text n ∷ codes " for that, last " ∷ last_text t ∷ line_feed ∷ [])
+
 -- how often a member was called for what it is asked now, and what came of the last call
 abbrev pub repeats_line : ℕ → List Told → List ℕ
-repeats_line p ts =
-    option_map_or
-    (λ (t : Told). joined (codes "member " ∷ decimal p ∷ codes " was called " ∷ times_text (length ts) ∷ codes " for that, last " ∷ last_text t ∷ line_feed ∷ []))
-    (slice_get ts (length ts - 1))
-    []
+repeats_line p ts = option_map_or (called_line p (length ts)) (slice_get ts (length ts - 1)) []
 
 -- what is noted of how often a member was called for what it is asked, or is to be asked next
 abbrev pub repeats_note : History → List Told → ℕ → MemberRow → List ℕ

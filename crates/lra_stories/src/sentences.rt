@@ -93,12 +93,19 @@ fn ended_text(alloc: Global, status: ActionStatus) -> Result<String, Memory>
     }
 }
 
+/// An address with its name.
+fn named_text(alloc: Global, name: &str, address: &str) -> Result<String, Memory>
+    ensures { IfOk result (λ text. string_bytes text ≡ sentences.named_text name.now address.now) }
+{
+    format!(in alloc; ", {name} {address}")
+}
+
 /// An address that a member joined with, where it has it.
 fn address_text(alloc: Global, name: &str, address: Option<&str>) -> Result<String, Memory>
     ensures { IfOk result (λ text. string_bytes text ≡ sentences.address_text name.now (option_copied address.entry)) }
 {
     match address {
-        Some(address) => format!(in alloc; ", {name} {address}"),
+        Some(address) => named_text(alloc, name, address),
         None => Ok(String::new(alloc)),
     }
 }
