@@ -6,18 +6,15 @@ use Rattle.lra_model.specs.declared.asks.AskKind.{AskKind}
 use Rattle.lra_model.specs.declared.asks.Outcome.{Outcome}
 use Rattle.lra_ticket.specs.declared.view.View.{View}
 use Rattle.lra_commands.specs.Counters.{Setting}
-use Rattle.lra_commands.specs.Calls.{Call}
 use Rattle.lra_commands.specs.declared.refusal.Refusal.TheVariants.{Memory, Stopped}
-use Rattle.lra_commands.specs.declared.refusal.Refusal.TheVariants as refusal
-use Rattle.lra_commands.specs.declared.refusal.Refusal.{Refusal}
 use Rattle.lra_office.specs.declared.fault.OfficeRefusal.{OfficeRefusal}
 use Rattle.lra_office.specs.declared.fault.OfficeRefusal.TheVariants as office
-use Rattle.lra_office.specs.Orders.{IsForetold, IsLookedAhead, IsNotGiven}
+use Rattle.lra_office.specs.Orders.{IsForetold, IsLookedAhead}
 use Rattle.lra_schedule.specs.Schedules.{IsFirstMoment}
 use Rattle.lra_workers.specs.declared.worker.WorkerEnd.{WorkerEnd}
 use Rattle.lra_workers.specs.declared.worker.WorkerEnd.TheVariants.{Ended, Held, Refused}
-use Rattle.lra_workers.specs.Work.{Post, post, Fails, Works, WorksUpTo, EndsWork}
-use Rattle.lra_workers.specs.Carrying.{GoesOn, CarriesIn, Carries, CarriesUpTo, EndsCarrying, is_for_memory}
+use Rattle.lra_workers.specs.Work.{Post, post, Fails, Works, EndsWork}
+use Rattle.lra_workers.specs.Carrying.{CarriesIn, Carries, CarriesUpTo, EndsCarrying, is_for_memory}
 use Rattle.lra_workers.proofs.Working.{works_none}
 
 -- who looks ahead has seen all that it had
@@ -32,6 +29,12 @@ foretold_first set v w next h = subst (λ (x : View _). IsFirstMoment (set x.ori
 pub looked_not_stopped : {O : Type 0} (g : Setting) (v w : View O) (x : OfficeRefusal) → IsLookedAhead g v (Err x) w → x ≢ office.Refused Stopped
 looked_not_stopped g v w office.Worn h e = absurd cc
 looked_not_stopped g v w (office.Refused r) h e = absurd h
+
+-- a refusal that ends who carries for want of memory alone is that one
+pub memory_of : (r : OfficeRefusal) → is_for_memory (Refused r) ≡ true → r ≡ office.Refused Memory
+memory_of office.Worn is = absurd cc
+memory_of (office.Refused Memory) is = refl
+memory_of (office.Refused r) is = absurd cc
 
 module _ {O K : Type 0} (setting : O → Setting) (gives : ℕ → AskKind → Outcome → Type 0) (tells : K → ℕ → K → Type 0) where
   pub carries_none : (s : Post O K) → Carries setting gives tells s s

@@ -75,7 +75,7 @@ fn note<V: Serving, R: Wait, C: Carriage, G: Gate, K: Clock>(
                 return Ok(());
             }
             Err((refusal, back)) => {
-                if refusal != OfficeRefusal::Refused(Refusal::Memory) {
+                if !is_for_memory(WorkerEnd::Refused(refusal)) {
                     back.discard();
                     return after_refusal(refusal);
                 }
