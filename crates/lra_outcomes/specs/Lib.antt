@@ -1,3 +1,3 @@
 pub mod Replies
-pub mod Noted
 pub mod Telling
+pub mod inner

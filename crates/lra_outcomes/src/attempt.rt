@@ -1,7 +1,7 @@
 //! A callback that is remembered.
 
 ghost use Rattle.std.specs.Prelude.{◌≡◌, IfOk};
-ghost use Rattle.lra_outcomes.specs.Noted.{seen, seen_of};
+ghost use Rattle.lra_outcomes.specs.inner.Noted.{seen, seen_of};
 
 use crate::reply::Reply;
 use std::alloc::{AllocError, Global};

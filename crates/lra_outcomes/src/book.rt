@@ -2,7 +2,7 @@
 
 ghost use Rattle.std.specs.Prelude.{◌≡◌, ◌≤◌, ℕ, false, None, Some, IfOk, IsTrue, IsFalse};
 ghost use Rattle.std.specs.HashMap.{hash_map_len};
-ghost use Rattle.lra_outcomes.specs.Noted.{OthersStay, IsCopy, at, dropped_after};
+ghost use Rattle.lra_outcomes.specs.inner.Noted.{OthersStay, IsCopy, at, dropped_after};
 
 use crate::attempt::Attempt;
 use std::alloc::{AllocError, Global};

@@ -1,5 +1,5 @@
 -- What texts are laid of.
-use Rattle.std.specs.Prelude.{ℕ, ◌^◌, ◌-◌, ◌/◌, nat_lt, Bool, ◌&&◌, cond, if◌then◌else◌, List, [], ◌∷◌, ◌++◌, codes}
+use Rattle.std.specs.Prelude.{ℕ, ◌^◌, ◌/◌, nat_lt, Bool, ◌&&◌, cond, if◌then◌else◌, List, [], ◌∷◌, ◌++◌, codes}
 use Rattle.std.specs.Fmt.{decimal}
 use Rattle.lra_model.specs.Names.{action_status_name, member_status_name, ask_kind_name}
 use Rattle.lra_ids.specs.Identifiers.{id_text}
@@ -20,10 +20,6 @@ has_id n = nat_lt 0 n && nat_lt n (2 ^ 62)
 -- the identifier of a number, and nothing where none can have it
 abbrev pub id_of : ℕ → ℕ → List ℕ
 id_of i n = cond (has_id n) (id_text i n) []
-
--- how many milliseconds are left until a moment: none where it has come
-abbrev pub left : ℕ → ℕ → ℕ
-left due moment = due - moment
 
 -- so many milliseconds are told as seconds, minutes, hours or days: in the largest unit of which there are two
 abbrev pub span_count : ℕ → ℕ

@@ -1,6 +1,6 @@
 //! Adds texts to a page.
 
-ghost use Rattle.std.specs.Prelude.{◌≡◌, [], ◌∷◌, ◌++◌, ◌≤◌, OnOk, drop, length};
+ghost use Rattle.std.specs.Prelude.{◌≡◌, [], ◌∷◌, ◌++◌, ◌-◌, ◌≤◌, OnOk, drop, length};
 ghost use Rattle.std.specs.Fmt.{decimal};
 ghost use Rattle.json.specs.Print.{quoted};
 ghost use Rattle.lra_overview.specs.Laying as spec;
@@ -73,7 +73,7 @@ pub(crate) fn put_span(page: &mut Vec<u8>, ms: u64) -> Result<(), Memory>
 
 /// Returns how many milliseconds are left until a moment.
 pub(crate) fn left_until(due: u64, moment: u64) -> u64
-    ensures { result ≡ spec.left due moment }
+    ensures { result ≡ due - moment }
 {
     due.saturating_sub(moment)
 }

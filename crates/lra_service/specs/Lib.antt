@@ -1,5 +1,4 @@
 pub mod Limited
 pub mod Outcomes
 pub mod Sited
-pub mod Stamina
 pub mod inner

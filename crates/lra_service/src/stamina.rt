@@ -1,7 +1,7 @@
 //! How long a callback worker pauses that is refused memory.
 
 ghost use Rattle.std.specs.Prelude.{◌≡◌, ◌≤◌};
-ghost use Rattle.lra_service.specs.Stamina as spec;
+ghost use Rattle.lra_service.specs.inner.Stamina as spec;
 
 use lra_timers::pause;
 

@@ -1,0 +1,2 @@
+-- Words that private functions alone use.
+pub mod Noted
