@@ -74,6 +74,7 @@ same_give_up_at i token word p member_status.Compensating = same_give_up_form i 
 same_give_up_at i token word p _ = refl
 
 same_told_form : (i : ℕ) (token word : List ℕ) (p : ℕ) → marks (told_form i token p) ≡ marks (told_form i word p)
+unfolding told_form
 same_told_form i token word p = same_give_up_form i token word p (codes "Tell it no more how its action ended?") (codes "Ended")
 
 same_give_up_where : (b : Bool) (i : ℕ) (token word : List ℕ) (p : ℕ) (s : MemberStatus)

@@ -74,8 +74,12 @@ r_give_up_at i token p _ = refl
 s_give_up_at : (i : ℕ) (token : List ℕ) (p : ℕ) (s : MemberStatus) (y : List ℕ) → refers ((give_up_at i token p s) ++ y) ≡ refers y
 s_give_up_at i token p s y = skip_by (give_up_at i token p s) y (r_give_up_at i token p s)
 
+r_told_form : (i : ℕ) (token : List ℕ) (p : ℕ) → refers (told_form i token p) ≡ true
+unfolding told_form
+r_told_form i token p = r_form_of i token true p (codes "Tell it no more how its action ended?") (codes "Ended") refl refl
+
 r_give_up_where : (b : Bool) (i : ℕ) (token : List ℕ) (p : ℕ) (s : MemberStatus) → refers (cond b (told_form i token p) (give_up_at i token p s)) ≡ true
-r_give_up_where true i token p s = r_form_of i token true p (codes "Tell it no more how its action ended?") (codes "Ended") refl refl
+r_give_up_where true i token p s = r_told_form i token p
 r_give_up_where false i token p s = r_give_up_at i token p s
 
 r_give_up : (i : ℕ) (token : List ℕ) (k : Bool) (row : MemberRow) → refers (give_up i token k row) ≡ true

@@ -79,7 +79,7 @@ abbrev pub wants_telling : Option Want → Bool
 wants_telling want = option_map_or (λ w. is_telling w.kind) want false
 
 -- the form of a member that is only to be told how its action ended: it is given up by ending that
-abbrev pub told_form : ℕ → List ℕ → ℕ → List ℕ
+unfoldable pub told_form : ℕ → List ℕ → ℕ → List ℕ
 told_form i token p = give_up_form i token p (codes "Tell it no more how its action ended?") (codes "Ended")
 
 -- the form of a member's row, where there is something to give up

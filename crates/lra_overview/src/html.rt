@@ -241,6 +241,7 @@ fn wants_telling(want: Option<Want>) -> bool
 }
 
 /// Adds a form that gives a member up, where it is being asked to end, or is only to be told how its action ended.
+#[tactic(auto, unfolding(crate::specs::Pages::told_form))]
 fn put_give_up_where_asked(
     page: &mut Vec<u8>,
     names: &Names<'_>,
