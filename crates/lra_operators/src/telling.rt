@@ -339,7 +339,8 @@ struct Hanging {
     next: Option<u64>,
 }
 
-/// The actions of a journal that are wanted: those of a status, or else those that haven't ended, as its census knows where such are.
+/// The actions of a journal that are wanted: those of a status, or else those that haven't ended, as its census knows
+/// where such are.
 fn list_wanted<O: Overview>(
     alloc: Global,
     overview: &mut O,

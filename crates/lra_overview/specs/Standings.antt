@@ -3,7 +3,8 @@ use Rattle.std.specs.Prelude.{ℕ, nat_le, Bool, if◌then◌else◌}
 use Rattle.lra_overview.specs.declared.overdue.Standing.{Standing}
 use Rattle.lra_overview.specs.declared.overdue.Standing.TheVariants.{AtIt, Silent, Waiting, Timely}
 
--- one that answered last that it is at it is so; another that was asked in vain three times or more is silent; one that is to be asked by now waits; and others don't hold an end up yet
+-- one that answered last that it is at it is so; another that was asked in vain three times or more is silent; one that is
+-- to be asked by now waits; and others don't hold an end up yet
 abbrev pub standing_of : ℕ → ℕ → ℕ → Bool → Standing
 standing_of repeats due moment is_at_it =
     if is_at_it then AtIt

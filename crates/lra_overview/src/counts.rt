@@ -57,7 +57,8 @@ pub fn grown(base: u64, current: u64) -> u64
     base.saturating_add(current)
 }
 
-/// How many actions and members there ever were, and how many actions ended as failed, of some journals. They never get fewer.
+/// How many actions and members there ever were, and how many actions ended as failed, of some journals. They never get
+/// fewer.
 #[derive(Clone, Copy)]
 pub struct Totals {
     pub actions: u64,

@@ -42,7 +42,8 @@ pub enum Standing {
     Timely,
 }
 
-/// Returns how a member holds up an end at a moment that was asked so often in vain, is to be asked from a moment on, and answered last that it is at it or didn't.
+/// Returns how a member holds up an end at a moment that was asked so often in vain, is to be asked from a moment on, and
+/// answered last that it is at it or didn't.
 pub fn standing_of(repeats: u64, due: u64, moment: u64, is_at_it: bool) -> Standing
     ensures { result ≡ spec.standing_of repeats due moment is_at_it }
 {
@@ -112,7 +113,8 @@ impl Tally {
         Ok(overview.query(instance, Query::Row { of, place })?)
     }
 
-    /// Returns how a member holds up an end that is to be asked so. One that was never asked in vain has answered nothing.
+    /// Returns how a member holds up an end that is to be asked so. One that was never asked in vain has answered
+    /// nothing.
     fn standing<O: Overview>(
         &self,
         overview: &mut O,

@@ -1,5 +1,5 @@
 use Rattle.lra_overview.proofs.Chains.{three}
-use Rattle.lra_overview.proofs.json.put_row.Goals as goal
+use Rattle.lra_overview.proofs.objects.put_row.Goals as goal
 
 pub returns : goal.returns
 returns c = three _ _ _ _ _ _ _ _ c.in_ok-put_all.ensures c.in_ok-put_maybe.ensures c.put_all-2.ensures

@@ -1,6 +1,6 @@
 use Rattle.lra_overview.proofs.Chains.{five}
 use Rattle.lra_overview.specs.Lists.{actions}
-use Rattle.lra_overview.proofs.json.put_actions.Goals as goal
+use Rattle.lra_overview.proofs.objects.put_actions.Goals as goal
 
 pub returns : goal.returns
 unfolding actions

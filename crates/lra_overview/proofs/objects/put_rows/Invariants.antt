@@ -1,6 +1,6 @@
 use Rattle.std.proofs.Common.{◌≡◌, ◌++◌, true, drop}
 use Rattle.lra_overview.specs.Lists as lists
-use Rattle.lra_overview.proofs.json.put_rows.Given as goal
+use Rattle.lra_overview.proofs.objects.put_rows.Given as goal
 
 -- what was added so far, with what is left
 abbrev pub invariant-loop-row : goal.invariant-loop-row

@@ -1,6 +1,6 @@
 use Rattle.lra_overview.proofs.Chains.{six}
 use Rattle.lra_overview.specs.Lists.{action}
-use Rattle.lra_overview.proofs.json.put_action.Goals as goal
+use Rattle.lra_overview.proofs.objects.put_action.Goals as goal
 
 pub returns : goal.returns
 unfolding action

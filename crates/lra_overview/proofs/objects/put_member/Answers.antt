@@ -1,6 +1,6 @@
 use Rattle.lra_overview.proofs.Chains.{seven}
 use Rattle.lra_overview.specs.Lists.{member}
-use Rattle.lra_overview.proofs.json.put_member.Goals as goal
+use Rattle.lra_overview.proofs.objects.put_member.Goals as goal
 
 pub returns : goal.returns
 unfolding member

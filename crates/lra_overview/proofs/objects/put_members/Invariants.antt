@@ -1,6 +1,6 @@
 use Rattle.std.proofs.Common.{◌≡◌, ◌++◌, true, drop}
 use Rattle.lra_overview.specs.Lists as lists
-use Rattle.lra_overview.proofs.json.put_members.Given as goal
+use Rattle.lra_overview.proofs.objects.put_members.Given as goal
 
 -- what was added so far, with what is left
 abbrev pub invariant-loop-member : goal.invariant-loop-member
