@@ -12,7 +12,7 @@ use std::rt::Files;
 /// No header is as long.
 const HEADER: usize = 64;
 
-/// What a search for the journal of an instance comes to.
+/// The result of a search for the journal of an instance.
 #[derive(Drop)]
 enum Search {
     /// The path of the journal.

@@ -1,4 +1,4 @@
-//! How far an audit, a listing or an upgrade has read, on a line of a terminal that is written again and again.
+//! The progress of an audit, a listing or an upgrade, on a line of a terminal that is written again and again.
 
 use lra_audits::RunFault;
 use lra_opening::Herald;
@@ -10,7 +10,7 @@ use std::rt::Files;
 use std::sync::atomic::{AtomicBool, AtomicU64, Ordering};
 use std::time::Clock;
 
-/// How many milliseconds pass until the line is written first, and from one time to the next.
+/// The milliseconds that pass until the line is written first, and from one time to the next.
 const FIRST: u64 = 1000;
 
 const PAUSE: u64 = 200;
@@ -18,10 +18,11 @@ const PAUSE: u64 = 200;
 /// A megabyte, in bytes.
 const MEGABYTE: u64 = 1_000_000;
 
-/// What clears the line.
+/// The bytes that clear the line.
 const BLANK: &str = "\r                                                \r";
 
-/// How far a run has read. Of what is told nothing is promised: where the clock or memory fails, or two threads tell at once, there is one line less.
+/// The progress of a run. Nothing is promised of it: where the clock or memory fails, or two threads report at once, there
+/// is one line less.
 #[derive(Drop)]
 pub(crate) struct Gauge<'a, R, H> {
     alloc: Global,

@@ -4,7 +4,7 @@ use lra_journal::read_number;
 use lra_model::ActionStatus;
 use std::alloc::{AllocError, Global};
 
-/// How each verb is called, behind the program's name.
+/// The call of each verb, behind the program's name.
 const CALLS: [(&str, &str); 10] = [
     ("audit", "audit FILE"),
     ("show", "show FILE"),

@@ -1,4 +1,4 @@
-//! Whether the identifiers of a service lead anywhere.
+//! The warning that the identifiers of a service lead nowhere.
 
 use lra_opening::Herald;
 use lra_options::{Options, Word};

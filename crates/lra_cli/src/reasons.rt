@@ -1,4 +1,5 @@
-//! Why the system doesn't give what a call needs, behind the line of the fault: where a terminal shows standard error, and in a log.
+//! The reasons for which the system doesn't give what a call needs, behind the line of the fault: on a terminal, and in a
+//! log.
 
 use crate::misuse::{misuse_line, misuse_of};
 use lra_audits::{tell, tell_usage};
@@ -29,7 +30,7 @@ pub(crate) enum Reason {
     NoAddress,
 }
 
-/// What the line of a fault says that isn't had.
+/// The thing that the line of a fault says isn't had.
 #[derive(Clone, Copy, Debug, PartialEq, Eq)]
 enum Lacked<'a> {
     /// A file that can't be read.
@@ -178,7 +179,8 @@ pub(crate) fn log_unsound<R: AllocGlobal + Eprint + Clock + Wait>(
     }
 }
 
-/// Tells the line of a fault, and why: where a terminal shows standard error, and in the log, if there is one. Returns the program's status.
+/// Reports the line of a fault, and why: where a terminal shows standard error, and in the log, if there is one. Returns
+/// the program's status.
 pub(crate) fn fail<
     R: AllocGlobal
         + Files<File = File>
@@ -206,7 +208,8 @@ pub(crate) fn fail<
     FAULT
 }
 
-/// Tells behind the fault of a call, where a terminal shows it, why the place that it names can't be read. Returns the call's status.
+/// Reports behind the fault of a call, where a terminal shows it, why the place that it names can't be read. Returns the
+/// call's status.
 pub(crate) fn behind<R: AllocGlobal + Files<File = File>, H: Herald>(
     rt: &R,
     watcher: &H,

@@ -267,7 +267,7 @@ fn is_wanted(given: &str, wanted: Option<&str>) -> bool
     }
 }
 
-/// Whether a text is another than the one that is wanted, if one is. An empty one isn't.
+/// Returns whether a text is another than the one that is wanted, if one is. An empty one isn't.
 fn is_mistaken(given: &str, wanted: Option<&str>) -> bool
     ensures { result ≡ spec.mistakes (Some given.now) (option_map (λ text. text.now) wanted.entry) }
 {
@@ -316,7 +316,7 @@ fn form_gives(alloc: Global, form: &[u8], name: &str, wanted: Option<&str>) -> R
     }
 }
 
-/// Whether a form gives another text under a name than the one that is wanted, if one is. An empty one isn't.
+/// Returns whether a form gives another text under a name than the one that is wanted, if one is. An empty one isn't.
 fn form_mistakes(
     alloc: Global,
     form: &[u8],

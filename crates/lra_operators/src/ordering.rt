@@ -16,7 +16,7 @@ use lra_wire::RequestRead;
 use serde_json::Value;
 use std::alloc::Global;
 
-/// How a member is given up.
+/// The two ways of giving a member up.
 #[derive(Clone, Copy, Debug, PartialEq, Eq)]
 enum GivingUp {
     /// It ends so, as it would report itself.
@@ -36,7 +36,7 @@ fn giving_up_named(word: &str) -> Option<GivingUp> {
     }
 }
 
-/// How a member is given up, as the body of a request tells it: a form, or an object.
+/// Returns the way in which a body gives a member up: a form, or an object.
 fn giving_up_in(alloc: Global, body: &[u8]) -> Result<Option<GivingUp>, Memory> {
     if let Some(word) = in_form(alloc, body, "status")? {
         return Ok(giving_up_named(word.as_str()));
@@ -87,7 +87,7 @@ fn cancel<O: Overview>(overview: &mut O, target: &str) -> Result<Told, Trouble>
     give(overview, found.instance, &Order::Cancel { action })
 }
 
-/// Has a member that has ended not told any more that its action has.
+/// Ends what a member that has ended is asked.
 fn end_asking<O: Overview>(
     overview: &mut O,
     instance: Instance,
@@ -101,7 +101,7 @@ fn end_asking<O: Overview>(
     }
 }
 
-/// Has the member that a target names end by its failure, or not told any more that its action has ended.
+/// Gives up the member that a target names: it ends by its failure, or what it is asked once it has ended does.
 fn give_up<O: Overview>(
     overview: &mut O,
     target: &str,

@@ -357,7 +357,7 @@ fn list_wanted<O: Overview>(
     }
 }
 
-/// What is wanted of a journal, with what it waits for.
+/// Returns the actions that are wanted of a journal, with what each waits for.
 fn find_hanging<O: Overview>(
     alloc: Global,
     overview: &mut O,
@@ -381,7 +381,7 @@ fn find_hanging<O: Overview>(
     }
 }
 
-/// What is wanted of a journal, with how long that is known of which hasn't ended.
+/// Returns the actions that are wanted of a journal, with how long each is known that hasn't ended.
 fn hanging_of(
     counted: &Counted,
     wanted: Wanted,
@@ -395,7 +395,7 @@ fn hanging_of(
     Hanging { waiting, next }
 }
 
-/// Whether actions are wanted that haven't ended.
+/// Returns whether actions are wanted that haven't ended.
 fn is_open(status: Option<ActionStatus>) -> bool {
     matches!(
         status,

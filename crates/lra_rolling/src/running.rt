@@ -129,7 +129,7 @@ fn secret_line(alloc: Global, is_read: bool) -> Result<String, AllocError> {
     format!(in alloc; "lra: identifiers begin otherwise than they did{end}\n")
 }
 
-/// Has members of journals not told any more that their actions have ended.
+/// Ends what members of journals are asked that were given up.
 fn give_up_all<R: Wait, B: Drop>(
     rt: &R,
     watches: &[Watch<B>],

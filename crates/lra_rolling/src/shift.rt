@@ -34,7 +34,7 @@ use std::time;
 /// Between how many of the journals the callbacks that go out at once are shared: the newest, and one before it.
 const BUSY: usize = 2;
 
-/// What a thread does.
+/// The duty of a thread.
 #[derive(Clone, Copy, Debug, PartialEq, Eq)]
 pub(crate) enum Duty {
     /// Accepts connections.
@@ -282,7 +282,8 @@ impl<
         self.names.run(self.rt, &self.crier.bells);
     }
 
-    /// Tries to make the callbacks of one who carries for a journal: none are under way. Where memory is refused the poll is given back.
+    /// Tries to make the callbacks of a journal's callback worker: none are under way. Where memory is refused the poll is
+    /// given back.
     fn try_callbacks<'b>(
         &'b self,
         journal: &'b Journal<B>,
@@ -378,7 +379,8 @@ impl<
         self.tell_end(end, journal.instance);
     }
 
-    /// Lets limits fire and carries errands of a journal, many at once. Where it has no place for that no one answers any more.
+    /// Lets limits fire and carries errands of a journal, many at once. Where it has no place for that no one answers any
+    /// more.
     pub(crate) fn carry(&self, journal: &Journal<B>) {
         let poll = journal.stall.poll.lock(self.rt).take();
         match poll {

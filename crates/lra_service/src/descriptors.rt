@@ -1,4 +1,4 @@
-//! How many descriptors the system lets a service have, and what comes of that.
+//! The descriptors that the system lets a service have, and what comes of that.
 
 ghost use Rattle.std.specs.Prelude.{IfErr};
 ghost use Rattle.lra_opening.specs.Ends.{IsOfAddress};
@@ -11,7 +11,7 @@ use std::fs::File;
 use std::os::unix::fs::FileExt;
 use std::rt::Files;
 
-/// How much of the system's file of limits is read.
+/// The bytes of the system's file of limits that are read.
 const PIECE: usize = 4_096;
 
 /// The number behind the name of the limit of open files, in the system's table of limits.
@@ -24,7 +24,7 @@ fn limit_in(table: &str) -> Option<u64> {
         .ok()
 }
 
-/// How many descriptors this process may have, where the system tells that and it is limited.
+/// Returns how many descriptors this process may have, where the system tells that and it is limited.
 fn descriptor_limit<R: Files<File = File>>(rt: &R) -> Option<u64> {
     let file = File::open(rt, "/proc/self/limits").ok()?;
     let mut piece = [0u8; PIECE];

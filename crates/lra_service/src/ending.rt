@@ -83,7 +83,7 @@ fn read_out<I: Read>(input: &mut I) {
     }
 }
 
-/// Has a service end gently once an input has ended. A thread of its own waits for that. It is left to itself, so that
+/// Ends a service gently once an input has ended. A thread of its own waits for that. It is left to itself, so that
 /// it holds nobody up. Where it can't be started, nothing is served.
 pub fn watch<R: Threads, I: Read + Send + Drop + 'static>(
     rt: &R,

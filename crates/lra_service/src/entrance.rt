@@ -204,10 +204,10 @@ impl<'a, R: Wait> Entrance<'a, R> {
     }
 }
 
-/// How the system says that too many files are open: on the whole machine, and in this process.
+/// The system's codes for too many open files: on the whole machine, and in this process.
 const CROWDED: [i32; 2] = [23, 24];
 
-/// Whether a fault says that too many files are open.
+/// Returns whether a fault says that too many files are open.
 fn is_crowded(error: &io::Error) -> bool {
     match error.raw_os_error() {
         Some(code) => CROWDED.contains(&code),

@@ -65,7 +65,8 @@ impl<'a, R, D: Disk, J> CarrierGate<'a, R, D, J> {
         }
     }
 
-    /// Notes that another turn begins. Where no memory was refused in the last one, that went well, and pauses begin anew.
+    /// Notes that another turn begins. Where no memory was refused in the last one, that went well, and pauses begin
+    /// anew.
     fn turn(&mut self) {
         if self.is_refused {
             self.is_refused = false;

@@ -298,7 +298,8 @@ impl<
         SystemClock::new(self.rt, self.moment)
     }
 
-    /// Tries to make the callbacks of one who carries: none are under way. Where memory is refused the poll is given back.
+    /// Tries to make the callbacks of a callback worker: none are under way. Where memory is refused the poll is given
+    /// back.
     fn try_callbacks<'b>(
         &'b self,
         stall: &'b Stall,

@@ -1,11 +1,11 @@
-//! How long a callback worker pauses that is refused memory.
+//! The pauses of a callback worker that is refused memory.
 
 ghost use Rattle.std.specs.Prelude.{◌≡◌, ◌≤◌};
 ghost use Rattle.lra_service.specs.inner.Stamina as spec;
 
 use lra_timers::pause;
 
-/// How many milliseconds it pauses at first, and at most.
+/// The milliseconds that it pauses at first, and at most.
 const FIRST_PAUSE_MS: u64 = 10;
 
 const LONGEST_PAUSE_MS: u64 = 1_000;
