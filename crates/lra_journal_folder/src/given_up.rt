@@ -24,14 +24,12 @@ pub fn given_up_line(alloc: Global, given: GivenUp) -> Result<String, Memory>
     format!(in alloc; "{journal} {member} given up\n")
 }
 
-/// Returns the member whose line may be a text.
-fn member_spelled(text: &str) -> Option<GivenUp> {
+/// Returns the journal's instance and the member's number that a text may note.
+fn numbers_in(text: &str) -> Option<(Instance, u64)> {
     let (numbers, _) = text.split_once(" given up")?;
     let (journal, member) = numbers.split_once(' ')?;
-    Some(GivenUp {
-        journal: Instance::new(journal.parse::<u64>().ok()?)?,
-        member: member.parse::<u64>().ok()?,
-    })
+    let journal = Instance::new(journal.parse::<u64>().ok()?)?;
+    Some((journal, member.parse::<u64>().ok()?))
 }
 
 /// Returns the member that a line notes, with the line feed at its end. None where it isn't the line of one, as where a
@@ -39,12 +37,12 @@ fn member_spelled(text: &str) -> Option<GivenUp> {
 pub fn given_up_in(alloc: Global, line: &str) -> Result<Option<GivenUp>, Memory>
     ensures { IfOk result (λ found. IfSome found (λ given. line.now ≡ spec.line given)) }
 {
-    let Some(given) = member_spelled(line) else {
+    let Some((journal, member)) = numbers_in(line) else {
         return Ok(None);
     };
-    let own = given_up_line(alloc, given)?;
+    let own = given_up_line(alloc, GivenUp { journal, member })?;
     if own.as_str() == line {
-        Ok(Some(given))
+        Ok(Some(GivenUp { journal, member }))
     } else {
         Ok(None)
     }
