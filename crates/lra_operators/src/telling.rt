@@ -368,6 +368,7 @@ fn find_hanging<O: Overview>(
 {
     let Wanted {
         instance,
+        status,
         moment,
         ..
     } = wanted;
@@ -376,21 +377,22 @@ fn find_hanging<O: Overview>(
     let gathered = all_waiting(alloc, overview, instance, listed.rows.as_slice(), moment);
     drop(listed);
     match gathered {
-        Ok(waiting) => Ok(hanging_of(counted, wanted, waiting, next)),
+        Ok(waiting) => Ok(hanging_of(counted, status, moment, waiting, next)),
         Err(trouble) => Err(trouble),
     }
 }
 
-/// Returns the actions that are wanted of a journal, with how long each is known that hasn't ended.
+/// Returns actions of a status, or that haven't ended, with how long each is known that hasn't ended.
 fn hanging_of(
     counted: &Counted,
-    wanted: Wanted,
+    status: Option<ActionStatus>,
+    moment: u64,
     waiting: Vec<Waiting>,
     next: Option<u64>,
 ) -> Hanging {
     let mut waiting = waiting;
-    if is_open(wanted.status) {
-        counted.add_ages(&mut waiting, wanted.moment);
+    if is_open(status) {
+        counted.add_ages(&mut waiting, moment);
     }
     Hanging { waiting, next }
 }
@@ -435,10 +437,14 @@ fn show_journal<O: Overview>(
 ) -> Result<Reply, Trouble>
     ensures { O.orders overview.new ≡ O.orders overview.old }
 {
-    let instance = wanted.instance;
+    let Wanted {
+        instance,
+        status,
+        ..
+    } = wanted;
     let found = find_hanging(alloc, overview, counted, wanted)?;
     let names = Names::new(alloc, instance, overview.base());
-    lay_home(alloc, &names, forms, total, wanted.status, &found)
+    lay_home(alloc, &names, forms, total, status, &found)
 }
 
 /// The first page, of what was counted.
