@@ -2,7 +2,7 @@
 
 use lra_journal::read_number;
 use lra_model::ActionStatus;
-use lra_stories::{Form, Wanted, read_wanted};
+use lra_stories::{Form, read_wanted};
 
 /// What these words ask for.
 #[derive(Clone, Copy)]
@@ -10,7 +10,6 @@ pub(crate) enum Asking<'a> {
     /// What happened to an action.
     Explain {
         place: &'a str,
-        wanted: Wanted,
         form: Form,
         name: &'a str,
     },
@@ -121,12 +120,11 @@ fn is_name(word: &str) -> bool {
 
 /// The story in a form of the action that a word names. None where it names none.
 fn explain_of<'a>(place: &'a str, form: Form, name: &'a str) -> Option<Asking<'a>> {
-    Some(Asking::Explain {
-        place,
-        wanted: read_wanted(name)?,
-        form,
-        name,
-    })
+    if read_wanted(name).is_some() {
+        Some(Asking::Explain { place, form, name })
+    } else {
+        None
+    }
 }
 
 /// What words with a verb and a place ask for.

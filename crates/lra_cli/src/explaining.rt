@@ -1,10 +1,10 @@
 //! The story of an action, in a journal or in that of a folder which has it.
 
-use lra_audits::{RunFault, error_line, next_piece, put, settle, tell};
+use lra_audits::{RunFault, error_line, next_piece, put, settle, tell, tell_usage};
 use lra_folders::{Found, find, is_folder, tell_none};
 use lra_journal::{Instance, first_line, read_header};
 use lra_reports::{Sources, System};
-use lra_stories::{Form, Wanted, explain_run, missing_text};
+use lra_stories::{Form, Wanted, explain_run, missing_text, read_wanted};
 use std::io;
 use std::io::Read;
 use std::rt::Files;
@@ -169,10 +169,12 @@ fn explain_in<R: AllocGlobal + Files + Input + Print + Eprint + Clone + Drop>(
 pub(crate) fn answer_explain<R: AllocGlobal + Files + Input + Print + Eprint + Clone + Drop>(
     rt: &R,
     place: &str,
-    wanted: Wanted,
     form: Form,
     name: &str,
 ) -> u8 {
+    let Some(wanted) = read_wanted(name) else {
+        return tell_usage(rt);
+    };
     if is_folder(rt, place) {
         explain_in(rt, place, wanted, form, name)
     } else {

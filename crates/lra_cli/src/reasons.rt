@@ -6,6 +6,7 @@ use lra_audits::{tell, tell_usage};
 use lra_folders::is_folder;
 use lra_logs::Level;
 use lra_opening::{Herald, ServeFault};
+use lra_options::OptionsFault;
 use lra_service::{Book, site_at};
 use std::alloc::{AllocError, Global};
 use std::fs;
@@ -159,37 +160,50 @@ fn with_reason(alloc: Global, line: &str, reason: Reason) -> Result<String, Allo
     format!(in alloc; "{said}: {text}\n")
 }
 
-/// Tells a line at the level of errors, where a log is written.
-fn log_fault<R: Eprint + Clock + Wait>(book: Option<&Book<R>>, line: &str) {
-    if let Some(book) = book
-        && !book.log.is_off()
-    {
-        book.log.tell(Level::Error, line);
+/// A log that faults are written to, or none.
+pub(crate) trait FaultLog {
+    /// Writes a line at the level of errors.
+    fn note_fault(&self, line: &str);
+}
+
+/// No log.
+pub(crate) struct Unlogged;
+
+impl FaultLog for Unlogged {
+    fn note_fault(&self, _line: &str) {}
+}
+
+impl<R: Eprint + Clock + Wait> FaultLog for Book<R> {
+    fn note_fault(&self, line: &str) {
+        if !self.log.is_off() {
+            self.log.tell(Level::Error, line);
+        }
     }
 }
 
-/// Tells in a log, if there is one, that a journal isn't sound.
-pub(crate) fn log_unsound<R: AllocGlobal + Eprint + Clock + Wait>(
-    rt: &R,
-    book: Option<&Book<R>>,
-    file: &str,
-) {
-    if let Ok(line) = format!(in rt.alloc(); "lra: {file} is not sound\n") {
-        log_fault(book, line.as_str());
+/// A log that isn't there where its options are wrong.
+impl<R: Eprint + Clock + Wait> FaultLog for Result<Book<R>, OptionsFault> {
+    fn note_fault(&self, line: &str) {
+        if let Ok(book) = self {
+            book.note_fault(line);
+        }
+    }
+}
+
+/// Writes to a log that a journal isn't sound.
+pub(crate) fn log_unsound<L: FaultLog>(alloc: Global, log: &L, file: &str) {
+    if let Ok(line) = format!(in alloc; "lra: {file} is not sound\n") {
+        log.note_fault(line.as_str());
     }
 }
 
 /// Reports the line of a fault, and why: where a terminal shows standard error, and in the log, if there is one. Returns
 /// the program's status.
 pub(crate) fn fail<
-    R: AllocGlobal
-        + Files<File = File>
-        + Net<Stream = TcpStream, Listener = TcpListener>
-        + Clock
-        + Wait
-        + Eprint,
+    R: AllocGlobal + Files<File = File> + Net<Stream = TcpStream, Listener = TcpListener> + Eprint,
     H: Herald,
->(rt: &R, watcher: &H, book: Option<&Book<R>>, line: Result<String, AllocError>) -> u8 {
+    L: FaultLog,
+>(rt: &R, watcher: &H, log: &L, line: Result<String, AllocError>) -> u8 {
     let Ok(line) = line else {
         return tell(rt, line);
     };
@@ -197,13 +211,13 @@ pub(crate) fn fail<
     let told = match why(rt, line.as_str()) {
         Some(reason) => with_reason(rt.alloc(), line.as_str(), reason),
         None => {
-            log_fault(book, line.as_str());
+            log.note_fault(line.as_str());
             return FAULT;
         }
     };
     if let Ok(told) = told {
         watcher.tell(told.as_str());
-        log_fault(book, told.as_str());
+        log.note_fault(told.as_str());
     }
     FAULT
 }

@@ -1,7 +1,7 @@
 //! What is served of a folder.
 
 use crate::grounds::Grounds;
-use crate::reasons::{fail, log_unsound};
+use crate::reasons::{FaultLog, Unlogged, fail, log_unsound};
 use crate::serving::{put_words, tell_way};
 use lra_admission::KeyFiles;
 use lra_ids::Base;
@@ -25,31 +25,27 @@ use std::time::Clock;
 /// The status of a service over a folder that has ended, or isn't there. A fault is told, and so is where a journal isn't sound the way to what is sound
 /// of it.
 fn settle_rolling<
-    R: AllocGlobal
-        + Files<File = File>
-        + Net<Stream = TcpStream, Listener = TcpListener>
-        + Clock
-        + Wait
-        + Eprint,
+    R: AllocGlobal + Files<File = File> + Net<Stream = TcpStream, Listener = TcpListener> + Eprint,
     H: Herald,
+    L: FaultLog,
 >(
     rt: &R,
     outcome: Result<FolderServed, RollingFault>,
     options: &Options<'_>,
     watcher: &H,
-    book: Option<&Book<R>>,
+    log: &L,
 ) -> u8 {
     match outcome {
         Ok(FolderServed::Ended) => 0,
         Ok(FolderServed::Unsound { status, path }) => {
             tell_way(rt, path.as_str());
-            log_unsound(rt, book, path.as_str());
+            log_unsound(rt.alloc(), log, path.as_str());
             status
         }
         Err(fault) => fail(
             rt,
             watcher,
-            book,
+            log,
             rolling_line(rt.alloc(), fault, options.address, options.file),
         ),
     }
@@ -83,7 +79,7 @@ pub(crate) fn check_rolling<
         Ok(FolderServed::Ended) => tell_words(rt, options),
         other => other,
     };
-    settle_rolling(rt, told, options, watcher, None)
+    settle_rolling(rt, told, options, watcher, &Unlogged)
 }
 
 /// Writes what is said of the options whose values are texts, behind what would be served.
@@ -143,7 +139,7 @@ pub(crate) fn serve_rolling<
         book,
         &mut io::writer(rt),
     );
-    let status = settle_rolling(rt, outcome, options, watcher, Some(book));
+    let status = settle_rolling(rt, outcome, options, watcher, book);
     book.log.close();
     status
 }

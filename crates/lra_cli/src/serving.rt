@@ -2,19 +2,20 @@
 
 use crate::grounds::{Grounds, copy_base, grounds_of, wrong};
 use crate::nowhere::warn_of_nowhere;
-use crate::reasons::{fail, log_unsound, tell_misuse};
+use crate::reasons::{FaultLog, Unlogged, fail, log_unsound, tell_misuse};
 use crate::rolling::{check_rolling, serve_rolling};
 use lra_admission::KeyFiles;
 use lra_audits::{RunFault, error_line, put, settle};
 use lra_fence::Fenced;
 use lra_folders::is_folder;
+use lra_ids::Base;
 use lra_logs::{Format, LevelFilter, Logbook, has_priorities, level_named};
 use lra_opening::NamedFile;
 use lra_options::{Options, OptionsFault, Said, Word, read_options};
 use lra_reports::hint_line;
 use lra_service::{
-    Aloud, Book, Entry, Herald, ServeFault, Served, Spot, check_place, fault_line, fit_descriptors,
-    put_text, serve_with, spot_at,
+    Aloud, Book, Entry, Herald, ServeFault, Served, Spot, Terms, check_place, fault_line,
+    fit_descriptors, put_text, serve_with, spot_at,
 };
 use lra_settings::{Settings, taken_by_file};
 use lra_syncs::Timed;
@@ -78,32 +79,22 @@ pub(crate) fn tell_way<R: AllocGlobal + Eprint>(rt: &R, file: &str) {
 /// The status of a service that has ended, or isn't there. A fault is told, and so is where a journal isn't sound the way to what is sound
 /// of it.
 fn settle_serving<
-    R: AllocGlobal
-        + Files<File = File>
-        + Net<Stream = TcpStream, Listener = TcpListener>
-        + Clock
-        + Wait
-        + Eprint,
+    R: AllocGlobal + Files<File = File> + Net<Stream = TcpStream, Listener = TcpListener> + Eprint,
     H: Herald,
->(
-    rt: &R,
-    outcome: Result<u8, ServeFault>,
-    options: &Options<'_>,
-    watcher: &H,
-    book: Option<&Book<R>>,
-) -> u8 {
+    L: FaultLog,
+>(rt: &R, outcome: Result<u8, ServeFault>, options: &Options<'_>, watcher: &H, log: &L) -> u8 {
     match outcome {
         Ok(status) => {
             if status != 0 {
                 tell_way(rt, options.file);
-                log_unsound(rt, book, options.file);
+                log_unsound(rt.alloc(), log, options.file);
             }
             status
         }
         Err(fault) => fail(
             rt,
             watcher,
-            book,
+            log,
             fault_line(rt.alloc(), fault, options.address, options.file),
         ),
     }
@@ -202,6 +193,31 @@ fn look_over<R: AllocGlobal + Files<File = File> + KeyFiles + Fenced + Env + Clo
     Ok(())
 }
 
+/// Tells what would be served of a file. The watcher is told how far the journal has been read.
+fn check_file<
+    'a,
+    R: AllocGlobal + Files<File = File> + Clone + Drop + Clock + Print + Eprint,
+    H: Herald + Sync,
+>(
+    rt: &'a R,
+    options: &Options<'_>,
+    file: &'a str,
+    base: Option<Base>,
+    watcher: &'a H,
+) -> Result<u8, ServeFault> {
+    check_place(
+        rt.alloc(),
+        options.address,
+        base,
+        &options.also_bases,
+        file,
+        &NamedFile::told(rt, file, watcher),
+        options.workers,
+        &options.settings,
+        &mut io::writer(rt),
+    )
+}
+
 /// Tells what would be served. The watcher is told how far the journal has been read.
 fn answer_check<
     R: AllocGlobal
@@ -219,31 +235,20 @@ fn answer_check<
     H: Herald + Sync,
 >(rt: &R, options: &Options<'_>, watcher: &H) -> u8 {
     if let Err(fault) = look_over(rt, options) {
-        return tell_fault(rt, watcher, None, fault);
+        return tell_fault(rt, watcher, &Unlogged, fault);
     }
     let Ok(base) = copy_base(options) else {
-        return tell_fault(rt, watcher, None, OptionsFault::Memory);
+        return tell_fault(rt, watcher, &Unlogged, OptionsFault::Memory);
     };
     warn_of_nowhere(rt.alloc(), options, options.address, &Aloud { rt });
     if is_folder(rt, options.file) {
         return check_rolling(rt, options, base, watcher);
     }
-    let outcome = check_place(
-        rt.alloc(),
-        options.address,
-        base,
-        &options.also_bases,
-        options.file,
-        &NamedFile::told(rt, options.file, watcher),
-        options.workers,
-        &options.settings,
-        &mut io::writer(rt),
-    );
-    let told = match outcome {
+    let told = match check_file(rt, options, options.file, base, watcher) {
         Ok(0) => put_words(rt.alloc(), options, &mut io::writer(rt)).map(|_| 0),
         other => other,
     };
-    settle_serving(rt, told, options, watcher, None)
+    settle_serving(rt, told, options, watcher, &Unlogged)
 }
 
 /// The key that operators have to give, if a file of one is named.
@@ -270,16 +275,12 @@ fn operators_of<
 
 /// Tells why there is no port for operators. The answer is the program's status.
 fn tell_port<
-    R: AllocGlobal
-        + Files<File = File>
-        + Net<Stream = TcpStream, Listener = TcpListener>
-        + Clock
-        + Wait
-        + Eprint,
+    R: AllocGlobal + Files<File = File> + Net<Stream = TcpStream, Listener = TcpListener> + Eprint,
     H: Herald,
->(rt: &R, fault: PortFault, options: &Options<'_>, watcher: &H, book: Option<&Book<R>>) -> u8 {
+    L: FaultLog,
+>(rt: &R, fault: PortFault, options: &Options<'_>, watcher: &H, log: &L) -> u8 {
     let address = options.said.text(Word::Operators).unwrap_or("-");
-    fail(rt, watcher, book, port_line(rt.alloc(), fault, address))
+    fail(rt, watcher, log, port_line(rt.alloc(), fault, address))
 }
 
 /// The log of a service, as its options say: one that is off, where none is asked for.
@@ -317,6 +318,52 @@ fn unknown(alloc: Global, word: Word, text: &str, those: &str) -> OptionsFault {
     wrong(format!(in alloc; "--{name}: {text} is not {those}"))
 }
 
+/// Serves a file's coordinator. The watcher is told how far the journal has been read.
+fn serve_file<
+    'a,
+    R: AllocGlobal
+        + Files<File = File>
+        + KeyFiles
+        + Net<Stream = TcpStream, Listener = TcpListener>
+        + Clock
+        + Threads
+        + Wait
+        + Print
+        + Eprint
+        + Timed
+        + Sync
+        + Send
+        + Clone
+        + Drop,
+    H: Herald + Sync,
+>(
+    rt: &'a R,
+    address: &str,
+    file: &'a str,
+    base: Option<Base>,
+    terms: Terms<'_>,
+    workers: u32,
+    settings: Settings,
+    post: Option<&Watchpost>,
+    entry: Entry<ChildStdout>,
+    book: &Book<R>,
+    watcher: &'a H,
+) -> Result<Served, ServeFault> {
+    serve_with(
+        rt,
+        address,
+        base,
+        terms,
+        &NamedFile::told(rt, file, watcher),
+        workers,
+        settings,
+        post,
+        entry,
+        book,
+        &mut io::writer(rt),
+    )
+}
+
 /// Serves, until an input has ended if there is one, and answers the program's status. The watcher is told how far the journal has been read.
 fn answer_until<
     R: AllocGlobal
@@ -339,23 +386,22 @@ fn answer_until<
 >(rt: &R, options: &Options<'_>, input: Option<ChildStdout>, watcher: &H) -> u8 {
     // What is wrong with its options is told after what else is.
     let book = book_of(rt, &options.said);
-    let log = book.as_ref().ok();
     let post = match operators_of(rt, options) {
         Ok(post) => post,
-        Err(fault) => return tell_port(rt, fault, options, watcher, log),
+        Err(fault) => return tell_port(rt, fault, options, watcher, &book),
     };
     let spot = match spot_at(rt, rt.alloc(), options.address) {
         Ok(spot) => spot,
-        Err(fault) => return settle_serving(rt, Err(fault), options, watcher, log),
+        Err(fault) => return settle_serving(rt, Err(fault), options, watcher, &book),
     };
     let Spot { address, listener } = spot;
     let grounds = match sound_grounds(rt, options, address.as_str()) {
         Ok(grounds) => grounds,
-        Err(fault) => return tell_fault(rt, watcher, log, fault),
+        Err(fault) => return tell_fault(rt, watcher, &book, fault),
     };
     let book = match book {
         Ok(book) => book,
-        Err(fault) => return tell_fault(rt, watcher, None, fault),
+        Err(fault) => return tell_fault(rt, watcher, &Unlogged, fault),
     };
     warn_of_nowhere(rt.alloc(), options, address.as_str(), &book);
     let entry = Entry { listener, input };
@@ -375,31 +421,31 @@ fn answer_until<
     let settings = match fit_descriptors(rt, rt.alloc(), &book, taken, options.settings) {
         Ok(settings) => settings,
         Err(fault) => {
-            let status = settle_serving(rt, Err(fault), options, watcher, Some(&book));
+            let status = settle_serving(rt, Err(fault), options, watcher, &book);
             book.log.close();
             return status;
         }
     };
     let (base, grounds) = grounds.parted();
-    let served = serve_with(
+    let served = serve_file(
         rt,
         address.as_str(),
+        options.file,
         base,
         grounds.terms(&options.also_bases),
-        &NamedFile::told(rt, options.file, watcher),
         options.workers,
         settings,
         post.as_ref(),
         entry,
         &book,
-        &mut io::writer(rt),
+        watcher,
     );
     let outcome = match served {
         Ok(Served::Unsound(status)) => Ok(status),
         Ok(Served::Ended) => Ok(0),
         Err(fault) => Err(fault),
     };
-    let status = settle_serving(rt, outcome, options, watcher, Some(&book));
+    let status = settle_serving(rt, outcome, options, watcher, &book);
     book.log.close();
     status
 }
@@ -473,7 +519,7 @@ where
         Err(_) => fail(
             rt,
             watcher,
-            None,
+            &Unlogged,
             error_line(rt.alloc(), RunFault::Read, "-"),
         ),
     }
@@ -484,25 +530,24 @@ fn tell_fault<
     R: AllocGlobal
         + Files<File = File>
         + Net<Stream = TcpStream, Listener = TcpListener>
-        + Clock
-        + Wait
         + Print
         + Eprint,
     H: Herald,
->(rt: &R, watcher: &H, book: Option<&Book<R>>, fault: OptionsFault) -> u8 {
+    L: FaultLog,
+>(rt: &R, watcher: &H, log: &L, fault: OptionsFault) -> u8 {
     match fault {
         OptionsFault::Help(text) => {
             let outcome = put(&mut io::writer(rt), text.as_str().as_bytes());
             settle(rt, outcome.map(|_| 0), "-")
         }
         OptionsFault::Wrong(text) => {
-            fail(rt, watcher, book, format!(in rt.alloc(); "lra: {text}\n"))
+            fail(rt, watcher, log, format!(in rt.alloc(); "lra: {text}\n"))
         }
         OptionsFault::Memory => {
             fail(
                 rt,
                 watcher,
-                book,
+                log,
                 error_line(rt.alloc(), RunFault::Memory, "-"),
             )
         }
@@ -539,6 +584,6 @@ where
     match read_options(rt, rest) {
         Ok(options) if options.is_check => answer_check(rt, &options, watcher),
         Ok(options) => answer_serving(rt, &options, watcher),
-        Err(fault) => tell_fault(rt, watcher, None, fault),
+        Err(fault) => tell_fault(rt, watcher, &Unlogged, fault),
     }
 }

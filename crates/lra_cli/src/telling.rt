@@ -276,12 +276,7 @@ where
     R::Reader: AsFd,
 {
     match asking {
-        Asking::Explain {
-            place,
-            wanted,
-            form,
-            name,
-        } => answer_explain(rt, place, wanted, form, name),
+        Asking::Explain { place, form, name } => answer_explain(rt, place, form, name),
         Asking::List { place, choice } => answer_list(rt, place, choice),
         Asking::Follow { place, stop_at_eof } => answer_follow(rt, place, stop_at_eof),
     }
