@@ -162,10 +162,16 @@ fn carry<R: Wait + Net + Clock>(
         &bells,
         &outcomes,
     );
-    if let Ok(mut callbacks) = made {
-        take_all(&mut callbacks, held);
-        count = carry_within(rt, &mut callbacks, wanted, Duration::from_secs(20));
-        drop(callbacks);
+    match made {
+        Ok(mut callbacks) => {
+            take_all(&mut callbacks, held);
+            count = carry_within(rt, &mut callbacks, wanted, Duration::from_secs(20));
+            drop(callbacks);
+        }
+        Err(poll) => {
+            drop(poll);
+            drop(held);
+        }
     }
     count.reply = reply_in(rt, alloc, &outcomes);
     drop(outcomes);
