@@ -1,6 +1,7 @@
 """Which definitions a crate cites of the crates below it: modules of their `specs/`, their declared types and traits, and what these cite in turn."""
 import functools
 import glob
+import hashlib
 import os
 import re
 
@@ -9,6 +10,10 @@ ROOT = os.path.dirname(os.path.dirname(os.path.abspath(__file__)))
 NAMED = re.compile(r"Rattle\.(lra_\w+)\.specs((?:\.\w+)*)")
 # What begins the text of a declared type, trait or model, and its name. The text ends with the first line that closes it.
 DECLARED = re.compile(r"(?:pub(?:\([\w ]+\))? )?(?:struct|enum|union|trait|type) (\w+)|impl(?:<.*>)? Model for (\w+)")
+# What brings names of a crate into a file: whether definitions or items, the crate, the module, and the names.
+BRINGS = re.compile(
+    r"^[ \t]*(?:pub(?:\([\w ]+\))? )?(?:ghost )?use (Rattle\.)?(lra_\w+)((?:(?:\.|::)\w+)*)(?:(?:\.|::)\{([^}]*)\})?((?: as \w+)?);?[ \t]*$", re.M
+)
 # Types that are brought in from another crate.
 BROUGHT = re.compile(r"^(?:pub )?use (lra_\w+)::([^;]*);", re.M)
 
@@ -95,6 +100,36 @@ class Definitions:
             every = self.declarations(crate)
             yield from (it for name in names & every.keys() for it in every[name])
 
+    @functools.cache
+    def token(self, crate, words):
+        """A sum of the definitions that a module has, wherever it stands, and the words of its path behind its own name."""
+        if words[:1] != ("specs",):
+            return ".".join(words[:1])
+        rest = words[1:]
+        if rest[:1] == ("declared",):
+            rest = rest[1 + next((at for at, it in enumerate(rest[1:], 1) if it in self.declarations(crate)), 0) :]
+        elif rest[:1] != ("contracts",):
+            count = next((it for it in range(len(rest), 0, -1) if f"crates/{crate}/specs/{'/'.join(rest[:it])}.antt" in self.sources), 0)
+            rest = rest[count:]
+        texts = sorted(BRINGS.sub("", text) for _, text in self.named(f"Rattle.{crate}.{'.'.join(words)}"))
+        return ".".join((hashlib.sha256(repr(texts).encode()).hexdigest(), *rest))
+
+    def parted(self, text, own=None):
+        """A text without what brings names of crates into it, and that, sorted: each name by the definitions that it stands among, not by the place where
+        they stand, but for those of its own crate. So a definition that only moves changes no sum."""
+        brought = set()
+        for found in BRINGS.finditer(text):
+            ghost, crate, path, names, alias = found.groups()
+            if crate == own:
+                brought.add(found[0].strip())
+                continue
+            words = tuple(re.findall(r"\w+", path))
+            if not ghost and names is None:
+                words, names = words[:-1], words[-1] if words else ""
+            module = self.token(crate, words) if ghost else "::".join(words)
+            brought.update(f"{module}.{' '.join(it.split())}{alias}" for it in (names or "").split(","))
+        return BRINGS.sub("", text), sorted(brought)
+
     def cited(self, crate):
         """What a crate cites of those below it: a file from the top on for each definition, with its text, sorted."""
         found, left = set(), [it for _, text in self.files(crate, "src", "specs", "proofs") for it in self.named(text)]
@@ -108,6 +143,13 @@ class Definitions:
             if path.endswith(".rt"):
                 left.extend(self.types_named(path, text))
         return sorted(it for it in found if it[0].split("/")[1] != crate)
+
+    def sum(self, crate, files=None):
+        """A sum of a crate's files, those that are given or else all, and of what it cites of the crates below it."""
+        files = self.files(crate, "src", "specs", "proofs") if files is None else files
+        own = [(path, self.parted(text, crate)) for path, text in files]
+        below = sorted({repr(self.parted(text)) for _, text in self.cited(crate)})
+        return hashlib.sha256(repr((own, below)).encode()).digest()
 
 
 def let_through():
@@ -128,8 +170,16 @@ def let_through():
         ("a definition that isn't cited", False, f"{low}/specs/Other.antt", "ℕ", "ℤ"),
         ("a body", False, f"{low}/src/lib.rt", "code() {}", "code() { }"),
     ]
-    before = Definitions(sources).cited("lra_up")
+    before = Definitions(sources).sum("lra_up")
     for what, matters, path, old, new in changes:
-        after = Definitions({**sources, path: sources[path].replace(old, new)}).cited("lra_up")
+        after = Definitions({**sources, path: sources[path].replace(old, new)}).sum("lra_up")
         if (after != before) != matters:
             yield f"{what} has changed, which {'nothing tells' if matters else 'no sum should have'}"
+    moved = {path.replace("lra_low", "lra_deep").replace("Deep.antt", "Deepest.antt"): text for path, text in sources.items()}
+    moved = {path: text.replace("lra_low", "lra_deep").replace("specs.Deep.", "specs.Deepest.") for path, text in moved.items()}
+    if Definitions(moved).sum("lra_up") != before:
+        yield "definitions have moved, which no sum should have"
+    swapped = dict(sources)
+    swapped["crates/lra_up/src/lib.rt"] = sources["crates/lra_up/src/lib.rt"].replace("specs.Words", "specs.Other")
+    if Definitions(swapped).sum("lra_up") == before:
+        yield "a name stands for another definition, which nothing tells"
