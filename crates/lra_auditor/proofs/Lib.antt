@@ -1,14 +1,4 @@
-pub mod RowsLaw
-pub mod RowsWorked
-pub mod Index
-pub mod TotalsLaw
-pub mod ListingLaw
-pub mod Faults
-pub mod Counting
-pub mod Courses
 pub mod Feeds
-pub mod Marks
 pub mod LegalTexts
 pub mod OneVerdict
 pub mod OneVerdictWorked
-pub mod PlainAddresses

@@ -1,7 +1,6 @@
 pub mod Verdicts
 pub mod OneVerdict
-pub mod Listed
-pub mod Listings
+pub mod Accounts
 pub mod Heard
 pub mod Feeding
 pub mod inner

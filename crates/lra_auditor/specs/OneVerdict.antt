@@ -5,9 +5,10 @@ use Rattle.lra_model.specs.History.{History}
 use Rattle.lra_model.specs.Rules.{is_legal}
 use Rattle.lra_journal.specs.Line.{text}
 use Rattle.lra_ids.specs.Addresses.{is_address}
-use Rattle.lra_auditor.specs.declared.verdict.Verdict.{Verdict}
-use Rattle.lra_auditor.specs.declared.verdict.Verdict.TheVariants.{Sound}
-use Rattle.lra_auditor.specs.Verdicts.{IsVerdict, summary}
+use Rattle.lra_course.specs.declared.verdict.Verdict.{Verdict}
+use Rattle.lra_course.specs.declared.verdict.Verdict.TheVariants.{Sound}
+use Rattle.lra_auditor.specs.Verdicts.{IsVerdict}
+use Rattle.lra_course.specs.Verdicts.{summary}
 
 -- no bytes have two verdicts
 abbrev pub BytesHaveOneVerdict : Type 0

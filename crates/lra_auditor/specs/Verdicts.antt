@@ -1,55 +1,18 @@
 -- What an audit answers, in the words of histories and of the journal's text.
-use Rattle.std.specs.Prelude.{◌≡◌, ℕ, ◌+◌, ◌<◌, Bool, true, false, List, ◌++◌, length, Option, Some, option_map, unwrap_or, ◌⊎◌}
-use Rattle.std.specs.Option.{option_map_or}
-use Rattle.std.specs.List.{filter_map}
-use Rattle.lra_model.specs.declared.status.ActionStatus.{ActionStatus}
-use Rattle.lra_model.specs.declared.status.ActionStatus.TheVariants as action
+use Rattle.std.specs.Prelude.{◌≡◌, ℕ, ◌+◌, ◌<◌, true, List, ◌++◌, length, Some, ◌⊎◌}
 use Rattle.lra_model.specs.declared.version.Version.{Version}
 use Rattle.lra_model.specs.declared.rule.Rule.{Rule}
 use Rattle.lra_model.specs.declared.rule.Rule.TheVariants as rule
 use Rattle.lra_model.specs.declared.entry.Entry.{Entry}
-use Rattle.lra_model.specs.Words.{is_closed, same_status}
-use Rattle.lra_model.specs.History.{History, actions}
-use Rattle.lra_model.specs.Actions.{action_status}
-use Rattle.lra_model.specs.Rules.{Fault, broken, is_legal, first_fault}
+use Rattle.lra_model.specs.History.{History}
+use Rattle.lra_model.specs.Rules.{broken, is_legal}
 use Rattle.lra_model.specs.GoodEnds.{GoodEnds}
-use Rattle.lra_model.specs.Tallies.{count_actions, least_failed, failed_actions}
-use Rattle.lra_laws.specs.Rows.{is_unended}
 use Rattle.lra_journal.specs.Line.{line, text, HasLine, HasText}
 use Rattle.lra_journal.specs.Lines.{HasNoHeader, HasNoLine}
-use Rattle.lra_auditor.specs.declared.verdict.FailedEnd.{FailedEnd}
-use Rattle.lra_auditor.specs.declared.verdict.Summary.{Summary}
-use Rattle.lra_auditor.specs.declared.verdict.Verdict.{Verdict}
-use Rattle.lra_auditor.specs.declared.verdict.Verdict.TheVariants.{Sound, Unsound}
+use Rattle.lra_course.specs.declared.verdict.Verdict.{Verdict}
+use Rattle.lra_course.specs.declared.verdict.Verdict.TheVariants.{Sound, Unsound}
+use Rattle.lra_course.specs.Verdicts.{summary}
 use Rattle.lra_ids.specs.Addresses.{is_address}
-
--- an action that ended in failure, with the least member that failed and stays in it or below it; a legal history has one for each
-abbrev pub failed_end : History → ℕ → Option FailedEnd
-failed_end J a = option_map (λ p. record { action = a; status = unwrap_or (action_status J a) action.Active; member = p }) (least_failed J a)
-
--- an action that ended cancelled, and not in failure
-abbrev pub ended_cancelled : ActionStatus → Bool
-ended_cancelled s = same_status s action.Cancelled
-
--- the summary of a history: how many entries and actions it has, how many of these have ended and how, and the failed ends
-unfoldable pub summary : History → Summary
-summary J = record {
-  entries = length J;
-  actions = length (actions J);
-  unended = count_actions is_unended J;
-  closed = count_actions is_closed J;
-  cancelled = count_actions ended_cancelled J;
-  failed = filter_map (failed_end J) (failed_actions J);
-}
-
--- the verdict on entries: their first fault, as if a header stood before them, else their summary
-abbrev pub verdict_on : Version → History → Verdict
-verdict_on v J = option_map_or (λ (f : Fault). Unsound f.line f.rule) (first_fault v is_address J) (Sound (summary J))
-
--- whether a verdict is Sound
-abbrev pub is_sound : Verdict → Bool
-is_sound (Sound s) = true
-is_sound (Unsound line rule) = false
 
 -- bytes are the text of a history that is legal in the version of their header
 pub record IsTextOf (v : Version) (i : ℕ) (J : History) (bytes : List ℕ) : Type 0 where

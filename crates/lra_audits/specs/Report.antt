@@ -5,10 +5,10 @@ use Rattle.std.specs.List.{flat_map}
 use Rattle.std.specs.Io.KnownBytes.{Appends}
 use Rattle.lra_model.specs.declared.rule.Rule.{Rule}
 use Rattle.lra_model.specs.Names.{action_status_name, rule_name}
-use Rattle.lra_auditor.specs.declared.verdict.FailedEnd.{FailedEnd}
-use Rattle.lra_auditor.specs.declared.verdict.Summary.{Summary}
-use Rattle.lra_auditor.specs.declared.verdict.Verdict.{Verdict}
-use Rattle.lra_auditor.specs.declared.verdict.Verdict.TheVariants.{Sound, Unsound}
+use Rattle.lra_course.specs.declared.verdict.FailedEnd.{FailedEnd}
+use Rattle.lra_course.specs.declared.verdict.Summary.{Summary}
+use Rattle.lra_course.specs.declared.verdict.Verdict.{Verdict}
+use Rattle.lra_course.specs.declared.verdict.Verdict.TheVariants.{Sound, Unsound}
 use Rattle.lra_auditor.specs.Verdicts.{IsVerdict}
 
 -- texts one after another

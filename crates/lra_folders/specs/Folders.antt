@@ -3,8 +3,8 @@ use Rattle.std.specs.Prelude.{◌≡◌, ℕ, ◌+◌, nat_lt, nat_eq, List, [],
 use Rattle.std.specs.Fmt.{decimal}
 use Rattle.std.specs.Global.{Global}
 use Rattle.std.specs.Io.KnownBytes.{Appends}
-use Rattle.lra_auditor.specs.declared.verdict.Verdict.{Verdict}
-use Rattle.lra_auditor.specs.declared.verdict.Verdict.TheVariants.{Sound, Unsound}
+use Rattle.lra_course.specs.declared.verdict.Verdict.{Verdict}
+use Rattle.lra_course.specs.declared.verdict.Verdict.TheVariants.{Sound, Unsound}
 use Rattle.lra_auditor.specs.Verdicts.{IsVerdict}
 use Rattle.lra_audits.specs.declared.fault.RunFault.TheVariants.{Read}
 use Rattle.lra_audits.specs.Faults.{error_line}

@@ -2,7 +2,7 @@
 
 ghost use Rattle.std.specs.Prelude.{◌≡◌, Some, None, OnOk, IfOk};
 ghost use Rattle.lra_model.specs.declared.entry.Deed.{Deed};
-ghost use Rattle.lra_journal.specs.Borrowed.{deed_seen};
+ghost use Rattle.lra_entries.specs.Borrowed.{deed_seen};
 ghost use Rattle.lra_logs.specs.Meters.{one_more};
 ghost use Rattle.lra_logs.specs.Silences as spec;
 ghost use Rattle.lra_logs.specs.Vigils.{sight_of};

@@ -3,8 +3,9 @@ use Rattle.std.proofs.Common.{◌≡◌, ℕ, List, Option, refl, sym, subst}
 use Rattle.lra_model.specs.declared.rule.Rule.{Rule}
 use Rattle.lra_model.specs.declared.version.Version.{Version}
 use Rattle.lra_model.specs.History.{History}
-use Rattle.lra_auditor.specs.declared.verdict.Verdict.TheVariants.{Sound}
-use Rattle.lra_auditor.specs.Verdicts.{summary, IsTextOf, IsFault}
+use Rattle.lra_course.specs.declared.verdict.Verdict.TheVariants.{Sound}
+use Rattle.lra_course.specs.Verdicts.{summary}
+use Rattle.lra_auditor.specs.Verdicts.{IsTextOf, IsFault}
 use Rattle.lra_core.specs.Fed.{Fed, IsFed}
 use Rattle.lra_office.specs.Wholes.{whole_lines}
 use Rattle.lra_office.proofs.Torn.{fed_front}

@@ -3,7 +3,7 @@ use Rattle.std.specs.Prelude.{◌≡◌, ◌⊎◌, ℕ, List, [], ◌∷◌, co
 use Rattle.std.specs.Io.KnownBytes.{Appends}
 use Rattle.lra_office.specs.Wholes.{whole_lines}
 use Rattle.lra_audits.specs.declared.fault.RunFault.TheVariants.{Read, Write, TooLong, Memory, Changed, Line}
-use Rattle.lra_auditor.specs.declared.verdict.Verdict.{Verdict}
+use Rattle.lra_course.specs.declared.verdict.Verdict.{Verdict}
 use Rattle.lra_auditor.specs.Verdicts.{IsVerdict}
 use Rattle.lra_audits.specs.Report.{joined, line_feed, status_of, ReportsAudit}
 use Rattle.lra_opening.specs.declared.fault.ServeFault.{ServeFault}

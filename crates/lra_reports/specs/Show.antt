@@ -5,12 +5,12 @@ use Rattle.std.specs.List.{flat_map}
 use Rattle.std.specs.Io.KnownBytes.{Appends}
 use Rattle.lra_model.specs.Names.{action_status_name, member_status_name}
 use Rattle.lra_journal.specs.Line.{or_star}
-use Rattle.lra_auditor.specs.declared.listing.ListedAction.{ListedAction}
-use Rattle.lra_auditor.specs.declared.listing.ListedMember.{ListedMember}
-use Rattle.lra_auditor.specs.declared.listing.Account.{Account}
-use Rattle.lra_auditor.specs.declared.listing.Account.TheVariants.{Sound, Unsound}
-use Rattle.lra_auditor.specs.Listed.{Listed}
-use Rattle.lra_auditor.specs.Listings.{IsAccount}
+use Rattle.lra_course.specs.declared.listing.ListedAction.{ListedAction}
+use Rattle.lra_course.specs.declared.listing.ListedMember.{ListedMember}
+use Rattle.lra_course.specs.declared.listing.Account.{Account}
+use Rattle.lra_course.specs.declared.listing.Account.TheVariants.{Sound, Unsound}
+use Rattle.lra_course.specs.Listed.{Listed}
+use Rattle.lra_auditor.specs.Accounts.{IsAccount}
 use Rattle.lra_audits.specs.Report.{joined, line_feed, fault_line}
 
 -- a line for an action: its number, its parent's or `*`, and its status

@@ -20,7 +20,8 @@ use Rattle.lra_laws.proofs.Tested.{both, and_intro}
 use Rattle.lra_journal.specs.Line.{is_visible, or_star}
 use Rattle.lra_journal.specs.Fields.{split_words}
 use Rattle.lra_journal.specs.Reading.{Words, number_or_star_of, next_of, number_at, unended}
-use Rattle.lra_journal.specs.inner.Combinators.{◌>>=◌, named}
+use Rattle.lra_entries.specs.inner.Digits.{◌>>=◌}
+use Rattle.lra_journal.specs.inner.Combinators.{named}
 use Rattle.lra_journal.proofs.LineFeeds.{unended_push, unended_is}
 use Rattle.lra_journal.proofs.Splitting.{Lacks, split_words_at, split_words_none}
 use Rattle.lra_journal.proofs.Plain.{lacks_from, decimal_plain}

@@ -19,10 +19,10 @@ use Rattle.lra_laws.proofs.Push.{read_push}
 use Rattle.lra_journal.proofs.Apart.{texts_apart}
 use Rattle.lra_ids.specs.Identifiers.{id_text, action_uri}
 use Rattle.lra_ids.proofs.IdentifierFacts.{length-id_text}
-use Rattle.lra_auditor.specs.declared.listing.ListedAction.{ListedAction}
-use Rattle.lra_auditor.specs.declared.listing.ListedMember.{ListedMember}
-use Rattle.lra_auditor.specs.Listed.{Listed}
-use Rattle.lra_auditor.specs.Listings.{listed_action, listing}
+use Rattle.lra_course.specs.declared.listing.ListedAction.{ListedAction}
+use Rattle.lra_course.specs.declared.listing.ListedMember.{ListedMember}
+use Rattle.lra_course.specs.Listed.{Listed}
+use Rattle.lra_course.specs.Listings.{listed_action, listing}
 use Rattle.lra_auditor.specs.Heard.{Heard}
 use Rattle.lra_auditor.specs.Feeding.{Feed, IsFollowed, StandsFor}
 use Rattle.lra_auditor.specs.Verdicts.{IsTextOf}

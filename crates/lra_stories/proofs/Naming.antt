@@ -9,8 +9,8 @@ use Rattle.std.proofs.Math.Seq.{take-append_seam, drop-append_seam}
 use Rattle.uuid.specs.Text.{lower}
 use Rattle.uuid.proofs.TextLemmas.{hyphenated_ascii}
 use Rattle.std.specs.Fmt.{decimal}
-use Rattle.lra_journal.specs.Reading.{number_of}
-use Rattle.lra_journal.proofs.Numbers.{number_is, number_again}
+use Rattle.lra_entries.specs.Numbers.{number_of}
+use Rattle.lra_entries.proofs.Numbers.{number_is, number_again}
 use Rattle.lra_ids.specs.Identifiers.{IsSpelling, id_text, id_bytes, action_uri}
 use Rattle.lra_ids.proofs.IdentifierFacts.{length-id_text}
 use Rattle.lra_instances.specs.Bearing.{instance_in}

@@ -14,9 +14,9 @@ use Rattle.lra_model.specs.Names.{action_status_name, member_status_name}
 use Rattle.lra_model.specs.History.{History, started_by, last_moment}
 use Rattle.lra_ids.specs.Identifiers.{id_text}
 use Rattle.lra_journal.specs.Line.{or_star}
-use Rattle.lra_auditor.specs.declared.listing.ListedAction.{ListedAction}
-use Rattle.lra_auditor.specs.declared.listing.ListedMember.{ListedMember}
-use Rattle.lra_auditor.specs.Listings.{listed_action, listing}
+use Rattle.lra_course.specs.declared.listing.ListedAction.{ListedAction}
+use Rattle.lra_course.specs.declared.listing.ListedMember.{ListedMember}
+use Rattle.lra_course.specs.Listings.{listed_action, listing}
 use Rattle.lra_auditor.specs.Verdicts.{IsTextOf}
 use Rattle.lra_audits.specs.Report.{joined, line_feed, ReportsAudit}
 use Rattle.lra_stories.specs.declared.listing.Choice.{Choice}

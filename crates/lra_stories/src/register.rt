@@ -1,7 +1,7 @@
 //! What a listing of actions wants to know beside their statuses: the journal's instance, when each action started, and the last moment.
 
 ghost use Rattle.std.specs.Prelude.{◌≡◌, ◌++◌, OnOk, None, option_map, option_to_list};
-ghost use Rattle.lra_journal.specs.Borrowed.{entry_seen};
+ghost use Rattle.lra_entries.specs.Borrowed.{entry_seen};
 ghost use Rattle.lra_stories.specs.Lines.{begun_by};
 
 use lra_auditor::Follower;

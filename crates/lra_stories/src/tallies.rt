@@ -1,7 +1,7 @@
 //! How many members of an action have each status.
 
 ghost use Rattle.std.specs.Prelude.{◌≡◌, ◌<◌, ◌+◌, ◌*◌, ◌++◌, ℕ, List, IfOk, OnOk, IfSome, string_bytes, get_or, map, option_to_list};
-ghost use Rattle.lra_auditor.specs.declared.listing.ListedMember.{ListedMember as ListedMemberValue};
+ghost use Rattle.lra_course.specs.declared.listing.ListedMember.{ListedMember as ListedMemberValue};
 ghost use Rattle.lra_stories.specs.Lines as lines;
 ghost use Rattle.lra_stories.specs.inner.Tallied.{Tallied, IsMore};
 

@@ -10,7 +10,8 @@ use Rattle.lra_model.specs.Addresses.{Addresses}
 use Rattle.lra_model.specs.Names.{outcome_name, ending_name}
 use Rattle.lra_journal.specs.Fields.{split_words}
 use Rattle.lra_journal.specs.Reading.{Words, number_or_star_of, next_of, number_at, unended}
-use Rattle.lra_journal.specs.inner.Combinators.{◌>>=◌, named, whole_of}
+use Rattle.lra_entries.specs.inner.Digits.{◌>>=◌}
+use Rattle.lra_journal.specs.inner.Combinators.{named, whole_of}
 use Rattle.lra_runs.specs.declared.requests.Request.{Request}
 use Rattle.lra_runs.specs.declared.requests.Request.TheVariants as request
 use Rattle.lra_runs.specs.declared.requests.RequestName.{RequestName}

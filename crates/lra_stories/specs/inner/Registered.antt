@@ -3,9 +3,9 @@ use Rattle.std.specs.Prelude.{◌≡◌, ℕ, List, [], map, Option, Some, None,
 use Rattle.lra_model.specs.History.{History, last_moment}
 use Rattle.lra_model.specs.declared.version.Version.{Version}
 use Rattle.lra_auditor.specs.declared.auditor.FaultyLine.{FaultyLine}
-use Rattle.lra_auditor.specs.declared.listing.Account.{Account}
+use Rattle.lra_course.specs.declared.listing.Account.{Account}
 use Rattle.lra_auditor.specs.Heard.{Heard}
-use Rattle.lra_auditor.specs.Listings.{IsAccount}
+use Rattle.lra_auditor.specs.Accounts.{IsAccount}
 use Rattle.lra_auditor.specs.Verdicts.{IsTextOf, IsFault}
 use Rattle.lra_stories.specs.declared.register.Register.{Register}
 use Rattle.lra_stories.specs.Lines.{Begun, starts}

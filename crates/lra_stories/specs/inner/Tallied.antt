@@ -1,6 +1,6 @@
 -- Counts of members, eight for each action: one for each status.
 use Rattle.std.specs.Prelude.{◌≡◌, ℕ, ◌+◌, ◌*◌, ◌<◌, List, length, get_or, set}
-use Rattle.lra_auditor.specs.declared.listing.ListedMember.{ListedMember}
+use Rattle.lra_course.specs.declared.listing.ListedMember.{ListedMember}
 use Rattle.lra_stories.specs.Lines.{place_of, count_of}
 
 -- each count is that of the members of its action that have its status

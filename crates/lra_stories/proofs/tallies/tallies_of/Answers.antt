@@ -1,5 +1,5 @@
 use Rattle.std.proofs.Common.{List, subst, arith, sym, ◌∙◌}
-use Rattle.lra_auditor.specs.declared.listing.ListedMember.{ListedMember}
+use Rattle.lra_course.specs.declared.listing.ListedMember.{ListedMember}
 use Rattle.lra_stories.specs.inner.Tallied.{Tallied}
 use Rattle.std.proofs.lemmas.List.{take_all}
 use Rattle.lra_stories.proofs.Listed.{tallied_next}

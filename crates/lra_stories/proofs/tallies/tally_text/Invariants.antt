@@ -1,7 +1,7 @@
 use Rattle.std.proofs.Common.{◌≡◌, List, map, take}
 use Rattle.std.specs.Prelude.{string_bytes}
 use Rattle.std.specs.List.{filter_map}
-use Rattle.lra_auditor.specs.declared.listing.ListedMember.{ListedMember}
+use Rattle.lra_course.specs.declared.listing.ListedMember.{ListedMember}
 use Rattle.lra_stories.specs.Lines.{statuses, counted, count_of, place_of}
 use Rattle.lra_stories.specs.inner.Tallied.{Tallied}
 use Rattle.lra_stories.proofs.tallies.tally_text.Given as goal

@@ -1,5 +1,5 @@
 use Rattle.std.proofs.Common.{◌^◌, sym, ap, ◌∙◌}
-use Rattle.lra_journal.specs.Reading.{number_of}
+use Rattle.lra_entries.specs.Numbers.{number_of}
 use Rattle.lra_stories.proofs.Naming.{number_named, where_none, number_unnamed}
 use Rattle.lra_stories.proofs.wanted.of_number.Goals as goal
 

@@ -2,7 +2,7 @@ use Rattle.std.proofs.Common.{◌≡◌, take}
 use Rattle.std.specs.Prelude.{unwrap_or}
 use Rattle.std.specs.List.{flat_map}
 use Rattle.lra_model.specs.History.{History, last_moment}
-use Rattle.lra_auditor.specs.Listings.{listing}
+use Rattle.lra_course.specs.Listings.{listing}
 use Rattle.lra_reports.specs.Paging.{IsPaged}
 use Rattle.lra_stories.specs.Lines.{starts, start_line}
 use Rattle.lra_stories.specs.inner.Registered.{start_moments}
