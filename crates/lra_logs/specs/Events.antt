@@ -91,11 +91,6 @@ fields_of event.SyncFailed = []
 fields_of (event.Refused port code) = field key.Port (shown.Port port) ∷ field key.Code (shown.Number code) ∷ []
 fields_of (event.Suppressed lines) = field key.Lines (shown.Number lines) ∷ []
 
--- an event with what came of the last callback of its member, where it is a silence, and else as it is
-abbrev pub with_outcome : Option Reply → Event → Event
-with_outcome outcome (event.MemberSilent journal member times _) = event.MemberSilent journal member times outcome
-with_outcome outcome e = e
-
 -- the word of a key
 abbrev pub key_word : Key → List ℕ
 key_word key.Action = codes "action"
