@@ -17,8 +17,8 @@ LEVELS = ("error", "warn", "info", "debug")
 PRIORITIES = {"error": "<3>", "warn": "<4>", "info": "<6>", "debug": "<7>"}
 # A line of words: its time, its level, and what is said.
 LINE = re.compile(r"(\d{4}-\d\d-\d\dT\d\d:\d\d:\d\d\.\d{3}Z) (error|warn|info|debug) (.+)")
-# A number or a word behind what is said.
-FIELD = re.compile(r" ([a-z]+)=([0-9A-Za-z]+)")
+# A number, a word, or words between quotation marks behind what is said.
+FIELD = re.compile(r' ([a-z]+)=("[^"]+"|[0-9A-Za-z]+)')
 # What addresses of members have that may stand in no line.
 SECRETS = ("someone", "word-of-theirs", "path-of-theirs", "token-of-theirs")
 # How many lines there are in a second at most.
@@ -79,7 +79,7 @@ def fields_of(said):
     """What is said, and its fields, as JSON has them."""
     front = FIELD.split(said, maxsplit=1)[0]
     fields = dict(FIELD.findall(said[len(front) :]))
-    return front, {name: value if name in ("journal", "port", "status") else int(value) for name, value in fields.items()}
+    return front, {name: value.strip('"') if name in ("journal", "port", "status", "outcome") else int(value) for name, value in fields.items()}
 
 
 def two_actions(service):
@@ -173,8 +173,37 @@ def test_a_silent_member_is_told_of_at_its_first_silence_and_at_each_tenth(setti
             service.wait_for("times=30")
             told = [fields_of(it[2]) for it in in_words(service.told())]
     stem, number = stem_of(setting.journal), number_of(recovery)
-    first = [("member silent", {"journal": stem, "member": number, "times": times}) for times in (1, 10, 20, 30)]
+    first = [("member silent", {"journal": stem, "member": number, "times": times, "outcome": "answered 500"}) for times in (1, 10, 20, 30)]
     equal("what is told", told[:4], first)
+
+
+def silences(service):
+    """Has two members be silent, one that refuses connections and one that answers 500, and answers their numbers once both are told of."""
+    numbers = []
+    with Participant(lambda _: (500, b"")) as member, service.client() as client:
+        for address in (f"http://127.0.0.1:{free_port()}/refused", member.uri("compensate")):
+            action = client.start()
+            numbers.append(number_of(client.join(action, compensate=address)))
+            client.end(action, "cancel")
+        wait_until("both silences are told", lambda: service.told().count("member silent") == 2)
+    return numbers
+
+
+def test_a_silence_is_told_with_what_came_of_the_callback(setting):
+    pauses = ("--retry-first", "60000", "--retry-last", "60000")
+    with Logged(setting, "--log", "warn", *pauses) as service:
+        numbers = silences(service)
+        lines = sorted(line[2] for line in in_words(service.told()))
+    stem = stem_of(setting.journal)
+    outcomes = ("connection refused", "answered 500")
+    wanted_lines = [f'member silent journal={stem} member={number} times=1 outcome="{it}"' for number, it in zip(numbers, outcomes)]
+    equal("the lines", lines, sorted(wanted_lines))
+    with Folder(setting, "--log", "warn", "--log-format", "json", *pauses) as folder:
+        numbers = silences(folder)
+        found = {it["member"]: it for _, _, said, it in in_json(folder.told()) if said == "member silent"}
+        newest = max(folder.journals())
+    for number, it in zip(numbers, outcomes):
+        equal("the fields", found[number], {"journal": newest, "member": number, "times": 1, "outcome": it})
 
 
 def test_journals_that_roll_and_are_put_away_are_told_of(setting):

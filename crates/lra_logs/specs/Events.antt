@@ -1,10 +1,12 @@
 -- What is told of a service: at which level, in which words, and with which numbers.
-use Rattle.std.specs.Prelude.{ℕ, ◌-◌, List, [], ◌∷◌, ◌++◌, false, length, replicate, codes, if◌then◌else◌}
+use Rattle.std.specs.Prelude.{ℕ, ◌-◌, List, [], ◌∷◌, ◌++◌, false, Option, Some, None, length, replicate, codes, if◌then◌else◌}
 use Rattle.std.specs.Fmt.{decimal, digits}
 use Rattle.log.specs.declared.level.Level.{Level}
 use Rattle.log.specs.declared.level.Level.TheVariants as level
 use Rattle.lra_model.specs.Names.{action_status_name}
 use Rattle.lra_model.specs.Words.{has_failed}
+use Rattle.lra_outcomes.specs.declared.reply.Reply.{Reply}
+use Rattle.lra_outcomes.specs.Replies.{words_of}
 use Rattle.lra_logs.specs.declared.event.Event.{Event}
 use Rattle.lra_logs.specs.declared.event.Event.TheVariants as event
 use Rattle.lra_logs.specs.declared.event.Key.{Key}
@@ -30,7 +32,7 @@ level_of (event.DescriptorsLowered asked had) = level.Warn
 level_of event.ThreadRefused = level.Error
 level_of event.ThreadEnded = level.Error
 level_of (event.CallbacksStand journal) = level.Error
-level_of (event.MemberSilent journal member times) = level.Warn
+level_of (event.MemberSilent journal member times outcome) = level.Warn
 level_of (event.WriteFailed journal) = level.Error
 level_of event.SyncFailed = level.Error
 level_of (event.Refused port code) = level.Warn
@@ -51,7 +53,7 @@ message_of (event.DescriptorsLowered asked had) = codes "descriptors lowered"
 message_of event.ThreadRefused = codes "thread refused"
 message_of event.ThreadEnded = codes "thread ended"
 message_of (event.CallbacksStand journal) = codes "callbacks stand"
-message_of (event.MemberSilent journal member times) = codes "member silent"
+message_of (event.MemberSilent journal member times outcome) = codes "member silent"
 message_of (event.WriteFailed journal) = codes "write failed"
 message_of event.SyncFailed = codes "sync failed"
 message_of (event.Refused port code) = codes "request refused"
@@ -60,6 +62,11 @@ message_of (event.Suppressed lines) = codes "suppressed"
 -- a number or a word under its key
 abbrev pub field : Key → Shown → Field
 field k s = record { key = k; shown = s }
+
+-- what came of a callback, where that is known
+abbrev pub outcome_field : Option Reply → List Field
+outcome_field None = []
+outcome_field (Some reply) = field key.Outcome (shown.Outcome reply) ∷ []
 
 -- its numbers and words
 abbrev pub fields_of : Event → List Field
@@ -77,8 +84,8 @@ fields_of (event.DescriptorsLowered asked had) = field key.Asked (shown.Number a
 fields_of event.ThreadRefused = []
 fields_of event.ThreadEnded = []
 fields_of (event.CallbacksStand journal) = field key.Journal (shown.Journal journal) ∷ []
-fields_of (event.MemberSilent journal member times) =
-    field key.Journal (shown.Journal journal) ∷ field key.Member (shown.Number member) ∷ field key.Times (shown.Number times) ∷ []
+fields_of (event.MemberSilent journal member times outcome) =
+    field key.Journal (shown.Journal journal) ∷ field key.Member (shown.Number member) ∷ field key.Times (shown.Number times) ∷ outcome_field outcome
 fields_of (event.WriteFailed journal) = field key.Journal (shown.Journal journal) ∷ []
 fields_of event.SyncFailed = []
 fields_of (event.Refused port code) = field key.Port (shown.Port port) ∷ field key.Code (shown.Number code) ∷ []
@@ -94,6 +101,7 @@ key_word key.Journal = codes "journal"
 key_word key.Journals = codes "journals"
 key_word key.Lines = codes "lines"
 key_word key.Member = codes "member"
+key_word key.Outcome = codes "outcome"
 key_word key.Port = codes "port"
 key_word key.Status = codes "status"
 key_word key.Times = codes "times"
@@ -114,3 +122,4 @@ shown_text (shown.Number n) = decimal n
 shown_text (shown.Journal journal) = stem journal
 shown_text (shown.Status status) = action_status_name status
 shown_text (shown.Port port) = port_word port
+shown_text (shown.Outcome reply) = words_of reply

@@ -39,9 +39,9 @@ heard s _ = s
 abbrev pub is_told : ℕ → Bool
 is_told times = (times == 1) || (times % 10 == 0)
 
--- the event of a silence, if it is told of
+-- the event of a silence, if it is told of: what came of the callback isn't in a journal
 abbrev pub silence : ℕ → ℕ → ℕ → Option Event
-silence journal member times = if is_told times then Some (event.MemberSilent journal member times) else None
+silence journal member times = if is_told times then Some (event.MemberSilent journal member times None) else None
 
 -- the event that an entry tells of behind others: an action has started, or ended as it says, or a member was silent once more
 abbrev pub event_of : ℕ → Sight → Deed → Option Event

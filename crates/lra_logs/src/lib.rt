@@ -14,8 +14,6 @@ mod meter;
 mod saying;
 mod tail;
 mod time;
-#[cfg(test)]
-mod trials;
 mod vigil;
 
 pub use chronicle::Chronicle;

@@ -29,7 +29,7 @@ fn is_told(times: u64) -> bool
     times == 1 || times % 10 == 0
 }
 
-/// The event of a silence, if it is told of.
+/// The event of a silence, if it is told of. A journal doesn't say what came of the callback.
 fn silence(journal: Instance, member: u64, times: u64) -> Option<Event>
     ensures { result ≡ spec.silence journal member times }
 {
@@ -38,6 +38,7 @@ fn silence(journal: Instance, member: u64, times: u64) -> Option<Event>
             journal,
             member,
             times,
+            outcome: None,
         })
     } else {
         None

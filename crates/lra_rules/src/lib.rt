@@ -7,8 +7,6 @@ mod reading;
 mod rule;
 mod rules;
 mod texts;
-#[cfg(test)]
-mod trials;
 
 pub use fault::RuleFault;
 pub use rule::Rule;

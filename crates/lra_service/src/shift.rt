@@ -373,14 +373,14 @@ impl<
         }
     }
 
-    /// Tells of what the file takes, until no one answers any more.
+    /// Tells of what the file takes, until no one answers any more: with a member's silence what came of its last callback.
     fn report(&self) {
         let Some(mut tail) = self.tail.lock(self.rt).take() else {
             return;
         };
         for _ in self.rt.forever() {
             let is_over = self.ending.is_over();
-            tail.report(self.herald);
+            tail.report(self.rt, self.herald, Some(&self.outcomes));
             if self.measure.tallies.has_stopped(tail.journal()) {
                 tail.stop(self.herald);
             }

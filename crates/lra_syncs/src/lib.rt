@@ -4,8 +4,6 @@
 mod histogram;
 mod stopwatch;
 mod syncs;
-#[cfg(test)]
-mod trials;
 
 pub use histogram::Histogram;
 pub use stopwatch::{Stopwatch, Timed};

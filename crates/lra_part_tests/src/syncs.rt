@@ -1,7 +1,6 @@
 //! Tests of what is taken down of syncs.
 
-use crate::stopwatch::Timed;
-use crate::syncs::{Syncs, begin, end};
+use lra_syncs::{Syncs, Timed, begin, end};
 use std::alloc::Global;
 use std::sync::Arc;
 

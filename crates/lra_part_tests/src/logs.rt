@@ -1,17 +1,12 @@
 //! Lines at moments, and what the bytes of a journal tell.
 
-use crate::chronicle::Chronicle;
-use crate::event::{Event, Port};
-use crate::format::Format;
-use crate::journalist::Journalist;
-use crate::level::{Level, LevelFilter, level_named};
-use crate::line::{line_of, told_line};
-use crate::logbook::Logbook;
-use crate::saying::said;
-use crate::time::time_text;
+use lra_logs::{
+    Chronicle, Event, Format, Level, LevelFilter, Logbook, Port, level_named, line_of, time_text,
+    told_line,
+};
 use lra_model::{ActionStatus, Instance};
+use lra_outcomes::Reply;
 use std::alloc::Global;
-use std::cell::RefCell;
 use std::marker::{Send, Sync};
 
 /// Moments, as `date -u --iso-8601=ns` spells them.
@@ -44,6 +39,16 @@ const WORDS: &str = "<6>T info serving journals=2 workers=4
 <3>T error thread refused
 <3>T error thread ended
 <3>T error callbacks stand journal=00001a0c1f8b2d4
+<4>T warn member silent journal=00001a0c1f8b2d4 member=3 times=10 outcome=\"the rules don't allow its address\"
+<4>T warn member silent journal=00001a0c1f8b2d4 member=3 times=10 outcome=\"its host's name has no address\"
+<4>T warn member silent journal=00001a0c1f8b2d4 member=3 times=10 outcome=\"connection refused\"
+<4>T warn member silent journal=00001a0c1f8b2d4 member=3 times=10 outcome=\"timed out after 30 s\"
+<4>T warn member silent journal=00001a0c1f8b2d4 member=3 times=10 outcome=\"the connection ended before the whole response\"
+<4>T warn member silent journal=00001a0c1f8b2d4 member=3 times=10 outcome=\"the response isn't HTTP\"
+<4>T warn member silent journal=00001a0c1f8b2d4 member=3 times=10 outcome=\"answered 500\"
+<4>T warn member silent journal=00001a0c1f8b2d4 member=3 times=10 outcome=\"answered 200 with a body that names no state\"
+<4>T warn member silent journal=00001a0c1f8b2d4 member=3 times=10 outcome=\"answered 202: it is at it\"
+<4>T warn member silent journal=00001a0c1f8b2d4 member=3 times=10 outcome=\"the request was not sent\"
 <4>T warn a name\\x1b[31m with \\x0a and \\\\ in it";
 
 /// The same in JSON.
@@ -66,6 +71,16 @@ const OBJECTS: &str = r#"{"journals":2,"level":"info","message":"serving","time"
 {"level":"error","message":"thread refused","time":"T"}
 {"level":"error","message":"thread ended","time":"T"}
 {"journal":"00001a0c1f8b2d4","level":"error","message":"callbacks stand","time":"T"}
+{"journal":"00001a0c1f8b2d4","level":"warn","member":3,"message":"member silent","outcome":"the rules don't allow its address","time":"T","times":10}
+{"journal":"00001a0c1f8b2d4","level":"warn","member":3,"message":"member silent","outcome":"its host's name has no address","time":"T","times":10}
+{"journal":"00001a0c1f8b2d4","level":"warn","member":3,"message":"member silent","outcome":"connection refused","time":"T","times":10}
+{"journal":"00001a0c1f8b2d4","level":"warn","member":3,"message":"member silent","outcome":"timed out after 30 s","time":"T","times":10}
+{"journal":"00001a0c1f8b2d4","level":"warn","member":3,"message":"member silent","outcome":"the connection ended before the whole response","time":"T","times":10}
+{"journal":"00001a0c1f8b2d4","level":"warn","member":3,"message":"member silent","outcome":"the response isn't HTTP","time":"T","times":10}
+{"journal":"00001a0c1f8b2d4","level":"warn","member":3,"message":"member silent","outcome":"answered 500","time":"T","times":10}
+{"journal":"00001a0c1f8b2d4","level":"warn","member":3,"message":"member silent","outcome":"answered 200 with a body that names no state","time":"T","times":10}
+{"journal":"00001a0c1f8b2d4","level":"warn","member":3,"message":"member silent","outcome":"answered 202: it is at it","time":"T","times":10}
+{"journal":"00001a0c1f8b2d4","level":"warn","member":3,"message":"member silent","outcome":"the request was not sent","time":"T","times":10}
 {"level":"warn","message":"a name\u001b[31m with \n and \\ in it","time":"T"}"#;
 
 /// What a journal's bytes tell, where nothing else is written to it.
@@ -76,6 +91,23 @@ warn member silent journal=000000000000007 member=5 times=10
 warn member silent journal=000000000000007 member=5 times=1
 warn action ended journal=000000000000007 action=1 status=FailedToClose
 ";
+
+/// What came of a callback, by the place of the line that tells it.
+fn reply_at(place: usize) -> Option<Reply> {
+    match place {
+        19 => Some(Reply::NotAllowed),
+        20 => Some(Reply::NoAddress),
+        21 => Some(Reply::NotConnected),
+        22 => Some(Reply::TimedOut { seconds: 30 }),
+        23 => Some(Reply::Cut),
+        24 => Some(Reply::NotHttp),
+        25 => Some(Reply::Answered { code: 500 }),
+        26 => Some(Reply::NoState { code: 200 }),
+        27 => Some(Reply::AtIt { code: 202 }),
+        28 => Some(Reply::NotSent),
+        _ => None,
+    }
+}
 
 /// The event of a line, by its place.
 fn event_at(journal: Instance, place: usize) -> Option<Event> {
@@ -100,10 +132,11 @@ fn event_at(journal: Instance, place: usize) -> Option<Event> {
         5 => Some(Event::JournalRolled { journal }),
         6 => Some(Event::JournalPutAway { journal }),
         7 => Some(Event::ArchiveFailed { journal }),
-        8 => Some(Event::MemberSilent {
+        8 | 19..=28 => Some(Event::MemberSilent {
             journal,
             member,
             times: 10,
+            outcome: reply_at(place),
         }),
         9 => Some(Event::WriteFailed { journal }),
         10 => Some(Event::SyncFailed),
@@ -132,8 +165,8 @@ fn line_at(alloc: Global, format: Format, place: usize) -> Option<String> {
     let line = match event_at(journal, place) {
         Some(event) => line_of(alloc, moment, format, true, &event).ok()?,
         None => {
-            let text = "lra: a name\u{1b}[31m with \n and \\ in it\n";
-            told_line(alloc, moment, format, true, Level::Warn, said(text)).ok()?
+            let text = "a name\u{1b}[31m with \n and \\ in it";
+            told_line(alloc, moment, format, true, Level::Warn, text).ok()?
         }
     };
     line.as_str()
@@ -178,28 +211,6 @@ fn each_event_has_its_line(rt: HostRuntime) {
     assert!(rt; level_named(b"trace").is_none());
 }
 
-/// Who takes down what happens, as lines without their moments.
-#[derive(Drop)]
-struct Pad {
-    alloc: Global,
-    text: RefCell<String>,
-}
-
-impl Journalist for Pad {
-    fn hears(&self, _level: Level) -> bool {
-        true
-    }
-
-    fn note(&self, event: &Event) {
-        if let Ok(line) = line_of(self.alloc, 0, Format::Text, false, event)
-            && let Some((_, bare)) = line.as_str().split_once(' ')
-            && let Ok(mut text) = self.text.try_borrow_mut()
-        {
-            let _ = text.push_str(bare);
-        }
-    }
-}
-
 /// A journal in which member 5 is silent ten times in a row, answers, and is silent once more, and member 6 is silent once.
 fn journal_text(alloc: Global) -> Option<String> {
     let mut text = String::from_str(
@@ -222,15 +233,11 @@ fn journal_text(alloc: Global) -> Option<String> {
     Some(text)
 }
 
-/// What is told of a journal's bytes in pieces of that size, but for so many of the last.
+/// What is told of a journal's bytes in pieces of that size, but for so many of the last, as lines without their moments.
 fn told_of(alloc: Global, size: usize, less: usize) -> Option<String> {
     if size == 0 {
         return None;
     }
-    let pad = Pad {
-        alloc,
-        text: RefCell::new(String::new(alloc)),
-    };
     let text = journal_text(alloc)?;
     let bytes = text.as_str().as_bytes();
     let mut chronicle = Chronicle::new(alloc, Instance::new(7)?);
@@ -238,11 +245,13 @@ fn told_of(alloc: Global, size: usize, less: usize) -> Option<String> {
     for piece in bytes.get(..bytes.len().saturating_sub(less))?.chunks(size) {
         chronicle.read(piece, &mut events);
     }
+    let mut told = String::new(alloc);
     for event in &events {
-        pad.note(event);
+        let line = line_of(alloc, 0, Format::Text, false, event).ok()?;
+        let (_, bare) = line.as_str().split_once(' ')?;
+        told.push_str(bare).ok()?;
     }
-    drop(text);
-    Some(pad.text.into_inner())
+    Some(told)
 }
 
 /// Whether just that is told.

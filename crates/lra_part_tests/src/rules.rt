@@ -1,7 +1,6 @@
 //! Rules that are read and asked, and the words of faults.
 
-use crate::rule::Rule;
-use crate::rules::Rules;
+use lra_rules::{Rule, Rules};
 use std::alloc::Global;
 use std::net::SocketAddr;
 
