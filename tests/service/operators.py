@@ -469,6 +469,35 @@ def test_a_member_that_cannot_be_told_is_given_up(setting):
         audited(setting, service.path(f"ended/{folders.instance_of(actions[0])}.journal"))
 
 
+def test_members_that_are_still_to_be_told_are_counted(setting):
+    """Those of actions that have ended, until they answer or are given up; in a folder and over a file."""
+    untold = "lra_members_untold"
+    for kind in (Watched, WatchedFolder):
+        with kind(setting) as service, Participant() as member, service.client() as client:
+            gone = f"http://{HOST}:{free_port()}/after"
+            told, open_one, action = client.start(), client.start(), client.start()
+            client.join(told, **member.addresses("compensate", "after"))
+            client.join(open_one, after=gone)
+            recovery = client.join(action, after=gone)
+            equal("none while the actions are active", measures(service)[untold], 0)
+            client.end(told, "cancel")
+            client.end(action, "close")
+            member.wait("after")
+            wait_until("one is untold", lambda: measures(service)[untold] == 1)
+            time.sleep(1.2)
+            equal("one still is", measures(service)[untold], 1)
+            path = f"/members/{id_of(recovery)}/give-up"
+            equal("it is given up", service.ask(path, "POST", json.dumps({"status": "Ended"})).code, 200)
+            wait_until("none is untold", lambda: measures(service)[untold] == 0)
+            client.end(open_one, "close")
+            wait_until("another is", lambda: measures(service)[untold] == 1)
+        audited(setting, path_of(service))
+        if kind is WatchedFolder:
+            continue
+        with service:
+            wait_until("both are after a restart over a file", lambda: measures(service)[untold] == 2)
+
+
 def test_a_member_that_was_given_up_is_so_after_a_restart(setting):
     """The folder notes it, so that it is asked no more, and its journal is archived then."""
     folder = WatchedFolder(setting, "--retry-last", "200", *folders.SOON)

@@ -19,6 +19,7 @@ lra_members_joined_total 2
 lra_members_overdue{why="silent"} 1
 lra_members_overdue{why="waiting"} 0
 lra_members_at_it 0
+lra_members_untold 1
 lra_actions_failed_total 0
 lra_oldest_unended_seconds 0.000
 process_cpu_seconds_total 1.23

@@ -1,4 +1,5 @@
-//! A service with a history of three actions and two members: action 2 is nested in action 1, and has both members.
+//! A service with a history of three actions: action 2 is nested in action 1, and has two members. Action 3 has ended, and
+//! its member is still to be told so.
 
 ghost use Rattle.std.specs.Prelude.{◌≡◌, true, IfSome};
 ghost use Rattle.lra_ids.specs.Addresses.{is_base};
@@ -118,12 +119,25 @@ const SILENT: Row = Row::Member {
     }),
 };
 
+/// One that is still to be told how its action ended.
+const UNTOLD: Row = Row::Member {
+    member: 3,
+    status: MemberStatus::Completed,
+    ask: None,
+    want: Some(Want {
+        kind: AskKind::After,
+        repeats: 6,
+        due: 90_000,
+    }),
+};
+
 /// The row of a listing at a place.
 fn row_at(of: Listing, place: u64) -> Known {
     match (of, place) {
         (Listing::Actions { status }, _) => action_at(status, place),
         (Listing::Members { action: 2 }, 0) => Known::Row { place, row: ASKED },
         (Listing::Members { action: 2 }, 1) => Known::Row { place, row: SILENT },
+        (Listing::Members { action: 3 }, 0) => Known::Row { place, row: UNTOLD },
         (Listing::Nested { action: 1 }, 0) => Known::Row {
             place,
             row: action_row(2, ActionStatus::Closing),
@@ -223,6 +237,10 @@ impl Overview for Toy {
             reply: Reply::NotHttp,
             moment: FACTS.moment,
         }))
+    }
+
+    fn has_given_up(&self, _instance: Instance, _member: u64) -> bool {
+        false
     }
 
     fn give(&mut self, _instance: Instance, _order: &Order<'_>) -> Result<Told, CounterFault> {

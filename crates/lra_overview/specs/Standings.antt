@@ -1,5 +1,6 @@
 -- How members hold up ends.
-use Rattle.std.specs.Prelude.{ℕ, nat_le, Bool, if◌then◌else◌}
+use Rattle.std.specs.Prelude.{ℕ, nat_le, Bool, ◌&&◌, ◌||◌, not, Option, is_some, if◌then◌else◌}
+use Rattle.lra_commands.specs.declared.query.Want.{Want}
 use Rattle.lra_overview.specs.declared.overdue.Standing.{Standing}
 use Rattle.lra_overview.specs.declared.overdue.Standing.TheVariants.{AtIt, Silent, Waiting, Timely}
 
@@ -11,3 +12,7 @@ standing_of repeats due moment is_at_it =
     else if nat_le 3 repeats then Silent
     else if nat_le due moment then Waiting
     else Timely
+
+-- a member of an action that has ended is untold that is being asked something, or is to be, and that operators haven't given up
+abbrev pub is_untold : Option ℕ → Option Want → Bool → Bool
+is_untold ask want is_given_up = (is_some ask || is_some want) && not is_given_up

@@ -5,6 +5,7 @@ ghost use Rattle.std.specs.Prelude.{◌≡◌};
 use crate::faults::Trouble;
 use crate::overview::Overview;
 use crate::shares::{NONE, Shares, add, add_shares, count_ended, count_ending};
+use crate::untold::Telling;
 use lra_commands::{Known, Listing, Query};
 use lra_ids::Instance;
 use lra_model::ActionStatus;
@@ -35,6 +36,8 @@ pub struct Census {
     behind: u64,
     /// How many of those have each status whose stretches aren't open.
     ended: Shares,
+    /// What is known of the members that are still to be told how their action ended.
+    telling: Telling,
 }
 
 /// How many rows of a stretch belong to a listing, and where the next stretch begins, if there is one.
@@ -124,6 +127,7 @@ impl Census {
             ending: Vec::new(alloc),
             behind: 0,
             ended: NONE,
+            telling: Telling::new(alloc),
         }
     }
 
@@ -230,6 +234,17 @@ impl Census {
             self.ended = NONE;
         }
         counted
+    }
+
+    /// Returns how many members are still to be told how their action ended, as far as was looked.
+    pub(crate) fn count_untold<O: Overview>(
+        &mut self,
+        overview: &mut O,
+        instance: Instance,
+    ) -> Result<u64, Trouble>
+        ensures { O.orders overview.new ≡ O.orders overview.old }
+    {
+        self.telling.count(overview, instance)
     }
 
     /// Where those stretches begin in which some actions are closing or cancelling, as was counted last, in their order.

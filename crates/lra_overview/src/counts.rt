@@ -25,6 +25,8 @@ pub struct Counts {
     pub oldest: Option<u64>,
     /// The members that hold up ends.
     pub overdue: Overdue,
+    /// How many members are still to be told how their action ended.
+    pub untold: u64,
 }
 
 impl Counts {
@@ -36,6 +38,7 @@ impl Counts {
             members: 0,
             oldest: None,
             overdue: Overdue::none(),
+            untold: 0,
         }
     }
 
@@ -45,6 +48,7 @@ impl Counts {
         self.actions = self.actions.saturating_add(others.actions);
         self.members = self.members.saturating_add(others.members);
         self.overdue.add(&others.overdue);
+        self.untold = self.untold.saturating_add(others.untold);
     }
 }
 
@@ -142,7 +146,8 @@ fn oldest<O: Overview>(
     Ok(first)
 }
 
-/// How many actions and members there are, by queries of 256 rows at most each, and how many members hold up ends at a moment. The census goes on from what it counted before.
+/// How many actions and members there are, by queries of 256 rows at most each, how many members hold up ends at a moment,
+/// and how many are still to be told how their action ended. The census goes on from what it counted before.
 pub fn count_all<O: Overview>(
     alloc: Global,
     overview: &mut O,
@@ -157,11 +162,13 @@ pub fn count_all<O: Overview>(
     let shares = census.count(overview, instance)?;
     let oldest = oldest(alloc, overview, instance, census)?;
     let overdue = count_overdue(alloc, overview, instance, census, moment)?;
+    let untold = census.count_untold(overview, instance)?;
     Ok(Counts {
         shares,
         actions,
         members,
         oldest,
         overdue,
+        untold,
     })
 }

@@ -20,6 +20,7 @@ mod shares;
 mod svg;
 mod tree;
 mod unended;
+mod untold;
 
 pub use attempts::{Line, Tried, lines_of, members_in};
 pub use census::Census;
@@ -41,3 +42,4 @@ pub use pieces::Piece;
 pub use shares::{Share, Shares};
 pub use tree::{Node, NodeOf, tree_of};
 pub use unended::list_unended;
+pub use untold::is_untold;

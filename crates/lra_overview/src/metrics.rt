@@ -148,6 +148,17 @@ fn put_overdue(page: &mut Vec<u8>, overdue: &Overdue) -> Result<(), Memory> {
     )
 }
 
+/// Adds how many members are still to be told how their action ended.
+fn put_untold(page: &mut Vec<u8>, untold: u64) -> Result<(), Memory> {
+    whole(
+        page,
+        "lra_members_untold",
+        Kind::Gauge,
+        "Members of actions that have ended that are still to be told so, or to be forgotten.",
+        untold,
+    )
+}
+
 /// How many millionths of a limit are left.
 fn left(count: u64, most: u64) -> u64 {
     let room = most.saturating_sub(count);
@@ -315,6 +326,7 @@ pub fn put_metrics(
 ) -> Result<(), Memory> {
     put_counts(page, counts, totals)?;
     put_overdue(page, &counts.overdue)?;
+    put_untold(page, counts.untold)?;
     parts(
         page,
         "lra_oldest_unended_seconds",

@@ -91,6 +91,9 @@ pub trait Overview {
     ) -> Result<Option<Attempt>, Memory>
         ensures { orders self.new ≡ orders self.old };
 
+    /// Returns whether operators have given up a journal's member that has ended, so that it isn't asked any more.
+    fn has_given_up(&self, instance: Instance, member: u64) -> bool;
+
     /// Gives an order to a journal's coordinator, now.
     fn give(&mut self, instance: Instance, order: &Order<'_>) -> Result<Told, CounterFault>
         ensures { Gives instance order.now (orders self.old) (orders self.new) };

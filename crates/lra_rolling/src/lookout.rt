@@ -305,6 +305,16 @@ impl<'s, 'a: 's, R: Wait + Clock, H, B: Clerkship + Drop> Overview
         desk.journal.outcomes.find(self.shift.rt, alloc, member)
     }
 
+    fn has_given_up(&self, instance: Instance, member: u64) -> bool {
+        let Some(place) = place_of(&self.desks, instance) else {
+            return false;
+        };
+        match self.desks.get(place) {
+            Some(desk) => desk.journal.outcomes.is_given_up(self.shift.rt, member),
+            None => false,
+        }
+    }
+
     fn give(&mut self, instance: Instance, order: &Order<'_>) -> Result<Told, CounterFault> {
         let Some(own) = operators_order(order) else {
             return Err(CounterFault::Refused(Refusal::NotAsked));

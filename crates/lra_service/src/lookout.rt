@@ -100,6 +100,10 @@ impl<V: Serving, R: Wait + Clock, L: WhichLock, H> Overview for Lookout<'_, '_, 
         self.shift.outcomes.find(self.shift.rt, alloc, member)
     }
 
+    fn has_given_up(&self, _instance: Instance, member: u64) -> bool {
+        self.shift.outcomes.is_given_up(self.shift.rt, member)
+    }
+
     fn give(&mut self, instance: Instance, order: &Order<'_>) -> Result<Told, CounterFault> {
         let Some(own) = operators_order(order) else {
             return Err(CounterFault::Refused(Refusal::NotAsked));
