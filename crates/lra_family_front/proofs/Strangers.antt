@@ -9,13 +9,13 @@ use Rattle.lra_instances.proofs.Bearings.{read_whole, read_end}
 use Rattle.lra_wire.specs.Request.{Request}
 use Rattle.lra_model.specs.Words.{when}
 use Rattle.lra_commands.specs.declared.refusal.Refusal.TheVariants as refusal
-use Rattle.lra_front.specs.declared.route.Route.{Route}
-use Rattle.lra_front.specs.declared.route.Route.TheVariants as route
+use Rattle.lra_front.specs.declared.operation.Operation.{Operation}
+use Rattle.lra_front.specs.declared.operation.Operation.TheVariants as operation
 use Rattle.lra_front.specs.declared.denial.Denial.{Denial}
 use Rattle.lra_front.specs.declared.denial.Denial.TheVariants.{BadBody, Refused}
 use Rattle.lra_front.specs.declared.wish.Wish.{Wish}
 use Rattle.lra_front.specs.declared.wish.Wish.TheVariants as wish
-use Rattle.lra_front.specs.Routes.{route_of, id_in}
+use Rattle.lra_front.specs.Routes.{operation_of, id_in}
 use Rattle.lra_front.specs.Bodies.{body_of, object_in, text_under, members_fit, has_needed, fitting}
 use Rattle.lra_front.specs.Wishes.{no_action, no_member, limit_in, IsNamed, IsStart, IsOfAction, IsOfMember, IsWish}
 use Rattle.lra_family_front.specs.Naming.{parent_of, parent_in, named_at, named_by, instance_of}
@@ -50,7 +50,7 @@ not_recovery i base uri small other n is = not_end (base ++ codes "lra-recovery/
 -- ---- a start
 
 -- the members of a body that fits are those of its object
-fitting_same : (r : Route) (o : Option Members) (ms : Members) → option_and_then (fitting r) o ≡ Some ms → o ≡ Some ms
+fitting_same : (r : Operation) (o : Option Members) (ms : Members) → option_and_then (fitting r) o ≡ Some ms → o ≡ Some ms
 fitting_same r None ms e = e
 fitting_same r (Some m) ms e = by (members_fit r m) (has_needed r m) e where
   by : (a b : Bool) → when (a && b) m ≡ Some ms → Some m ≡ Some ms
@@ -58,9 +58,9 @@ fitting_same r (Some m) ms e = by (members_fit r m) (has_needed r m) e where
   by true false k = absurd cc
   by false b k = absurd cc
 
-start_object : (body : List ℕ) (ms : Members) → body_of route.Start body ≡ Some ms → object_in body ≡ Some ms
+start_object : (body : List ℕ) (ms : Members) → body_of operation.Start body ≡ Some ms → object_in body ≡ Some ms
 unfolding body_of
-start_object body ms e = fitting_same route.Start (object_in body) ms e
+start_object body ms e = fitting_same operation.Start (object_in body) ms e
 
 -- what a start asks for below a parent
 abbrev IsBelow : Members → ℕ → Result Wish Denial → Type 0
@@ -74,38 +74,38 @@ start_denied i j base ms w small other named h = by (text_under (codes "parent")
   by (Some uri) e k =
       denied (action_uri i base) uri no_action (IsBelow ms) w (not_action i base uri small (λ is. other (some_same i j (sym is ∙ e)))) k
 
--- ---- any route
+-- ---- any operation
 
-action_denied : (i j : ℕ) (base id : List ℕ) (r : Route) (ms : Members) (w : Result Wish Denial) → i < 2 ^ 60 → i ≢ j → instance_in id ≡ Some j
+action_denied : (i j : ℕ) (base id : List ℕ) (r : Operation) (ms : Members) (w : Result Wish Denial) → i < 2 ^ 60 → i ≢ j → instance_in id ≡ Some j
     → IsNamed (id_text i) id no_action (IsOfAction i base ms r) w → w ≡ Err no_action
 action_denied i j base id r ms w small other named h = denied (id_text i) id no_action (IsOfAction i base ms r) w (not_whole i j id small other named) h
 
-member_denied : (i j : ℕ) (id : List ℕ) (r : Route) (ms : Members) (w : Result Wish Denial) → i < 2 ^ 60 → i ≢ j → instance_in id ≡ Some j
+member_denied : (i j : ℕ) (id : List ℕ) (r : Operation) (ms : Members) (w : Result Wish Denial) → i < 2 ^ 60 → i ≢ j → instance_in id ≡ Some j
     → IsNamed (id_text i) id no_member (IsOfMember ms r) w → w ≡ Err no_member
 member_denied i j id r ms w small other named h = denied (id_text i) id no_member (IsOfMember ms r) w (not_whole i j id small other named) h
 
-route_denied : (i j : ℕ) (base : List ℕ) (request : Request) (r : Route) (ms : Members) (w : Result Wish Denial) → i < 2 ^ 60 → i ≢ j → named_at request r ≡ Some j
+operation_denied : (i j : ℕ) (base : List ℕ) (request : Request) (r : Operation) (ms : Members) (w : Result Wish Denial) → i < 2 ^ 60 → i ≢ j → named_at request r ≡ Some j
     → body_of r request.body ≡ Some ms → IsWish i base (id_in request.target) ms r w → w ≡ Err (unknown_at r)
 unfolding parent_in
-route_denied i j base request route.Start ms w small other named body h =
+operation_denied i j base request operation.Start ms w small other named body h =
     start_denied i j base ms w small other (ap parent_of (sym (start_object request.body ms body)) ∙ named) h
-route_denied i j base request route.MemberStatus ms w small other named body h = member_denied i j (id_in request.target) route.MemberStatus ms w small other named h
-route_denied i j base request route.Report ms w small other named body h = member_denied i j (id_in request.target) route.Report ms w small other named h
-route_denied i j base request route.Status ms w small other named body h = action_denied i j base (id_in request.target) route.Status ms w small other named h
-route_denied i j base request route.Join ms w small other named body h = action_denied i j base (id_in request.target) route.Join ms w small other named h
-route_denied i j base request route.Close ms w small other named body h = action_denied i j base (id_in request.target) route.Close ms w small other named h
-route_denied i j base request route.Cancel ms w small other named body h = action_denied i j base (id_in request.target) route.Cancel ms w small other named h
-route_denied i j base request route.Remove ms w small other named body h = action_denied i j base (id_in request.target) route.Remove ms w small other named h
-route_denied i j base request route.Renew ms w small other named body h = action_denied i j base (id_in request.target) route.Renew ms w small other named h
+operation_denied i j base request operation.MemberStatus ms w small other named body h = member_denied i j (id_in request.target) operation.MemberStatus ms w small other named h
+operation_denied i j base request operation.Report ms w small other named body h = member_denied i j (id_in request.target) operation.Report ms w small other named h
+operation_denied i j base request operation.Status ms w small other named body h = action_denied i j base (id_in request.target) operation.Status ms w small other named h
+operation_denied i j base request operation.Join ms w small other named body h = action_denied i j base (id_in request.target) operation.Join ms w small other named h
+operation_denied i j base request operation.Close ms w small other named body h = action_denied i j base (id_in request.target) operation.Close ms w small other named h
+operation_denied i j base request operation.Cancel ms w small other named body h = action_denied i j base (id_in request.target) operation.Cancel ms w small other named h
+operation_denied i j base request operation.Remove ms w small other named body h = action_denied i j base (id_in request.target) operation.Remove ms w small other named h
+operation_denied i j base request operation.Renew ms w small other named body h = action_denied i j base (id_in request.target) operation.Renew ms w small other named h
 
-body_denied : (i j : ℕ) (base : List ℕ) (request : Request) (r : Route) (w : Result Wish Denial) (o : Option Members) → i < 2 ^ 60 → i ≢ j → named_at request r ≡ Some j
+body_denied : (i j : ℕ) (base : List ℕ) (request : Request) (r : Operation) (w : Result Wish Denial) (o : Option Members) → i < 2 ^ 60 → i ≢ j → named_at request r ≡ Some j
     → body_of r request.body ≡ o → MatchOption o (w ≡ Err BadBody) (λ ms. IsWish i base (id_in request.target) ms r w)
     → (d : Denial) × MatchOption o (d ≡ BadBody) (λ ms. d ≡ unknown_at r) × (w ≡ Err d)
 body_denied i j base request r w None small other named body h = (BadBody, refl, h)
 body_denied i j base request r w (Some ms) small other named body h =
-    (unknown_at r, refl, route_denied i j base request r ms w small other named body h)
+    (unknown_at r, refl, operation_denied i j base request r ms w small other named body h)
 
-asked_denied : (i j : ℕ) (base : List ℕ) (request : Request) (w : Result Wish Denial) (rr : Result Route Denial) → i < 2 ^ 60 → i ≢ j → named_by request rr ≡ Some j
+asked_denied : (i j : ℕ) (base : List ℕ) (request : Request) (w : Result Wish Denial) (rr : Result Operation Denial) → i < 2 ^ 60 → i ≢ j → named_by request rr ≡ Some j
     → MatchResult rr (λ r. MatchOption (body_of r request.body) (w ≡ Err BadBody) (λ ms. IsWish i base (id_in request.target) ms r w)) (λ d. w ≡ Err d)
     → (d : Denial) × MatchResult rr (λ r. MatchOption (body_of r request.body) (d ≡ BadBody) (λ ms. d ≡ unknown_at r)) (λ e. d ≡ e) × (w ≡ Err d)
 asked_denied i j base request w (Err d) small other named h = absurd cc
@@ -115,7 +115,7 @@ pub strangers_deny : StrangersDeny
 unfolding instance_of
 strangers_deny i j base request w small named other (inl (e, lacks)) = (Refused refusal.Memory, inl (refl, lacks), e)
 strangers_deny i j base request w small named other (inr asks) =
-    let k = asked_denied i j base request w (route_of request.method request.target) small other named asks in
+    let k = asked_denied i j base request w (operation_of request.method request.target) small other named asks in
     (k.0, inr k.1, k.2)
 
 -- ---- two instances
@@ -125,7 +125,7 @@ abbrev IsLeaving : ℕ → ℕ → Result Wish Denial → Type 0
 IsLeaving action m v = v ≡ Ok (wish.Leave action m)
 
 recovery_refused : (i : ℕ) (base id uri : List ℕ) (ms : Members) (w : Result Wish Denial) → i < 2 ^ 60 → text_under (codes "recovery") ms ≡ Some uri
-    → instance_at_end uri ≢ Some i → IsNamed (id_text i) id no_action (IsOfAction i base ms route.Remove) w → IsNamed (id_text i) id no_action (λ action v. v ≡ Err no_member) w
+    → instance_at_end uri ≢ Some i → IsNamed (id_text i) id no_action (IsOfAction i base ms operation.Remove) w → IsNamed (id_text i) id no_action (λ action v. v ≡ Err no_member) w
 recovery_refused i base id uri ms w small text other (inl (n, is, h)) =
     inl (
       n,
@@ -138,22 +138,22 @@ recovery_refused i base id uri ms w small text other (inr h) = inr h
 pub two_refused : TwoAreRefused
 two_refused i base request ms uri w small served body text other (inl memory) = inl memory
 two_refused i base request ms uri w small served body text other (inr asks) =
-    let P : Result Route Denial → Type 0 = λ rr. MatchResult rr (λ r. MatchOption (body_of r request.body) (w ≡ Err BadBody) (λ m. IsWish i base (id_in request.target) m r w)) (λ d. w ≡ Err d) in
-    let Q : Option Members → Type 0 = λ o. MatchOption o (w ≡ Err BadBody) (λ m. IsWish i base (id_in request.target) m route.Remove w) in
+    let P : Result Operation Denial → Type 0 = λ rr. MatchResult rr (λ r. MatchOption (body_of r request.body) (w ≡ Err BadBody) (λ m. IsWish i base (id_in request.target) m r w)) (λ d. w ≡ Err d) in
+    let Q : Option Members → Type 0 = λ o. MatchOption o (w ≡ Err BadBody) (λ m. IsWish i base (id_in request.target) m operation.Remove w) in
     inr (recovery_refused i base (id_in request.target) uri ms w small text other (subst Q body (subst P served asks)))
 
 -- ---- whose identifier is named
 
-inside_named : (request : Request) (i n : ℕ) (r : Route) → r ≢ route.Start → instance_in (id_in request.target) ≡ Some i → named_at request r ≡ Some i
-inside_named request i n route.Start inside e = absurd (inside refl)
-inside_named request i n route.Status inside e = e
-inside_named request i n route.Join inside e = e
-inside_named request i n route.Close inside e = e
-inside_named request i n route.Cancel inside e = e
-inside_named request i n route.Remove inside e = e
-inside_named request i n route.Renew inside e = e
-inside_named request i n route.MemberStatus inside e = e
-inside_named request i n route.Report inside e = e
+inside_named : (request : Request) (i n : ℕ) (r : Operation) → r ≢ operation.Start → instance_in (id_in request.target) ≡ Some i → named_at request r ≡ Some i
+inside_named request i n operation.Start inside e = absurd (inside refl)
+inside_named request i n operation.Status inside e = e
+inside_named request i n operation.Join inside e = e
+inside_named request i n operation.Close inside e = e
+inside_named request i n operation.Cancel inside e = e
+inside_named request i n operation.Remove inside e = e
+inside_named request i n operation.Renew inside e = e
+inside_named request i n operation.MemberStatus inside e = e
+inside_named request i n operation.Report inside e = e
 
 pub identifiers_name : IdentifiersName
 unfolding instance_of parent_in

@@ -6,12 +6,12 @@ use Rattle.lra_instances.specs.Bearing.{instance_at_end}
 use Rattle.lra_instances.specs.Laws.{IsBorne}
 use Rattle.lra_wire.specs.Request.{Request}
 use Rattle.lra_commands.specs.declared.refusal.Refusal.TheVariants as refusal
-use Rattle.lra_front.specs.declared.route.Route.{Route}
-use Rattle.lra_front.specs.declared.route.Route.TheVariants as route
+use Rattle.lra_front.specs.declared.operation.Operation.{Operation}
+use Rattle.lra_front.specs.declared.operation.Operation.TheVariants as operation
 use Rattle.lra_front.specs.declared.denial.Denial.{Denial}
 use Rattle.lra_front.specs.declared.denial.Denial.TheVariants.{Refused}
 use Rattle.lra_front.specs.declared.wish.Wish.{Wish}
-use Rattle.lra_front.specs.Routes.{route_of, id_in}
+use Rattle.lra_front.specs.Routes.{operation_of, id_in}
 use Rattle.lra_front.specs.Bodies.{body_of, object_in, text_under}
 use Rattle.lra_front.specs.Wishes.{MayAsk, LacksMemory, IsNamed, no_action, no_member}
 use Rattle.lra_family_front.specs.Naming.{instance_of}
@@ -26,16 +26,16 @@ use Rattle.lra_family_front.specs.Serving.{Turn, names, IsUnknown, Does, Lacks, 
 
 -- the path of a request has the identifier of an instance, and isn't one where actions are started
 pub record HasIdentifier (request : Request) (i : ℕ) : Type 0 where
-  pub place : Route
-  pub served : route_of request.method request.target ≡ Ok place
-  pub inside : place ≢ route.Start
+  pub place : Operation
+  pub served : operation_of request.method request.target ≡ Ok place
+  pub inside : place ≢ operation.Start
   pub number : ℕ
   pub borne : IsBorne i number
   pub text : id_in request.target ≡ id_text i number
 
 -- the body of a start has the URI of an action of an instance, at whatever base
 pub record HasParent (request : Request) (i : ℕ) : Type 0 where
-  pub served : route_of request.method request.target ≡ Ok route.Start
+  pub served : operation_of request.method request.target ≡ Ok operation.Start
   pub members : Members
   pub read : object_in request.body ≡ Some members
   pub base : List ℕ
@@ -56,7 +56,7 @@ StrangersDeny = (i j : ℕ) (base : List ℕ) (request : Request) (w : Result Wi
 -- identifier of the path.
 abbrev pub TwoAreRefused : Type 0
 TwoAreRefused = (i : ℕ) (base : List ℕ) (request : Request) (members : Members) (uri : List ℕ) (w : Result Wish Denial) → i < 2 ^ 60
-    → route_of request.method request.target ≡ Ok route.Remove → body_of route.Remove request.body ≡ Some members
+    → operation_of request.method request.target ≡ Ok operation.Remove → body_of operation.Remove request.body ≡ Some members
     → text_under (codes "recovery") members ≡ Some uri → instance_at_end uri ≢ Some i → MayAsk i base request w
     → ((w ≡ Err (Refused refusal.Memory)) × LacksMemory request) ⊎ IsNamed (id_text i) (id_in request.target) no_action (λ action v. v ≡ Err no_member) w
 

@@ -3,10 +3,10 @@ use Rattle.std.specs.Prelude.{ℕ, List, codes, Option, None, option_and_then, R
 use Rattle.serde_json.specs.Data.{Members}
 use Rattle.lra_instances.specs.Bearing.{instance_in, instance_at_end}
 use Rattle.lra_wire.specs.Request.{Request}
-use Rattle.lra_front.specs.declared.route.Route.{Route}
-use Rattle.lra_front.specs.declared.route.Route.TheVariants as route
+use Rattle.lra_front.specs.declared.operation.Operation.{Operation}
+use Rattle.lra_front.specs.declared.operation.Operation.TheVariants as operation
 use Rattle.lra_front.specs.declared.denial.Denial.{Denial}
-use Rattle.lra_front.specs.Routes.{route_of, id_in}
+use Rattle.lra_front.specs.Routes.{operation_of, id_in}
 use Rattle.lra_front.specs.Bodies.{text_under, object_in}
 
 -- the instance of the parent that members name, by the end of its URI
@@ -17,16 +17,16 @@ parent_of members = option_and_then instance_at_end (option_and_then (text_under
 unfoldable pub parent_in : List ℕ → Option ℕ
 parent_in body = parent_of (object_in body)
 
--- the instance that a request names at a route: a start by its parent, any other by the identifier in its path
-abbrev pub named_at : Request → Route → Option ℕ
-named_at request route.Start = parent_in request.body
+-- the instance that a request names at an operation: a start by its parent, any other by the identifier in its path
+abbrev pub named_at : Request → Operation → Option ℕ
+named_at request operation.Start = parent_in request.body
 named_at request _ = instance_in (id_in request.target)
 
--- the same where there is a route
-abbrev pub named_by : Request → Result Route Denial → Option ℕ
+-- the same where there is an operation
+abbrev pub named_by : Request → Result Operation Denial → Option ℕ
 named_by request (Ok r) = named_at request r
 named_by request (Err denial) = None
 
 -- the instance that a request names; an outermost start names none, nor does what is served nowhere
 unfoldable pub instance_of : Request → Option ℕ
-instance_of request = named_by request (route_of request.method request.target)
+instance_of request = named_by request (operation_of request.method request.target)

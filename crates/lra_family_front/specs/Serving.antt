@@ -7,13 +7,13 @@ use Rattle.lra_commands.specs.declared.counter.CounterFault.{CounterFault}
 use Rattle.lra_commands.specs.declared.refusal.Refusal.TheVariants as refusal
 use Rattle.lra_commands.specs.Counters.{Sight}
 use Rattle.lra_wire.specs.Request.{Request}
-use Rattle.lra_front.specs.declared.route.Route.{Route}
-use Rattle.lra_front.specs.declared.route.Route.TheVariants as route
+use Rattle.lra_front.specs.declared.operation.Operation.{Operation}
+use Rattle.lra_front.specs.declared.operation.Operation.TheVariants as operation
 use Rattle.lra_front.specs.declared.denial.Denial.{Denial}
 use Rattle.lra_front.specs.declared.denial.Denial.TheVariants.{BadBody, Refused}
 use Rattle.lra_front.specs.declared.answer.Answer.{Answer}
 use Rattle.lra_front.specs.declared.answer.Answer.TheVariants.{Denied}
-use Rattle.lra_front.specs.Routes.{route_of}
+use Rattle.lra_front.specs.Routes.{operation_of}
 use Rattle.lra_front.specs.Bodies.{body_of}
 use Rattle.lra_front.specs.Wishes.{LacksMemory, no_action, no_member}
 use Rattle.lra_front.specs.Serving.{Responds}
@@ -31,16 +31,16 @@ pub record Turn : Type 0 where
 abbrev pub names : ℕ → Turn → ℕ
 names newest turn = unwrap_or (instance_of turn.request) newest
 
--- how a route denies an identifier that isn't its journal's
-abbrev pub unknown_at : Route → Denial
-unknown_at route.MemberStatus = no_member
-unknown_at route.Report = no_member
+-- how an operation denies an identifier that isn't its journal's
+abbrev pub unknown_at : Operation → Denial
+unknown_at operation.MemberStatus = no_member
+unknown_at operation.Report = no_member
 unknown_at _ = no_action
 
 -- How a request is denied whose identifier is of no journal that is there: as each counter denies one that isn't its own. What is wrong with the
 -- body is said first, and memory may be refused in reading it.
 abbrev pub IsUnknown : Request → Denial → Type 0
-IsUnknown request d = ((d ≡ Refused refusal.Memory) × LacksMemory request) ⊎ MatchResult (route_of request.method request.target)
+IsUnknown request d = ((d ≡ Refused refusal.Memory) × LacksMemory request) ⊎ MatchResult (operation_of request.method request.target)
     (λ r. MatchOption (body_of r request.body) (d ≡ BadBody) (λ members. d ≡ unknown_at r))
     (λ e. d ≡ e)
 

@@ -3,27 +3,27 @@ use Rattle.std.specs.Prelude.{◌≡◌, ◌⊎◌, ℕ, Bool, true, false, List
 use Rattle.lra_wire.specs.Request.{Request}
 use Rattle.lra_commands.specs.declared.refusal.Refusal.TheVariants as refusal
 use Rattle.lra_commands.specs.Counters.{Sight}
-use Rattle.lra_front.specs.declared.route.Route.{Route}
-use Rattle.lra_front.specs.declared.route.Route.TheVariants as route
+use Rattle.lra_front.specs.declared.operation.Operation.{Operation}
+use Rattle.lra_front.specs.declared.operation.Operation.TheVariants as operation
 use Rattle.lra_front.specs.declared.denial.Denial.{Denial}
 use Rattle.lra_front.specs.declared.denial.Denial.TheVariants.{Refused}
 use Rattle.lra_front.specs.declared.answer.Answer.{Answer}
 use Rattle.lra_front.specs.declared.answer.Answer.TheVariants.{Denied}
-use Rattle.lra_front.specs.Routes.{route_of}
+use Rattle.lra_front.specs.Routes.{operation_of}
 use Rattle.lra_front.specs.Wishes.{LacksMemory}
 use Rattle.lra_steps.specs.declared.responder.Answered.{Answered}
 use Rattle.lra_family.specs.Counted.{name}
 use Rattle.lra_family.specs.Families.{member, newest}
 use Rattle.lra_family_front.specs.Naming.{instance_of}
 
--- a route starts an action
-abbrev pub start_by : Result Route Denial → Bool
-start_by (Ok route.Start) = true
+-- an operation starts an action
+abbrev pub start_by : Result Operation Denial → Bool
+start_by (Ok operation.Start) = true
 start_by _ = false
 
 -- a request starts an action
 abbrev pub is_start : Request → Bool
-is_start request = start_by (route_of request.method request.target)
+is_start request = start_by (operation_of request.method request.target)
 
 -- What names an instance, or none, and starts an action or doesn't, isn't answered by a member that is surely in the
 -- family: a start that names none is the newest's,

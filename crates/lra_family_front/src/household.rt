@@ -18,7 +18,7 @@ use crate::naming::instance_of;
 use crate::serving;
 use lra_commands::{Counter, Refusal};
 use lra_family::Family;
-use lra_front::{Answer, Denial, Route, Routes};
+use lra_front::{Answer, Denial, Operation, Routes};
 use lra_ids::Base;
 use lra_model::Instance;
 use lra_steps::{Answered, Responder};
@@ -96,8 +96,8 @@ fn starts(routes: &Routes, request: &RequestRead) -> bool
     ensures { result ≡ is_start (request_of request.now) }
 {
     matches!(
-        routes.route(request.method.as_str(), request.target.as_str()),
-        Ok(Route::Start)
+        routes.operation(request.method.as_str(), request.target.as_str()),
+        Ok(Operation::Start)
     )
 }
 

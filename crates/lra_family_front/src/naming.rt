@@ -7,7 +7,7 @@ ghost use Rattle.lra_wire.specs.Request.{request_of};
 ghost use Rattle.lra_front.specs.Wishes.{LacksMemory};
 ghost use Rattle.lra_family_front.specs.Naming as spec;
 
-use lra_front::{Route, Routes, id_in};
+use lra_front::{Operation, Routes, id_in};
 use lra_instances::{instance_at_end, instance_in};
 use lra_model::{Instance, Memory};
 use lra_wire::RequestRead;
@@ -39,12 +39,16 @@ fn parent_in(alloc: Global, body: &[u8]) -> Result<Option<Instance>, Memory>
     }
 }
 
-/// The instance that a request names at a route.
-fn named_at(alloc: Global, route: Route, request: &RequestRead) -> Result<Option<Instance>, Memory>
-    ensures ok { IfOk result (λ named. named ≡ spec.named_at (request_of request.now) route) }
-    ensures err { OnErr result (route ≡ Route.Start) }
+/// The instance that a request names at an operation.
+fn named_at(
+    alloc: Global,
+    operation: Operation,
+    request: &RequestRead,
+) -> Result<Option<Instance>, Memory>
+    ensures ok { IfOk result (λ named. named ≡ spec.named_at (request_of request.now) operation) }
+    ensures err { OnErr result (operation ≡ Operation.Start) }
 {
-    if route == Route::Start {
+    if operation == Operation::Start {
         return parent_in(alloc, request.body.as_slice());
     }
     Ok(instance_in(id_in(request.target.as_str()).as_bytes()))
@@ -60,8 +64,8 @@ pub fn instance_of(
     ensures ok { IfOk result (λ named. named ≡ spec.instance_of (request_of request.now)) }
     ensures err { OnErr result (LacksMemory (request_of request.now)) }
 {
-    match routes.route(request.method.as_str(), request.target.as_str()) {
-        Ok(route) => named_at(alloc, route, request),
+    match routes.operation(request.method.as_str(), request.target.as_str()) {
+        Ok(operation) => named_at(alloc, operation, request),
         Err(_) => Ok(None),
     }
 }

@@ -10,7 +10,7 @@ use Rattle.lra_front.specs.declared.denial.Denial.TheVariants.{BadBody}
 use Rattle.lra_front.specs.inner.Reads.{ReadsObject, ReadsBody}
 use Rattle.serde_json.specs.Read.{read}
 use Rattle.serde_json.specs.Find.{as_object}
-use Rattle.lra_front.specs.declared.route.Route.{Route}
+use Rattle.lra_front.specs.declared.operation.Operation.{Operation}
 use Rattle.lra_model.specs.declared.status.Ending.{Ending}
 use Rattle.lra_model.specs.declared.status.Ending.TheVariants as ending
 use Rattle.lra_model.specs.Names.{ending_name}
@@ -46,22 +46,22 @@ pub object_err : (body : List ℕ) → 0 < length body → (IsUtf8 body → read
 object_err [] some h = absurd (omega arith)
 object_err (b ∷ rest) some h = object_by b rest (is_utf8 (b ∷ rest)) refl h
 
--- ---- what a route reads of it
+-- ---- what an operation reads of it
 
-body_unread : (r : Route) (b : List ℕ) → reads_body r ≡ false → body_of r b ≡ Some no_members
+body_unread : (r : Operation) (b : List ℕ) → reads_body r ≡ false → body_of r b ≡ Some no_members
 unfolding body_of
 body_unread r b e = rw e refl
 
-body_read : (r : Route) (b : List ℕ) (o : Option Members) → reads_body r ≡ true → object_in b ≡ o → body_of r b ≡ option_and_then (fitting r) o
+body_read : (r : Operation) (b : List ℕ) (o : Option Members) → reads_body r ≡ true → object_in b ≡ o → body_of r b ≡ option_and_then (fitting r) o
 unfolding body_of
 body_read r b o e is = rw (e, is) refl
 
-body_fits : (r : Route) (o : Option Members) (t : Bool) → IsSome o → IfSome o (λ m. t ≡ (members_fit r m && has_needed r m)) → t ≡ true
+body_fits : (r : Operation) (o : Option Members) (t : Bool) → IsSome o → IfSome o (λ m. t ≡ (members_fit r m && has_needed r m)) → t ≡ true
     → option_and_then (fitting r) o ≡ o
 body_fits r None t found h does = absurd (true≢false (sym found))
 body_fits r (Some m) t found h does = rw (sym h ∙ does) refl
 
-body_unfit : (r : Route) (o : Option Members) (t : Bool) → IfSome o (λ m. t ≡ (members_fit r m && has_needed r m)) → t ≡ false
+body_unfit : (r : Operation) (o : Option Members) (t : Bool) → IfSome o (λ m. t ≡ (members_fit r m && has_needed r m)) → t ≡ false
     → option_and_then (fitting r) o ≡ None
 body_unfit r None t h fails = refl
 body_unfit r (Some m) t h fails = rw (sym h ∙ fails) refl
@@ -87,21 +87,21 @@ found_other body d some text e is = object_ok body d some text e ∙ none_of (as
     none_of None h = refl
     none_of (Some m) h = absurd (true≢false h)
 
-pub unread : (r : Route) (b : List ℕ) (v : Value) → reads_body r ≡ false → view v ≡ object no_members → ReadsBody r b (Ok v)
+pub unread : (r : Operation) (b : List ℕ) (v : Value) → reads_body r ≡ false → view v ≡ object no_members → ReadsBody r b (Ok v)
 unread r b v e is = let blank = body_unread r b e in (blank ∙ rw is refl, some_of (body_of r b) (Some no_members) blank refl)
 
-pub read_denied : (r : Route) (b : List ℕ) (d : Denial) → reads_body r ≡ true → ReadsObject b (Err d) → ReadsBody r b (Err d)
+pub read_denied : (r : Operation) (b : List ℕ) (d : Denial) → reads_body r ≡ true → ReadsObject b (Err d) → ReadsBody r b (Err d)
 read_denied r b d e (inl memory) = inl (e, memory)
 read_denied r b d e (inr (bad, none)) = inr (bad, body_read r b None e none)
 
-pub read_fits : (r : Route) (b : List ℕ) (v : Value) (t : Bool) → reads_body r ≡ true → ReadsObject b (Ok v)
+pub read_fits : (r : Operation) (b : List ℕ) (v : Value) (t : Bool) → reads_body r ≡ true → ReadsObject b (Ok v)
     → IfSome (as_object (view v)) (λ m. t ≡ (members_fit r m && has_needed r m)) → t ≡ true → ReadsBody r b (Ok v)
 read_fits r b v t e (is, found) h does =
     let there : IsSome (as_object (view v)) = some_of (as_object (view v)) (object_in b) (sym is) found in
     let whole = body_read r b (as_object (view v)) e is ∙ body_fits r (as_object (view v)) t there h does in
     (whole, some_of (body_of r b) (as_object (view v)) whole there)
 
-pub read_unfit : (r : Route) (b : List ℕ) (v : Value) (t : Bool) → reads_body r ≡ true → ReadsObject b (Ok v)
+pub read_unfit : (r : Operation) (b : List ℕ) (v : Value) (t : Bool) → reads_body r ≡ true → ReadsObject b (Ok v)
     → IfSome (as_object (view v)) (λ m. t ≡ (members_fit r m && has_needed r m)) → t ≡ false → ReadsBody r b (Err BadBody)
 read_unfit r b v t e (is, found) h fails =
     inr (refl, body_read r b (as_object (view v)) e is ∙ body_unfit r (as_object (view v)) t h fails)

@@ -15,13 +15,13 @@ use Rattle.lra_commands.specs.declared.counter.Order.TheVariants as order
 use Rattle.lra_commands.specs.declared.counter.CounterFault.{CounterFault}
 use Rattle.lra_commands.specs.Counters.{Sight, KeepsHistory, CanTell, IsIdentifiable}
 use Rattle.lra_commands.proofs.Tells.{counters_tell}
-use Rattle.lra_front.specs.declared.route.Route.{Route}
-use Rattle.lra_front.specs.declared.route.Route.TheVariants as route
+use Rattle.lra_front.specs.declared.operation.Operation.{Operation}
+use Rattle.lra_front.specs.declared.operation.Operation.TheVariants as operation
 use Rattle.lra_front.specs.declared.denial.Denial.{Denial}
 use Rattle.lra_front.specs.declared.denial.Denial.TheVariants.{BadBody}
 use Rattle.lra_front.specs.declared.wish.Wish.{Wish}
 use Rattle.lra_front.specs.declared.wish.Wish.TheVariants as wish
-use Rattle.lra_front.specs.Routes.{route_of, id_in}
+use Rattle.lra_front.specs.Routes.{operation_of, id_in}
 use Rattle.lra_front.specs.Bodies.{body_of, text_under}
 use Rattle.lra_front.specs.Wishes.{no_action, no_member, limit_in, IsNamed, IsOfAction, IsOfMember, IsWish, MayAsk, IsOrder}
 use Rattle.lra_front.specs.inner.Tellable.{IsTellable, IsAnswerable}
@@ -53,29 +53,29 @@ by_start : (i : ℕ) (base : List ℕ) (ms : Members) (o : Option (List ℕ)) (l
 by_start i base ms None limit w h = numbered (wish.Start None limit) w h tt
 by_start i base ms (Some uri) limit w h = by_name (action_uri i base) uri no_action (λ parent v. Same v (Ok (wish.Start (Some parent) limit))) w (λ n k e. numbered (wish.Start (Some n) limit) w e tt) h
 
-by_route : (i : ℕ) (base id : List ℕ) (ms : Members) (r : Route) (w : Wish) → IsWish i base id ms r (Ok w) → HasNumber w
-by_route i base id ms route.Start w h = by_start i base ms (text_under (codes "parent") ms) (limit_in ms) w h
-by_route i base id ms route.Status w h = by_name (id_text i) id no_action (IsOfAction i base ms route.Status) w (λ n k e. numbered (wish.Status n) w e k) h
-by_route i base id ms route.Join w h = by_name (id_text i) id no_action (IsOfAction i base ms route.Join) w (λ n k e. numbered _ w e tt) h
-by_route i base id ms route.Close w h = by_name (id_text i) id no_action (IsOfAction i base ms route.Close) w (λ n k e. numbered _ w e tt) h
-by_route i base id ms route.Cancel w h = by_name (id_text i) id no_action (IsOfAction i base ms route.Cancel) w (λ n k e. numbered _ w e tt) h
-by_route i base id ms route.Renew w h = by_name (id_text i) id no_action (IsOfAction i base ms route.Renew) w (λ n k e. numbered _ w e tt) h
-by_route i base id ms route.Remove w h = by_name (id_text i) id no_action (IsOfAction i base ms route.Remove) w (λ n k. by_name (recovery_uri i base) _ no_member (λ m v. Same v (Ok (wish.Leave n m))) w (λ m j e. numbered _ w e tt)) h
-by_route i base id ms route.MemberStatus w h = by_name (id_text i) id no_member (IsOfMember ms route.MemberStatus) w (λ n k e. numbered _ w e tt) h
-by_route i base id ms route.Report w h = by_name (id_text i) id no_member (IsOfMember ms route.Report) w (λ n k e. numbered _ w e tt) h
+by_operation : (i : ℕ) (base id : List ℕ) (ms : Members) (r : Operation) (w : Wish) → IsWish i base id ms r (Ok w) → HasNumber w
+by_operation i base id ms operation.Start w h = by_start i base ms (text_under (codes "parent") ms) (limit_in ms) w h
+by_operation i base id ms operation.Status w h = by_name (id_text i) id no_action (IsOfAction i base ms operation.Status) w (λ n k e. numbered (wish.Status n) w e k) h
+by_operation i base id ms operation.Join w h = by_name (id_text i) id no_action (IsOfAction i base ms operation.Join) w (λ n k e. numbered _ w e tt) h
+by_operation i base id ms operation.Close w h = by_name (id_text i) id no_action (IsOfAction i base ms operation.Close) w (λ n k e. numbered _ w e tt) h
+by_operation i base id ms operation.Cancel w h = by_name (id_text i) id no_action (IsOfAction i base ms operation.Cancel) w (λ n k e. numbered _ w e tt) h
+by_operation i base id ms operation.Renew w h = by_name (id_text i) id no_action (IsOfAction i base ms operation.Renew) w (λ n k e. numbered _ w e tt) h
+by_operation i base id ms operation.Remove w h = by_name (id_text i) id no_action (IsOfAction i base ms operation.Remove) w (λ n k. by_name (recovery_uri i base) _ no_member (λ m v. Same v (Ok (wish.Leave n m))) w (λ m j e. numbered _ w e tt)) h
+by_operation i base id ms operation.MemberStatus w h = by_name (id_text i) id no_member (IsOfMember ms operation.MemberStatus) w (λ n k e. numbered _ w e tt) h
+by_operation i base id ms operation.Report w h = by_name (id_text i) id no_member (IsOfMember ms operation.Report) w (λ n k e. numbered _ w e tt) h
 
-by_body : (i : ℕ) (base id : List ℕ) (r : Route) (o : Option Members) (w : Wish) → MatchOption o (Same (Ok w) (Err BadBody)) (λ ms. IsWish i base id ms r (Ok w)) → HasNumber w
+by_body : (i : ℕ) (base id : List ℕ) (r : Operation) (o : Option Members) (w : Wish) → MatchOption o (Same (Ok w) (Err BadBody)) (λ ms. IsWish i base id ms r (Ok w)) → HasNumber w
 by_body i base id r None w h = absurd cc
-by_body i base id r (Some ms) w h = by_route i base id ms r w h
+by_body i base id r (Some ms) w h = by_operation i base id ms r w h
 
-by_path : (i : ℕ) (base : List ℕ) (request : Request) (o : Result Route Denial) (w : Wish)
+by_path : (i : ℕ) (base : List ℕ) (request : Request) (o : Result Operation Denial) (w : Wish)
     → MatchResult o (λ r. MatchOption (body_of r request.body) (Same (Ok w) (Err BadBody)) (λ ms. IsWish i base (id_in request.target) ms r (Ok w))) (λ d. Same (Ok w) (Err d)) → HasNumber w
 by_path i base request (Ok r) w h = by_body i base (id_in request.target) r (body_of r request.body) w h
 by_path i base request (Err d) w h = absurd cc
 
 asked_number : (i : ℕ) (base : List ℕ) (request : Request) (w : Wish) → MayAsk i base request (Ok w) → HasNumber w
 asked_number i base request w (inl (e, lacks)) = absurd cc
-asked_number i base request w (inr h) = by_path i base request (route_of request.method request.target) w h
+asked_number i base request w (inr h) = by_path i base request (operation_of request.method request.target) w h
 
 -- ---- what is told
 

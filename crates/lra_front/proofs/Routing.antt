@@ -1,23 +1,42 @@
--- What a router has after each path.
-use Rattle.std.proofs.Common.{◌≡◌, ℕ, List, [], ◌∷◌, Result, Ok, Err, OnOk, refl}
+-- What a router has after each path, and what a search among operations comes to.
+use Rattle.std.proofs.Common.{◌≡◌, ℕ, ◌+◌, ◌<◌, Bool, false, List, ◌∷◌, length, drop, get_or, add-one, Option, Result, Ok, Err, OnOk, refl, sym, ◌∙◌, subst}
+use Rattle.std.proofs.Math.Seq.{drop-cons}
+use Rattle.std.specs.List.{find}
 use Rattle.matchit.specs.Rows.{RowsOf}
 use Rattle.matchit.specs.Route.{Scan, parse_route}
 use Rattle.matchit.specs.Router.{RouteOf, InsertsRead}
 use Rattle.matchit.specs.declared.error.InsertError.{InsertError}
-use Rattle.lra_front.specs.declared.route.Place.{Place}
-use Rattle.lra_front.specs.Routes.{with_path, with_paths}
+use Rattle.lra_front.specs.declared.operation.Place.{Place}
+use Rattle.lra_front.specs.declared.operation.Operation.{Operation}
+use Rattle.lra_front.specs.Operations.{path_of}
+use Rattle.lra_front.specs.Routes.{with_scan, with_path, with_paths}
 
-pub inserted : (x : Result Scan InsertError) (p : Place) (old new : RowsOf (RouteOf Place)) (r : Result (Unit {0}) InsertError)
-    → InsertsRead x p old new r → OnOk r (new ≡ with_path x p old)
-inserted (Ok scan) p old new (Ok u) h = h.1
-inserted (Err error) p old new (Ok u) h = h.0
-inserted (Ok scan) p old new (Err e) h = tt
-inserted (Err error) p old new (Err e) h = tt
+inserted_as : (x : Result Scan InsertError) (p : Place) (old new : RowsOf (RouteOf Place)) (r : Result (Unit {0}) InsertError)
+    → InsertsRead x p old new r → OnOk r (new ≡ with_scan x p old)
+inserted_as (Ok scan) p old new (Ok u) h = h.1
+inserted_as (Err error) p old new (Ok u) h = h.0
+inserted_as (Ok scan) p old new (Err e) h = tt
+inserted_as (Err error) p old new (Err e) h = tt
 
--- seven paths, one after another
-pub seven : (a b c d e f g : List ℕ × Place) (r0 r1 r2 r3 r4 r5 r6 r7 : RowsOf (RouteOf Place)) (r : Result (Unit {0}) InsertError)
-    → r1 ≡ with_path (parse_route a.0) a.1 r0 → r2 ≡ with_path (parse_route b.0) b.1 r1 → r3 ≡ with_path (parse_route c.0) c.1 r2
-    → r4 ≡ with_path (parse_route d.0) d.1 r3 → r5 ≡ with_path (parse_route e.0) e.1 r4 → r6 ≡ with_path (parse_route f.0) f.1 r5
-    → OnOk r (r7 ≡ with_path (parse_route g.0) g.1 r6) → OnOk r (r7 ≡ with_paths (a ∷ b ∷ c ∷ d ∷ e ∷ f ∷ g ∷ []) r0)
-seven a b c d e f g r0 r1 r2 r3 r4 r5 r6 r7 (Ok u) h1 h2 h3 h4 h5 h6 h7 = rw (h7, h6, h5, h4, h3, h2, h1) refl
-seven a b c d e f g r0 r1 r2 r3 r4 r5 r6 r7 (Err error) h1 h2 h3 h4 h5 h6 h7 = tt
+pub inserted : (path : List ℕ) (p : Place) (old new : RowsOf (RouteOf Place)) (r : Result (Unit {0}) InsertError)
+    → path ≡ path_of p → InsertsRead (parse_route path) p old new r → OnOk r (new ≡ with_path p old)
+inserted path p old new r is h =
+    let P : List ℕ → Type 0 = λ t. OnOk r (new ≡ with_scan (parse_route t) p old) in
+    subst P is (inserted_as (parse_route path) p old new r h)
+
+drop_first : {A : Type 0} (xs : List A) (i : ℕ) (d : A) → i < length xs → drop i xs ≡ get_or xs i d ∷ drop (i + 1) xs
+drop_first xs i d h = rw add-one (drop-cons xs i d h)
+
+-- one place more
+pub one_more : (ps : List Place) (i : ℕ) (d : Place) (now next all : RowsOf (RouteOf Place)) → i < length ps → with_paths (drop i ps) now ≡ all
+    → next ≡ with_path (get_or ps i d) now → with_paths (drop (i + 1) ps) next ≡ all
+one_more ps i d now next all h e is = rw is (subst (λ (qs : List Place). with_paths qs now ≡ all) (drop_first ps i d h) e)
+
+passed : (f : Operation → Bool) (o : Operation) (os : List Operation) → f o ≡ false → find f (o ∷ os) ≡ find f os
+passed f o os fails = rw fails refl
+
+-- one operation that isn't the one
+pub none_yet : (f : Operation → Bool) (os : List Operation) (i : ℕ) (d : Operation) (all : Option Operation) → i < length os → find f (drop i os) ≡ all
+    → f (get_or os i d) ≡ false → find f (drop (i + 1) os) ≡ all
+none_yet f os i d all h e fails =
+    sym (passed f (get_or os i d) (drop (i + 1) os) fails) ∙ subst (λ (qs : List Operation). find f qs ≡ all) (drop_first os i d h) e

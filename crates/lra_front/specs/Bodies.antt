@@ -11,20 +11,26 @@ use Rattle.lra_model.specs.declared.status.Ending.TheVariants as ending
 use Rattle.lra_model.specs.Names.{ending_name}
 use Rattle.lra_model.specs.Addresses.{Addresses}
 use Rattle.lra_model.specs.Words.{when}
-use Rattle.lra_front.specs.declared.route.Route.{Route}
-use Rattle.lra_front.specs.declared.route.Route.TheVariants as route
+use Rattle.lra_front.specs.declared.operation.Operation.{Operation}
+use Rattle.lra_front.specs.declared.operation.Operation.TheVariants as operation
 use Rattle.lra_front.specs.declared.body.Kind.{Kind}
 use Rattle.lra_front.specs.declared.body.Kind.TheVariants.{Text, Number}
 
--- the keys that a route's body may have, each with the kind of its value (this project's own)
-abbrev pub keys : Route → List (List ℕ × Kind)
-keys route.Start = (codes "parent", Text) ∷ (codes "limit", Number) ∷ []
-keys route.Join =
+-- the keys that an operation's body may have, each with the kind of its value (this project's own)
+abbrev pub keys : Operation → List (List ℕ × Kind)
+keys operation.Start = (codes "parent", Text) ∷ (codes "limit", Number) ∷ []
+keys operation.Join =
     (codes "compensate", Text) ∷ (codes "complete", Text) ∷ (codes "status", Text) ∷ (codes "forget", Text) ∷ (codes "after", Text) ∷ []
-keys route.Remove = (codes "recovery", Text) ∷ []
-keys route.Renew = (codes "limit", Number) ∷ []
-keys route.Report = (codes "status", Text) ∷ []
+keys operation.Remove = (codes "recovery", Text) ∷ []
+keys operation.Renew = (codes "limit", Number) ∷ []
+keys operation.Report = (codes "status", Text) ∷ []
 keys _ = []
+
+-- the key under which an operation's body has an identifier: the parent of a new action, and the member that leaves
+abbrev pub identifier_key : Operation → Option (List ℕ)
+identifier_key operation.Start = Some (codes "parent")
+identifier_key operation.Remove = Some (codes "recovery")
+identifier_key _ = None
 
 -- the kind of a key's value, if it is among these keys
 abbrev pub kind_in : List ℕ → List (List ℕ × Kind) → Option Kind
@@ -36,12 +42,12 @@ abbrev pub is_kind : Data → Kind → Bool
 is_kind value Text = is_some (as_str value)
 is_kind value Number = is_some (option_and_then as_u64 (as_number value))
 
--- a route's body may have that value under that key
-abbrev pub member_fits : Route → List ℕ → Data → Bool
+-- an operation's body may have that value under that key
+abbrev pub member_fits : Operation → List ℕ → Data → Bool
 member_fits r key value = option_map_or (is_kind value) (kind_in key (keys r)) false
 
--- a route's body may have these members
-abbrev pub members_fit : Route → Members → Bool
+-- an operation's body may have these members
+abbrev pub members_fit : Operation → Members → Bool
 members_fit r no_members = true
 members_fit r (member key value rest) = member_fits r key value && members_fit r rest
 
@@ -74,11 +80,11 @@ addresses_given members = record {
   after = text_under (codes "after") members;
 }
 
--- what a route's body needs is there
-abbrev pub has_needed : Route → Members → Bool
-has_needed route.Remove m = is_some (text_under (codes "recovery") m)
-has_needed route.Renew m = is_some (number_under (codes "limit") m)
-has_needed route.Report m = is_some (ending_told m)
+-- what an operation's body needs is there
+abbrev pub has_needed : Operation → Members → Bool
+has_needed operation.Remove m = is_some (text_under (codes "recovery") m)
+has_needed operation.Renew m = is_some (number_under (codes "limit") m)
+has_needed operation.Report m = is_some (ending_told m)
 has_needed _ m = true
 
 -- the object that a body is; an empty body is one without members
@@ -86,16 +92,16 @@ abbrev pub object_in : List ℕ → Option Members
 object_in [] = Some no_members
 object_in (b ∷ rest) = if is_utf8 (b ∷ rest) then option_and_then as_object (read (b ∷ rest)) else None
 
--- whether a route reads its body: those that a GET asks for don't
-abbrev pub reads_body : Route → Bool
-reads_body route.Status = false
-reads_body route.MemberStatus = false
+-- whether an operation reads its body: those that a GET asks for don't
+abbrev pub reads_body : Operation → Bool
+reads_body operation.Status = false
+reads_body operation.MemberStatus = false
 reads_body _ = true
 
--- the members, where they make a body that the route reads
-abbrev pub fitting : Route → Members → Option Members
+-- the members, where they make a body that the operation reads
+abbrev pub fitting : Operation → Members → Option Members
 fitting r members = when (members_fit r members && has_needed r members) members
 
--- what a body says, where it is one that the route reads
-unfoldable pub body_of : Route → List ℕ → Option Members
+-- what a body says, where it is one that the operation reads
+unfoldable pub body_of : Operation → List ℕ → Option Members
 body_of r body = if reads_body r then option_and_then (fitting r) (object_in body) else Some no_members

@@ -15,7 +15,7 @@ use Rattle.lra_front.specs.declared.denial.Denial.{Denial}
 use Rattle.lra_front.specs.declared.denial.Denial.TheVariants as denial
 use Rattle.lra_front.specs.declared.answer.Answer.{Answer}
 use Rattle.lra_front.specs.declared.answer.Answer.TheVariants as answer
-use Rattle.lra_front.specs.Routes.{allowed}
+use Rattle.lra_front.specs.Operations.{allowed}
 
 -- ---- codes and phrases
 

@@ -1,5 +1,5 @@
 -- What the path and the method of a request ask for.
-use Rattle.std.specs.Prelude.{ℕ, List, [], ◌∷◌, ◌==◌, Bool, if◌then◌else◌, codes, bytes_eq, Option, Some, None, option_map, Result, Ok, Err}
+use Rattle.std.specs.Prelude.{ℕ, List, [], ◌∷◌, ◌==◌, Bool, if◌then◌else◌, Option, Some, None, option_map, Result, Ok, Err}
 use Rattle.std.specs.List.{list_any, before_first, after_first}
 use Rattle.std.specs.Option.{option_map_or}
 use Rattle.matchit.specs.Rows.{RowsOf}
@@ -8,40 +8,31 @@ use Rattle.matchit.specs.Order.{placed}
 use Rattle.matchit.specs.Router.{RouteOf, route_from}
 use Rattle.matchit.specs.Seek.{first}
 use Rattle.matchit.specs.declared.error.InsertError.{InsertError}
-use Rattle.lra_front.specs.declared.route.Place.{Place}
-use Rattle.lra_front.specs.declared.route.Place.TheVariants as place
-use Rattle.lra_front.specs.declared.route.Route.{Route}
-use Rattle.lra_front.specs.declared.route.Route.TheVariants as route
+use Rattle.lra_front.specs.declared.operation.Place.{Place}
+use Rattle.lra_front.specs.declared.operation.Operation.{Operation}
 use Rattle.lra_front.specs.declared.denial.Denial.{Denial}
 use Rattle.lra_front.specs.declared.denial.Denial.TheVariants.{NoSuchPath, BadMethod}
+use Rattle.lra_front.specs.Operations.{places, path_of, operation_at}
 
--- ---- paths (this project's own)
-
--- each path that is served, and what it names; `{id}` is a piece between slashes that isn't empty
-abbrev pub paths : List (List ℕ × Place)
-paths =
-    (codes "/lra-coordinator", place.Actions)
-    ∷ (codes "/lra-coordinator/{id}", place.Action)
-    ∷ (codes "/lra-coordinator/{id}/close", place.Close)
-    ∷ (codes "/lra-coordinator/{id}/cancel", place.Cancel)
-    ∷ (codes "/lra-coordinator/{id}/remove", place.Remove)
-    ∷ (codes "/lra-coordinator/{id}/renew", place.Renew)
-    ∷ (codes "/lra-recovery/{id}", place.Member)
-    ∷ []
+-- ---- paths
 
 -- the rows of a router with one path more, as `matchit` reads it
-abbrev pub with_path : Result Scan InsertError → Place → RowsOf (RouteOf Place) → RowsOf (RouteOf Place)
-with_path (Ok scan) p rows = placed (scan.pattern, route_from scan p) rows
-with_path (Err error) p rows = rows
+abbrev pub with_scan : Result Scan InsertError → Place → RowsOf (RouteOf Place) → RowsOf (RouteOf Place)
+with_scan (Ok scan) p rows = placed (scan.pattern, route_from scan p) rows
+with_scan (Err error) p rows = rows
 
--- the rows of a router with these paths more
-abbrev pub with_paths : List (List ℕ × Place) → RowsOf (RouteOf Place) → RowsOf (RouteOf Place)
+-- the same with the path of one place more
+abbrev pub with_path : Place → RowsOf (RouteOf Place) → RowsOf (RouteOf Place)
+with_path p rows = with_scan (parse_route (path_of p)) p rows
+
+-- the rows of a router with the paths of these places more
+abbrev pub with_paths : List Place → RowsOf (RouteOf Place) → RowsOf (RouteOf Place)
 with_paths [] rows = rows
-with_paths (p ∷ rest) rows = with_paths rest (with_path (parse_route p.0) p.1 rows)
+with_paths (p ∷ rest) rows = with_paths rest (with_path p rows)
 
 -- the router of the paths
 abbrev pub path_rows : RowsOf (RouteOf Place)
-path_rows = with_paths paths []
+path_rows = with_paths places []
 
 -- whether a target has a query, which its first question mark begins (RFC 3986, section 3.4)
 abbrev pub has_query : List ℕ → Bool
@@ -59,37 +50,12 @@ is_slash b = b == 47
 unfoldable pub id_in : List ℕ → List ℕ
 id_in target = before_first is_slash (after_first is_slash (after_first is_slash target))
 
--- ---- methods
-
--- each method that a place takes, with what it asks for
-abbrev pub methods : Place → List (List ℕ × Route)
-methods place.Actions = (codes "POST", route.Start) ∷ []
-methods place.Action = (codes "GET", route.Status) ∷ (codes "PUT", route.Join) ∷ []
-methods place.Close = (codes "PUT", route.Close) ∷ []
-methods place.Cancel = (codes "PUT", route.Cancel) ∷ []
-methods place.Remove = (codes "PUT", route.Remove) ∷ []
-methods place.Renew = (codes "PUT", route.Renew) ∷ []
-methods place.Member = (codes "GET", route.MemberStatus) ∷ (codes "PUT", route.Report) ∷ []
-
--- the value of `Allow` at a place (RFC 9110, section 10.2.1)
-abbrev pub allowed : Place → List ℕ
-allowed place.Actions = codes "POST"
-allowed place.Action = codes "GET, PUT"
-allowed place.Close = codes "PUT"
-allowed place.Cancel = codes "PUT"
-allowed place.Remove = codes "PUT"
-allowed place.Renew = codes "PUT"
-allowed place.Member = codes "GET, PUT"
-
--- what a method asks for, of those that a place takes; methods are told apart by their case (RFC 9110, section 9.1)
-abbrev pub route_by : List ℕ → List (List ℕ × Route) → Option Route
-route_by method [] = None
-route_by method (m ∷ rest) = if bytes_eq method m.0 then Some m.1 else route_by method rest
+-- ---- operations
 
 -- what a method asks for at a place, if it is taken there
-abbrev pub route_at : List ℕ → Place → Result Route Denial
-route_at method p = option_map_or Ok (route_by method (methods p)) (Err (BadMethod p))
+abbrev pub asked_at : List ℕ → Place → Result Operation Denial
+asked_at method p = option_map_or Ok (operation_at method p) (Err (BadMethod p))
 
 -- what a request asks for: the path first, then the method
-abbrev pub route_of : List ℕ → List ℕ → Result Route Denial
-route_of method target = option_map_or (route_at method) (place_of target) (Err NoSuchPath)
+abbrev pub operation_of : List ℕ → List ℕ → Result Operation Denial
+operation_of method target = option_map_or (asked_at method) (place_of target) (Err NoSuchPath)

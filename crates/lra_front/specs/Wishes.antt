@@ -9,13 +9,13 @@ use Rattle.lra_wire.specs.Request.{Request}
 use Rattle.lra_commands.specs.declared.refusal.Refusal.TheVariants as refusal
 use Rattle.lra_commands.specs.declared.counter.Order.{Order}
 use Rattle.lra_commands.specs.declared.counter.Order.TheVariants as order
-use Rattle.lra_front.specs.declared.route.Route.{Route}
-use Rattle.lra_front.specs.declared.route.Route.TheVariants as route
+use Rattle.lra_front.specs.declared.operation.Operation.{Operation}
+use Rattle.lra_front.specs.declared.operation.Operation.TheVariants as operation
 use Rattle.lra_front.specs.declared.denial.Denial.{Denial}
 use Rattle.lra_front.specs.declared.denial.Denial.TheVariants.{BadBody, Refused}
 use Rattle.lra_front.specs.declared.wish.Wish.{Wish}
 use Rattle.lra_front.specs.declared.wish.Wish.TheVariants as wish
-use Rattle.lra_front.specs.Routes.{route_of, id_in}
+use Rattle.lra_front.specs.Routes.{operation_of, id_in}
 use Rattle.lra_front.specs.Bodies.{body_of, reads_body, text_under, number_under, ending_told, addresses_given}
 
 -- a text that isn't the identifier of an action, or of a member
@@ -44,39 +44,39 @@ IsStart i base ms w = MatchOption (text_under (codes "parent") ms)
     (w ≡ Ok (wish.Start None (limit_in ms)))
     (λ uri. IsNamed (action_uri i base) uri no_action (λ parent v. v ≡ Ok (wish.Start (Some parent) (limit_in ms))) w)
 
--- what a route asks for of an action: a member leaves it by its recovery URI, which the body has
-abbrev pub IsOfAction : ℕ → List ℕ → Members → Route → ℕ → Result Wish Denial → Type 0
-IsOfAction i base ms route.Status action w = w ≡ Ok (wish.Status action)
-IsOfAction i base ms route.Join action w = w ≡ Ok (wish.Join action (addresses_given ms))
-IsOfAction i base ms route.Close action w = w ≡ Ok (wish.Close action)
-IsOfAction i base ms route.Cancel action w = w ≡ Ok (wish.Cancel action)
-IsOfAction i base ms route.Renew action w = w ≡ Ok (wish.Renew action (limit_in ms))
-IsOfAction i base ms route.Remove action w =
+-- what an operation asks for of an action: a member leaves it by its recovery URI, which the body has
+abbrev pub IsOfAction : ℕ → List ℕ → Members → Operation → ℕ → Result Wish Denial → Type 0
+IsOfAction i base ms operation.Status action w = w ≡ Ok (wish.Status action)
+IsOfAction i base ms operation.Join action w = w ≡ Ok (wish.Join action (addresses_given ms))
+IsOfAction i base ms operation.Close action w = w ≡ Ok (wish.Close action)
+IsOfAction i base ms operation.Cancel action w = w ≡ Ok (wish.Cancel action)
+IsOfAction i base ms operation.Renew action w = w ≡ Ok (wish.Renew action (limit_in ms))
+IsOfAction i base ms operation.Remove action w =
     IsNamed (recovery_uri i base) (unwrap_or (text_under (codes "recovery") ms) []) no_member (λ m v. v ≡ Ok (wish.Leave action m)) w
 IsOfAction i base ms _ action w = ⊥
 
--- what a route asks for of a member
-abbrev pub IsOfMember : Members → Route → ℕ → Result Wish Denial → Type 0
-IsOfMember ms route.MemberStatus m w = w ≡ Ok (wish.MemberStatus m)
-IsOfMember ms route.Report m w = w ≡ Ok (wish.Report m (ending_in ms))
+-- what an operation asks for of a member
+abbrev pub IsOfMember : Members → Operation → ℕ → Result Wish Denial → Type 0
+IsOfMember ms operation.MemberStatus m w = w ≡ Ok (wish.MemberStatus m)
+IsOfMember ms operation.Report m w = w ≡ Ok (wish.Report m (ending_in ms))
 IsOfMember ms _ m w = ⊥
 
--- What a route asks for, of a coordinator with that instance and base: the path's ID is looked at before the body's.
-abbrev pub IsWish : ℕ → List ℕ → List ℕ → Members → Route → Result Wish Denial → Type 0
-IsWish i base id ms route.Start w = IsStart i base ms w
-IsWish i base id ms route.MemberStatus w = IsNamed (id_text i) id no_member (IsOfMember ms route.MemberStatus) w
-IsWish i base id ms route.Report w = IsNamed (id_text i) id no_member (IsOfMember ms route.Report) w
+-- What an operation asks for, of a coordinator with that instance and base: the path's ID is looked at before the body's.
+abbrev pub IsWish : ℕ → List ℕ → List ℕ → Members → Operation → Result Wish Denial → Type 0
+IsWish i base id ms operation.Start w = IsStart i base ms w
+IsWish i base id ms operation.MemberStatus w = IsNamed (id_text i) id no_member (IsOfMember ms operation.MemberStatus) w
+IsWish i base id ms operation.Report w = IsNamed (id_text i) id no_member (IsOfMember ms operation.Report) w
 IsWish i base id ms r w = IsNamed (id_text i) id no_action (IsOfAction i base ms r) w
 
 -- What a request asks for: the path is looked at first, then the method, the body, and the identifiers.
 abbrev pub Asks : ℕ → List ℕ → Request → Result Wish Denial → Type 0
-Asks i base request w = MatchResult (route_of request.method request.target)
+Asks i base request w = MatchResult (operation_of request.method request.target)
     (λ r. MatchOption (body_of r request.body) (w ≡ Err BadBody) (λ ms. IsWish i base (id_in request.target) ms r w))
     (λ d. w ≡ Err d)
 
 -- Memory was refused in reading what a request asks for: its path and its method are served, and its body is read.
 abbrev pub LacksMemory : Request → Type 0
-LacksMemory request = (r : Route) × (route_of request.method request.target ≡ Ok r) × (reads_body r ≡ true)
+LacksMemory request = (r : Operation) × (operation_of request.method request.target ≡ Ok r) × (reads_body r ≡ true)
 
 -- what a request asks for, or that memory was refused in reading it
 abbrev pub MayAsk : ℕ → List ℕ → Request → Result Wish Denial → Type 0

@@ -8,7 +8,7 @@ ghost use Rattle.lra_front.specs.Bodies as spec;
 ghost use Rattle.lra_front.specs.inner.Reads.{ReadsObject, ReadsBody};
 
 use crate::denial::Denial;
-use crate::route::Route;
+use crate::operation::Operation;
 use lra_commands::Refusal;
 use lra_model::Ending;
 use serde_json::Value;
@@ -34,17 +34,28 @@ impl Kind {
     }
 }
 
-impl Route {
+impl Operation {
     /// The kind of the value that its body may have under a key.
     fn kind(self, key: &str) -> Option<Kind>
         ensures { result ≡ spec.kind_in key.now (spec.keys self) }
     {
         match self {
-            Route::Start if key == "parent" => Some(Kind::Text),
-            Route::Start | Route::Renew if key == "limit" => Some(Kind::Number),
-            Route::Join if is_address(key) => Some(Kind::Text),
-            Route::Remove if key == "recovery" => Some(Kind::Text),
-            Route::Report if key == "status" => Some(Kind::Text),
+            Operation::Start if key == "parent" => Some(Kind::Text),
+            Operation::Start | Operation::Renew if key == "limit" => Some(Kind::Number),
+            Operation::Join if is_address(key) => Some(Kind::Text),
+            Operation::Remove if key == "recovery" => Some(Kind::Text),
+            Operation::Report if key == "status" => Some(Kind::Text),
+            _ => None,
+        }
+    }
+
+    /// Returns the key under which its body has an identifier, if it has one.
+    pub fn identifier_key(self) -> Option<&'static str>
+        ensures { option_map (λ key. key.now) result ≡ spec.identifier_key self }
+    {
+        match self {
+            Operation::Start => Some("parent"),
+            Operation::Remove => Some("recovery"),
             _ => None,
         }
     }
@@ -73,9 +84,9 @@ impl Route {
         ensures { IfSome (as_object (view body.now)) (λ members. result ≡ spec.has_needed self members) }
     {
         match self {
-            Route::Remove => text_under(body, "recovery").is_some(),
-            Route::Renew => number_under(body, "limit").is_some(),
-            Route::Report => ending_told(body).is_some(),
+            Operation::Remove => text_under(body, "recovery").is_some(),
+            Operation::Renew => number_under(body, "limit").is_some(),
+            Operation::Report => ending_told(body).is_some(),
             _ => true,
         }
     }
@@ -84,13 +95,13 @@ impl Route {
     fn reads_body(self) -> bool
         ensures { result ≡ spec.reads_body self }
     {
-        !matches!(self, Route::Status | Route::MemberStatus)
+        !matches!(self, Operation::Status | Operation::MemberStatus)
     }
 }
 
 /// Whether a key is that of one of a member's addresses.
 fn is_address(key: &str) -> bool
-    ensures { result ≡ is_some (spec.kind_in key.now (spec.keys Route.Join)) }
+    ensures { result ≡ is_some (spec.kind_in key.now (spec.keys Operation.Join)) }
 {
     key == "compensate" || key == "complete" || key == "status" || key == "forget" || key == "after"
 }
@@ -144,8 +155,8 @@ fn object_in(alloc: Global, body: &[u8]) -> Result<Value, Denial>
     }
 }
 
-impl Route {
-    /// What a body says, where it is one that the route reads.
+impl Operation {
+    /// What a body says, where it is one that the operation reads.
     pub(crate) fn read_body(self, alloc: Global, body: &[u8]) -> Result<Value, Denial>
         ensures { ReadsBody self body.now result }
     {

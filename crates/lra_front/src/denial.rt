@@ -1,6 +1,6 @@
 //! Why a request isn't done.
 
-use crate::route::Place;
+use crate::operation::Place;
 use lra_commands::Refusal;
 use thiserror::Error;
 
@@ -34,7 +34,7 @@ pub enum Denial {
     /// The place doesn't take the method.
     #[error("method not allowed")]
     BadMethod(Place),
-    /// The body isn't one that the route reads.
+    /// The body isn't one that the operation reads.
     #[error("bad body")]
     BadBody,
     /// The coordinator refused, or an identifier isn't one of it.

@@ -2,56 +2,14 @@
 
 ghost use Rattle.std.specs.Prelude.{◌≡◌, IfOk, OnOk};
 ghost use Rattle.std.specs.List.{before_first, after_first};
-ghost use Rattle.matchit.specs.Route.{parse_route};
-ghost use Rattle.lra_front.specs.Routes.{is_slash, has_query, paths, with_path, with_paths, path_rows, place_of, id_in, methods, route_by, allowed, route_of};
+ghost use Rattle.lra_front.specs.Operations.{places};
+ghost use Rattle.lra_front.specs.Routes.{is_slash, has_query, with_path, with_paths, path_rows, place_of, id_in, operation_of};
 
 use crate::denial::Denial;
-use http::Method;
+use crate::operation::{Operation, Place};
 use lra_model::Memory;
 use matchit::{InsertError, Router};
 use std::alloc::{AllocError, Global};
-
-/// What a path names.
-#[derive(Clone, Copy, Debug, PartialEq, Eq, Drop)]
-pub enum Place {
-    /// Where actions are started.
-    Actions,
-    /// An action.
-    Action,
-    /// Where an action is closed.
-    Close,
-    /// Where an action is cancelled.
-    Cancel,
-    /// Where a member leaves its action.
-    Remove,
-    /// Where an action's limit is set anew.
-    Renew,
-    /// A member.
-    Member,
-}
-
-/// What a request asks for.
-#[derive(Clone, Copy, Debug, PartialEq, Eq)]
-pub enum Route {
-    /// To start an action.
-    Start,
-    /// To know an action's status.
-    Status,
-    /// To let a member join an action.
-    Join,
-    /// To close an action.
-    Close,
-    /// To cancel an action.
-    Cancel,
-    /// To let a member leave its action.
-    Remove,
-    /// To set an action's limit anew.
-    Renew,
-    /// To know a member's status.
-    MemberStatus,
-    /// To take down what a member tells of itself.
-    Report,
-}
 
 /// The paths that are served.
 #[derive(Drop)]
@@ -60,24 +18,21 @@ pub struct Routes {
     ghost served: { router ≡ path_rows },
 }
 
-/// Serves one path more.
-fn serve(router: &mut Router<Place>, path: &str, place: Place) -> Result<(), InsertError>
-    ensures { OnOk result (router.new ≡ with_path (parse_route path.now) place router.old) }
+/// Serves the path of one place more.
+fn serve(router: &mut Router<Place>, place: Place) -> Result<(), InsertError>
+    ensures { OnOk result (router.new ≡ with_path place router.old) }
 {
-    router.insert(path, place)
+    router.insert(place.path(), place)
 }
 
-/// Serves all paths.
+/// Serves the paths of all places.
 fn serve_all(router: &mut Router<Place>) -> Result<(), InsertError>
-    ensures { OnOk result (router.new ≡ with_paths paths router.old) }
+    ensures { OnOk result (router.new ≡ with_paths places router.old) }
 {
-    serve(router, "/lra-coordinator", Place::Actions)?;
-    serve(router, "/lra-coordinator/{id}", Place::Action)?;
-    serve(router, "/lra-coordinator/{id}/close", Place::Close)?;
-    serve(router, "/lra-coordinator/{id}/cancel", Place::Cancel)?;
-    serve(router, "/lra-coordinator/{id}/remove", Place::Remove)?;
-    serve(router, "/lra-coordinator/{id}/renew", Place::Renew)?;
-    serve(router, "/lra-recovery/{id}", Place::Member)
+    for place in Place::ALL {
+        serve(router, place)?;
+    }
+    Ok(())
 }
 
 fn router(alloc: Global) -> Result<Router<Place>, InsertError>
@@ -123,39 +78,6 @@ fn has_query(target: &str) -> bool
     target.as_bytes().contains(&b'?')
 }
 
-impl Place {
-    /// What a method asks for here, if it is taken.
-    fn route(self, method: &str) -> Option<Route>
-        ensures { result ≡ route_by method.now (methods self) }
-    {
-        let is_get = method == Method::GET.as_str();
-        let is_put = method == Method::PUT.as_str();
-        match self {
-            Place::Actions if method == Method::POST.as_str() => Some(Route::Start),
-            Place::Action if is_get => Some(Route::Status),
-            Place::Action if is_put => Some(Route::Join),
-            Place::Close if is_put => Some(Route::Close),
-            Place::Cancel if is_put => Some(Route::Cancel),
-            Place::Remove if is_put => Some(Route::Remove),
-            Place::Renew if is_put => Some(Route::Renew),
-            Place::Member if is_get => Some(Route::MemberStatus),
-            Place::Member if is_put => Some(Route::Report),
-            _ => None,
-        }
-    }
-
-    /// The methods that it takes, as `Allow` lists them (RFC 9110, section 10.2.1).
-    pub fn allowed(self) -> &'static str
-        ensures { result.now ≡ allowed self }
-    {
-        match self {
-            Place::Actions => "POST",
-            Place::Action | Place::Member => "GET, PUT",
-            Place::Close | Place::Cancel | Place::Remove | Place::Renew => "PUT",
-        }
-    }
-}
-
 impl Routes {
     /// The paths that are served.
     pub fn new(alloc: Global) -> Result<Routes, Memory> {
@@ -180,14 +102,14 @@ impl Routes {
     }
 
     /// What a request asks for: the path is looked at first, then the method.
-    pub fn route(&self, method: &str, target: &str) -> Result<Route, Denial>
-        ensures { result ≡ route_of method.now target.now }
+    pub fn operation(&self, method: &str, target: &str) -> Result<Operation, Denial>
+        ensures { result ≡ operation_of method.now target.now }
     {
         let Some(place) = self.place(target) else {
             return Err(Denial::NoSuchPath);
         };
-        match place.route(method) {
-            Some(route) => Ok(route),
+        match place.operation(method) {
+            Some(operation) => Ok(operation),
             None => Err(Denial::BadMethod(place)),
         }
     }

@@ -12,7 +12,8 @@ ghost use Rattle.lra_front.specs.inner.Finds.{IsFound, is_of_action, is_of_membe
 
 use crate::body::{ending_told, number_under, text_under};
 use crate::denial::Denial;
-use crate::route::{Route, Routes, id_in};
+use crate::operation::Operation;
+use crate::route::{Routes, id_in};
 use lra_commands::{Order, Refusal};
 use lra_ids::{Base, Instance, read_id};
 use lra_model::{Ending, Memory, Uris};
@@ -156,7 +157,7 @@ fn start(instance: Instance, base: &Base, body: &Value) -> Result<Wish, Denial>
 
 /// The member leaves of which the body has the recovery URI.
 fn leave(instance: Instance, base: &Base, action: u64, body: &Value) -> Result<Wish, Denial>
-    ensures { IfSome (as_object (view body.now)) (λ members. spec.IsOfAction instance base.now members Route.Remove action result) }
+    ensures { IfSome (as_object (view body.now)) (λ members. spec.IsOfAction instance base.now members Operation.Remove action result) }
 {
     let uri = text_under(body, "recovery").unwrap_or("");
     match base.read_recovery(uri, instance) {
@@ -165,7 +166,7 @@ fn leave(instance: Instance, base: &Base, action: u64, body: &Value) -> Result<W
     }
 }
 
-impl Route {
+impl Operation {
     /// What it asks for of an action.
     fn of_action(
         self,
@@ -179,19 +180,19 @@ impl Route {
         ensures { IfSome (as_object (view body.now)) (λ members. OrMemory self (spec.IsOfAction instance base.now members self action) result) }
     {
         match self {
-            Route::Status => Ok(Wish::Status { action }),
-            Route::Join => match uris_in(alloc, body) {
+            Operation::Status => Ok(Wish::Status { action }),
+            Operation::Join => match uris_in(alloc, body) {
                 Ok(uris) => Ok(Wish::Join { action, uris }),
                 Err(_) => Err(Denial::Refused(Refusal::Memory)),
             },
-            Route::Close => Ok(Wish::Close { action }),
-            Route::Cancel => Ok(Wish::Cancel { action }),
-            Route::Renew => Ok(Wish::Renew {
+            Operation::Close => Ok(Wish::Close { action }),
+            Operation::Cancel => Ok(Wish::Cancel { action }),
+            Operation::Renew => Ok(Wish::Renew {
                 action,
                 limit: limit_in(body),
             }),
-            Route::Remove => leave(instance, base, action, body),
-            Route::Start | Route::MemberStatus | Route::Report => unreachable!(),
+            Operation::Remove => leave(instance, base, action, body),
+            Operation::Start | Operation::MemberStatus | Operation::Report => unreachable!(),
         }
     }
 
@@ -201,7 +202,7 @@ impl Route {
         ensures { IfSome (as_object (view body.now)) (λ members. spec.IsOfMember members self member (Ok result)) }
     {
         match self {
-            Route::Report => Wish::Report {
+            Operation::Report => Wish::Report {
                 member,
                 ending: ending_in(body),
             },
@@ -221,8 +222,8 @@ impl Route {
         ensures { IfSome (as_object (view body.now)) (λ members. OrMemory self (spec.IsWish instance base.now id.now members self) result) }
     {
         match self {
-            Route::Start => start(instance, base, body),
-            Route::MemberStatus | Route::Report => match find_member(id, instance) {
+            Operation::Start => start(instance, base, body),
+            Operation::MemberStatus | Operation::Report => match find_member(id, instance) {
                 Ok(member) => Ok(self.of_member(member, body)),
                 Err(unread) => Err(unread),
             },
@@ -236,7 +237,7 @@ impl Route {
 
 impl Routes {
     /// What a request asks for: the path is looked at first, then the method, the body, and the identifiers, the path's
-    /// first. Memory may be refused where the route reads its body.
+    /// first. Memory may be refused where the operation reads its body.
     pub fn wish(
         &self,
         alloc: Global,
@@ -246,8 +247,8 @@ impl Routes {
     ) -> Result<Wish, Denial>
         ensures { spec.MayAsk instance base.now (request_of request.now) result }
     {
-        let route = self.route(request.method.as_str(), request.target.as_str())?;
-        let body = route.read_body(alloc, request.body.as_slice())?;
-        route.wish(alloc, instance, base, id_in(request.target.as_str()), &body)
+        let operation = self.operation(request.method.as_str(), request.target.as_str())?;
+        let body = operation.read_body(alloc, request.body.as_slice())?;
+        operation.wish(alloc, instance, base, id_in(request.target.as_str()), &body)
     }
 }

@@ -4,13 +4,14 @@ use Rattle.std.specs.Prelude.{unwrap_or}
 use Rattle.serde_json.specs.Data.{Data, null, boolean, number, string, array, object, Members, put}
 use Rattle.serde_json.specs.Find.{get, as_str, as_object}
 use Rattle.lra_wire.specs.Request.{Request}
-use Rattle.lra_front.specs.declared.route.Route.{Route}
+use Rattle.lra_front.specs.declared.operation.Operation.{Operation}
 use Rattle.lra_front.specs.declared.denial.Denial.{Denial}
-use Rattle.lra_front.specs.Routes.{route_of}
+use Rattle.lra_front.specs.Routes.{operation_of}
 use Rattle.lra_front.specs.Bodies.{object_in, text_under}
 use Rattle.lra_proxied.specs.Paths.{served_behind, other_target}
 use Rattle.lra_proxied.specs.Texts.{other_text}
-use Rattle.lra_proxied.specs.Bodies.{key_of, other_members, other_at, other_body}
+use Rattle.lra_front.specs.Bodies.{identifier_key}
+use Rattle.lra_proxied.specs.Bodies.{other_members, other_at, other_body}
 use Rattle.lra_proxied.specs.Requests.{Means}
 use Rattle.lra_proxied.specs.inner.Found.{IsOther}
 use Rattle.lra_proxied.specs.inner.Made.{with_others}
@@ -47,12 +48,12 @@ unfolding other_at
 no_key base body None = refl
 no_key base body (Some key) = no_object base key (object_in body)
 
-no_body : (base : List ℕ) (asked : Result Route Denial) (body : List ℕ) → other_body base [] asked body ≡ None
-no_body base (Ok r) body = no_key base body (key_of r)
+no_body : (base : List ℕ) (asked : Result Operation Denial) (body : List ℕ) → other_body base [] asked body ≡ None
+no_body base (Ok r) body = no_key base body (identifier_key r)
 no_body base (Err d) body = refl
 
 -- where there is no older base
-pub none_older : (base : List ℕ) (olders : List (List ℕ)) (asked : Result Route Denial) (body : List ℕ) → length olders ≡ 0 → IsOther (other_body base olders asked body) None
+pub none_older : (base : List ℕ) (olders : List (List ℕ)) (asked : Result Operation Denial) (body : List ℕ) → length olders ≡ 0 → IsOther (other_body base olders asked body) None
 none_older base [] asked body e = rw (no_body base asked body) refl
 none_older base (o ∷ olders) asked body e = absurd (omega (arith, e))
 
@@ -99,7 +100,7 @@ body_meant (Some ms) (Some body) own h = h
 
 -- a request with the target and the body that its own mean
 pub means : (base : List ℕ) (olders : List (List ℕ)) (own : Request) (target body : Option (String Global)) → option_map string_bytes target ≡ other_target base own.target
-    → IsOther (other_body base olders (route_of own.method (unwrap_or (option_map string_bytes target) own.target)) own.body) body
+    → IsOther (other_body base olders (operation_of own.method (unwrap_or (option_map string_bytes target) own.target)) own.body) body
     → Means base olders own (with_others own (option_map string_bytes target) (option_map string_bytes body))
 means base olders own target body is other = record {
   method = refl;

@@ -1,17 +1,10 @@
 -- Bodies in which an identifier under an older base stands.
-use Rattle.std.specs.Prelude.{◌≡◌, ◌≢◌, ℕ, List, [], codes, Option, Some, None, IsSome, option_map, option_and_then, Result, Ok, Err}
+use Rattle.std.specs.Prelude.{◌≡◌, ◌≢◌, ℕ, List, [], Option, None, IsSome, option_map, option_and_then, Result, Ok, Err}
 use Rattle.serde_json.specs.Data.{Members, string, put}
-use Rattle.lra_front.specs.declared.route.Route.{Route}
-use Rattle.lra_front.specs.declared.route.Route.TheVariants as route
+use Rattle.lra_front.specs.declared.operation.Operation.{Operation}
 use Rattle.lra_front.specs.declared.denial.Denial.{Denial}
-use Rattle.lra_front.specs.Bodies.{object_in, text_under}
+use Rattle.lra_front.specs.Bodies.{identifier_key, object_in, text_under}
 use Rattle.lra_proxied.specs.Texts.{other_text}
-
--- the key under which a route's body has an identifier: the parent of a new action, and the member that leaves
-abbrev pub key_of : Route → Option (List ℕ)
-key_of route.Start = Some (codes "parent")
-key_of route.Remove = Some (codes "recovery")
-key_of _ = None
 
 -- the members with the text under a key that the one there means (RFC 8259, section 4), where that is another; all else in them stays
 abbrev pub other_members : List ℕ → List (List ℕ) → List ℕ → Members → Option Members
@@ -22,10 +15,10 @@ unfoldable pub other_at : List ℕ → List (List ℕ) → List ℕ → List ℕ
 other_at base olders key body = option_and_then (other_members base olders key) (object_in body)
 
 -- the members that a body means of a request which asks for that, where those are others
-abbrev pub other_body : List ℕ → List (List ℕ) → Result Route Denial → List ℕ → Option Members
-other_body base olders (Ok r) body = option_and_then (λ key. other_at base olders key body) (key_of r)
+abbrev pub other_body : List ℕ → List (List ℕ) → Result Operation Denial → List ℕ → Option Members
+other_body base olders (Ok r) body = option_and_then (λ key. other_at base olders key body) (identifier_key r)
 other_body base olders (Err d) body = None
 
 -- the body of a request which asks for that is looked at: there is an older base, and an identifier may stand in it
-abbrev pub IsRead : List (List ℕ) → Result Route Denial → List ℕ → Type 0
-IsRead olders asked body = (olders ≢ []) × (body ≢ []) × ((r : Route) × (asked ≡ Ok r) × IsSome (key_of r))
+abbrev pub IsRead : List (List ℕ) → Result Operation Denial → List ℕ → Type 0
+IsRead olders asked body = (olders ≢ []) × (body ≢ []) × ((r : Operation) × (asked ≡ Ok r) × IsSome (identifier_key r))

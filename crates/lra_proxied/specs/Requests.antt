@@ -1,7 +1,7 @@
 -- What a request means.
 use Rattle.std.specs.Prelude.{◌≡◌, ◌⊎◌, ℕ, List, Some, MatchOption, IsSome, unwrap_or}
 use Rattle.lra_wire.specs.Request.{Request}
-use Rattle.lra_front.specs.Routes.{route_of}
+use Rattle.lra_front.specs.Routes.{operation_of}
 use Rattle.lra_front.specs.Bodies.{object_in}
 use Rattle.lra_proxied.specs.Paths.{other_target}
 use Rattle.lra_proxied.specs.Bodies.{other_body, IsRead}
@@ -18,11 +18,11 @@ pub record Means (base : List ℕ) (olders : List (List ℕ)) (request meant : R
   pub minor : meant.minor ≡ request.minor
   pub close : meant.close ≡ request.close
   pub fields : meant.fields ≡ request.fields
-  pub body : MatchOption (other_body base olders (route_of meant.method meant.target) request.body)
+  pub body : MatchOption (other_body base olders (operation_of meant.method meant.target) request.body)
       (meant.body ≡ request.body)
       (λ members. object_in meant.body ≡ Some members)
 
 -- what a request means can't be told without memory: it means another target, or its body is looked at
 abbrev pub LacksMemory : List ℕ → List (List ℕ) → Request → Type 0
 LacksMemory base olders request = IsSome (other_target base request.target)
-    ⊎ IsRead olders (route_of request.method (target_meant base request.target)) request.body
+    ⊎ IsRead olders (operation_of request.method (target_meant base request.target)) request.body

@@ -11,22 +11,11 @@ ghost use Rattle.lra_proxied.specs.Bodies as spec;
 ghost use Rattle.lra_proxied.specs.inner.Found.{IsOther, Finds};
 
 use crate::texts::other_text;
-use lra_front::{Denial, Route};
+use lra_front::{Denial, Operation};
 use lra_ids::Base;
 use lra_model::Memory;
 use serde_json::Value;
 use std::alloc::Global;
-
-/// The key under which a route's body has an identifier.
-fn key_of(route: Route) -> Option<&'static str>
-    ensures { option_map (λ key. key.now) result ≡ spec.key_of route }
-{
-    match route {
-        Route::Start => Some("parent"),
-        Route::Remove => Some("recovery"),
-        _ => None,
-    }
-}
 
 /// The value that a body is, if it is one.
 fn value_in(alloc: Global, body: &[u8]) -> Result<Option<Value>, Memory>
@@ -111,20 +100,20 @@ pub(crate) fn other_body(
     alloc: Global,
     base: &str,
     olders: &[Base],
-    route: Result<Route, Denial>,
+    operation: Result<Operation, Denial>,
     body: &[u8],
 ) -> Result<Option<String>, Memory>
-    ensures ok { IfOk result (IsOther (spec.other_body base.now olders.now route body.now)) }
-    ensures some { IfOk result (λ other. OnSome other (spec.IsRead olders.now route body.now)) }
-    ensures err { OnErr result (spec.IsRead olders.now route body.now) }
+    ensures ok { IfOk result (IsOther (spec.other_body base.now olders.now operation body.now)) }
+    ensures some { IfOk result (λ other. OnSome other (spec.IsRead olders.now operation body.now)) }
+    ensures err { OnErr result (spec.IsRead olders.now operation body.now) }
 {
     if olders.is_empty() {
         return Ok(None);
     }
-    let Ok(route) = route else {
+    let Ok(operation) = operation else {
         return Ok(None);
     };
-    match key_of(route) {
+    match operation.identifier_key() {
         Some(key) => other_at(alloc, base, olders, key, body),
         None => Ok(None),
     }

@@ -56,8 +56,14 @@ pub(crate) fn other_request(
 {
     let target = other_target(alloc, base.as_str(), request.target.as_str())?;
     let meant = text_of(&target, request.target.as_str());
-    let route = routes.route(request.method.as_str(), meant);
-    let body = other_body(alloc, base.as_str(), olders, route, request.body.as_slice())?;
+    let operation = routes.operation(request.method.as_str(), meant);
+    let body = other_body(
+        alloc,
+        base.as_str(),
+        olders,
+        operation,
+        request.body.as_slice(),
+    )?;
     if target.is_none() && body.is_none() {
         return Ok(None);
     }

@@ -3,39 +3,39 @@ use Rattle.std.specs.Prelude.{◌≡◌, ◌⊎◌, ℕ, Bool, true, false, ◌&
 use Rattle.lra_wire.specs.Request.{Request}
 use Rattle.lra_commands.specs.declared.refusal.Refusal.TheVariants as refusal
 use Rattle.lra_commands.specs.declared.refusal.Resource.TheVariants as resource
-use Rattle.lra_front.specs.declared.route.Route.{Route}
-use Rattle.lra_front.specs.declared.route.Route.TheVariants as route
+use Rattle.lra_front.specs.declared.operation.Operation.{Operation}
+use Rattle.lra_front.specs.declared.operation.Operation.TheVariants as operation
 use Rattle.lra_front.specs.declared.denial.Denial.{Denial}
 use Rattle.lra_front.specs.declared.denial.Denial.TheVariants.{Refused}
 use Rattle.lra_front.specs.declared.answer.Answer.TheVariants.{Denied}
-use Rattle.lra_front.specs.Routes.{route_of}
+use Rattle.lra_front.specs.Routes.{operation_of}
 use Rattle.lra_front.specs.Wishes.{LacksMemory}
 use Rattle.lra_steps.specs.declared.responder.Answered.{Answered}
 use Rattle.lra_family_front.specs.Naming.{instance_of}
 
--- a route begins something: an action, or that a member is in one
-abbrev pub begins_at : Route → Bool
-begins_at route.Start = true
-begins_at route.Join = true
+-- an operation begins something: an action, or that a member is in one
+abbrev pub begins_at : Operation → Bool
+begins_at operation.Start = true
+begins_at operation.Join = true
 begins_at _ = false
 
--- the same where there is a route
-abbrev pub begins_by : Result Route Denial → Bool
+-- the same where there is an operation
+abbrev pub begins_by : Result Operation Denial → Bool
 begins_by (Ok r) = begins_at r
 begins_by (Err denial) = false
 
--- a request comes by a route at which something begins
+-- a request comes by an operation at which something begins
 abbrev pub begins : Request → Bool
-begins request = begins_by (route_of request.method request.target)
+begins request = begins_by (operation_of request.method request.target)
 
--- a route is where a member joins
-abbrev pub is_join : Result Route Denial → Bool
-is_join (Ok route.Join) = true
+-- an operation is where a member joins
+abbrev pub is_join : Result Operation Denial → Bool
+is_join (Ok operation.Join) = true
 is_join _ = false
 
 -- a join that names no action's identifier: it is of no journal, and begins nothing
 abbrev pub is_stray : Request → Bool
-is_stray request = is_join (route_of request.method request.target) && not (is_some (instance_of request))
+is_stray request = is_join (operation_of request.method request.target) && not (is_some (instance_of request))
 
 module _ (tells : Option ℕ → Option ℕ → Type 0) where
   -- a request is let through: it begins nothing, or it is told that the journal which takes it isn't near its end

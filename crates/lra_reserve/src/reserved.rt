@@ -2,13 +2,13 @@
 
 ghost use Rattle.std.specs.Prelude.{◌≡◌, IfNone, IfSome};
 ghost use Rattle.lra_wire.specs.Request.{request_of};
-ghost use Rattle.lra_front.specs.Routes.{route_of};
+ghost use Rattle.lra_front.specs.Routes.{operation_of};
 ghost use Rattle.lra_reserve.specs.Admitting as spec;
 
 use crate::reserve::Reserve;
 use lra_commands::{Refusal, Resource};
 use lra_family_front::instance_of;
-use lra_front::{Answer, Denial, Route, Routes};
+use lra_front::{Answer, Denial, Operation, Routes};
 use lra_ids::Base;
 use lra_model::Instance;
 use lra_steps::{Answered, Responder};
@@ -22,30 +22,30 @@ pub struct Reserved<A: Responder, K: Reserve> {
     reserve: K,
 }
 
-/// Whether what a route asks for begins something.
-fn begins_at(route: Route) -> bool
-    ensures { result ≡ spec.begins_at route }
+/// Whether what an operation asks for begins something.
+fn begins_at(operation: Operation) -> bool
+    ensures { result ≡ spec.begins_at operation }
 {
-    matches!(route, Route::Start | Route::Join)
+    matches!(operation, Operation::Start | Operation::Join)
 }
 
 /// Whether a request begins something.
 fn begins(routes: &Routes, request: &RequestRead) -> bool
     ensures { result ≡ spec.begins (request_of request.now) }
 {
-    match routes.route(request.method.as_str(), request.target.as_str()) {
-        Ok(route) => begins_at(route),
+    match routes.operation(request.method.as_str(), request.target.as_str()) {
+        Ok(operation) => begins_at(operation),
         Err(_) => false,
     }
 }
 
 /// Whether a request lets a member join.
 fn is_join(routes: &Routes, request: &RequestRead) -> bool
-    ensures { result ≡ spec.is_join (route_of (request_of request.now).method (request_of request.now).target) }
+    ensures { result ≡ spec.is_join (operation_of (request_of request.now).method (request_of request.now).target) }
 {
     matches!(
-        routes.route(request.method.as_str(), request.target.as_str()),
-        Ok(Route::Join)
+        routes.operation(request.method.as_str(), request.target.as_str()),
+        Ok(Operation::Join)
     )
 }
 

@@ -9,10 +9,10 @@ use Rattle.lra_rules.specs.Rules.{let_host}
 use Rattle.lra_wire.specs.Request.{Request}
 use Rattle.lra_commands.specs.declared.refusal.Refusal.{Refusal}
 use Rattle.lra_commands.specs.declared.refusal.Refusal.TheVariants as refusal
-use Rattle.lra_front.specs.declared.route.Route.{Route}
-use Rattle.lra_front.specs.declared.route.Route.TheVariants as route
+use Rattle.lra_front.specs.declared.operation.Operation.{Operation}
+use Rattle.lra_front.specs.declared.operation.Operation.TheVariants as operation
 use Rattle.lra_front.specs.declared.denial.Denial.{Denial}
-use Rattle.lra_front.specs.Routes.{route_of}
+use Rattle.lra_front.specs.Routes.{operation_of}
 use Rattle.lra_front.specs.Bodies.{body_of, addresses_given}
 
 -- ---- addresses
@@ -46,16 +46,16 @@ are_let rules u =
 
 -- a body is that of a join, and has an address that the rules don't let
 abbrev pub is_outside_by : List (List ℕ) → List ℕ → Bool
-is_outside_by rules body = option_map_or (λ ms. not (are_let rules (addresses_given ms))) (body_of route.Join body) false
+is_outside_by rules body = option_map_or (λ ms. not (are_let rules (addresses_given ms))) (body_of operation.Join body) false
 
 -- what is asked for is to join
-abbrev pub joins : Result Route Denial → Bool
-joins (Ok route.Join) = true
+abbrev pub joins : Result Operation Denial → Bool
+joins (Ok operation.Join) = true
 joins _ = false
 
 -- a request asks to join
 abbrev pub is_join : Request → Bool
-is_join request = joins (route_of request.method request.target)
+is_join request = joins (operation_of request.method request.target)
 
 -- there are rules, and a request asks to join outside them
 abbrev pub is_outside : List (List ℕ) → Request → Bool

@@ -8,7 +8,7 @@ ghost use Rattle.lra_ruled.specs.Ruling as spec;
 ghost use Rattle.lra_ruled.specs.inner.Joined.{IsJoined};
 
 use crate::addresses::let_all;
-use lra_front::Route;
+use lra_front::Operation;
 use lra_model::Memory;
 use lra_rules::Rules;
 use serde_json::Value;
@@ -17,20 +17,20 @@ use std::alloc::Global;
 
 /// Whether a key is that of one of a member's addresses.
 fn is_address(key: &str) -> bool
-    ensures { result ≡ is_some (kind_in key.now (keys Route.Join)) }
+    ensures { result ≡ is_some (kind_in key.now (keys Operation.Join)) }
 {
     key == "compensate" || key == "complete" || key == "status" || key == "forget" || key == "after"
 }
 
 /// Whether the body of a join may have a value under a key.
 fn fits(key: &str, value: &Value) -> bool
-    ensures { result ≡ member_fits Route.Join key.now (view value.now) }
+    ensures { result ≡ member_fits Operation.Join key.now (view value.now) }
 {
     is_address(key) && value.as_str().is_some()
 }
 
 fn all_fit(members: &Map<String, Value>) -> bool
-    ensures { result ≡ members_fit Route.Join (members_view members.now.entries) }
+    ensures { result ≡ members_fit Operation.Join (members_view members.now.entries) }
 {
     for (key, value) in members.iter() {
         if !fits(key.as_str(), value) {
@@ -42,7 +42,7 @@ fn all_fit(members: &Map<String, Value>) -> bool
 
 /// Whether a value is the body of a join.
 fn is_join(value: &Value) -> bool
-    ensures { result ≡ is_some (option_and_then (fitting Route.Join) (as_object (view value.now))) }
+    ensures { result ≡ is_some (option_and_then (fitting Operation.Join) (as_object (view value.now))) }
 {
     match value.as_object() {
         Some(members) => all_fit(members),

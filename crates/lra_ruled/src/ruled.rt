@@ -6,7 +6,7 @@ ghost use Rattle.lra_ruled.specs.Ruling as spec;
 
 use crate::bodies::is_outside;
 use lra_commands::Refusal;
-use lra_front::{Answer, Denial, Route, Routes};
+use lra_front::{Answer, Denial, Operation, Routes};
 use lra_ids::Base;
 use lra_model::Instance;
 use lra_rules::Rules;
@@ -26,8 +26,8 @@ fn is_join(routes: &Routes, request: &RequestRead) -> bool
     ensures { result ≡ spec.is_join (request_of request.now) }
 {
     matches!(
-        routes.route(request.method.as_str(), request.target.as_str()),
-        Ok(Route::Join)
+        routes.operation(request.method.as_str(), request.target.as_str()),
+        Ok(Operation::Join)
     )
 }
 

@@ -73,9 +73,11 @@ impl<A: Responder, R: Clock> Responder for CountedResponder<'_, A, R> {
     ) -> Answered {
         let began = Instant::now(self.rt).ok();
         let answered = self.inner.respond(alloc, routes, moment, request);
-        let route = routes.route(request.method.as_str(), request.target.as_str());
+        let operation = routes
+            .operation(request.method.as_str(), request.target.as_str())
+            .ok();
         self.tallies
-            .add_request(self.rt, route, answered.answer.status(), began);
+            .add_request(self.rt, operation, answered.answer.status(), began);
         if has_stopped(answered.answer) {
             self.tallies.stop(answered.instance);
         }

@@ -1,9 +1,27 @@
 //! How often something of two kinds was.
 
+use lra_front::Operation;
 use lra_model::Memory;
 use lra_overview::{Kind, describe, put, put_number};
 use std::alloc::Global;
 use std::sync::atomic::{AtomicU64, Ordering};
+
+/// The words of a table's rows.
+#[derive(Clone, Copy)]
+pub(crate) enum Rows {
+    /// These.
+    Words(&'static [&'static str]),
+    /// The operations' labels, and behind them `none`, for what is none of them.
+    Operations,
+}
+
+/// Returns the label of an operation, or `none`.
+pub(crate) fn label_of(operation: Option<Operation>) -> &'static str {
+    match operation {
+        Some(operation) => operation.label(),
+        None => "none",
+    }
+}
 
 /// What a table counts: the names of its two labels, and the words that each may have. No word needs to be escaped.
 #[derive(Clone, Copy)]
@@ -11,7 +29,7 @@ pub(crate) struct Words {
     pub(crate) name: &'static str,
     pub(crate) help: &'static str,
     pub(crate) row: &'static str,
-    pub(crate) rows: &'static [&'static str],
+    pub(crate) rows: Rows,
     pub(crate) column: &'static str,
     pub(crate) columns: &'static [&'static str],
 }
@@ -30,6 +48,38 @@ fn place_of(words: &[&'static str], word: &str) -> usize {
         }
     }
     words.len()
+}
+
+impl Rows {
+    /// Returns the word of a row, if there are as many.
+    fn at(self, place: usize) -> Option<&'static str> {
+        match self {
+            Rows::Words(words) => words.get(place).copied(),
+            Rows::Operations => match Operation::ALL.get(place) {
+                Some(operation) => Some(operation.label()),
+                None if place == Operation::ALL.len() => Some(label_of(None)),
+                None => None,
+            },
+        }
+    }
+
+    /// Returns how many there are.
+    fn count(self) -> usize {
+        match self {
+            Rows::Words(words) => words.len(),
+            Rows::Operations => Operation::ALL.len() + 1,
+        }
+    }
+
+    /// Returns the row of a word, or the one behind them.
+    fn place_of(self, word: &str) -> usize {
+        for place in 0..self.count() {
+            if self.at(place) == Some(word) {
+                return place;
+            }
+        }
+        self.count()
+    }
 }
 
 /// Adds the line of a pair of words.
@@ -58,7 +108,7 @@ impl Table {
     /// Nothing was counted of these words.
     pub(crate) fn new(alloc: Global, words: &Words) -> Result<Table, Memory> {
         let mut cells = Vec::new(alloc);
-        for _row in words.rows {
+        for _row in 0..words.rows.count() {
             for _column in words.columns {
                 cells.push(AtomicU64::new(0))?;
             }
@@ -77,7 +127,7 @@ impl Table {
 
     /// Counts one of a pair of words.
     pub(crate) fn add(&self, words: &Words, row: &str, column: &str) {
-        let row = place_of(words.rows, row);
+        let row = words.rows.place_of(row);
         let column = place_of(words.columns, column);
         if let Some(cell) = self.cell(words, row, column) {
             cell.fetch_add(1, Ordering::SeqCst);
@@ -107,8 +157,10 @@ impl Table {
     /// Adds it as a measure.
     pub(crate) fn put(&self, words: &Words, page: &mut Vec<u8>) -> Result<(), Memory> {
         describe(page, words.name, Kind::Counter, words.help)?;
-        for (place, row) in words.rows.iter().enumerate() {
-            self.put_row(words, page, place, row)?;
+        for place in 0..words.rows.count() {
+            if let Some(row) = words.rows.at(place) {
+                self.put_row(words, page, place, row)?;
+            }
         }
         Ok(())
     }

@@ -3,9 +3,9 @@
 use crate::denied::Denied;
 use crate::histogram::{Measured, put_histogram};
 use crate::post::Watchpost;
-use crate::table::{Table, Words};
+use crate::table::{Rows, Table, Words, label_of};
 use http::StatusCode;
-use lra_front::{Denial, Route};
+use lra_front::{Denial, Operation};
 use lra_ids::Instance;
 use lra_model::{AskKind, Memory, Outcome};
 use lra_syncs::{Histogram, Stopwatch, Syncs, TIMES, WRITES};
@@ -19,9 +19,7 @@ const REQUESTS: Words = Words {
     name: "lra_requests_total",
     help: "Requests of services that were answered, by what they asked for and the status code.",
     row: "route",
-    rows: &[
-        "start", "status", "join", "close", "cancel", "remove", "renew", "member", "report", "none",
-    ],
+    rows: Rows::Operations,
     column: "code",
     columns: &[
         "200", "201", "202", "204", "400", "404", "405", "409", "410", "412", "413", "500", "501",
@@ -34,7 +32,7 @@ const CALLBACKS: Words = Words {
     name: "lra_callbacks_total",
     help: "Callbacks to members that came to something, by what they ask and what it was.",
     row: "kind",
-    rows: &["complete", "compensate", "status", "forget", "after"],
+    rows: Rows::Words(&["complete", "compensate", "status", "forget", "after"]),
     column: "outcome",
     columns: &["done", "accepted", "failed", "silent"],
 };
@@ -93,22 +91,6 @@ pub struct Tallies {
     lost_callback_workers: AtomicU64,
     /// The number behind that of the journal whose callbacks were noted last to stand still, or 0.
     standing: AtomicU64,
-}
-
-/// The word for what a request asks for.
-fn route_word(route: Result<Route, Denial>) -> &'static str {
-    match route {
-        Ok(Route::Start) => "start",
-        Ok(Route::Status) => "status",
-        Ok(Route::Join) => "join",
-        Ok(Route::Close) => "close",
-        Ok(Route::Cancel) => "cancel",
-        Ok(Route::Remove) => "remove",
-        Ok(Route::Renew) => "renew",
-        Ok(Route::MemberStatus) => "member",
-        Ok(Route::Report) => "report",
-        Err(_) => "none",
-    }
 }
 
 /// The digits of a status code.
@@ -278,12 +260,12 @@ impl Tallies {
     pub(crate) fn add_request<R: Clock>(
         &self,
         rt: &R,
-        route: Result<Route, Denial>,
+        operation: Option<Operation>,
         status: StatusCode,
         began: Option<Instant>,
     ) {
         self.requests
-            .add(&REQUESTS, route_word(route), code_word(status));
+            .add(&REQUESTS, label_of(operation), code_word(status));
         if let Some(micros) = micros_since(rt, began) {
             self.request_times.add(&TIMES, micros);
         }

@@ -5,7 +5,7 @@ use Rattle.serde_json.specs.Data.{Members}
 use Rattle.serde_json.specs.Find.{as_object}
 use Rattle.serde_json.specs.View.{view}
 use Rattle.lra_commands.specs.declared.refusal.Refusal.TheVariants as refusal
-use Rattle.lra_front.specs.declared.route.Route.{Route}
+use Rattle.lra_front.specs.declared.operation.Operation.{Operation}
 use Rattle.lra_front.specs.declared.denial.Denial.{Denial}
 use Rattle.lra_front.specs.declared.denial.Denial.TheVariants.{BadBody, Refused}
 use Rattle.lra_front.specs.Bodies.{object_in, body_of, reads_body}
@@ -22,5 +22,5 @@ ReadsMembers Lacks members (Err d) = Lacks d ⊎ ((d ≡ BadBody) × (members �
 abbrev pub ReadsObject : List ℕ → Result Value Denial → Type 0
 ReadsObject body result = ReadsMembers (LacksMemory body) (object_in body) result
 
-abbrev pub ReadsBody : Route → List ℕ → Result Value Denial → Type 0
+abbrev pub ReadsBody : Operation → List ℕ → Result Value Denial → Type 0
 ReadsBody r body result = ReadsMembers (λ d. (reads_body r ≡ true) × LacksMemory body d) (body_of r body) result

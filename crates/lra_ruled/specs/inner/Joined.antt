@@ -4,10 +4,10 @@ use Rattle.serde_json.specs.declared.value.Value.{Value}
 use Rattle.serde_json.specs.Data.{no_members}
 use Rattle.serde_json.specs.Find.{as_object}
 use Rattle.serde_json.specs.View.{view}
-use Rattle.lra_front.specs.declared.route.Route.TheVariants as route
+use Rattle.lra_front.specs.declared.operation.Operation.TheVariants as operation
 use Rattle.lra_front.specs.Bodies.{body_of}
 
 -- the value that a body is which a join reads; there is none where it has no members, too
 abbrev pub IsJoined : List ℕ → Option Value → Type 0
-IsJoined body None = (body_of route.Join body ≡ None) ⊎ (body_of route.Join body ≡ Some no_members)
-IsJoined body (Some value) = (body_of route.Join body ≡ as_object (view value)) × IsSome (as_object (view value))
+IsJoined body None = (body_of operation.Join body ≡ None) ⊎ (body_of operation.Join body ≡ Some no_members)
+IsJoined body (Some value) = (body_of operation.Join body ≡ as_object (view value)) × IsSome (as_object (view value))

@@ -1,8 +1,9 @@
-use Rattle.lra_front.proofs.Routing.{seven}
+use Rattle.std.proofs.Common.{arith}
+use Rattle.lra_front.specs.Operations.{places}
+use Rattle.lra_front.proofs.Routing.{one_more}
 use Rattle.lra_front.proofs.route.serve_all.Goals as goal
 
-pub returns : goal.returns
-returns c =
-    seven _ _ _ _ _ _ _ _ _ _ _ _ _ _ _ _
-    c.in_ok-serve.ensures c.in_ok-serve-2.ensures c.in_ok-serve-3.ensures
-    c.in_ok-serve-4.ensures c.in_ok-serve-5.ensures c.in_ok-serve-6.ensures c.serve-7.ensures
+pub loop-place-preserved : goal.loop-place-preserved
+loop-place-preserved c =
+    one_more places c.loop-place.place-index _ c.loop-place.router c.serve.new.router _ (omega (arith, c.loop-place-test.true)) c.loop-place.invariant
+    c.in_ok-serve.ensures

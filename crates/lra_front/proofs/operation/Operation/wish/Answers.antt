@@ -2,7 +2,7 @@ use Rattle.std.proofs.Common.{rules}
 use Rattle.serde_json.specs.Find.{as_object}
 use Rattle.serde_json.specs.View.{view}
 use Rattle.lra_front.proofs.Wishing.{wish_of_action}
-use Rattle.lra_front.proofs.route.Route.wish.Goals as goal
+use Rattle.lra_front.proofs.operation.Operation.wish.Goals as goal
 
 pub returns-in-Ok-find_action : goal.returns-in-Ok-find_action
 returns-in-Ok-find_action c =

@@ -1,6 +1,6 @@
 use Rattle.std.proofs.Common.{rules}
 use Rattle.lra_front.proofs.Bodies.{unread, read_denied, read_fits, read_unfit}
-use Rattle.lra_front.proofs.route.Route.read_body.Goals as goal
+use Rattle.lra_front.proofs.operation.Operation.read_body.Goals as goal
 
 pub returns-then-not-reads_body : goal.returns-then-not-reads_body
 returns-then-not-reads_body c = unread c.args.self c.args.body.now c.empty_object.result (search rules) c.empty_object.ensures

@@ -1,0 +1,85 @@
+-- The operations: what a request may ask for, in one table (this project's own).
+use Rattle.std.specs.Prelude.{ℕ, List, [], ◌∷◌, ◌&&◌, Bool, codes, bytes_eq, Option, map}
+use Rattle.std.specs.List.{find, filter, join_by}
+use Rattle.lra_front.specs.declared.operation.Place.{Place}
+use Rattle.lra_front.specs.declared.operation.Place.TheVariants as place
+use Rattle.lra_front.specs.declared.operation.Operation.{Operation}
+use Rattle.lra_front.specs.declared.operation.Operation.TheVariants as operation
+
+-- the operations, in the order in which they are listed
+abbrev pub operations : List Operation
+operations =
+    operation.Start ∷ operation.Status ∷ operation.Join ∷ operation.Close ∷ operation.Cancel ∷ operation.Remove ∷ operation.Renew
+    ∷ operation.MemberStatus ∷ operation.Report ∷ []
+
+-- what an operation's path names
+abbrev pub named_place : Operation → Place
+named_place operation.Start = place.Actions
+named_place operation.Status = place.Action
+named_place operation.Join = place.Action
+named_place operation.Close = place.Close
+named_place operation.Cancel = place.Cancel
+named_place operation.Remove = place.Remove
+named_place operation.Renew = place.Renew
+named_place operation.MemberStatus = place.Member
+named_place operation.Report = place.Member
+
+-- an operation's method
+abbrev pub method : Operation → List ℕ
+method operation.Start = codes "POST"
+method operation.Status = codes "GET"
+method operation.Join = codes "PUT"
+method operation.Close = codes "PUT"
+method operation.Cancel = codes "PUT"
+method operation.Remove = codes "PUT"
+method operation.Renew = codes "PUT"
+method operation.MemberStatus = codes "GET"
+method operation.Report = codes "PUT"
+
+-- an operation's word in what is measured
+abbrev pub label : Operation → List ℕ
+label operation.Start = codes "start"
+label operation.Status = codes "status"
+label operation.Join = codes "join"
+label operation.Close = codes "close"
+label operation.Cancel = codes "cancel"
+label operation.Remove = codes "remove"
+label operation.Renew = codes "renew"
+label operation.MemberStatus = codes "member"
+label operation.Report = codes "report"
+
+-- ---- places
+
+-- the places, in the order of their first operations
+abbrev pub places : List Place
+places = place.Actions ∷ place.Action ∷ place.Close ∷ place.Cancel ∷ place.Remove ∷ place.Renew ∷ place.Member ∷ []
+
+-- a place's path; `{id}` is a piece between slashes that isn't empty
+abbrev pub path_of : Place → List ℕ
+path_of place.Actions = codes "/lra-coordinator"
+path_of place.Action = codes "/lra-coordinator/{id}"
+path_of place.Close = codes "/lra-coordinator/{id}/close"
+path_of place.Cancel = codes "/lra-coordinator/{id}/cancel"
+path_of place.Remove = codes "/lra-coordinator/{id}/remove"
+path_of place.Renew = codes "/lra-coordinator/{id}/renew"
+path_of place.Member = codes "/lra-recovery/{id}"
+
+-- an operation's path
+abbrev pub path : Operation → List ℕ
+path o = path_of (named_place o)
+
+-- an operation has a place's path
+abbrev pub is_at : Place → Operation → Bool
+is_at p o = bytes_eq (path o) (path_of p)
+
+-- a method asks for an operation at a place; methods are told apart by their case (RFC 9110, section 9.1)
+abbrev pub is_asked : List ℕ → Place → Operation → Bool
+is_asked m p o = is_at p o && bytes_eq m (method o)
+
+-- the operation that a method asks for at a place, if there is one
+abbrev pub operation_at : List ℕ → Place → Option Operation
+operation_at m p = find (is_asked m p) operations
+
+-- the value of `Allow` at a place: the methods of its operations (RFC 9110, section 10.2.1)
+abbrev pub allowed : Place → List ℕ
+allowed p = join_by (λ m. m) (codes ", ") (map method (filter (is_at p) operations))
