@@ -10,10 +10,14 @@ ROOT = os.path.dirname(os.path.dirname(os.path.abspath(__file__)))
 NAMED = re.compile(r"Rattle\.(lra_\w+)\.specs((?:\.\w+)*)")
 # What begins the text of a declared type, trait or model, and its name. The text ends with the first line that closes it.
 DECLARED = re.compile(r"(?:pub(?:\([\w ]+\))? )?(?:struct|enum|union|trait|type) (\w+)|impl(?:<.*>)? Model for (\w+)")
-# What brings names of a crate into a file: whether definitions or items, the crate, the module, and the names.
+# What brings names into a file: whether they are definitions, the module, the names, and what the module or the one name is called.
 BRINGS = re.compile(
-    r"^[ \t]*(?:pub(?:\([\w ]+\))? )?(?:ghost )?use (Rattle\.)?(lra_\w+)((?:(?:\.|::)\w+)*)(?:(?:\.|::)\{([^}]*)\})?((?: as \w+)?);?[ \t]*$", re.M
+    r"^[ \t]*(?:pub(?:\([\w ]+\))? )?(ghost )?use (Rattle\.)?([\w«»]+(?:(?:\.|::)[\w«»]+)*)(?:(?:\.|::)\{([^}]*)\})?(?: as ([\w«»]+))?;?[ \t]*$", re.M
 )
+# Lines that are comments, and that name a file's modules.
+ASIDE = re.compile(r"^[ \t]*(?:--|//).*$|^[ \t]*(?:pub(?:\([\w ]+\))? )?mod \w+;?[ \t]*$", re.M)
+# What stands before the name that a paragraph of definitions defines.
+BEFORE = "(?:(?:pub|abbrev|unfoldable|opaque|irreducible|record|data|syntax) )*"
 # Types that are brought in from another crate.
 BROUGHT = re.compile(r"^(?:pub )?use (lra_\w+)::([^;]*);", re.M)
 
@@ -41,6 +45,18 @@ def declared_in(text):
             if line.startswith("}") or line.endswith("{}") or line.endswith(";") and len(lines) == 1:
                 yield name, "\n".join(lines)
                 name = ""
+
+
+def defined_in(paragraph):
+    """The name that a paragraph of definitions defines, if it defines one."""
+    found = re.match(BEFORE + r"([\w«»']+)(?![\w-])", paragraph)
+    return found[1] if found and f"{found[1]}|" not in BEFORE else None
+
+
+def sum_of(name, paragraphs):
+    """A sum of the paragraphs that define a name, or, where none does, of all."""
+    found = [it for it in paragraphs if name and defined_in(it) == name]
+    return hashlib.sha256(repr(sorted(found or paragraphs)).encode()).hexdigest()
 
 
 class Definitions:
@@ -101,34 +117,49 @@ class Definitions:
             yield from (it for name in names & every.keys() for it in every[name])
 
     @functools.cache
-    def token(self, crate, words):
-        """A sum of the definitions that a module has, wherever it stands, and the words of its path behind its own name."""
-        if words[:1] != ("specs",):
-            return ".".join(words[:1])
-        rest = words[1:]
-        if rest[:1] == ("declared",):
-            rest = rest[1 + next((at for at, it in enumerate(rest[1:], 1) if it in self.declarations(crate)), 0) :]
-        elif rest[:1] != ("contracts",):
-            count = next((it for it in range(len(rest), 0, -1) if f"crates/{crate}/specs/{'/'.join(rest[:it])}.antt" in self.sources), 0)
-            rest = rest[count:]
-        texts = sorted(BRINGS.sub("", text) for _, text in self.named(f"Rattle.{crate}.{'.'.join(words)}"))
-        return ".".join((hashlib.sha256(repr(texts).encode()).hexdigest(), *rest))
+    def paragraphs(self, text):
+        """The paragraphs of a text, without comments and without what brings names into it."""
+        parts = re.split(r"\n[ \t]*\n", ASIDE.sub("", BRINGS.sub("", text)))
+        return [re.sub(r"\s+", " ", it).strip().replace("pub(crate) ", "pub ") for it in parts if it.strip()]
 
-    def parted(self, text, own=None):
-        """A text without what brings names of crates into it, and that, sorted: each name by the definitions that it stands among, not by the place where
-        they stand, but for those of its own crate. So a definition that only moves changes no sum."""
-        brought = set()
-        for found in BRINGS.finditer(text):
-            ghost, crate, path, names, alias = found.groups()
-            if crate == own:
-                brought.add(found[0].strip())
+    @functools.cache
+    def token(self, path, name):
+        """A sum of what a name of a module is defined as, wherever that stands: of the paragraphs that define it, or, where none does, of all that the module has."""
+        crate, kind, *words = path.split(".")[1:]
+        if kind != "specs":
+            return f"{kind}.{name}"
+        rest = words[-1:] if words[0] in ("declared", "contracts") else []
+        return ".".join((sum_of(name, [it for _, text in self.named(path) for it in self.paragraphs(text)]), *rest))
+
+    @functools.cache
+    def brought(self, text):
+        """What each name stands for that is brought into a text: the module of a name for all of a module, or else its token."""
+        modules, names = {}, {}
+        for _, definitions, path, several, alias in BRINGS.findall(text):
+            path, is_ours = f"{definitions}{path}", definitions and path.startswith("lra_")
+            if not several and definitions:
+                modules[alias or path.split(".")[-1]] = path if is_ours else None
                 continue
-            words = tuple(re.findall(r"\w+", path))
-            if not ghost and names is None:
-                words, names = words[:-1], words[-1] if words else ""
-            module = self.token(crate, words) if ghost else "::".join(words)
-            brought.update(f"{module}.{' '.join(it.split())}{alias}" for it in (names or "").split(","))
-        return BRINGS.sub("", text), sorted(brought)
+            module, _, last = path.rpartition("::") if not several else (path, "", "")
+            for it in several.split(",") if several else [f"{last} as {alias}" if alias else last]:
+                name, _, called = " ".join(it.split()).partition(" as ")
+                if name:
+                    names[called or name] = self.token(path, name) if is_ours else name if module.startswith("lra_") else f"{module}.{name}"
+        return modules, names
+
+    @functools.cache
+    def told(self, path, text):
+        """The paragraphs of a file, each with what the names in it stand for: so a definition that only moves, and its module, change no sum."""
+        modules, names = self.brought(text)
+        every = self.paragraphs(text)
+        if path.endswith(".antt"):
+            names = {**{it: sum_of(it, every) for it in filter(None, map(defined_in, every))}, **names}
+        found = []
+        for it in every:
+            words = {*re.findall(r"(?<![\w«».])[\w«»]+", it), *re.findall(r"[^\s(){}.,;]+", it)}
+            within = {(of, name) for of, name in re.findall(r"([\w«»]+)(?:\.|::)([\w«»]+)", it) if modules.get(of)}
+            found.append((it, sorted((it, names[it]) for it in words & names.keys()), sorted((of, name, self.token(modules[of], name)) for of, name in within)))
+        return found
 
     def cited(self, crate):
         """What a crate cites of those below it: a file from the top on for each definition, with its text, sorted."""
@@ -147,8 +178,8 @@ class Definitions:
     def sum(self, crate, files=None):
         """A sum of a crate's files, those that are given or else all, and of what it cites of the crates below it."""
         files = self.files(crate, "src", "specs", "proofs") if files is None else files
-        own = [(path, self.parted(text, crate)) for path, text in files]
-        below = sorted({repr(self.parted(text)) for _, text in self.cited(crate)})
+        own = [(path, sorted(map(repr, self.told(path, text)))) for path, text in files]
+        below = sorted({repr(it) for path, text in self.cited(crate) for it in self.told(path, text)})
         return hashlib.sha256(repr((own, below)).encode()).digest()
 
 
@@ -177,9 +208,11 @@ def let_through():
             yield f"{what} has changed, which {'nothing tells' if matters else 'no sum should have'}"
     moved = {path.replace("lra_low", "lra_deep").replace("Deep.antt", "Deepest.antt"): text for path, text in sources.items()}
     moved = {path: text.replace("lra_low", "lra_deep").replace("specs.Deep.", "specs.Deepest.") for path, text in moved.items()}
+    moved["crates/lra_deep/specs/Words.antt"] = f"-- Words.\n{moved['crates/lra_deep/specs/Words.antt']}"
     if Definitions(moved).sum("lra_up") != before:
         yield "definitions have moved, which no sum should have"
-    swapped = dict(sources)
-    swapped["crates/lra_up/src/lib.rt"] = sources["crates/lra_up/src/lib.rt"].replace("specs.Words", "specs.Other")
-    if Definitions(swapped).sum("lra_up") == before:
+    up = "use Rattle.lra_low.specs.{}.{{it}}\n\nmine : ℕ\nmine = it\n"
+    twins = {f"{low}/specs/A.antt": "it : ℕ\nit = 1\n", f"{low}/specs/B.antt": "it : ℕ\nit = 2\n"}
+    one, other = ({**twins, "crates/lra_up/specs/M.antt": up.format(a), "crates/lra_up/specs/N.antt": up.format(b)} for a, b in ("AB", "BA"))
+    if Definitions(one).sum("lra_up") == Definitions(other).sum("lra_up"):
         yield "a name stands for another definition, which nothing tells"
