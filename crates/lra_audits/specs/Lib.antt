@@ -1,5 +1,4 @@
 pub mod Report
 pub mod Faults
 pub mod Taking
-pub mod Asked
 pub mod inner

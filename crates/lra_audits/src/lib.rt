@@ -1,7 +1,6 @@
 //! The audit of a journal over any reader and writer: how an input is read, what is printed of its verdict, and why a run has no answer.
 #![tactic(auto)]
 
-mod asked;
 mod audit;
 mod errors;
 mod fault;
@@ -11,12 +10,12 @@ mod program;
 mod report;
 mod taking;
 
-pub use asked::{Usage, read_audit};
 pub use audit::{audit_run, put_report, report_fault};
 pub use errors::error_line;
 pub use fault::RunFault;
 pub use input::{LONGEST, audit_input, feed_input, give_pieces, next_piece, room};
+pub use lra_words::{Usage, read_audit, tell_usage, words_of};
 pub use output::put;
-pub use program::{open_file, settle, tell, tell_usage, words_of};
+pub use program::{open_file, settle, tell};
 pub use report::{line_of_fault, status};
 pub use taking::Taker;

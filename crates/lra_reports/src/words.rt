@@ -4,7 +4,7 @@ ghost use Rattle.std.specs.Prelude.{IfOk, IfErr, [], ◌∷◌};
 ghost use Rattle.lra_reports.specs.declared.words.Invocation.{Invocation};
 ghost use Rattle.lra_reports.specs.declared.words.Question.{Question};
 ghost use Rattle.lra_reports.specs.Words.{IsInvocation, IsQuestion};
-ghost use Rattle.lra_audits.specs.Asked.{texts};
+ghost use Rattle.lra_words.specs.Asked.{texts};
 
 use lra_audits::Usage;
 

@@ -3,7 +3,7 @@
 ghost use Rattle.std.specs.Prelude.{◌≡◌, ◌∷◌, [], ℕ, ◌≤◌, List, IfOk, IfErr, IfSome, IfNone, codes};
 ghost use Rattle.std.specs.Fmt.{decimal};
 ghost use Rattle.lra_runs.specs.declared.task.Task.{Task};
-ghost use Rattle.lra_audits.specs.Asked.{texts};
+ghost use Rattle.lra_words.specs.Asked.{texts};
 ghost use Rattle.lra_runs.specs.Tasks.{IsTask};
 
 use itoa::Buffer;

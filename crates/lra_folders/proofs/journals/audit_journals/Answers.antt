@@ -1,6 +1,6 @@
 use Rattle.std.proofs.Common.{string_bytes}
 use Rattle.std.proofs.lemmas.Result.{IfOk-weaker}
-use Rattle.lra_audits.specs.Asked.{texts}
+use Rattle.lra_words.specs.Asked.{texts}
 use Rattle.lra_folders.specs.declared.deed.Deed.TheVariants.{Audit}
 use Rattle.lra_folders.specs.declared.journals.FolderAudit.{FolderAudit}
 use Rattle.lra_folders.specs.Folders.{AuditsAll, TellsAll}

@@ -1,5 +1,5 @@
 use Rattle.std.proofs.Common.{◌≡◌, ◌<◌, ℕ, ◌+◌, List, Some, length, string_bytes}
-use Rattle.lra_audits.specs.Asked.{texts}
+use Rattle.lra_words.specs.Asked.{texts}
 use Rattle.lra_folders.specs.Folders.{Progress, TellsEach}
 use Rattle.lra_folders.proofs.journals.tell_each.Given as goal
 

@@ -1,6 +1,6 @@
 use Rattle.std.proofs.Common.{◌∙◌, ap, arith, subst, List, String, Global, string_bytes}
 use Rattle.std.proofs.lemmas.List.{take_all}
-use Rattle.lra_audits.specs.Asked.{texts}
+use Rattle.lra_words.specs.Asked.{texts}
 use Rattle.lra_folders.specs.Folders.{path_of, TellsEach}
 use Rattle.lra_folders.proofs.Each.{each_more}
 use Rattle.lra_folders.proofs.journals.write_each.Goals as goal

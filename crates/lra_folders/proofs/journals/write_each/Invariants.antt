@@ -1,5 +1,5 @@
 use Rattle.std.proofs.Common.{◌≡◌, ℕ, ◌+◌, List, length, take, string_bytes}
-use Rattle.lra_audits.specs.Asked.{texts}
+use Rattle.lra_words.specs.Asked.{texts}
 use Rattle.lra_folders.specs.declared.deed.Deed.{Deed}
 use Rattle.lra_folders.specs.Folders.{TellsEach}
 use Rattle.lra_folders.specs.inner.Told.{AllTold}

@@ -1,8 +1,8 @@
 use Rattle.std.proofs.Common.{◌∷◌, [], sym, ap, ◌∙◌, arith}
 use Rattle.std.specs.Prelude.{codes}
 use Rattle.std.proofs.lemmas.Slice.Eq.{bytes_eq-Decides}
-use Rattle.lra_audits.specs.Asked.{texts}
-use Rattle.lra_audits.proofs.Worded.{two}
+use Rattle.lra_words.specs.Asked.{texts}
+use Rattle.lra_words.proofs.Worded.{two}
 use Rattle.lra_runs.proofs.task.script_of.Goals as goal
 
 pub returns-in-len2-clause-some : goal.returns-in-len2-clause-some

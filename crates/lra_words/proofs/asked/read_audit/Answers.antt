@@ -1,9 +1,9 @@
 use Rattle.std.proofs.Common.{◌∷◌, [], sym, ap, ◌∙◌, arith}
 use Rattle.std.specs.Prelude.{codes}
 use Rattle.std.proofs.lemmas.Slice.Eq.{bytes_eq-Decides}
-use Rattle.lra_audits.specs.Asked.{texts}
-use Rattle.lra_audits.proofs.Worded.{two}
-use Rattle.lra_audits.proofs.asked.read_audit.Goals as goal
+use Rattle.lra_words.specs.Asked.{texts}
+use Rattle.lra_words.proofs.Worded.{two}
+use Rattle.lra_words.proofs.asked.read_audit.Goals as goal
 
 pub returns-in-len2-clause-file : goal.returns-in-len2-clause-file
 returns-in-len2-clause-file c =

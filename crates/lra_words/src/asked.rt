@@ -1,7 +1,7 @@
 //! Which journal the words of a command line ask to audit.
 
 ghost use Rattle.std.specs.Prelude.{◌≡◌, ◌≢◌, ◌∷◌, [], ℕ, List, IfOk, IfErr, IfSome, IfNone, codes};
-ghost use Rattle.lra_audits.specs.Asked.{texts};
+ghost use Rattle.lra_words.specs.Asked.{texts};
 
 use thiserror::Error;
 

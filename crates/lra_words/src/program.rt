@@ -1,0 +1,39 @@
+//! How a program takes its words from the system, and tells on standard error where it can't.
+
+ghost use Rattle.std.specs.Prelude.{◌≡◌, IfErr};
+
+use std::rt::Env;
+use std::{env, io};
+
+/// The status of a run that has no answer.
+const FAULT: u8 = 2;
+
+/// Tells that the words of the command line ask for nothing. The answer is the program's status.
+pub fn tell_usage<R: Eprint>(rt: &R) -> u8
+    ensures { result ≡ FAULT }
+{
+    let _ = eprintln!(rt; "lra: usage");
+    FAULT
+}
+
+/// The words of the command line, without the program's own name; or the program's status where they can't be had, which is told.
+pub fn words_of<R: AllocGlobal + Env + Eprint>(rt: &R) -> Result<Vec<String>, u8>
+    ensures { IfErr result (λ status. status ≡ FAULT) }
+{
+    match read_words(rt) {
+        Ok(words) => Ok(words),
+        Err(error) if error.kind() == io::ErrorKind::OutOfMemory => {
+            let _ = eprintln!(rt; "lra: out of memory");
+            Err(FAULT)
+        }
+        Err(_) => Err(tell_usage(rt)),
+    }
+}
+
+fn read_words<R: AllocGlobal + Env>(rt: &R) -> io::Result<Vec<String>> {
+    let mut words = Vec::new(rt.alloc());
+    for word in env::args(rt)?.skip(1) {
+        words.push(word)?;
+    }
+    Ok(words)
+}
