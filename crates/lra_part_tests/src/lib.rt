@@ -1,4 +1,5 @@
-//! Tests of small parts of the service, over public surfaces alone: rules for members, what is logged, and what is taken down of syncs.
+//! Tests of small parts of the service, over public surfaces alone: rules for members, what is logged, and what is
+//! taken down of syncs.
 #![tactic(auto)]
 
 #[cfg(test)]

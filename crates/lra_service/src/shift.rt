@@ -373,7 +373,8 @@ impl<
         }
     }
 
-    /// Tells of what the file takes, until no one answers any more: with a member's silence what came of its last callback.
+    /// Tells of what the file takes, until no one answers any more: with a member's silence what came of its last
+    /// callback.
     fn report(&self) {
         let Some(mut tail) = self.tail.lock(self.rt).take() else {
             return;
