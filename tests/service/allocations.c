@@ -1,16 +1,18 @@
-// Refuses a program one of its allocations, by LD_PRELOAD. The file that REFUSED names has three numbers, which the program and a test share: whether allocations
-// are counted, which of them is refused (0: none), and how many were counted. tests/service/allocations.py builds it.
+// Refuses a program one of its allocations, or all those of one thread, by LD_PRELOAD. The file that REFUSED names has four numbers, which the program and a test
+// share: whether allocations are counted, which of them is refused (0: none), how many were counted, and the thread that is refused each (0: none).
+// tests/service/allocations.py builds it.
 typedef unsigned long number;
 
 enum { MAY_READ = 1, MAY_WRITE = 2, IS_SHARED = 1, FOR_BOTH = 2 };
 
 struct shared {
-    number is_on, refused, count;
+    number is_on, refused, count, thread;
 };
 
 extern void *__libc_malloc(number);
 extern void *__libc_realloc(void *, number);
 extern char *getenv(const char *);
+extern int gettid(void);
 extern int open(const char *, int, ...);
 extern int close(int);
 extern void *mmap(void *, number, int, int, int, long);
@@ -31,6 +33,9 @@ __attribute__((constructor)) static void begin(void) {
 static int is_refused(void) {
     if (!shared || !__atomic_load_n(&shared->is_on, __ATOMIC_SEQ_CST))
         return 0;
+    number thread = __atomic_load_n(&shared->thread, __ATOMIC_SEQ_CST);
+    if (thread && thread == (number)gettid())
+        return 1;
     return __atomic_add_fetch(&shared->count, 1, __ATOMIC_SEQ_CST) == __atomic_load_n(&shared->refused, __ATOMIC_SEQ_CST);
 }
 

@@ -1,4 +1,4 @@
-"""Refuses a service one of its allocations: the one with a number, counted from when that is switched on."""
+"""Refuses a service one of its allocations: the one with a number, counted from when that is switched on. Or all those of a thread, for a while."""
 import functools
 import os
 import shutil
@@ -10,8 +10,8 @@ import threading
 from service import LeftOut
 
 SOURCE = os.path.join(os.path.dirname(os.path.abspath(__file__)), "allocations.c")
-# Three numbers: whether allocations are counted, which is refused, and how many were counted.
-SHARED = struct.Struct("=QQQ")
+# Four numbers: whether allocations are counted, which is refused, how many were counted, and the thread that is refused each.
+SHARED = struct.Struct("=QQQQ")
 lock = threading.Lock()
 
 
@@ -33,9 +33,9 @@ class Allocations:
         self.path = path
         self.write(0, 0)
 
-    def write(self, is_on, refused):
+    def write(self, is_on, refused, thread=0):
         with open(self.path, "r+b" if os.path.exists(self.path) else "wb") as it:
-            it.write(SHARED.pack(is_on, refused, 0))
+            it.write(SHARED.pack(is_on, refused, 0, thread))
 
     def words(self):
         """The words with which the program is begun."""
@@ -46,6 +46,10 @@ class Allocations:
     def refuse(self, number):
         """Counts from now on, and refuses the one with this number; none for 0."""
         self.write(1, number)
+
+    def starve(self, thread):
+        """Refuses a thread each allocation from now on; none for 0."""
+        self.write(int(thread != 0), 0, thread)
 
     def counted(self):
         """How many were counted."""

@@ -14,6 +14,7 @@ import threading
 import time
 import urllib.parse
 
+import allocations
 import crowds
 import folders
 import hung
@@ -25,6 +26,9 @@ KEY = "a key of the operators"
 FORM = "application/x-www-form-urlencoded"
 # A line of Prometheus' text format: a name, labels if it has some, and a number.
 SAMPLE = re.compile(r'^([a-z_:][a-z0-9_:]*)(\{[a-z_]+="[^"\\\n]*"(?:,[a-z_]+="[^"\\\n]*")*\})? ([0-9]+(?:\.[0-9]+)?)$')
+# How many connections there are, so that each worker has some, and for how many seconds a client asks, by which its worker is found.
+CLIENTS = 8
+ASKING = 0.3
 # How many actions are many: some stretches of those that are counted together.
 MANY = 1500
 # The marks of HTML, in an address of a member and in a path.
@@ -204,6 +208,77 @@ def test_a_sync_that_hangs_is_told(setting):
                 check("its age", measures(service)["lra_sync_age_seconds"] > 1)
             closing.join()
             wait_until("it is ready", service.is_ready)
+
+
+class Starved(WatchedFolder):
+    """A service of a folder, one of whose threads may be refused memory."""
+
+    def __init__(self, setting):
+        super().__init__(setting, *folders.FAR)
+        self.allocations = allocations.Allocations(setting.folder + "/allocations")
+        self.plain = list(self.words)
+        self.words[:0] = self.allocations.words()
+
+    def busy(self):
+        """How long each thread has run, in billionths of a second."""
+        found = {}
+        try:
+            for thread in os.listdir(f"/proc/{self.process.pid}/task"):
+                found[int(thread)] = int(journal.read(f"/proc/{self.process.pid}/task/{thread}/schedstat").split()[0])
+        except FileNotFoundError as it:
+            raise LeftOut("the system doesn't tell how long a thread has run") from it
+        return found
+
+    def worker_of(self, client, action):
+        """The thread that answers a client: it runs while the client asks."""
+        before, end = self.busy(), time.monotonic() + ASKING
+        while time.monotonic() < end:
+            client.status(action)
+        grown = sorted((time_taken - before[thread], thread) for thread, time_taken in self.busy().items())
+        check(f"one thread answers: {grown}", grown[-1][0] > 2 * grown[-2][0])
+        return grown[-1][1]
+
+
+def checks(service):
+    """What came of each check of the health."""
+    told = json.loads(service.ask("/health").body)
+    return {it["name"]: it["status"] for it in told["checks"]}
+
+
+def test_a_worker_that_cannot_follow_the_set_is_told(setting):
+    """One worker has no memory while the next journal comes: the check says so until it has, and then it answers for that journal too."""
+    service = Starved(setting)
+    with contextlib.ExitStack() as stack:
+        stack.enter_context(service)
+        clients = [stack.enter_context(service.client()) for _ in range(CLIENTS)]
+        actions = [clients[0].start()]
+        starved = service.worker_of(clients[0], actions[0])
+        others = [client for client in clients[1:] if service.worker_of(client, actions[0]) != starved]
+        check("another worker answers some", others)
+        equal("the check before", (checks(service)["set"], measures(service)["lra_set_behind"]), ("UP", 0))
+        service.allocations.starve(starved)
+
+        def is_next_in_use():
+            actions.append(others[0].start())
+            return len({folders.instance_of(action) for action in actions}) == 2
+
+        wait_until("the next journal is in use", is_next_in_use)
+        # The worker looks while it has nothing to do, too.
+        wait_until("the check is down", lambda: checks(service)["set"] == "DOWN")
+        equal("the code and the measure", (service.ask("/health/ready").code, measures(service)["lra_set_behind"]), (503, 1))
+        equal("it is live", service.ask("/health/live").code, 200)
+        time.sleep(1)
+        equal("it still is down", checks(service)["set"], "DOWN")
+        service.allocations.starve(0)
+        wait_until("the check is up", lambda: checks(service)["set"] == "UP")
+        equal("the code and the measure then", (service.ask("/health/ready").code, measures(service)["lra_set_behind"]), (200, 0))
+        for client in clients:
+            for action in actions:
+                equal(f"the status of {action}", client.status(action), "Active")
+        for action in actions:
+            equal("an end", clients[0].end(action, "close"), "Closed")
+    service.words = service.plain
+    folders.check_sound(service)
 
 
 def test_metrics_are_as_prometheus_reads_them(setting):
