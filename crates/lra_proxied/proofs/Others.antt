@@ -7,10 +7,9 @@ use Rattle.lra_wire.specs.Request.{Request}
 use Rattle.lra_front.specs.declared.operation.Operation.{Operation}
 use Rattle.lra_front.specs.declared.denial.Denial.{Denial}
 use Rattle.lra_front.specs.Routes.{operation_of}
-use Rattle.lra_front.specs.Bodies.{object_in, text_under}
+use Rattle.lra_front.specs.Bodies.{identifier_key, object_in, text_under}
 use Rattle.lra_proxied.specs.Paths.{served_behind, other_target}
 use Rattle.lra_proxied.specs.Texts.{other_text}
-use Rattle.lra_front.specs.Bodies.{identifier_key}
 use Rattle.lra_proxied.specs.Bodies.{other_members, other_at, other_body}
 use Rattle.lra_proxied.specs.Requests.{Means}
 use Rattle.lra_proxied.specs.inner.Found.{IsOther}
