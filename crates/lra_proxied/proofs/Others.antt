@@ -1,6 +1,6 @@
 -- What bodies and requests mean.
-use Rattle.std.proofs.Common.{◌≡◌, ℕ, Bool, true, false, true≢false, List, [], ◌∷◌, length, Option, Some, None, IfSome, MatchOption, is_some, option_map, option_and_then, if◌then◌else◌, String, Global, string_bytes, Result, Ok, Err, refl, sym, ap, arith}
-use Rattle.std.specs.Prelude.{unwrap_or}
+use Rattle.std.proofs.Common.{◌≡◌, ℕ, Bool, true, false, true≢false, List, [], ◌∷◌, length, Option, Some, None, IfSome, MatchOption, is_some, option_map, option_and_then, if◌then◌else◌, String, Global, string_bytes, Result, Ok, Err, refl, sym, ap, subst, inl, inr, arith}
+use Rattle.std.specs.Prelude.{◌⊎◌, IsSome, OnSome, is_none, unwrap_or}
 use Rattle.serde_json.specs.Data.{Data, null, boolean, number, string, array, object, Members, put}
 use Rattle.serde_json.specs.Find.{get, as_str, as_object}
 use Rattle.lra_wire.specs.Request.{Request}
@@ -10,8 +10,8 @@ use Rattle.lra_front.specs.Routes.{operation_of}
 use Rattle.lra_front.specs.Bodies.{identifier_key, object_in, text_under}
 use Rattle.lra_proxied.specs.Paths.{served_behind, other_target}
 use Rattle.lra_proxied.specs.Texts.{other_text}
-use Rattle.lra_proxied.specs.Bodies.{other_members, other_at, other_body}
-use Rattle.lra_proxied.specs.Requests.{Means}
+use Rattle.lra_proxied.specs.Bodies.{other_members, other_at, other_body, IsRead}
+use Rattle.lra_proxied.specs.Requests.{Means, LacksMemory}
 use Rattle.lra_proxied.specs.inner.Found.{IsOther}
 use Rattle.lra_proxied.specs.inner.Made.{with_others}
 
@@ -109,3 +109,13 @@ means base olders own target body is other = record {
   fields = refl;
   body = body_meant _ body own.body other;
 }
+
+-- what a request means wants memory where its target or its body is another
+pub lacks : (base : List ℕ) (olders : List (List ℕ)) (own : Request) (target body : Option (String Global)) (asked : Result Operation Denial) (bytes : List ℕ)
+    → option_map string_bytes target ≡ other_target base own.target → asked ≡ operation_of own.method (unwrap_or (option_map string_bytes target) own.target) → bytes ≡ own.body
+    → OnSome body (IsRead olders asked bytes) → (is_none target ≡ false) ⊎ (is_none body ≡ false) → LacksMemory base olders own
+lacks base olders own (Some text) body asked bytes is asks has read other = inl (subst IsSome is refl)
+lacks base olders own None (Some text) asked bytes is asks has read other =
+    inr (subst (λ t. IsRead olders (operation_of own.method (unwrap_or t own.target)) own.body) is (subst (λ r. IsRead olders r own.body) asks (subst (IsRead olders asked) has read)))
+lacks base olders own None None asked bytes is asks has read (inl e) = absurd (true≢false e)
+lacks base olders own None None asked bytes is asks has read (inr e) = absurd (true≢false e)
