@@ -138,7 +138,8 @@ class Definitions:
         for _, definitions, path, several, alias in BRINGS.findall(text):
             path, is_ours = f"{definitions}{path}", definitions and path.startswith("lra_")
             if not several and definitions:
-                modules[alias or path.split(".")[-1]] = path if is_ours else None
+                if is_ours:
+                    modules[alias or path.split(".")[-1]] = path
                 continue
             module, _, last = path.rpartition("::") if not several else (path, "", "")
             for it in several.split(",") if several else [f"{last} as {alias}" if alias else last]:
@@ -157,7 +158,7 @@ class Definitions:
         found = []
         for it in every:
             words = {*re.findall(r"(?<![\w«».])[\w«»]+", it), *re.findall(r"[^\s(){}.,;]+", it)}
-            within = {(of, name) for of, name in re.findall(r"([\w«»]+)(?:\.|::)([\w«»]+)", it) if modules.get(of)}
+            within = {(of, name) for of, name in re.findall(r"([\w«»]+)(?:\.|::)([\w«»]+)", it) if of in modules}
             found.append((it, sorted((it, names[it]) for it in words & names.keys()), sorted((of, name, self.token(modules[of], name)) for of, name in within)))
         return found
 

@@ -27,6 +27,8 @@ SOME_MEMORY = (1, 2, 4, 8, 16, 32)
 SOME_ALLOCATIONS = 8
 # What may be answered while a journal can't be written, or a worker can't follow.
 ANSWERS = {200, 201, 202, 503}
+# How a connection shows that it was closed with no reply.
+CLOSED = (http.client.RemoteDisconnected, ConnectionResetError, BrokenPipeError)
 
 
 class Failing(folders.Folder):
@@ -98,7 +100,7 @@ class Answered:
         """The body of a reply that says that something was done, if it does. A connection may be closed with no reply, too."""
         try:
             reply = client.call(method, path, **keys)
-        except (http.client.RemoteDisconnected, ConnectionResetError, BrokenPipeError):
+        except CLOSED:
             client.connection.close()
             return None
         check(f"{method} {path} is answered {reply}", reply.code in ANSWERS)
@@ -140,7 +142,7 @@ def work(service, answered):
 
 
 class Once:
-    """Gives a call once more, of all that are given, where the allocation that was refused was its own: it has another answer then, or none."""
+    """Gives one call once more, of all that are given: the one whose own allocation was refused, so that its connection is closed with no reply."""
 
     def __init__(self):
         self.is_left = True
@@ -148,7 +150,7 @@ class Once:
     def __call__(self, client, call, *words, **keys):
         try:
             return call(*words, **keys)
-        except (AssertionError, http.client.RemoteDisconnected, ConnectionResetError, BrokenPipeError):
+        except CLOSED:
             if not self.is_left:
                 raise
             self.is_left = False
