@@ -8,6 +8,7 @@ mod laws;
 mod limits;
 mod query;
 mod refusal;
+mod session;
 
 pub use command::{Command, Told};
 pub use counter::{Counter, CounterFault, Order};
@@ -19,3 +20,4 @@ pub use laws::{
 pub use limits::{Limits, Terms};
 pub use query::{Awaited, Known, Listing, Query, Row, Want};
 pub use refusal::{Refusal, Resource};
+pub use session::Session;

@@ -4,7 +4,7 @@ ghost use Rattle.std.specs.Prelude.{◌≡◌};
 ghost use Rattle.lra_core.specs.inner.Replied.{replied};
 
 use crate::coordinator::Coordinator;
-use lra_commands::{Counter, CounterFault, Order, Refusal, Told};
+use lra_commands::{Counter, CounterFault, Order, Refusal, Session, Told};
 use lra_ids::{Base, Instance};
 use std::marker::Model;
 
@@ -78,5 +78,16 @@ impl Counter for Bench {
         let answer = self.coordinator.tell(self.number, moment, &order.command());
         self.coordinator.lawful();
         reply_of(answer)
+    }
+}
+
+impl Session for Bench {
+    ghost use Rattle.std.specs.Prelude.{true};
+
+    // It has no journal.
+    ghost covers = { λ _ _. true };
+
+    fn position(&self) -> u64 {
+        0
     }
 }
