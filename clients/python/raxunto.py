@@ -337,6 +337,7 @@ class Coordinator:
         if not timeout > 0 or not patience >= 0:
             raise ValueError(f"no time: {timeout!r}, {patience!r}")
         self._base = _Base.of(base_url)
+        self.base_url = self._base.text
         self._fields = {"Content-Type": "application/json"}
         if key is not None:
             self._fields["Authorization"] = f"Bearer {key}"
@@ -346,7 +347,7 @@ class Coordinator:
         self._own = threading.local()
 
     def __repr__(self) -> str:
-        return f"Coordinator({self._base.text!r})"
+        return f"Coordinator({self.base_url!r})"
 
     def action(self, uri: str) -> Action:
         """Returns an action by its URI, as a header `Long-Running-Action` has it. Nothing is asked."""
@@ -518,8 +519,6 @@ class Coordinator:
                 return kept.connection, True
             kept.connection.close()
         connection = self._made()
-        # A connection that ended isn't made anew in the midst of a request.
-        connection.auto_open = 0
         try:
             connection.connect()
         except (OSError, ValueError) as fault:
