@@ -127,24 +127,22 @@ class Refused(RaxuntoError):
     code = 0
     maybe_done = False
 
-    def __init_subclass__(cls, code: int) -> None:
+    def __init_subclass__(cls, code: int, maybe_done: bool = False) -> None:
         super().__init_subclass__()
-        cls.code = code
+        cls.code, cls.maybe_done = code, maybe_done
 
     def __init__(self, code: int, name: str, body: Optional[Dict[str, Any]] = None) -> None:
         super().__init__(code, name, body)
         self.code = code
         self.name = name
         self.body: Dict[str, Any] = body or {}
+        # What the body says beside the name, if it does.
+        self.status, self.which = (it if isinstance(it, str) else "" for it in map(self.body.get, ("status", "which")))
         # Whether the same call was sent before, and may have been carried out then.
         self.repeated = False
 
     def __str__(self) -> str:
         return f"{self.code} {self.name[:100]!r}"
-
-    def _text(self, key: str) -> str:
-        told = self.body.get(key)
-        return told if isinstance(told, str) else ""
 
 
 # fmt: off
@@ -164,38 +162,16 @@ class WrongAction(Refused, code=409): """The member is one of another action."""
 class TooDeep(Refused, code=409): """Too many actions are nested in each other."""
 class OldJournal(Refused, code=409): """The journal's version takes no new limits."""
 class HasLeft(Refused, code=410): """The member has left its action."""
+class NotActive(Refused, code=412): """The action isn't Active any more. `status` says how it stands."""
 class NotAsked(Refused, code=412): """The member reports what it wasn't asked."""
 class TooLarge(Refused, code=413): """The request is too long."""
 class NoSuchClerk(Refused, code=500): """The coordinator has no clerk for the request."""
 class Chunked(Refused, code=501): """The request's body is chunked or packed."""
+class Full(Refused, code=503): """There is no room for more, of what `which` says, or no new action is taken."""
+class Stopped(Refused, code=503, maybe_done=True): """The coordinator can't write, or is just archiving a journal."""
 class Memory(Refused, code=503): """The coordinator was refused memory."""
 class Worn(Refused, code=503): """The coordinator's lock has no ticket left."""
 # fmt: on
-
-
-class Stopped(Refused, code=503):
-    """The coordinator can't write, or is just archiving a journal."""
-
-    maybe_done = True
-
-
-class NotActive(Refused, code=412):
-    """The action isn't Active any more."""
-
-    @property
-    def status(self) -> str:
-        """Returns how the action stands, or an empty text where the refusal didn't say."""
-        return self._text("status")
-
-
-class Full(Refused, code=503):
-    """The coordinator has no room, or takes no new action."""
-
-    @property
-    def which(self) -> str:
-        """Returns what is full, or an empty text where the refusal didn't say."""
-        return self._text("which")
-
 
 _REFUSALS: Dict[str, Type[Refused]] = {it.__name__: it for it in Refused.__subclasses__()}
 
@@ -205,7 +181,7 @@ _REFUSALS: Dict[str, Type[Refused]] = {it.__name__: it for it in Refused.__subcl
 
 def _uri(text: str, route: str) -> Tuple[str, str]:
     """Returns the URI and the ID of an action or a member."""
-    found = _URI.fullmatch(text)
+    found = _URI.fullmatch(text) if isinstance(text, str) else None
     if not found or found[1] != route:
         raise ValueError(f"no URI of {route}: {text!r}")
     return text, found[2]
@@ -227,7 +203,7 @@ def _limit(limit: int) -> int:
 
 @dataclasses.dataclass(frozen=True)
 class _Base:
-    """Where the coordinator is called."""
+    """What a URL says of which other URLs are made."""
 
     secure: bool
     host: str
@@ -237,13 +213,13 @@ class _Base:
 
     @classmethod
     def of(cls, url: str) -> _Base:
-        """Returns what a URL says, which ends in a slash whether it is written or not."""
+        """Reads a URL, which ends in a slash whether that is written or not."""
         if not isinstance(url, str) or _UNPRINTABLE.search(url):
-            raise ValueError(f"no URL of a coordinator: {url!r}")
+            raise ValueError(f"no URL: {url!r}")
         text = url if url.endswith("/") else url + "/"
         parts = urllib.parse.urlsplit(text)
         if parts.scheme not in ("http", "https") or not parts.hostname or "@" in parts.netloc or {"?", "#"} & set(url):
-            raise ValueError(f"no URL of a coordinator: {url!r}")
+            raise ValueError(f"no URL: {url!r}")
         secure = parts.scheme == "https"
         return cls(secure, parts.hostname, parts.port or (443 if secure else 80), parts.path, text)
 
@@ -367,13 +343,12 @@ class Coordinator:
         path = self._path(above)
         try:
             return self._start(path[: -len("/" + above.id)], keys)
-        except NoSuchAction:
-            # Behind one name are several coordinators, and this was another one; or there is no such parent.
+        except NoSuchAction as refusal:
+            # There is no such parent, or several coordinators are behind one name and this was another's.
             try:
                 return self._start(path, keys)
             except BadMethod:
-                pass
-            raise
+                raise refusal from None
 
     def join(
         self, action: Union[Action, str], *, compensate: Optional[str] = None, complete: Optional[str] = None,

@@ -158,10 +158,12 @@ def test_identifiers_lead_below_the_base_alone(_):
 def test_mistakes_are_told_before_anything_is_sent(_):
     with StandIn() as place:
         coordinator = quick(place)
-        for uri in ("", "x", ACTION + "\r\nX: y", ACTION + "/", ACTION + "?x", MEMBER, ACTION.upper(), "\n" + ACTION):
+        after = (ACTION + it for it in ("\r\nX: y", "\n", "/", "?x", " "))
+        for uri in (None, "", "x", MEMBER, ACTION.upper(), "\n" + ACTION, *after):
             raised(ValueError, coordinator.action, uri)
-            raised(ValueError, coordinator.close, uri)
-            raised(ValueError, coordinator.start, parent=uri)
+            if uri is not None:
+                raised(ValueError, coordinator.close, uri)
+                raised(ValueError, coordinator.start, parent=uri)
         for uri in ("", ACTION, MEMBER + "\n", MEMBER + "#x"):
             raised(ValueError, coordinator.member_status, uri)
             raised(ValueError, coordinator.leave, ACTION, uri)
