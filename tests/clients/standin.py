@@ -43,9 +43,12 @@ def reply(code, body, fields=()):
 class StandIn:
     """A server that keeps actions in memory. `faults` has what becomes of the next requests, one each."""
 
-    def __init__(self, *faults, prefix="/", members=True):
+    def __init__(self, *faults, prefix="/", members=True, host=service.HOST, tls=None):
         self.faults = list(faults)
         self.prefix = prefix
+        self.host = host
+        # The context of its TLS, if it has that.
+        self.tls = tls
         # Whether members hold up the end of their action.
         self.members_wait = members
         self.requests = []
@@ -56,9 +59,11 @@ class StandIn:
         self.streams = set()
 
     def __enter__(self):
-        self.listener = socket.create_server((service.HOST, 0), backlog=64)
+        family = socket.AF_INET6 if ":" in self.host else socket.AF_INET
+        self.listener = socket.create_server((self.host, 0), family=family, backlog=64)
         self.port = self.listener.getsockname()[1]
-        self.base = f"http://{service.HOST}:{self.port}{self.prefix}"
+        host = f"[{self.host}]" if ":" in self.host else self.host
+        self.base = f"http{'s' if self.tls else ''}://{host}:{self.port}{self.prefix}"
         threading.Thread(target=self.accept, daemon=True).start()
         return self
 
@@ -85,6 +90,8 @@ class StandIn:
     def serve(self, stream, number):
         """Answers the requests of a connection."""
         try:
+            if self.tls:
+                stream = self.tls.wrap_socket(stream, server_side=True)
             with stream.makefile("rb") as reader:
                 while (request := read(reader, number)) and self.answer(stream, request):
                     pass
