@@ -770,7 +770,7 @@ class MemberHandler(http.server.BaseHTTPRequestHandler):
     A method gets a Callback, and returns None or DONE, AT_IT, FAILED, AGAIN or the name of a state; a status returns
     the name of a state, DONE, AT_IT or AGAIN. What it raises is logged, and has the coordinator ask again. Any of them
     may be called again after it was done, and for work that never was: it has to do the same then, or nothing. While a
-    method works for a member none is called for the same member: the coordinator is told that it is at it.
+    method works for a member, in this process, none but a status is called for that member: it is asked again later.
 
     `do_POST` is the service's own. A `do_GET`, `do_PUT` or `do_DELETE` of its own calls `take_callback` first.
     """
@@ -863,9 +863,8 @@ class MemberHandler(http.server.BaseHTTPRequestHandler):
             return None
         if kind == "after" and body not in ENDED:
             return None
-        return Callback(
-            kind, action or "", recovery or "", parent, action_id, work, body if kind == "after" else None
-        )
+        end = body if kind == "after" else None
+        return Callback(kind, action or "", recovery or "", parent, action_id, work, end)
 
     def _field(self, name: str) -> Optional[str]:
         """Returns the value of a header that stands there once."""
@@ -881,12 +880,13 @@ class MemberHandler(http.server.BaseHTTPRequestHandler):
         return data.decode("latin-1").strip() if len(data) == int(lengths[0]) else None
 
     def _carried_out(self, asked: Callback) -> Tuple[int, str]:
-        """Calls the method for a callback, unless one is at work for the same member."""
+        """Calls the method for a callback, unless another one is at work for the same member."""
         member = (asked.action_id, asked.work)
         with self._lock:
-            if member in self._busy:
-                return (503, "") if asked.kind in ("forget", "after") else (202, "")
             if asked.kind != "status":
+                if member in self._busy:
+                    # (After a 202 it would be asked for its status alone, also if that method fails.)
+                    return 503, ""
                 self._busy.add(member)
         try:
             return _reply_to(asked.kind, getattr(self, self._names[asked.kind])(asked))

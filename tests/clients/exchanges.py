@@ -136,6 +136,7 @@ def test_identifiers_lead_below_the_base_alone(_):
         "BASEsite/2/lra-coordinator/": "/shop/site/2/lra-coordinator/",
         "http://elsewhere.test/lra-coordinator/": "/shop/lra-coordinator/",
         "https://elsewhere.test:1/a/b/lra-coordinator/": "/shop/lra-coordinator/",
+        "http://127.0.0.2:PORT/shop/site/2/lra-coordinator/": "/shop/lra-coordinator/",
         "BASE../admin/lra-coordinator/": "/shop/lra-coordinator/",
         "BASE%2e%2e/admin/lra-coordinator/": "/shop/lra-coordinator/",
         "BASEa?b/lra-coordinator/": "/shop/lra-coordinator/",
@@ -145,7 +146,7 @@ def test_identifiers_lead_below_the_base_alone(_):
     with StandIn(prefix="/shop/") as place:
         coordinator = Coordinator(place.base[:-1])
         for uri, path in cases.items():
-            uri = uri.replace("BASE", place.base) + name
+            uri = uri.replace("BASE", place.base).replace("PORT", str(place.port)) + name
             is_known = path == "/shop/lra-coordinator/"
             raised(raxunto.NoSuchAction if is_known else raxunto.BadMethod, coordinator.status, uri)
             equal(uri, place.requests[-1].path, path + name)

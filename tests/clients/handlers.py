@@ -222,9 +222,9 @@ def test_a_method_at_work_for_a_member_is_left_alone(_):
         thread = threading.Thread(target=lambda: told.append(ask(port, "complete")))
         thread.start()
         check("it begins", begun.wait(PATIENCE))
-        equal("asked again", ask(port, "complete"), (202, ""))
-        equal("asked otherwise", ask(port, "compensate"), (202, ""))
-        equal("its status", ask(port, "status"), (202, ""))
+        equal("asked again", ask(port, "complete"), (503, ""))
+        equal("asked otherwise", ask(port, "compensate"), (503, ""))
+        equal("its status", ask(port, "status"), (410, ""))
         equal("to be forgotten", ask(port, "forget"), (503, ""))
         equal("after its end", ask(port, "after"), (503, ""))
         equal("another member", ask(port, "complete", f"/lra/{NAME}/complete?2"), (200, "Completed"))
@@ -232,7 +232,7 @@ def test_a_method_at_work_for_a_member_is_left_alone(_):
         thread.join(PATIENCE)
         equal("the first reply", told, [(200, "Completed")])
         equal("a later one", ask(port, "complete"), (200, "Completed"))
-        equal("calls", calls, ["complete", "complete", "complete"])
+        equal("calls", calls, ["complete", "status", "complete", "complete"])
 
 
 def test_a_method_that_raised_is_called_again(_):

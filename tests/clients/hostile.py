@@ -25,6 +25,7 @@ GARBAGE = {
     "too many fields": HEAD + 1000 * b"X: y\r\n" + b"\r\n",
     "no length": HEAD + b"\r\n" + BODY,
     "two lengths": HEAD + b"Content-Length: 2\r\nContent-Length: %d\r\n\r\n" % len(BODY) + BODY,
+    "two lengths, the first right": HEAD + b"Content-Length: %d\r\nContent-Length: 2\r\n\r\n" % len(BODY) + BODY,
     "a length below 0": HEAD + b"Content-Length: -5\r\n\r\n" + BODY,
     "a length that is none": HEAD + b"Content-Length: x\r\n\r\n" + BODY,
     "a chunked body": HEAD + b"Transfer-Encoding: chunked\r\n\r\n%x\r\n" % len(BODY) + BODY + b"\r\n0\r\n\r\n",
