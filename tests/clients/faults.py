@@ -233,6 +233,18 @@ def test_a_leave_whose_reply_was_lost_has_left(_):
         check("that is told of a second leave", not error.repeated)
 
 
+def test_a_leave_that_was_refused_before_hasnt_left_by_that(_):
+    with StandIn() as place:
+        trip = quick(place, patience=5).start()
+        member = trip.join(compensate=COMPENSATE)
+        member.leave()
+        place.faults = [Says(reply(503, {"error": "Memory"}), True)]
+        check("nothing was done then", not raised(raxunto.HasLeft, member.leave).repeated)
+        place.faults = [Says(reply(503, {"error": "Stopped"}), True)]
+        member.leave()
+        equal("requests", len(place.sent("PUT", "/remove")), 5)
+
+
 def test_a_join_whose_reply_was_lost_is_told_as_repeated(_):
     with StandIn() as place:
         trip = quick(place, patience=5).start()
