@@ -809,11 +809,15 @@ class MemberHandler(http.server.BaseHTTPRequestHandler):
 
     def do_GET(self) -> None:
         """Answers a callback; all else is unknown."""
-        if not self.take_callback():
-            self.close_connection = True
-            self.reply(404)
+        self._take()
 
-    do_PUT = do_DELETE = do_GET
+    def do_PUT(self) -> None:
+        """Answers a callback; all else is unknown."""
+        self._take()
+
+    def do_DELETE(self) -> None:
+        """Answers a callback; all else is unknown."""
+        self._take()
 
     def take_callback(self) -> bool:
         """Answers the request if its path is a callback's, and returns whether it is."""
@@ -838,6 +842,11 @@ class MemberHandler(http.server.BaseHTTPRequestHandler):
         self.send_header("Content-Length", str(len(data)))
         self.end_headers()
         self.wfile.write(data)
+
+    def _take(self) -> None:
+        if not self.take_callback():
+            self.close_connection = True
+            self.reply(404)
 
     def _answer(self, action_id: str, kind: str, work: str) -> Tuple[int, str]:
         """Returns the code and the body of a callback's reply."""

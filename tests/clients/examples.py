@@ -131,6 +131,7 @@ def test_the_file_is_of_python_3_9_and_of_its_library_alone(setting):
 def test_its_types_hold(setting):
     if not shutil.which("mypy"):
         raise LeftOut("there is no mypy")
-    words = ["mypy", "--strict", "--python-version", "3.9", "--cache-dir", setting.folder, f"{setting.root}/{FILE}"]
-    done = subprocess.run(words, capture_output=True, text=True, timeout=100, check=False)
+    words = ["mypy", "--strict", "--python-version", "3.9", "--cache-dir", setting.folder]
+    files = [f"{setting.root}/{FILE}", f"{setting.root}/tests/clients/typed.py"]
+    done = subprocess.run([*words, *files], capture_output=True, text=True, timeout=100, check=False)
     check(done.stdout, done.returncode == 0)

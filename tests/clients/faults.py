@@ -105,7 +105,7 @@ def test_nobody_is_there(_):
     begun = time.monotonic()
     hasty = Coordinator(f"http://{HOST}:{free_port()}/", patience=0)
     raised(raxunto.Unreachable, hasty.start)
-    check("without patience it takes no time", time.monotonic() - begun < 0.4)
+    check("without patience it takes no time", time.monotonic() - begun < 2)
 
 
 def test_a_name_that_leads_nowhere(_):

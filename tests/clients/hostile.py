@@ -55,13 +55,17 @@ BODIES = {
 def test_garbage_is_told_as_that(_):
     for name, data in GARBAGE.items():
         with StandIn(Says(data, False)) as place:
-            begun = time.monotonic()
             try:
-                raised(raxunto.BadReply, quick(place, patience=3).status, ACTION)
+                error = raised(raxunto.BadReply, quick(place, patience=5).status, ACTION)
             except AssertionError as it:
                 raise AssertionError(f"{name}: {it}") from None
             equal(f"requests for {name}", len(place.requests), 1)
-            check(f"{name} takes no time", time.monotonic() - begun < 1.5)
+            check(f"{name} is told in short", len(str(error)) < 300)
+
+
+def test_a_long_line_that_breaks_off_is_told_in_short(_):
+    with StandIn(Says(b"HTTP/1.1 " + 60_000 * b"x", False)) as place:
+        check("it is", len(str(raised(raxunto.Unreachable, quick(place, patience=0).status, ACTION))) < 300)
 
 
 def test_a_body_that_is_no_answer_is_told_as_that(_):
