@@ -9,7 +9,7 @@ import journal
 import raxunto
 from bases import Based
 from examples import Running, in_the_file, named, on_the_page
-from exchanges import quick, raised
+from exchanges import raised
 from handlers import Quiet, serving
 from participant import wait_until
 from raxunto import Coordinator
