@@ -53,6 +53,8 @@ impl<A: Responder, L: Latest, H: Refused> Responder for Guarded<A, L, H> {
 
     ghost sight = { λ g. record { inner = A.sight g.inner; rules = L.in_force g.latest } };
 
+    ghost covers = { λ g n. A.covers g.inner n };
+
     ghost base_of = { λ s. A.base_of s.inner };
 
     ghost responds = { Responds L.looks A.responds };
@@ -65,6 +67,10 @@ impl<A: Responder, L: Latest, H: Refused> Responder for Guarded<A, L, H> {
 
     fn instance(&self) -> Instance {
         self.inner.instance()
+    }
+
+    fn position(&self) -> u64 {
+        self.inner.position()
     }
 
     fn respond(

@@ -27,11 +27,14 @@ use std::alloc::Global;
 
 /// Who tells which counters are in a family by now.
 pub trait Kinship<C: Counter + Drop> {
-    ghost use Rattle.std.specs.Prelude.{ℕ, Bool, false, Option, IsFalse};
+    ghost use Rattle.std.specs.Prelude.{ℕ, Bool, false, Option, IsFalse, IsTrue};
     ghost use Rattle.lra_family_front.specs.Households.{KeepsBase, Moved};
 
     // What it may tell of what names an instance, or none.
     ghost tells: { Option ℕ → Bool → Type 0 };
+
+    // Whether the first so many bytes that were appended to the journals tell of all that the family has told.
+    ghost covers: { Self → ℕ → Bool };
 
     /// Has counters join that are newer than all, and others leave. Where memory for one is refused, that one may join at another look.
     fn look(&mut self, family: &mut Family<C>)
@@ -46,6 +49,11 @@ pub trait Kinship<C: Counter + Drop> {
     /// answered yet.
     fn lacks(&self, named: Option<Instance>) -> bool
         ensures { tells named result };
+
+    /// Returns the position of all that the family has told, by the one count of bytes that its journals share. This
+    /// takes no memory.
+    fn position(&self) -> u64
+        ensures { IsTrue (covers self.now result) };
 }
 
 /// The newest counter of a family.
@@ -214,6 +222,8 @@ impl<C: Counter + Drop, K: Kinship<C>> Responder for Household<C, K> {
 
     ghost sight = { λ h. h.family };
 
+    ghost covers = { λ h n. K.covers h.kinship n };
+
     ghost base_of = { base_of_family };
 
     ghost responds = { Responds K.tells C.gives };
@@ -226,6 +236,10 @@ impl<C: Counter + Drop, K: Kinship<C>> Responder for Household<C, K> {
 
     fn instance(&self) -> Instance {
         self.family.newest()
+    }
+
+    fn position(&self) -> u64 {
+        self.kinship.position()
     }
 
     fn respond(

@@ -56,6 +56,8 @@ impl<A: Responder> Responder for Proxied<A> {
 
     ghost sight = { λ p. record { inner = A.sight p.inner; olders = p.olders.items; is_strict = p.is_strict } };
 
+    ghost covers = { λ p n. A.covers p.inner n };
+
     ghost base_of = { λ s. A.base_of s.inner };
 
     ghost responds = { Responds A.base_of A.responds };
@@ -68,6 +70,10 @@ impl<A: Responder> Responder for Proxied<A> {
 
     fn instance(&self) -> Instance {
         self.inner.instance()
+    }
+
+    fn position(&self) -> u64 {
+        self.inner.position()
     }
 
     fn respond(

@@ -88,6 +88,8 @@ impl<A: Responder, K: Reserve> Responder for Reserved<A, K> {
 
     ghost sight = { λ r. A.sight r.inner };
 
+    ghost covers = { λ r n. A.covers r.inner n };
+
     ghost base_of = { A.base_of };
 
     ghost responds = { Responds A.responds K.tells };
@@ -100,6 +102,10 @@ impl<A: Responder, K: Reserve> Responder for Reserved<A, K> {
 
     fn instance(&self) -> Instance {
         self.inner.instance()
+    }
+
+    fn position(&self) -> u64 {
+        self.inner.position()
     }
 
     fn respond(

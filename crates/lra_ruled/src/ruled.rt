@@ -77,6 +77,8 @@ impl<A: Responder> Responder for Ruled<'_, A> {
 
     ghost sight = { λ r. record { inner = A.sight r.inner; rules = r.rules.now } };
 
+    ghost covers = { λ r n. A.covers r.inner n };
+
     ghost base_of = { λ s. A.base_of s.inner };
 
     ghost responds = { Responds A.responds };
@@ -89,6 +91,10 @@ impl<A: Responder> Responder for Ruled<'_, A> {
 
     fn instance(&self) -> Instance {
         self.inner.instance()
+    }
+
+    fn position(&self) -> u64 {
+        self.inner.position()
     }
 
     fn respond(

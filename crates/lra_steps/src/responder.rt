@@ -4,7 +4,7 @@ ghost use Rattle.std.specs.Prelude.{◌≡◌, IsTrue};
 ghost use Rattle.lra_wire.specs.Request.{request_of};
 ghost use Rattle.lra_front.specs.Replies.{HasIdentifiers};
 
-use lra_commands::Counter;
+use lra_commands::{Counter, Session};
 use lra_front::{Answer, Routes};
 use lra_ids::{Base, Instance};
 use lra_wire::RequestRead;
@@ -19,10 +19,11 @@ pub struct Answered {
 
 /// Who answers requests: a counter, or several of which each request names one.
 ///
-/// Callers know of it what all its URIs begin with. What an answer does, and what a rest does, are relations that are fixed by the type;
-/// whatever these are, it is a law that those URIs go on to begin so.
+/// Callers know of it what all its URIs begin with. What an answer does, and what a rest does, are relations that are
+/// fixed by the type; whatever these are, it is a law that those URIs go on to begin so. It says how much of a journal
+/// what it has told rests on, so that a reply can be held back until that much is durable.
 pub trait Responder {
-    ghost use Rattle.std.specs.Prelude.{◌≡◌, ℕ, List};
+    ghost use Rattle.std.specs.Prelude.{◌≡◌, ℕ, Bool, List, IsTrue};
     ghost use Rattle.lra_wire.specs.Request.{Request};
     ghost use Rattle.lra_steps.specs.declared.responder.Answered.{Answered};
 
@@ -31,6 +32,9 @@ pub trait Responder {
 
     // What callers know of it.
     ghost sight: { Self → State };
+
+    // Whether the first so many bytes that were appended tell of all that it has told.
+    ghost covers: { Self → ℕ → Bool };
 
     // What its URIs begin with, where that is known.
     ghost base_of: { State → List ℕ };
@@ -47,6 +51,10 @@ pub trait Responder {
 
     /// Whose identifiers a reply may name that answers no request: one to a fault of reading. This takes no memory.
     fn instance(&self) -> Instance;
+
+    /// Returns the position of all that it has told, refusals included. This takes no memory.
+    fn position(&self) -> u64
+        ensures { IsTrue (covers self.now result) };
 
     /// Answers a request at a moment, in milliseconds.
     fn respond(
@@ -73,7 +81,7 @@ pub trait Responder {
 }
 
 /// A counter answers all requests by itself, as the front does over it, and a rest does nothing.
-impl<C: Counter> Responder for C {
+impl<C: Session> Responder for C {
     ghost use Rattle.std.specs.Prelude.{◌≡◌};
     ghost use Rattle.std.proofs.Common.{ap};
     ghost use Rattle.lra_commands.specs.Counters.{Sight};
@@ -83,6 +91,8 @@ impl<C: Counter> Responder for C {
     ghost State = { Sight };
 
     ghost sight = { C.sight };
+
+    ghost covers = { C.covers };
 
     ghost base_of = { λ s. s.setting.base };
 
@@ -96,6 +106,10 @@ impl<C: Counter> Responder for C {
 
     fn instance(&self) -> Instance {
         Counter::instance(self)
+    }
+
+    fn position(&self) -> u64 {
+        Session::position(self)
     }
 
     fn respond(

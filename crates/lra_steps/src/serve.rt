@@ -6,7 +6,7 @@ ghost use Rattle.lra_steps.specs.inner.Feeding.{Follows, Fed, IsFresh};
 
 use crate::connection::{Connection, Step};
 use crate::responder::Responder;
-use lra_commands::Counter;
+use lra_commands::Session;
 use lra_front::{Clock, Routes, StreamEnd};
 use lra_ids::Instance;
 use lra_model::Memory;
@@ -166,7 +166,7 @@ pub fn answer_pieces<A: Responder, K: Clock>(
 
 /// Answers a stream that comes in these pieces, and appends the replies. What is done and replied is what `serve_stream` does and
 /// replies of all the bytes, however they are cut. Where memory is refused otherwise than for a reply, that is told.
-pub fn serve_pieces<C: Counter, K: Clock>(
+pub fn serve_pieces<C: Session, K: Clock>(
     alloc: Global,
     pieces: &[Vec<u8>],
     sent: &mut Vec<u8>,

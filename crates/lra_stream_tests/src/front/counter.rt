@@ -1,7 +1,7 @@
 //! A counter at which nothing can be given, and a clock that stands still.
 
 use crate::coordinator::base;
-use lra_commands::{Counter, CounterFault, Order, Told};
+use lra_commands::{Counter, CounterFault, Order, Session, Told};
 use lra_front::Clock;
 use lra_ids::{Base, Instance};
 use std::alloc::Global;
@@ -55,6 +55,17 @@ impl Counter for Worn {
           same = record { setting = ap (λ w. w.setting) h.1; number = ap (λ w. w.number) h.1 };
           seen = ap (λ w. w.seen) h.1;
         }) };
+}
+
+impl Session for Worn {
+    ghost use Rattle.std.specs.Prelude.{true};
+
+    // It has no journal.
+    ghost covers = { λ _ _. true };
+
+    fn position(&self) -> u64 {
+        0
+    }
 }
 
 /// A clock that stands still.

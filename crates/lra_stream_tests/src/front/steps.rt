@@ -2,7 +2,7 @@
 use super::counter::{Still, worn_counter};
 use super::{STREAMS, end_word};
 use crate::rows::{parted, written_out};
-use lra_commands::Counter;
+use lra_commands::Session;
 use lra_steps::serve_pieces;
 use std::alloc::Global;
 
@@ -17,7 +17,7 @@ fn cut(alloc: Global, text: &str, size: usize) -> Option<Vec<Vec<u8>>> {
 }
 
 /// Whether pieces are replied so at a counter, and end so.
-fn comes_to<C: Counter>(
+fn comes_to<C: Session>(
     alloc: Global,
     counter: &mut C,
     pieces: &[Vec<u8>],
