@@ -19,8 +19,8 @@ pub record IsFor (carried : Carried) (errand : Asking) : Type 0 where
   pub direction : carried.direction ≡ errand.direction
   pub request : carried.request ≡ request_bytes (calling_of errand)
 
--- An outcome came of a callback for an ask of this number and kind: the request was made once the disk kept all that it had taken when the
--- errand was given, and this is what the callback came to.
+-- An outcome came of a callback for an ask of this number and kind: the request was made once the disk was durable up
+-- to the position that it had taken when the errand was given, and this is what the callback came to.
 pub record Comes (took keeps : ℕ → Bool) (ask : ℕ) (kind : AskKind) (outcome : Outcome) : Type 0 where
   pub leave : HasLeave took keeps
   pub errand : Asking
