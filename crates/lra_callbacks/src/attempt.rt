@@ -11,9 +11,8 @@ ghost use Rattle.lra_callbacks.specs.inner.Ends.{Replies};
 
 use crate::pumping::{Moved, pump};
 use crate::replies::{End, reply_of};
-use lra_carrying::Carrying;
 use lra_core::Errand;
-use lra_courier::{Callback, socket_text};
+use lra_courier::{Callback, Carrying, socket_text};
 use lra_durable::{Disk, Due, Noted, Progress};
 use lra_model::{Memory, Outcome};
 use lra_outcomes::Reply;
