@@ -9,7 +9,7 @@ use Rattle.lra_model.specs.declared.asks.Outcome.TheVariants.{Silent}
 use Rattle.lra_model.specs.Words.{outcome_suits}
 use Rattle.lra_commands.specs.Errands.{Asking}
 use Rattle.lra_courier.specs.declared.fault.CallFault.{CallFault}
-use Rattle.lra_carrying.specs.Carried.{Carried, IsCarried}
+use Rattle.lra_courier.specs.Carried.{Carried, IsCarried}
 use Rattle.lra_durable.specs.Leaves.{MayLeave}
 use Rattle.lra_callbacks.specs.Outcomes.{IsFor, MayCome}
 use Rattle.lra_callbacks.specs.inner.Attempts.{IsOfSame}

@@ -10,7 +10,7 @@ use Rattle.lra_model.specs.Words.{outcome_suits}
 use Rattle.lra_commands.specs.Errands.{Asking}
 use Rattle.lra_courier.specs.declared.fault.CallFault.{CallFault}
 use Rattle.lra_courier.specs.Callbacks.{calling_of, request_bytes}
-use Rattle.lra_carrying.specs.Carried.{Carried, IsCarried}
+use Rattle.lra_courier.specs.Carried.{Carried, IsCarried}
 use Rattle.lra_durable.specs.Leaves.{HasLeave}
 
 -- what was carried is the callback of an errand

@@ -1,7 +1,7 @@
 -- The code of a response.
 use Rattle.std.specs.Prelude.{ℕ, Bool, List}
 use Rattle.lra_wire.specs.Response.{IsResponse}
-use Rattle.lra_carrying.specs.Carried.{Carried, OfStream, IsSent}
+use Rattle.lra_courier.specs.Carried.{Carried, OfStream, IsSent}
 
 -- the bytes begin with a response of that code
 pub record BeginsWith (bytes : List ℕ) (code : ℕ) : Type 0 where

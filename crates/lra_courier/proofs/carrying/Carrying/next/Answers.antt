@@ -1,11 +1,11 @@
 use Rattle.std.proofs.Common.{◌≡◌, ◌∙◌, Some, None, Ok, inl, sym, ap, subst, arith}
 use Rattle.std.specs.Prelude.{◌⊎◌}
-use Rattle.lra_carrying.specs.declared.carrying.Step.{Step}
-use Rattle.lra_carrying.specs.Carried.{Carried, IsSent, Comes, tells}
-use Rattle.lra_carrying.specs.Steps.{StepsTo}
-use Rattle.lra_carrying.specs.inner.Fields.{carried_of}
-use Rattle.lra_carrying.proofs.CarriedLemmas.{look_comes}
-use Rattle.lra_carrying.proofs.carrying.Carrying.next.Goals as goal
+use Rattle.lra_courier.specs.declared.carrying.Step.{Step}
+use Rattle.lra_courier.specs.Carried.{Carried, IsSent, Comes, tells}
+use Rattle.lra_courier.specs.Steps.{StepsTo}
+use Rattle.lra_courier.specs.inner.Holding.{carried_of}
+use Rattle.lra_courier.proofs.CarriedLemmas.{look_comes}
+use Rattle.lra_courier.proofs.carrying.Carrying.next.Goals as goal
 
 pub tell-requires-in-Some-Ok : goal.tell-requires-in-Some-Ok
 tell-requires-in-Some-Ok c =

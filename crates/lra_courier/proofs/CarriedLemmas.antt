@@ -19,8 +19,8 @@ use Rattle.lra_courier.specs.declared.fault.CallFault.TheVariants.{Unreached, Se
 use Rattle.lra_courier.specs.Callbacks.{Calling}
 use Rattle.lra_courier.specs.Exchanges.{IsAnswer}
 use Rattle.lra_courier.specs.Replies.{classify}
-use Rattle.lra_carrying.specs.Carried.{Carried, IsReply, Replies, IsSent, Comes, IsCarried, room_of, went, took, finished, broken, tells}
-use Rattle.lra_carrying.specs.inner.Told.{TellsSoFar, TellsAtEnd, Looks}
+use Rattle.lra_courier.specs.Carried.{Carried, IsReply, Replies, IsSent, Comes, IsCarried, room_of, went, took, finished, broken, tells}
+use Rattle.lra_courier.specs.inner.Told.{TellsSoFar, TellsAtEnd, Looks}
 
 -- ---- what is found
 

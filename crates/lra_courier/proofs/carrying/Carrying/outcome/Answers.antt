@@ -4,10 +4,10 @@ use Rattle.lra_model.specs.declared.asks.AskKind.{AskKind}
 use Rattle.lra_model.specs.declared.asks.Outcome.{Outcome}
 use Rattle.lra_model.specs.Words.{outcome_suits}
 use Rattle.lra_courier.specs.declared.fault.CallFault.{CallFault}
-use Rattle.lra_carrying.specs.Carried.{Carried, Comes}
-use Rattle.lra_carrying.specs.inner.Fields.{carried_of}
-use Rattle.lra_carrying.proofs.CarriedLemmas.{comes_suits}
-use Rattle.lra_carrying.proofs.carrying.Carrying.outcome.Goals as goal
+use Rattle.lra_courier.specs.Carried.{Carried, Comes}
+use Rattle.lra_courier.specs.inner.Holding.{carried_of}
+use Rattle.lra_courier.proofs.CarriedLemmas.{comes_suits}
+use Rattle.lra_courier.proofs.carrying.Carrying.outcome.Goals as goal
 
 pub returns-in-Some-Ok-clause-suits : goal.returns-in-Some-Ok-clause-suits
 returns-in-Some-Ok-clause-suits c =

@@ -1,10 +1,10 @@
 use Rattle.std.proofs.Common.{ℕ, List, length, ◌≤◌, sym, ap, subst, arith}
 use Rattle.lra_wire.specs.Seen.{SeesResponse}
 use Rattle.lra_wire.proofs.ComingLemmas.{sees_more}
-use Rattle.lra_carrying.specs.Carried.{IsCarried, room_of}
-use Rattle.lra_carrying.specs.inner.Fields.{carried_of}
-use Rattle.lra_carrying.proofs.CarriedLemmas.{carried_took}
-use Rattle.lra_carrying.proofs.carrying.Carrying.take.Goals as goal
+use Rattle.lra_courier.specs.Carried.{IsCarried, room_of}
+use Rattle.lra_courier.specs.inner.Holding.{carried_of}
+use Rattle.lra_courier.proofs.CarriedLemmas.{carried_took}
+use Rattle.lra_courier.proofs.carrying.Carrying.take.Goals as goal
 
 pub invariant_of-self-2 : goal.invariant_of-self-2
 invariant_of-self-2 c =

@@ -1,7 +1,7 @@
 -- What the fields of a callback that is carried say.
 use Rattle.lra_wire.specs.Seen.{SeesResponse}
-use Rattle.lra_carrying.specs.declared.carrying.Carrying.TheInside.{Inside}
-use Rattle.lra_carrying.specs.Carried.{Carried, IsCarried}
+use Rattle.lra_courier.specs.declared.carrying.Carrying.TheInside.{Inside}
+use Rattle.lra_courier.specs.Carried.{Carried, IsCarried}
 
 abbrev pub carried_of : Inside → Carried
 carried_of c = record {

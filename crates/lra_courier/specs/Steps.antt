@@ -2,9 +2,9 @@
 use Rattle.std.specs.Prelude.{◌≡◌, ◌⊎◌, ◌<◌, ◌≤◌, Bool, true, false, List, ℕ, length, Some, None, Result, Ok, Err, IsFalse}
 use Rattle.std.specs.declared.alloc.AllocError.{AllocError}
 use Rattle.lra_wire.specs.Response.{AwaitsResponse}
-use Rattle.lra_carrying.specs.declared.carrying.Step.{Step}
-use Rattle.lra_carrying.specs.declared.carrying.Step.TheVariants.{Sends, Wants, Came}
-use Rattle.lra_carrying.specs.Carried.{Carried, IsSent, Comes, room_of, took, tells}
+use Rattle.lra_courier.specs.declared.carrying.Step.{Step}
+use Rattle.lra_courier.specs.declared.carrying.Step.TheVariants.{Sends, Wants, Came}
+use Rattle.lra_courier.specs.Carried.{Carried, IsSent, Comes, room_of, took, tells}
 
 -- What a step says of all before it, and what it changes: more bytes are wanted only where those that came are no whole response; and what a callback came to stays.
 abbrev pub StepsTo : Step → Carried → Carried → Type 0

@@ -8,7 +8,7 @@ use Rattle.lra_wire.specs.declared.fault.WireFault.{WireFault}
 use Rattle.lra_wire.specs.declared.fault.WireFault.TheVariants.{Io, Memory}
 use Rattle.lra_wire.specs.Coming.{Lasts}
 use Rattle.lra_wire.specs.Response.{RefusesResponse, AwaitsResponse}
-use Rattle.lra_carrying.specs.Carried.{IsReply, Replies}
+use Rattle.lra_courier.specs.Carried.{IsReply, Replies}
 
 -- the outcome of a response, or why there is none, whatever follows; or more bytes are wanted
 abbrev pub TellsSoFar : AskKind → Direction → List ℕ → Result (Option (Result Outcome WireFault)) AllocError → Type 0

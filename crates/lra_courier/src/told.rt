@@ -3,10 +3,10 @@ ghost use Rattle.std.specs.Prelude.{◌≡◌, true, false, IfOk, IfSome, IsTrue
 ghost use Rattle.lra_courier.specs.Replies.{classify};
 ghost use Rattle.lra_model.specs.Words.{outcome_suits};
 ghost use Rattle.lra_wire.specs.Seen.{SeesResponse};
-ghost use Rattle.lra_carrying.specs.Codes.{HasCode};
-ghost use Rattle.lra_carrying.specs.inner.Told.{TellsSoFar, TellsAtEnd, Looks};
+ghost use Rattle.lra_courier.specs.Codes.{HasCode};
+ghost use Rattle.lra_courier.specs.inner.Told.{TellsSoFar, TellsAtEnd, Looks};
 
-use lra_courier::classify;
+use crate::reply::classify;
 use lra_model::{AskKind, Direction, Memory, Outcome};
 use lra_wire::{
     Coming, Inbox, ResponseRead, SeenResponse, WireFault, read_response, response_front,

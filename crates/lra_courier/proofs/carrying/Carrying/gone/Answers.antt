@@ -1,8 +1,8 @@
 use Rattle.std.proofs.Common.{◌≤◌, length, drop, sym, subst}
-use Rattle.lra_carrying.specs.Carried.{Carried}
-use Rattle.lra_carrying.specs.inner.Fields.{carried_of}
-use Rattle.lra_carrying.proofs.CarriedLemmas.{carried_went}
-use Rattle.lra_carrying.proofs.carrying.Carrying.gone.Goals as goal
+use Rattle.lra_courier.specs.Carried.{Carried}
+use Rattle.lra_courier.specs.inner.Holding.{carried_of}
+use Rattle.lra_courier.proofs.CarriedLemmas.{carried_went}
+use Rattle.lra_courier.proofs.carrying.Carrying.gone.Goals as goal
 
 pub invariant_of-self : goal.invariant_of-self
 invariant_of-self c = record {

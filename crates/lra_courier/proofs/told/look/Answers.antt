@@ -1,7 +1,7 @@
 use Rattle.std.proofs.Common.{Bool, sym, subst}
-use Rattle.lra_carrying.specs.Carried.{Replies}
-use Rattle.lra_carrying.proofs.CarriedLemmas.{replies_at_end}
-use Rattle.lra_carrying.proofs.told.look.Goals as goal
+use Rattle.lra_courier.specs.Carried.{Replies}
+use Rattle.lra_courier.proofs.CarriedLemmas.{replies_at_end}
+use Rattle.lra_courier.proofs.told.look.Goals as goal
 
 pub returns-then-closed-clause-looks : goal.returns-then-closed-clause-looks
 returns-then-closed-clause-looks c =

@@ -1,5 +1,5 @@
-use Rattle.lra_carrying.proofs.CarriedLemmas.{open_here, whole_replies}
-use Rattle.lra_carrying.proofs.told.told_so_far.Goals as goal
+use Rattle.lra_courier.proofs.CarriedLemmas.{open_here, whole_replies}
+use Rattle.lra_courier.proofs.told.told_so_far.Goals as goal
 
 pub returns-in-Ok-Whole-clause-tells : goal.returns-in-Ok-Whole-clause-tells
 returns-in-Ok-Whole-clause-tells c =
