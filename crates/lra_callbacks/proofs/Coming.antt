@@ -9,7 +9,7 @@ use Rattle.lra_model.specs.declared.asks.Outcome.TheVariants.{Silent}
 use Rattle.lra_model.specs.Words.{outcome_suits}
 use Rattle.lra_commands.specs.Errands.{Asking}
 use Rattle.lra_courier.specs.declared.fault.CallFault.{CallFault}
-use Rattle.lra_carrying.specs.Carried.{Carried, IsCarried}
+use Rattle.lra_courier.specs.Carried.{Carried, IsCarried}
 use Rattle.lra_durable.specs.Leaves.{MayLeave}
 use Rattle.lra_callbacks.specs.Outcomes.{IsFor, MayCome}
 use Rattle.lra_callbacks.specs.inner.Attempts.{IsOfSame}
@@ -21,11 +21,12 @@ module _ (took keeps : ℕ → Bool) where
   silence_comes (Some e) = inr refl
 
   -- what a callback that had leave came to may come of its errand
-  pub outcome_comes : (due kept : ℕ) (c : Carried) (errand : Option Asking) (r : Option Outcome) → IsTrue (took due) → MayLeave keeps due kept → ForSome errand (IsFor c) → IsCarried c
+  pub outcome_comes : (position kept : ℕ) (c : Carried) (errand : Option Asking) (r : Option Outcome)
+      → IsTrue (took position) → MayLeave keeps position kept → ForSome errand (IsFor c) → IsCarried c
       → r ≡ option_map (λ (told : Result Outcome CallFault). result_unwrap_or told Silent) c.came → IfSome r (λ o. IsTrue (outcome_suits c.kind o)) → IfSome errand (λ e. MayCome took keeps e.ask e.kind (unwrap_or r Silent))
-  outcome_comes due kept c None r was leave own steps is suits = tt
-  outcome_comes due kept c (Some e) None was leave own steps is suits = inr refl
-  outcome_comes due kept c (Some e) (Some o) was leave own steps is suits = by_told c.came refl
+  outcome_comes position kept c None r was leave own steps is suits = tt
+  outcome_comes position kept c (Some e) None was leave own steps is suits = inr refl
+  outcome_comes position kept c (Some e) (Some o) was leave own steps is suits = by_told c.came refl
     where
       of : IsFor c e
       of = own e refl
@@ -36,7 +37,7 @@ module _ (took keeps : ℕ → Bool) where
           none : Some o ≡ None → MayCome took keeps e.ask e.kind o
           none h = absurd cc
       by_told (Some told) g = inl record {
-        leave = record { least = due; taken = was; kept = kept; leave = leave };
+        leave = record { position = position; taken = was; kept = kept; leave = leave };
         errand = e;
         of_ask = refl;
         of_kind = refl;

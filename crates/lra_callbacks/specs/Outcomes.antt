@@ -10,7 +10,7 @@ use Rattle.lra_model.specs.Words.{outcome_suits}
 use Rattle.lra_commands.specs.Errands.{Asking}
 use Rattle.lra_courier.specs.declared.fault.CallFault.{CallFault}
 use Rattle.lra_courier.specs.Callbacks.{calling_of, request_bytes}
-use Rattle.lra_carrying.specs.Carried.{Carried, IsCarried}
+use Rattle.lra_courier.specs.Carried.{Carried, IsCarried}
 use Rattle.lra_durable.specs.Leaves.{HasLeave}
 
 -- what was carried is the callback of an errand
@@ -19,8 +19,8 @@ pub record IsFor (carried : Carried) (errand : Asking) : Type 0 where
   pub direction : carried.direction ≡ errand.direction
   pub request : carried.request ≡ request_bytes (calling_of errand)
 
--- An outcome came of a callback for an ask of this number and kind: the request was made once the disk kept all that it had taken when the
--- errand was given, and this is what the callback came to.
+-- An outcome came of a callback for an ask of this number and kind: the request was made once the disk was durable up
+-- to the position that it had taken when the errand was given, and this is what the callback came to.
 pub record Comes (took keeps : ℕ → Bool) (ask : ℕ) (kind : AskKind) (outcome : Outcome) : Type 0 where
   pub leave : HasLeave took keeps
   pub errand : Asking

@@ -1,7 +1,7 @@
 //! An errand from when it is taken until something has come of it.
 
 ghost use Rattle.std.specs.Global.{Global};
-ghost use Rattle.std.specs.Prelude.{◌≡◌, Some, None, IfOk, IfSome, IsTrue, String, option_map, string_bytes};
+ghost use Rattle.std.specs.Prelude.{◌≡◌, Some, None, IfOk, IfSome, String, option_map, string_bytes};
 ghost use Rattle.std.specs.Option.{ForSome};
 ghost use Rattle.lra_courier.specs.Sockets.{socket_text};
 ghost use Rattle.lra_durable.specs.Leaves.{MayLeave};
@@ -9,12 +9,12 @@ ghost use Rattle.lra_callbacks.specs.Outcomes.{IsFor, MayCome};
 ghost use Rattle.lra_callbacks.specs.inner.Attempts.{outcome_of, Goes};
 ghost use Rattle.lra_callbacks.specs.inner.Ends.{Replies};
 
+use crate::noted::Noted;
 use crate::pumping::{Moved, pump};
 use crate::replies::{End, reply_of};
-use lra_carrying::Carrying;
 use lra_core::Errand;
-use lra_courier::{Callback, socket_text};
-use lra_durable::{Disk, Due, Noted, Progress};
+use lra_courier::{Callback, Carrying, socket_text};
+use lra_durable::{Disk, Progress};
 use lra_model::{Memory, Outcome};
 use lra_outcomes::Reply;
 use std::alloc::Global;
@@ -73,13 +73,13 @@ impl Held {
 pub(crate) enum Leave {
     /// To this host and port.
     Now(String),
-    /// Once the disk keeps what it had taken when the errand was given.
+    /// Once the disk is durable up to the position that was noted with the errand.
     Later,
     /// The disk has failed, or there is no request.
     Never,
 }
 
-/// A callback that has leave: so many bytes of the journal were kept when it began.
+/// A callback that has leave: so many bytes of the journal were durable when it began.
 #[derive(Drop)]
 pub(crate) struct Flight {
     carrying: Carrying,
@@ -103,20 +103,21 @@ fn callback_of(alloc: Global, errand: &Errand) -> Option<(Carrying, String)>
     }
 }
 
-/// An errand that was taken. Its request is made once the disk keeps all that it had taken by then: what that is was noted with the errand at hand.
+/// An errand that was taken. Its request is made once the disk is durable up to the position that was noted with the
+/// errand at hand: all that the disk had taken by then.
 #[derive(Drop)]
 pub(crate) struct Attempt<D: Disk> {
     errand: Held,
-    noted: Noted<D, Errand>,
+    noted: Noted<D>,
     flight: Option<Flight>,
     ghost of: { ForSome errand (λ e. noted.of.value ≡ e) },
-    ghost leave: { ForSome flight (λ f. IsTrue (D.took noted.due) × MayLeave D.keeps noted.due f.kept) },
+    ghost leave: { ForSome flight (λ f. MayLeave D.keeps noted.position f.kept) },
     ghost own: { ForSome flight (λ f. ForSome errand (IsFor f.carrying)) },
 }
 
 impl<D: Disk> Attempt<D> {
     /// An errand that is taken now.
-    pub(crate) fn new(errand: Errand, noted: Noted<D, Errand>) -> Attempt<D>
+    pub(crate) fn new(errand: Errand, noted: Noted<D>) -> Attempt<D>
         requires { noted.of.value ≡ errand }
         ensures { result.errand ≡ Some errand }
     {
@@ -134,9 +135,9 @@ impl<D: Disk> Attempt<D> {
         self.errand.get()
     }
 
-    /// What the disk has to keep before it leaves.
-    pub(crate) fn due(&self) -> &Due<D> {
-        self.noted.due()
+    /// Returns the position up to which the disk has to be durable before it leaves.
+    pub(crate) fn position(&self) -> u64 {
+        self.noted.position()
     }
 
     /// The callback of the errand, and the host and port that are asked. Nothing, where it has no address or memory is refused.
@@ -154,7 +155,7 @@ impl<D: Disk> Attempt<D> {
         ensures errand { self.new.errand ≡ self.old.errand }
         ensures socket { (socket : String Global) → result ≡ Leave.Now socket → ForSome self.old.errand (λ e. string_bytes socket ≡ socket_text e.address) }
     {
-        let Ok(kept) = progress.kept(rt, self.noted.due()) else {
+        let Ok(kept) = progress.kept(rt, self.noted.position()) else {
             return Leave::Never;
         };
         let Some(kept) = kept else {

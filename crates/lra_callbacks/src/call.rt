@@ -13,11 +13,12 @@ ghost use Rattle.lra_callbacks.specs.inner.Ends.{Replies, limit_of};
 
 use crate::attempt::{Attempt, Leave};
 use crate::hosts::Target;
+use crate::noted::Noted;
 use crate::pumping::Moved;
 use crate::replies::{End, end_of};
 use crate::share::Patience;
 use lra_core::Errand;
-use lra_durable::{Disk, Due, Noted, Progress};
+use lra_durable::{Disk, Progress};
 use lra_model::{Memory, Outcome};
 use lra_outcomes::Reply;
 use lra_rules::Rules;
@@ -60,7 +61,7 @@ pub(crate) struct Call<D: Disk> {
 }
 
 impl<D: Disk> Call<D> {
-    pub(crate) fn new(errand: Errand, noted: Noted<D, Errand>) -> Call<D>
+    pub(crate) fn new(errand: Errand, noted: Noted<D>) -> Call<D>
         requires { noted.of.value ≡ errand }
         ensures { result.attempt.errand ≡ Some errand }
     {
@@ -90,14 +91,14 @@ impl<D: Disk> Call<D> {
         self.attempt.errand()
     }
 
-    /// What the disk has to keep before it leaves.
-    pub(crate) fn due(&self) -> &Due<D> {
-        self.attempt.due()
+    /// Returns the position up to which the disk has to be durable before it leaves.
+    pub(crate) fn position(&self) -> u64 {
+        self.attempt.position()
     }
 
-    /// Whether the disk keeps that.
+    /// Whether the disk is durable up to that position.
     pub(crate) fn is_kept<R: Wait>(&self, rt: &R, progress: &Progress<D>) -> bool {
-        matches!(progress.kept(rt, self.due()), Ok(Some(_)))
+        matches!(progress.kept(rt, self.position()), Ok(Some(_)))
     }
 
     /// The errand, and what came of it.

@@ -9,6 +9,7 @@ use crate::attempt::Leave;
 use crate::call::{Call, Seen};
 use crate::hosts::Next;
 use crate::names::Names;
+use crate::noted::Noted;
 use crate::resting::{SHORT_REST_MS, rest_before, rest_for};
 use crate::share::Share;
 use crate::sparing::Sparing;
@@ -32,8 +33,9 @@ use std::time;
 /// How long it leaves its office alone in any case.
 const PAUSE_MS: u64 = 2;
 
-/// Callbacks to members, many at once. The request of each is made once the disk keeps all that it had taken when the errand was given; it waits
-/// while as many go to its host, or in all, as may, and while its member is spared, since it was silent. A contract sees which errand is under way at each place.
+/// Callbacks to members, many at once. The request of each is made once the disk is durable up to the position that
+/// it had taken when the errand was given; it waits while as many go to its host, or in all, as may, and while its
+/// member is spared, since it was silent. A contract sees which errand is under way at each place.
 #[derive(Drop)]
 pub struct Callbacks<'a, R, D: Disk> {
     rt: &'a R,
@@ -215,7 +217,8 @@ impl<'a, R: Wait + Net + time::Clock, D: Disk> Callbacks<'a, R, D> {
         }
     }
 
-    /// Has one wait for its time or its host, where the disk keeps what it has to. Tells whether it waits for the disk no longer.
+    /// Has one wait for its time or its host, where the disk is durable up to its position. Returns whether it waits
+    /// for the disk no longer.
     fn depart(&mut self, key: usize) -> bool
         ensures { self.new ≡ self.old }
     {
@@ -241,8 +244,8 @@ impl<'a, R: Wait + Net + time::Clock, D: Disk> Callbacks<'a, R, D> {
             return;
         };
         if let Some(call) = self.calls.get(key) {
-            // Whether it is kept is asked again for each.
-            let _ = self.progress.keep(self.rt, call.due());
+            // Whether the disk is durable up to its position is asked again for each.
+            let _ = self.progress.keep(self.rt, call.position());
         }
     }
 
@@ -503,7 +506,7 @@ impl<R: Wait + Net + time::Clock, D: Disk> Carriage for Callbacks<'_, R, D> {
         if self.calls.reserve(1).is_err() {
             return Err(errand);
         }
-        let noted = self.progress.note(self.rt, &errand);
+        let noted = Noted::of(self.rt, self.progress, &errand);
         let key = self.calls.insert_reserved(Call::new(errand, noted));
         let _ = self.traffic.unkept.push_back(key);
         self.tell();

@@ -8,6 +8,7 @@ mod call;
 mod callbacks;
 mod hosts;
 mod names;
+mod noted;
 mod pumping;
 mod replies;
 mod resting;

@@ -2,7 +2,7 @@
 
 ghost use Rattle.lra_callbacks.specs.inner.Attempts.{IsOfSame, HandsOut, TakesIn};
 
-use lra_carrying::{Carrying, Step};
+use lra_courier::{Carrying, Step};
 use std::io::{ErrorKind, Read, Write};
 
 /// How many steps a callback takes at most: more than it has bytes.

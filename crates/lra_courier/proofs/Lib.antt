@@ -1,3 +1,4 @@
 pub mod FieldLemmas
 pub mod SendLemmas
 pub mod ExchangeLemmas
+pub mod CarriedLemmas

@@ -1,6 +1,9 @@
 pub mod Replies
 pub mod Callbacks
 pub mod Exchanges
+pub mod Carried
+pub mod Codes
+pub mod Steps
 pub mod Sockets
 pub mod Calls
 pub mod Carriages

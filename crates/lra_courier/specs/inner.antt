@@ -1,2 +1,4 @@
 -- Words that private functions and proofs alone use.
 pub mod Fields
+pub mod Holding
+pub mod Told

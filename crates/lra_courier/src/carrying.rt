@@ -1,88 +1,231 @@
-//! A whole callback over one connection.
-
-ghost use Rattle.std.specs.Prelude.{◌≡◌, ◌⊎◌, IfOk, IsTrue};
+//! A callback as steps over bytes.
+ghost use Rattle.std.specs.Prelude.{◌≡◌, ◌≢◌, ◌≤◌, ℕ, List, false, drop, length, option_map, Err, IfOk, IfErr, IfSome, IsTrue};
+ghost use Rattle.std.specs.Result.{result_unwrap_or};
+ghost use Rattle.lra_model.specs.declared.asks.Outcome.{Outcome};
 ghost use Rattle.lra_model.specs.Words.{outcome_suits};
-ghost use Rattle.lra_wire.specs.Inbox.{stream_of};
-ghost use Rattle.lra_wire.specs.Streams.{IfBothKnown};
-ghost use Rattle.lra_courier.specs.Callbacks.{calling_of};
-ghost use Rattle.lra_courier.specs.Exchanges.{Posts, IsAnswer, Exchanges, Converses, ComesOf};
+ghost use Rattle.lra_ids.specs.Addresses.{is_address};
+ghost use Rattle.lra_courier.specs.Callbacks.{Calling};
+ghost use Rattle.lra_courier.specs.Exchanges.{IsAnswer};
+ghost use Rattle.lra_courier.specs.Carried.{IsReply, IsCarried, Comes, begun, room_of, went, finished, broken, tells};
+ghost use Rattle.lra_courier.specs.Codes.{IsCoded};
+ghost use Rattle.lra_courier.specs.Steps.{Takes, Steps};
 
 use crate::callback::Callback;
 use crate::fault::{CallFault, SendFault};
-use lra_core::Errand;
-use lra_model::Outcome;
-use lra_wire::Inbox;
-use std::alloc::Global;
-use std::io::{Read, Write};
+use crate::told::{Asked, code_of, look};
+use lra_ids::Address;
+use lra_model::{Memory, Outcome};
+use lra_wire::{MAX_RESPONSE, SeenResponse};
+use std::alloc::{AllocError, Global};
+use std::marker::Model;
 
-impl<'a> Callback<'a> {
-    /// Writes the request, reads the response, and tells what it comes to. Where memory for the response is refused,
-    /// nothing is written.
-    pub fn try_exchange<R: Read + Drop, W: Write>(
-        &self,
-        alloc: Global,
-        reader: R,
-        writer: &mut W,
-    ) -> Result<Outcome, CallFault>
-        ensures converses { Converses (W.contents writer.old) (W.contents writer.new) (R.remaining reader) self.now result }
-        ensures suits { IfOk result (λ outcome. IsTrue (outcome_suits self.now.kind outcome)) }
-    {
-        let Ok(mut inbox) = Inbox::new(alloc, reader) else {
-            return Err(CallFault::Send(SendFault::Memory));
-        };
-        match self.send(alloc, writer) {
-            Ok(()) => self.answer(alloc, &mut inbox),
-            Err(fault) => Err(CallFault::Send(fault)),
-        }
-    }
-
-    /// Writes the request, reads the response, and says what it comes to: any fault is [`Outcome::Silent`].
-    pub fn exchange<R: Read + Drop, W: Write>(
-        &self,
-        alloc: Global,
-        reader: R,
-        writer: &mut W,
-    ) -> Outcome
-        ensures exchanges { Exchanges (W.contents writer.old) (W.contents writer.new) (R.remaining reader) self.now result }
-        ensures told { ComesOf (Converses (W.contents writer.old) (W.contents writer.new) (R.remaining reader) self.now) result }
-        ensures suits { IsTrue (outcome_suits self.now.kind result) }
-    {
-        match self.try_exchange(alloc, reader, writer) {
-            Ok(outcome) => outcome,
-            Err(_) => Outcome::Silent,
-        }
-    }
+/// What stands next.
+#[derive(Clone, Copy, Debug, PartialEq, Eq)]
+pub enum Step {
+    /// Bytes of the request are to be handed out.
+    Sends,
+    /// More bytes of the response are wanted.
+    Wants,
+    /// What the callback came to: it stays so.
+    Came(Result<Outcome, CallFault>),
 }
 
-/// Writes an errand's request, as [`Callback::send`] does.
-pub fn send<W: Write>(alloc: Global, writer: &mut W, errand: &Errand) -> Result<(), SendFault>
-    ensures { Posts (W.contents writer.old) (W.contents writer.new) (calling_of errand.now) result }
-{
-    Callback::of(errand).send(alloc, writer)
-}
-
-/// Reads the response to an errand's request, and says what it comes to: any fault is [`Outcome::Silent`].
-pub fn receive<R: Read + Drop>(alloc: Global, inbox: &mut Inbox<R>, errand: &Errand) -> Outcome
-    ensures answer { (result ≡ Outcome.Silent) ⊎ IfBothKnown (stream_of R.remaining inbox.old) (stream_of R.remaining inbox.new)
-        (λ bytes rest. IsAnswer (calling_of errand.now) bytes rest result) }
-    ensures suits { IsTrue (outcome_suits errand.now.kind result) }
-{
-    match Callback::of(errand).receive(alloc, inbox) {
-        Ok(outcome) => outcome,
-        Err(_) => Outcome::Silent,
-    }
-}
-
-/// Carries an errand out over one connection: any fault of writing, reading or memory is [`Outcome::Silent`].
-pub fn exchange<R: Read + Drop, W: Write>(
+/// A callback, as steps. A contract sees what was carried of it.
+#[derive(Drop)]
+pub struct Carrying {
     alloc: Global,
-    reader: R,
-    writer: &mut W,
-    errand: &Errand,
-) -> Outcome
-    ensures exchanges { Exchanges (W.contents writer.old) (W.contents writer.new) (R.remaining reader) (calling_of errand.now) result }
-    ensures told { ComesOf (Converses (W.contents writer.old) (W.contents writer.new) (R.remaining reader) (calling_of errand.now)) result }
-    ensures suits { IsTrue (outcome_suits errand.now.kind result) }
-{
-    Callback::of(errand).exchange(alloc, reader, writer)
+    asked: Asked,
+    request: Vec<u8>,
+    /// How many bytes of the request were handed out.
+    gone: usize,
+    kept: Vec<u8>,
+    /// What was found of what is kept, so that it isn't read anew with each piece.
+    seen: SeenResponse,
+    closed: bool,
+    failed: bool,
+    came: Option<Result<Outcome, CallFault>>,
 }
+
+impl Model for Carrying {
+    ghost use Rattle.lra_courier.specs.Carried.{Carried};
+
+    ghost Value = { Carried };
+
+    ghost use Rattle.lra_courier.specs.inner.Holding.{carried_of, Holds};
+
+    ghost view = { carried_of };
+
+    ghost invariant = { Holds };
+}
+
+impl Carrying {
+    /// A callback of which nothing is carried yet.
+    pub fn new(alloc: Global, callback: &Callback<'_>) -> Result<Carrying, SendFault>
+        ensures ok { IfOk result (λ made. made ≡ begun callback.now) }
+        ensures address { result ≡ Err SendFault.BadAddress → is_address callback.now.address ≡ false }
+        ensures err { IfErr result (λ fault. fault ≢ SendFault.Io) }
+    {
+        let to = callback.to(alloc)?;
+        match Carrying::at(alloc, &to, callback) {
+            Ok(carrying) => Ok(carrying),
+            Err(AllocError) => Err(SendFault::Memory),
+        }
+    }
+
+    /// The same, where the callback's address has been read.
+    pub fn at(alloc: Global, to: &Address, callback: &Callback<'_>) -> Result<Carrying, Memory>
+        requires { to.now ≡ callback.now.address }
+        ensures { IfOk result (λ made. made ≡ begun callback.now) }
+    {
+        let mut request = Vec::new(alloc);
+        // A list takes all bytes, unless memory is refused.
+        if callback.send_to(alloc, to, &mut request).is_err() {
+            return Err(AllocError);
+        }
+        Ok(Carrying {
+            alloc,
+            asked: Asked {
+                kind: callback.kind,
+                direction: callback.direction,
+            },
+            request,
+            gone: 0,
+            kept: Vec::new(alloc),
+            seen: SeenResponse::nothing(alloc),
+            closed: false,
+            failed: false,
+            came: None,
+        })
+    }
+
+    /// What is true of every callback that is carried.
+    pub fn carried(&self)
+        ensures { IsCarried self.now }
+    {
+        let _gone = self.gone;
+    }
+
+    /// The bytes of the request that may be handed out.
+    pub fn out(&self) -> &[u8]
+        ensures { result.now ≡ drop self.now.gone self.now.request }
+    {
+        &self.request.as_slice()[self.gone..]
+    }
+
+    /// So many of them were handed out.
+    pub fn gone(&mut self, count: usize)
+        requires { count ≤ length (drop self.old.gone self.old.request) }
+        ensures { self.new ≡ went self.old count }
+    {
+        self.gone += count;
+    }
+
+    /// How many bytes may be taken.
+    pub fn room(&self) -> usize
+        ensures { result ≡ room_of self.now }
+    {
+        if self.closed || self.failed || self.came.is_some() {
+            0
+        } else {
+            MAX_RESPONSE - self.kept.len()
+        }
+    }
+
+    /// These bytes came, if there is room for them: else they aren't taken.
+    pub fn take(&mut self, bytes: &[u8]) -> Result<bool, Memory>
+        ensures { Takes result bytes.now self.old self.new }
+    {
+        if bytes.len() > self.room() {
+            return Ok(false);
+        }
+        self.kept.extend_from_slice(bytes)?;
+        Ok(true)
+    }
+
+    /// No more bytes come.
+    pub fn ended(&mut self)
+        ensures { self.new ≡ finished self.old }
+    {
+        self.closed = true;
+    }
+
+    /// The stream has failed: no byte goes or comes any more.
+    pub fn failed(&mut self)
+        ensures { self.new ≡ broken self.old }
+    {
+        self.failed = true;
+    }
+
+    /// The next step. Where memory is refused nothing changes.
+    pub fn next(&mut self) -> Result<Step, Memory>
+        ensures { Steps result self.old self.new }
+    {
+        if let Some(told) = self.came {
+            return Ok(Step::Came(told));
+        }
+        if self.gone < self.request.len() {
+            if !self.failed {
+                return Ok(Step::Sends);
+            }
+            return Ok(self.tell(Err(CallFault::Send(SendFault::Io))));
+        }
+        match look(
+            self.alloc,
+            self.kept.as_slice(),
+            &mut self.seen,
+            self.closed,
+            self.failed,
+            self.asked,
+        )? {
+            Some(Ok(outcome)) => Ok(self.tell(Ok(outcome))),
+            Some(Err(fault)) => Ok(self.tell(Err(CallFault::Reply(fault)))),
+            None => Ok(Step::Wants),
+        }
+    }
+
+    /// What it came to, where it came to something: any fault is [`Outcome::Silent`].
+    pub fn outcome(&self) -> Option<Outcome>
+        ensures comes { result ≡ option_map (λ told. result_unwrap_or told Outcome.Silent) self.now.came }
+        ensures suits { IfSome result (λ outcome. IsTrue (outcome_suits self.now.kind outcome)) }
+    {
+        match self.came {
+            Some(Ok(outcome)) => Some(outcome),
+            Some(Err(_)) => Some(Outcome::Silent),
+            None => None,
+        }
+    }
+
+    /// Returns what it came to, where it came to something.
+    pub fn told(&self) -> Option<Result<Outcome, CallFault>>
+        ensures { result ≡ self.now.came }
+    {
+        self.came
+    }
+
+    /// Returns the code of the response whose outcome it came to. What was taken is read anew for it: it is for what an
+    /// outcome doesn't tell. Where memory is refused the call may be made again.
+    pub fn code(&self) -> Result<Option<u16>, Memory>
+        ensures { IfOk result (λ code. IfSome code (IsCoded self.now)) }
+    {
+        match self.came {
+            Some(Ok(_)) => code_of(self.alloc, self.kept.as_slice(), self.closed),
+            _ => Ok(None),
+        }
+    }
+
+    /// It came to that.
+    fn tell(&mut self, told: Result<Outcome, CallFault>) -> Step
+        requires { Comes self.old told }
+        ensures new { self.new ≡ tells self.old told }
+        ensures result { result ≡ Step.Came told }
+    {
+        self.came = Some(told);
+        Step::Came(told)
+    }
+}
+
+/// What a response comes to is what it comes to for [`Callback::exchange`].
+pub fn replies_are_answers()
+    ensures { (calling : Calling) (bytes rest : List ℕ) (outcome : Outcome)
+        → IsReply calling.kind calling.direction bytes rest outcome → IsAnswer calling bytes rest outcome }
+{}

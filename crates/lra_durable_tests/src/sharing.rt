@@ -19,7 +19,7 @@ fn wait<R: Wait>(
     count: u64,
 ) -> Option<u64> {
     platter.wait_for_bytes(count);
-    progress.keep(rt, &progress.due(rt)).ok()
+    progress.keep(rt, progress.taken(rt)).ok().flatten()
 }
 
 /// Writes two bytes, and three more while the sync of those goes on, which waits for that. Whether the three weren't kept before.
@@ -34,7 +34,7 @@ fn write_both<R: Wait>(
     let first = keeper.write_all(b"ab").is_ok();
     platter.wait_for_syncs(2);
     let second = keeper.write_all(b"cde").is_ok();
-    let is_early = progress.kept(rt, &progress.due(rt)) != Ok(None);
+    let is_early = progress.kept(rt, progress.taken(rt)) != Ok(None);
     platter.set(is_broken, false);
     first && second && !is_early
 }

@@ -49,7 +49,7 @@ fn fails<R: Wait>(rt: &R, alloc: Global) -> Option<bool> {
     let cut = outcome(&mut keeper, b"efgh") == Some(ErrorKind::WriteZero);
     platter.make_room(9, false);
     let shut = outcome(&mut keeper, b"i") == Some(ErrorKind::Other);
-    let unkept = progress.keep(rt, &progress.due(rt)) == Err(Unkept);
+    let unkept = progress.keep(rt, progress.taken(rt)) == Err(Unkept);
     Some(whole && cut && shut && unkept && platter.syncs() == 1 && platter.has(5, 0))
 }
 
@@ -79,7 +79,7 @@ fn a_write_past_the_room_is_refused_whole(rt: HostRuntime) {
     assert!(rt; keeps_within(&rt, rt.alloc()) == Some(true));
 }
 
-/// Whether bytes leave once what is due is kept, and not before.
+/// Whether bytes leave once the disk is durable up to their position, and not before.
 fn leaves_late<R: Wait>(rt: &R, alloc: Global) -> Option<bool> {
     let Begun {
         platter,
@@ -88,21 +88,19 @@ fn leaves_late<R: Wait>(rt: &R, alloc: Global) -> Option<bool> {
     } = begin(alloc, 100, false)?;
     let mut keeper = Keeper::new(rt, &progress, pen, u64::MAX);
     let mut page = Vec::new(alloc);
-    let nothing = progress.due(rt);
-    let at_once = release(rt, &progress, &nothing, &mut page, b"200").ok()?;
+    let at_once = release(rt, &progress, 0, &mut page, b"200").ok()?;
     keeper.write_all(b"abcde").ok()?;
-    let due = progress.due(rt);
-    let early = release(rt, &progress, &due, &mut page, b"201").ok()?;
-    let older = release(rt, &progress, &nothing, &mut page, b"404").ok()?;
-    let kept = progress.keep(rt, &due) == Ok(5) && platter.has(5, 5);
-    let late = release(rt, &progress, &due, &mut page, b"201").ok()?;
+    let early = release(rt, &progress, 5, &mut page, b"201").ok()?;
+    let older = release(rt, &progress, 0, &mut page, b"404").ok()?;
+    let kept = progress.keep(rt, 5) == Ok(Some(5)) && platter.has(5, 5);
+    let late = release(rt, &progress, 5, &mut page, b"201").ok()?;
     let is_right = page.as_slice() == b"200404201".as_slice();
     let at_once = at_once == Some((3, 0)) && older == Some((3, 0));
     Some(at_once && early.is_none() && kept && late == Some((3, 5)) && is_right)
 }
 
 #[test]
-fn bytes_leave_once_what_is_due_is_kept(rt: HostRuntime) {
+fn bytes_leave_once_their_position_is_durable(rt: HostRuntime) {
     assert!(rt; leaves_late(&rt, rt.alloc()) == Some(true));
 }
 
@@ -115,14 +113,13 @@ fn leaves_never<R: Wait>(rt: &R, alloc: Global) -> Option<bool> {
     } = begin(alloc, 100, false)?;
     let mut keeper = Keeper::new(rt, &progress, pen, u64::MAX);
     let written = outcome(&mut keeper, b"ab").is_none();
-    let due = progress.due(rt);
     platter.set(true, false);
-    let failed = progress.keep(rt, &due) == Err(Unkept);
+    let failed = progress.keep(rt, 2) == Err(Unkept);
     platter.set(false, false);
-    let again = progress.keep(rt, &due) == Err(Unkept) && progress.kept(rt, &due) == Err(Unkept);
+    let again = progress.keep(rt, 2) == Err(Unkept) && progress.kept(rt, 2) == Err(Unkept);
     let shut = outcome(&mut keeper, b"c") == Some(ErrorKind::Other);
     let mut page = Vec::new(alloc);
-    let held = release(rt, &progress, &due, &mut page, b"201").is_err() && page.is_empty();
+    let held = release(rt, &progress, 2, &mut page, b"201").is_err() && page.is_empty();
     Some(
         written
             && failed

@@ -187,10 +187,10 @@ impl<'s, 'a: 's, R: Wait + time::Clock, H, B> Shift<'s, 'a, R, H, B> {
         self.progress().has_failed(self.rt)
     }
 
-    /// Has the disk keep all that was written. Tells whether it does.
+    /// Has all that was written synced. Returns whether it is durable.
     pub(crate) fn keep(&self) -> bool {
-        let due = self.progress().due(self.rt);
-        self.progress().keep(self.rt, &due).is_ok()
+        let taken = self.progress().taken(self.rt);
+        matches!(self.progress().keep(self.rt, taken), Ok(Some(_)))
     }
 
     /// What the journals' files have taken and keep.
@@ -229,7 +229,7 @@ impl<
 
     /// Answers the connections that come in there.
     fn answer_at(&self, arrivals: &Arrivals) {
-        let mut kin = Kin::new(self.rt, self.alloc, self.roster, self.clock());
+        let mut kin = Kin::new(self.rt, self.alloc, self.roster, self.shelf, self.clock());
         let Some(family) = kin.begin(self.alloc) else {
             self.herald.tell("lra: a thread that answered has ended: no clerk could be enrolled\n");
             self.herald.note(&Event::ThreadEnded);

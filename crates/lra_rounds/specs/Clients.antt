@@ -15,24 +15,28 @@ Reads before after old new WaitsForBytes = Keeps before after × (new ≡ old)
 Reads before after old new Ended = IsAtEnd after × Keeps before after × (new ≡ finished old)
 Reads before after old new Full = Keeps before after × (new ≡ old)
 
--- a front of the bytes that may be handed out left, while the disk kept what was due
-pub record Leaves (took keeps : ℕ → Bool) (due : Option ℕ) (before after : Option (List ℕ)) (old new : History) : Type 0 where
-  pub least : ℕ
-  pub noted : due ≡ Some least
-  pub taken : IsTrue (took least)
+-- A front of the bytes that may be handed out left, while the disk was durable up to a position that covers all that
+-- whoever answers had told of when it was noted.
+pub record Leaves {A : Type 0} (covers : A → ℕ → Bool) (keeps : ℕ → Bool) (noted : Option (A × ℕ))
+    (before after : Option (List ℕ)) (old new : History) : Type 0 where
+  pub was : A
+  pub position : ℕ
+  pub is : noted ≡ Some (was, position)
+  pub covered : IsTrue (covers was position)
   pub kept : ℕ
-  pub leave : MayLeave keeps least kept
+  pub leave : MayLeave keeps position kept
   pub count : ℕ
   pub fits : count ≤ length old.out
   pub wrote : Appends before after (take count old.out)
   pub gone : new ≡ went old count
 
 -- some bytes left so; or none, and the stream and the connection are as they were
-abbrev pub HandsOut : (ℕ → Bool) → (ℕ → Bool) → Option ℕ → Option (List ℕ) → Option (List ℕ) → History → History → Handing → Type 0
-HandsOut took keeps due before after old new Went = Leaves took keeps due before after old new
-HandsOut took keeps due before after old new Waits = Keeps before after × (new ≡ old)
-HandsOut took keeps due before after old new Unkept = Keeps before after × (new ≡ old)
-HandsOut took keeps due before after old new Done = (old.out ≡ []) × Keeps before after × (new ≡ old)
+abbrev pub HandsOut : {A : Type 0} → (A → ℕ → Bool) → (ℕ → Bool) → Option (A × ℕ)
+    → Option (List ℕ) → Option (List ℕ) → History → History → Handing → Type 0
+HandsOut covers keeps noted before after old new Went = Leaves covers keeps noted before after old new
+HandsOut covers keeps noted before after old new Waits = Keeps before after × (new ≡ old)
+HandsOut covers keeps noted before after old new Unkept = Keeps before after × (new ≡ old)
+HandsOut covers keeps noted before after old new Done = (old.out ≡ []) × Keeps before after × (new ≡ old)
 
 -- So many bytes came, and nobody is told of them; at the stream's end there are none.
 abbrev pub ThrowsAway : Option (List ℕ) → Option (List ℕ) → History → History → Option ℕ → Type 0

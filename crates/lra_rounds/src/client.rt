@@ -1,4 +1,4 @@
-//! A client: its stream, its connection, and what has to be kept before a reply leaves.
+//! A client: its stream, its connection, and how far the journal has to be durable before a reply leaves.
 
 ghost use Rattle.std.specs.Prelude.{◌≡◌, ◌⊎◌, ◌↔◌, ◌≤◌, [], length, None, option_map, IfOk, OnErr, IsSomeAnd, IsTrue};
 ghost use Rattle.std.specs.Io.KnownBytes.{Keeps};
@@ -8,7 +8,8 @@ ghost use Rattle.lra_rounds.specs.Clients.{Reads, HandsOut, ThrowsAway};
 
 use crate::answering::{Stage, answer_some};
 use crate::base::WhichBase;
-use lra_durable::{Disk, Noted, Progress, release};
+use crate::noted::Noted;
+use lra_durable::{Disk, Progress, release};
 use lra_front::{Clock, Routes};
 use lra_ids::{Base, Instance};
 use lra_model::Memory;
@@ -60,7 +61,7 @@ pub enum Handing {
     Went,
     /// None yet.
     Waits,
-    /// It wasn't asked: the disk doesn't keep yet what they tell of.
+    /// It wasn't asked: the disk isn't durable yet up to their position.
     Unkept,
     /// It wasn't asked: there are none.
     Done,
@@ -68,12 +69,13 @@ pub enum Handing {
 
 /// A client, whose requests a responder answers.
 #[derive(Drop)]
-pub struct Client<S, D: Disk, P: WhichBase, A> {
+pub struct Client<S, D: Disk, P: WhichBase, A: Responder> {
     stream: S,
     connection: Connection,
-    /// What has to be kept before what may be handed out leaves: what the disk had taken when the responder had given all answers.
-    noted: Option<Noted<D, A>>,
-    of: PhantomData<P>,
+    /// The position of all that the responder had told of when it had given all answers: the disk has to be durable
+    /// up to it before a reply leaves.
+    noted: Option<Noted<A>>,
+    of: PhantomData<(P, D)>,
     ghost here: { connection.base ≡ P.base },
 }
 
@@ -100,25 +102,26 @@ impl<S, D: Disk, P: WhichBase, A: Responder> Client<S, D, P, A> {
         self.connection.room()
     }
 
-    /// Has the requests answered that are whole, a few at most and none while many replies wait, and notes that the replies wait for what the disk
-    /// has taken once the responder has given all answers. Where memory is refused, those stand answered that were.
-    pub fn answer<R: Wait, K: Clock>(
+    /// Has the requests answered that are whole, a few at most and none while many replies wait, and notes the
+    /// position of all that the responder has told of once it has given all answers: the replies wait for it. Where
+    /// memory is refused, those stand answered that were.
+    pub fn answer<K: Clock>(
         &mut self,
-        rt: &R,
         alloc: Global,
         routes: &Routes,
-        progress: &Progress<D>,
         responder: &mut A,
         clock: &mut K,
     ) -> Result<Stage, Memory>
         requires { A.base_of (A.sight responder.old) ≡ P.base }
-        ensures answered { AnswersOf A.base_of A.responds K.tells self.old.connection self.new.connection (A.sight responder.old) clock.old (A.sight responder.new) clock.new }
-        ensures due { (self.new.connection.out ≡ []) ⊎ IsSomeAnd self.new.noted (λ n. IsTrue (D.took n.due) × (n.of.value ≡ responder.new)) }
+        ensures answered { AnswersOf A.base_of A.responds K.tells self.old.connection self.new.connection
+            (A.sight responder.old) clock.old (A.sight responder.new) clock.new }
+        ensures due { (self.new.connection.out ≡ []) ⊎ IsSomeAnd self.new.noted
+            (λ n. IsTrue (A.covers responder.new n.position) × (n.of.value ≡ responder.new)) }
         ensures stream { self.new.stream ≡ self.old.stream }
     {
         let stage = answer_some(alloc, routes, &mut self.connection, responder, clock);
         if !self.connection.out().is_empty() {
-            self.noted = Some(progress.note(rt, responder));
+            self.noted = Some(Noted::of(responder));
         }
         stage
     }
@@ -190,13 +193,15 @@ impl<D: Disk, P: WhichBase, A: Responder> Client<TcpStream, D, P, A> {
 }
 
 impl<S: Write, D: Disk, P: WhichBase, A: Responder> Client<S, D, P, A> {
-    /// Hands out once what may be, where all that is due is kept.
+    /// Hands out once what may be, where the disk is durable up to the position that was noted.
     pub fn hand_out<R: Wait>(
         &mut self,
         rt: &R,
         progress: &Progress<D>,
     ) -> Result<Handing, ClientFault>
-        ensures handed { IfOk result (HandsOut D.took D.keeps (option_map (λ n. n.due) self.old.noted) (S.contents self.old.stream) (S.contents self.new.stream) self.old.connection self.new.connection) }
+        ensures handed { IfOk result
+            (HandsOut A.covers D.keeps (option_map (λ n. (n.of.value, n.position)) self.old.noted)
+            (S.contents self.old.stream) (S.contents self.new.stream) self.old.connection self.new.connection) }
         ensures failed { OnErr result (Keeps (S.contents self.old.stream) (S.contents self.new.stream)) }
         ensures due { self.new.noted ≡ self.old.noted }
     {
@@ -206,8 +211,14 @@ impl<S: Write, D: Disk, P: WhichBase, A: Responder> Client<S, D, P, A> {
         let Some(noted) = &self.noted else {
             return Ok(Handing::Unkept);
         };
-        let due = noted.due();
-        match release(rt, progress, due, &mut self.stream, self.connection.out()) {
+        let position = noted.position();
+        match release(
+            rt,
+            progress,
+            position,
+            &mut self.stream,
+            self.connection.out(),
+        ) {
             Ok(None) => Ok(Handing::Unkept),
             Ok(Some((0, _))) => Err(ClientFault::Io),
             Ok(Some((count, _))) => {

@@ -203,9 +203,9 @@ impl<D: Disk, P: WhichBase, A: Responder> Clients<D, P, A> {
     }
 
     /// Reads what came of one client, and has its requests answered that are whole.
-    fn serve_one<R: Wait, K: Clock>(
+    fn serve_one<K: Clock>(
         &mut self,
-        means: &Means<'_, R, D>,
+        means: &Means,
         buffer: &mut [u8],
         key: usize,
         responder: &mut A,
@@ -226,9 +226,9 @@ impl<D: Disk, P: WhichBase, A: Responder> Clients<D, P, A> {
 
     /// Reads what came of those whose streams may be ready, and of some of those to visit again, and has their requests answered that are whole, a few of each.
     /// So one whose request has just come waits for few of those that have more to do.
-    pub(crate) fn serve<R: Wait, K: Clock>(
+    pub(crate) fn serve<K: Clock>(
         &mut self,
-        means: &Means<'_, R, D>,
+        means: &Means,
         buffer: &mut [u8],
         responder: &mut A,
         clock: &mut K,

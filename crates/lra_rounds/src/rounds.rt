@@ -10,7 +10,7 @@ use crate::clients::Clients;
 use crate::means::Means;
 use crate::moments::Moments;
 use crate::times::Times;
-use lra_durable::{Disk, Due, Progress};
+use lra_durable::{Disk, Progress};
 use lra_front::{Clock, Routes};
 use lra_ids::{Base, Instance};
 use lra_model::Memory;
@@ -139,11 +139,11 @@ impl<'a, R: Wait + time::Clock, D: Disk> Rounds<'a, R, D> {
     }
 
     /// Wakes one of the others, each in its turn, where the disk has taken something since then.
-    fn ring(&self, before: &Due<D>, turn: &mut usize) {
+    fn ring(&self, before: u64, turn: &mut usize) {
         let Some(bell) = self.bells.get(*turn) else {
             return;
         };
-        if self.progress.due(self.rt).is_past(before) {
+        if self.progress.taken(self.rt) > before {
             // Where it can't be woken, it looks by itself.
             let _ = bell.wake();
             *turn = next_turn(*turn, self.bells.len());
@@ -189,7 +189,8 @@ impl<'a, R: Wait + time::Clock, D: Disk> Rounds<'a, R, D> {
         self.arrivals.tell(clients.len());
     }
 
-    /// Hands out what may leave. Once nothing else is to be done, or replies have waited for some rounds, the disk keeps first what it took.
+    /// Hands out what may leave. Once nothing else is to be done, or replies have waited for some rounds, all that
+    /// the disk took is synced first.
     fn hand_out<P: WhichBase, A: Responder>(
         &self,
         rounds: &mut u32,
@@ -206,7 +207,7 @@ impl<'a, R: Wait + time::Clock, D: Disk> Rounds<'a, R, D> {
         if is_quiet || clients.all_wait() || *rounds >= MOST_ROUNDS {
             *rounds = 0;
             // Where it fails, the next round ends.
-            let _ = self.progress.keep(self.rt, &self.progress.due(self.rt));
+            let _ = self.progress.keep(self.rt, self.progress.taken(self.rt));
             clients.hand_out(self.rt, self.progress, now);
         }
     }
@@ -232,7 +233,7 @@ impl<'a, R: Wait + time::Clock, D: Disk> Rounds<'a, R, D> {
     /// Reads what came, has the requests answered that are whole, and hands out what may leave. Tells whether nothing came, and nobody was to be visited.
     fn serve<A: Responder, K: Clock, P: WhichBase>(
         &self,
-        means: &Means<'_, R, D>,
+        means: &Means,
         watch: &mut Watch<'a, R>,
         clients: &mut Clients<D, P, A>,
         responder: &mut A,
@@ -244,9 +245,9 @@ impl<'a, R: Wait + time::Clock, D: Disk> Rounds<'a, R, D> {
     {
         self.take_in(watch, clients, responder.instance(), responder.base(), now);
         let is_quiet = watch.events.is_empty() && !clients.has_ready();
-        let before = self.progress.due(self.rt);
+        let before = self.progress.taken(self.rt);
         clients.serve(means, watch.buffer.as_mut_slice(), responder, clock, now);
-        self.ring(&before, &mut watch.turn);
+        self.ring(before, &mut watch.turn);
         self.hand_out(&mut watch.rounds, clients, is_quiet, now);
         clients.end_late(now);
         is_quiet
@@ -255,7 +256,7 @@ impl<'a, R: Wait + time::Clock, D: Disk> Rounds<'a, R, D> {
     /// One round. Tells why there is no other, if there is none.
     fn go_round<A: Responder, K: Clock, P: WhichBase>(
         &self,
-        means: &Means<'_, R, D>,
+        means: &Means,
         watch: &mut Watch<'a, R>,
         clients: &mut Clients<D, P, A>,
         responder: &mut A,
@@ -288,7 +289,7 @@ impl<'a, R: Wait + time::Clock, D: Disk> Rounds<'a, R, D> {
     /// One round after another.
     fn go_on<A: Responder, K: Clock, P: WhichBase>(
         &self,
-        means: &Means<'_, R, D>,
+        means: &Means,
         watch: &mut Watch<'a, R>,
         clients: &mut Clients<D, P, A>,
         responder: &mut A,
@@ -327,10 +328,8 @@ impl<'a, R: Wait + time::Clock, D: Disk> Rounds<'a, R, D> {
             return RoundsEnd::Refused;
         };
         let means = Means {
-            rt: self.rt,
             alloc: self.alloc,
             routes,
-            progress: self.progress,
         };
         let mut clients: Clients<D, P, A> = Clients::new(self.alloc, self.times);
         let end = self.go_on(&means, &mut watch, &mut clients, responder, clock);

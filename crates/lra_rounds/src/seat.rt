@@ -38,7 +38,7 @@ pub(crate) enum Turn {
     /// The client's, to close its stream: what still comes is thrown away. A stream that is closed with bytes unread
     /// loses replies on their way.
     Closes(u64),
-    /// The disk's, to keep what replies tell of.
+    /// The disk's, to be durable up to the position of its replies.
     Waits,
 }
 
@@ -197,9 +197,9 @@ impl<D: Disk, P: WhichBase, A: Responder> Seat<D, P, A> {
     }
 
     /// Reads what came, once all requests before are answered, and has those answered that are whole; but not while replies wait to leave.
-    pub(crate) fn serve<R: Wait, K: Clock>(
+    pub(crate) fn serve<K: Clock>(
         &mut self,
-        means: &Means<'_, R, D>,
+        means: &Means,
         buffer: &mut [u8],
         responder: &mut A,
         clock: &mut K,
@@ -217,14 +217,9 @@ impl<D: Disk, P: WhichBase, A: Responder> Seat<D, P, A> {
         if self.may_read && !self.goes {
             self.read(buffer)?;
         }
-        let stage = self.client.answer(
-            means.rt,
-            means.alloc,
-            &means.routes,
-            means.progress,
-            responder,
-            clock,
-        )?;
+        let stage = self
+            .client
+            .answer(means.alloc, &means.routes, responder, clock)?;
         self.goes = stage == Stage::Goes;
         self.has_ended = stage == Stage::Ended;
         Ok(())
@@ -286,7 +281,8 @@ fn need_of(is_more: bool) -> Need
     if is_more { Need::Visit } else { Need::Rest }
 }
 
-/// The turn of a client whose replies wait to leave, where its stream takes nothing, or the disk doesn't keep yet what they tell of.
+/// The turn of a client whose replies wait to leave, where its stream takes nothing, or the disk isn't durable yet up
+/// to their position.
 fn reply_turn(turn: Turn, is_blocked: bool, end: u64) -> Turn {
     match turn {
         Turn::Takes(until) => Turn::Takes(until),

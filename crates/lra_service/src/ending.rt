@@ -124,7 +124,8 @@ pub fn say<W: Write>(alloc: Global, address: &str, writer: &mut W) -> Result<(),
     Ok(())
 }
 
-/// How a service has ended that began: gently, where it was asked to, all that was written is synced, and the disk hasn't failed.
+/// Returns how a service has ended that began: gently, where it was asked to, all that was written is durable, and
+/// the disk hasn't failed.
 pub fn end_of<R: Wait, D: Disk>(
     rt: &R,
     progress: &Progress<D>,
@@ -139,8 +140,8 @@ pub fn end_of<R: Wait, D: Disk>(
     if !ending.is_asked() {
         return Err(ServeFault::Address);
     }
-    match progress.keep(rt, &progress.due(rt)) {
-        Ok(_) => Ok(Served::Ended),
-        Err(_) => Err(ServeFault::File),
+    match progress.keep(rt, progress.taken(rt)) {
+        Ok(Some(_)) => Ok(Served::Ended),
+        Ok(None) | Err(_) => Err(ServeFault::File),
     }
 }

@@ -155,11 +155,11 @@ impl<'a, R: Wait + Clock, H> Shift<'a, R, H> {
         all
     }
 
-    /// Has those who carry look at what was ordered, and the disk keep it. Tells whether that does.
+    /// Has those who carry look at what was ordered, and all that was written synced. Returns whether it is durable.
     pub(crate) fn keep(&self) -> bool {
         ring(&self.bells);
-        let due = self.progress.due(self.rt);
-        self.progress.keep(self.rt, &due).is_ok()
+        let taken = self.progress.taken(self.rt);
+        matches!(self.progress.keep(self.rt, taken), Ok(Some(_)))
     }
 }
 

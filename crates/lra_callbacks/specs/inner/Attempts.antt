@@ -7,7 +7,7 @@ use Rattle.lra_model.specs.declared.asks.Outcome.{Outcome}
 use Rattle.lra_model.specs.declared.asks.Outcome.TheVariants.{Silent}
 use Rattle.lra_commands.specs.Errands.{Asking}
 use Rattle.lra_courier.specs.Sockets.{socket_text}
-use Rattle.lra_carrying.specs.Carried.{Carried}
+use Rattle.lra_courier.specs.Carried.{Carried}
 use Rattle.lra_callbacks.specs.Outcomes.{IsFor}
 
 -- it is the same member that is asked the same

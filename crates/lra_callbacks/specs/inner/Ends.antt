@@ -1,6 +1,6 @@
 -- What is told of a callback once it has ended, by its socket and by what was carried.
 use Rattle.std.specs.Prelude.{◌≡◌, ℕ, Bool, if◌then◌else◌, Option, Some, None, IfSome}
-use Rattle.lra_carrying.specs.Codes.{IsCoded}
+use Rattle.lra_courier.specs.Codes.{IsCoded}
 use Rattle.lra_outcomes.specs.declared.reply.Reply.{Reply}
 use Rattle.lra_callbacks.specs.declared.attempt.Flight.{Flight}
 use Rattle.lra_callbacks.specs.declared.replies.End.{End}

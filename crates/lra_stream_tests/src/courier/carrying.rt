@@ -1,8 +1,7 @@
 //! Callbacks carried as steps, in pieces, and by `exchange`.
 use crate::pieces::{Pieces, Sink};
 use crate::rows::{parted, repeated, written_out};
-use lra_carrying::{Carrying, Step};
-use lra_courier::{CallFault, Callback};
+use lra_courier::{CallFault, Callback, Carrying, Step};
 use lra_model::{AskKind, Direction, Outcome};
 use std::alloc::{AllocError, Global};
 

@@ -1,7 +1,6 @@
 //! What a callback that is carried comes to where a growth is refused: run with one allocation failing in turn.
 use super::carrying::asked;
-use lra_carrying::{Carrying, Step};
-use lra_courier::SendFault;
+use lra_courier::{Carrying, SendFault, Step};
 use lra_model::Outcome;
 use std::alloc::Global;
 

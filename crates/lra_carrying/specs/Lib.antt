@@ -1,4 +1,0 @@
-pub mod Carried
-pub mod Codes
-pub mod Steps
-pub mod inner

@@ -1,3 +1,0 @@
--- Words that private functions and proofs alone use.
-pub mod Fields
-pub mod Told

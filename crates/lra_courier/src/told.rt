@@ -1,0 +1,139 @@
+//! What the bytes behind a request come to.
+ghost use Rattle.std.specs.Prelude.{◌≡◌, true, false, IfOk, IfSome, IsTrue};
+ghost use Rattle.lra_courier.specs.Replies.{classify};
+ghost use Rattle.lra_model.specs.Words.{outcome_suits};
+ghost use Rattle.lra_wire.specs.Seen.{SeesResponse};
+ghost use Rattle.lra_courier.specs.Codes.{HasCode};
+ghost use Rattle.lra_courier.specs.inner.Told.{TellsSoFar, TellsAtEnd, Looks};
+
+use crate::reply::classify;
+use lra_model::{AskKind, Direction, Memory, Outcome};
+use lra_wire::{
+    Coming, Inbox, ResponseRead, SeenResponse, WireFault, read_response, response_front,
+    response_front_seen,
+};
+use std::alloc::{AllocError, Global};
+
+/// What was asked for.
+#[derive(Clone, Copy)]
+pub(crate) struct Asked {
+    pub kind: AskKind,
+    pub direction: Direction,
+}
+
+/// What the bytes that came so far come to, or nothing where more are wanted. What was seen of them isn't read anew.
+fn told_so_far(
+    alloc: Global,
+    bytes: &[u8],
+    seen: &mut SeenResponse,
+    asked: Asked,
+) -> Result<Option<Result<Outcome, WireFault>>, Memory>
+    requires { SeesResponse seen.old bytes.now }
+    ensures sees { SeesResponse seen.new bytes.now }
+    ensures tells { TellsSoFar asked.kind asked.direction bytes.now result }
+{
+    match response_front_seen(alloc, bytes, seen) {
+        Ok(Coming::Whole(response, _)) => Ok(Some(Ok(asked.outcome(&response)))),
+        Ok(Coming::Open(_)) => Ok(None),
+        Err(fault) => {
+            if fault == WireFault::Memory {
+                return Err(AllocError);
+            }
+            Ok(Some(Err(fault)))
+        }
+    }
+}
+
+/// What a stream that ends with these bytes comes to.
+fn told_at_end(
+    alloc: Global,
+    bytes: &[u8],
+    asked: Asked,
+) -> Result<Result<Outcome, WireFault>, Memory>
+    ensures { TellsAtEnd asked.kind asked.direction bytes.now result }
+{
+    let mut inbox = Inbox::new(alloc, bytes)?;
+    match read_response(alloc, &mut inbox) {
+        Ok(response) => Ok(Ok(asked.outcome(&response))),
+        Err(fault) => {
+            // Bytes in memory don't fail to be read.
+            if fault == WireFault::Memory || fault == WireFault::Io {
+                return Err(AllocError);
+            }
+            Ok(Err(fault))
+        }
+    }
+}
+
+/// What the bytes behind a request come to, or nothing where more are wanted and may come.
+pub(crate) fn look(
+    alloc: Global,
+    bytes: &[u8],
+    seen: &mut SeenResponse,
+    closed: bool,
+    failed: bool,
+    asked: Asked,
+) -> Result<Option<Result<Outcome, WireFault>>, Memory>
+    requires { SeesResponse seen.old bytes.now }
+    ensures sees { SeesResponse seen.new bytes.now }
+    ensures looks { Looks closed failed asked.kind asked.direction bytes.now result }
+{
+    if let Some(told) = told_so_far(alloc, bytes, seen, asked)? {
+        return Ok(Some(told));
+    }
+    if failed {
+        return Ok(Some(Err(WireFault::Io)));
+    }
+    if closed {
+        return Ok(Some(told_at_end(alloc, bytes, asked)?));
+    }
+    Ok(None)
+}
+
+/// Returns the code of the response that bytes begin with, if it is whole before their end.
+fn code_ahead(alloc: Global, bytes: &[u8]) -> Result<Option<u16>, Memory>
+    ensures { IfOk result (λ code. IfSome code (HasCode false bytes.now)) }
+{
+    match response_front(alloc, bytes) {
+        Ok(Coming::Whole(response, _)) => Ok(Some(response.code)),
+        Err(WireFault::Memory) => Err(AllocError),
+        _ => Ok(None),
+    }
+}
+
+/// Returns the code of the response of a stream that ends with these bytes, if they are one.
+fn code_at_end(alloc: Global, bytes: &[u8]) -> Result<Option<u16>, Memory>
+    ensures { IfOk result (λ code. IfSome code (HasCode true bytes.now)) }
+{
+    let mut inbox = Inbox::new(alloc, bytes)?;
+    match read_response(alloc, &mut inbox) {
+        Ok(response) => Ok(Some(response.code)),
+        Err(WireFault::Memory) => Err(AllocError),
+        Err(_) => Ok(None),
+    }
+}
+
+/// Returns the code of the response that bytes begin with, where no more of them may come if they are closed.
+pub(crate) fn code_of(alloc: Global, bytes: &[u8], closed: bool) -> Result<Option<u16>, Memory>
+    ensures { IfOk result (λ code. IfSome code (HasCode closed bytes.now)) }
+{
+    let code = code_ahead(alloc, bytes)?;
+    if code.is_some() || !closed {
+        return Ok(code);
+    }
+    code_at_end(alloc, bytes)
+}
+
+impl Asked {
+    fn outcome(&self, response: &ResponseRead) -> Outcome
+        ensures class { result ≡ classify self.now.kind self.now.direction response.now.code response.now.body.items }
+        ensures suits { IsTrue (outcome_suits self.now.kind result) }
+    {
+        classify(
+            self.kind,
+            self.direction,
+            response.code,
+            response.body.as_slice(),
+        )
+    }
+}
