@@ -12,7 +12,7 @@ ghost use Rattle.lra_courier.specs.Carriages.{AreFree};
 ghost use Rattle.lra_workers.specs.Work.{post, TellsWhy};
 ghost use Rattle.lra_workers.specs.Carrying.{EndsCarrying};
 
-use lra_commands::{Counter, CounterFault, Known, Order, Query, Refusal, Told};
+use lra_commands::{Counter, CounterFault, Known, Order, Query, Refusal, Session, Told};
 use lra_courier::Carriage;
 use lra_front::Clock;
 use lra_ids::{Base, Instance};
@@ -27,14 +27,14 @@ pub struct Branch<V: Serving, R> {
     rt: R,
     office: Arc<OfficeOf<V>>,
     clerk: Clerk<V>,
-    ghost there: { IsClerkOf (arc_value office).lock clerk },
+    ghost there: { IsClerkOf (arc_value office).lock V.covers clerk },
     ghost made: { IsOfficeOf (V.setting (clerk_view clerk).origin) (arc_value office) },
 }
 
 impl<V: Serving, R> Branch<V, R> {
     /// A branch of an office, for a clerk of it.
     pub fn new(rt: R, office: Arc<OfficeOf<V>>, clerk: Clerk<V>) -> Branch<V, R>
-        requires there { IsClerkOf (arc_value office).lock clerk }
+        requires there { IsClerkOf (arc_value office).lock V.covers clerk }
         requires made { IsOfficeOf (V.setting (clerk_view clerk).origin) (arc_value office) }
         ensures office { result.office ≡ office }
         ensures clerk { result.clerk ≡ clerk }
@@ -92,7 +92,7 @@ impl<V: Serving, R: Wait + Clone + Drop> Branch<V, R> {
         clock: &mut K,
     ) -> (Clerk<V>, WorkerEnd)
         requires none { AreFree (C.held carriage.old) }
-        ensures clerk { IsClerkOf (arc_value self.office).lock result.0 }
+        ensures clerk { IsClerkOf (arc_value self.office).lock V.covers result.0 }
         ensures number { result.0.number ≡ self.clerk.number }
         ensures work { EndsCarrying V.setting C.gives K.tells (post (clerk_view self.clerk) clock.old) result.1 (post (clerk_view result.0) clock.new) }
         ensures why { TellsWhy (G.is_shut gate.new) (G.holds gate.new) (HasStopped V.origin V.history V.lawful V.has_stopped (clerk_view result.0)) (clerk_view result.0).seen result.1 }
@@ -139,6 +139,16 @@ impl<V: Serving, R: Wait> Counter for Branch<V, R> {
     fn give(&mut self, moment: u64, order: &Order<'_>) -> Result<Told, CounterFault> {
         self.office
             .give_order(&self.rt, &mut self.clerk, moment, order)
+    }
+}
+
+impl<V: Serving, R: Wait> Session for Branch<V, R> {
+    ghost use Rattle.lra_office.specs.Clerks.{clerk_view};
+
+    ghost covers = { λ b n. V.covers (clerk_view b.clerk).origin (clerk_view b.clerk).seen n };
+
+    fn position(&self) -> u64 {
+        self.clerk.position()
     }
 }
 

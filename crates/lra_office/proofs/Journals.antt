@@ -69,7 +69,7 @@ broken g J journal tail small limits k is torn =
         ∙ ap (λ (xs : List ℕ). header g.version g.instance ++ xs) (sym (flat_map-append line J after.front))
 
 pub journals_sound : JournalsAreSound
-journals_sound o c contents is_stopped d small same = by is_stopped refl
+journals_sound o c contents count is_stopped d small same = by is_stopped refl
   where
     k : IsLawful (terms_of o.setting) c.history
     k = subst (λ (g : Setting). IsLawful (terms_of g) c.history) same d.coordinator.history

@@ -2,11 +2,13 @@ pub mod AtDesk
 pub mod AtEnrolment
 pub mod AtLock
 pub mod AtWindow
+pub mod Covers
 pub mod Begins
 pub mod Crosses
 pub mod Enrols
 pub mod Journals
 pub mod Restarts
+pub mod Stopped
 pub mod TakesUp
 pub mod Torn
 pub mod WholeLines

@@ -18,5 +18,7 @@ pub record HasSoundJournal (J : History) (journal : List ℕ) (is_stopped : Bool
 -- so it is with the front that an office went on from and all that its writer took since, whenever the lock is free
 abbrev pub JournalsAreSound : Type 0
 JournalsAreSound =
-    (o : Origin) (c : Shape) (contents : Option (List ℕ)) (is_stopped : Bool) (d : IsDesk o c contents is_stopped) → o.setting.instance < 2 ^ 60 → c.setting ≡ o.setting
+    (o : Origin) (c : Shape) (contents : Option (List ℕ)) (count : ℕ) (is_stopped : Bool)
+    (d : IsDesk o c contents count is_stopped)
+    → o.setting.instance < 2 ^ 60 → c.setting ≡ o.setting
     → HasSoundJournal c.history (o.front ++ d.written.taken) is_stopped

@@ -1,6 +1,7 @@
 pub mod Origins
 pub mod Desks
 pub mod Kept
+pub mod Positions
 pub mod Serves
 pub mod Stops
 pub mod Orders

@@ -9,6 +9,8 @@ use lra_ticket::{Kept, Pass};
 #[derive(Drop)]
 pub struct Clerk<V: Kept> {
     pub(crate) number: u32,
+    /// How many bytes of the journal tell of all that it has seen.
+    pub(crate) position: u64,
     /// It is away while a command is done.
     pub(crate) pass: Option<Pass<V>>,
 }
@@ -19,10 +21,19 @@ impl<V: Kept> Clerk<V> {
         requires { IsSome self.old.pass }
         ensures taken { self.old.pass ≡ Some result }
         ensures number { self.new.number ≡ self.old.number }
+        ensures position { self.new.position ≡ self.old.position }
     {
         let Some(pass) = self.pass.take() else {
             unreachable!();
         };
         pass
+    }
+
+    /// Returns how many bytes, of those that the office's writer took since the office was made, have to be durable
+    /// so that all is that the clerk has seen.
+    pub fn position(&self) -> u64
+        ensures { result ≡ self.now.position }
+    {
+        self.position
     }
 }

@@ -29,10 +29,10 @@ impl<V: Serving> OfficeOf<V> {
         moment: u64,
         command: &Command<'_>,
     ) -> Result<Told, OfficeRefusal>
-        requires clerk { IsClerkOf self.now.lock clerk.old }
+        requires clerk { IsClerkOf self.now.lock V.covers clerk.old }
         requires suited { is_suited command.now ≡ true }
         requires other { IsNumberOf command.now clerk.old.number clerk.old.number }
-        ensures clerk { IsClerkOf self.now.lock clerk.new }
+        ensures clerk { IsClerkOf self.now.lock V.covers clerk.new }
         ensures number { clerk.new.number ≡ clerk.old.number }
         ensures told { IsTold (V.setting (clerk_view clerk.old).origin) (clerk_view clerk.old) (record { by = clerk.old.number; moment = moment; command = command.now }) result (clerk_view clerk.new) }
         ensures stopped { IfErr result (λ r. r ≡ Refused Stopped → HasStopped V.origin V.history V.lawful V.has_stopped (clerk_view clerk.new)) }
@@ -54,8 +54,8 @@ impl<V: Serving> OfficeOf<V> {
         parent: Option<u64>,
         limit: u64,
     ) -> Result<Told, OfficeRefusal>
-        requires { IsClerkOf self.now.lock clerk.old }
-        ensures clerk { IsClerkOf self.now.lock clerk.new }
+        requires { IsClerkOf self.now.lock V.covers clerk.old }
+        ensures clerk { IsClerkOf self.now.lock V.covers clerk.new }
         ensures number { clerk.new.number ≡ clerk.old.number }
         ensures told { IsTold (V.setting (clerk_view clerk.old).origin) (clerk_view clerk.old) (record { by = clerk.old.number; moment = moment; command = Command.Start parent limit }) result (clerk_view clerk.new) }
         ensures stopped { IfErr result (λ r. r ≡ Refused Stopped → HasStopped V.origin V.history V.lawful V.has_stopped (clerk_view clerk.new)) }
@@ -72,8 +72,8 @@ impl<V: Serving> OfficeOf<V> {
         action: u64,
         uris: &Uris,
     ) -> Result<Told, OfficeRefusal>
-        requires { IsClerkOf self.now.lock clerk.old }
-        ensures clerk { IsClerkOf self.now.lock clerk.new }
+        requires { IsClerkOf self.now.lock V.covers clerk.old }
+        ensures clerk { IsClerkOf self.now.lock V.covers clerk.new }
         ensures number { clerk.new.number ≡ clerk.old.number }
         ensures told { IsTold (V.setting (clerk_view clerk.old).origin) (clerk_view clerk.old) (record { by = clerk.old.number; moment = moment; command = Command.Join action uris.entry }) result (clerk_view clerk.new) }
         ensures stopped { IfErr result (λ r. r ≡ Refused Stopped → HasStopped V.origin V.history V.lawful V.has_stopped (clerk_view clerk.new)) }
@@ -90,8 +90,8 @@ impl<V: Serving> OfficeOf<V> {
         action: u64,
         member: u64,
     ) -> Result<Told, OfficeRefusal>
-        requires { IsClerkOf self.now.lock clerk.old }
-        ensures clerk { IsClerkOf self.now.lock clerk.new }
+        requires { IsClerkOf self.now.lock V.covers clerk.old }
+        ensures clerk { IsClerkOf self.now.lock V.covers clerk.new }
         ensures number { clerk.new.number ≡ clerk.old.number }
         ensures told { IsTold (V.setting (clerk_view clerk.old).origin) (clerk_view clerk.old) (record { by = clerk.old.number; moment = moment; command = Command.Leave action member }) result (clerk_view clerk.new) }
         ensures stopped { IfErr result (λ r. r ≡ Refused Stopped → HasStopped V.origin V.history V.lawful V.has_stopped (clerk_view clerk.new)) }
@@ -107,8 +107,8 @@ impl<V: Serving> OfficeOf<V> {
         moment: u64,
         action: u64,
     ) -> Result<Told, OfficeRefusal>
-        requires { IsClerkOf self.now.lock clerk.old }
-        ensures clerk { IsClerkOf self.now.lock clerk.new }
+        requires { IsClerkOf self.now.lock V.covers clerk.old }
+        ensures clerk { IsClerkOf self.now.lock V.covers clerk.new }
         ensures number { clerk.new.number ≡ clerk.old.number }
         ensures told { IsTold (V.setting (clerk_view clerk.old).origin) (clerk_view clerk.old) (record { by = clerk.old.number; moment = moment; command = Command.Close action }) result (clerk_view clerk.new) }
         ensures stopped { IfErr result (λ r. r ≡ Refused Stopped → HasStopped V.origin V.history V.lawful V.has_stopped (clerk_view clerk.new)) }
@@ -124,8 +124,8 @@ impl<V: Serving> OfficeOf<V> {
         moment: u64,
         action: u64,
     ) -> Result<Told, OfficeRefusal>
-        requires { IsClerkOf self.now.lock clerk.old }
-        ensures clerk { IsClerkOf self.now.lock clerk.new }
+        requires { IsClerkOf self.now.lock V.covers clerk.old }
+        ensures clerk { IsClerkOf self.now.lock V.covers clerk.new }
         ensures number { clerk.new.number ≡ clerk.old.number }
         ensures told { IsTold (V.setting (clerk_view clerk.old).origin) (clerk_view clerk.old) (record { by = clerk.old.number; moment = moment; command = Command.Cancel action }) result (clerk_view clerk.new) }
         ensures stopped { IfErr result (λ r. r ≡ Refused Stopped → HasStopped V.origin V.history V.lawful V.has_stopped (clerk_view clerk.new)) }
@@ -140,8 +140,8 @@ impl<V: Serving> OfficeOf<V> {
         clerk: &mut Clerk<V>,
         moment: u64,
     ) -> Result<Told, OfficeRefusal>
-        requires { IsClerkOf self.now.lock clerk.old }
-        ensures clerk { IsClerkOf self.now.lock clerk.new }
+        requires { IsClerkOf self.now.lock V.covers clerk.old }
+        ensures clerk { IsClerkOf self.now.lock V.covers clerk.new }
         ensures number { clerk.new.number ≡ clerk.old.number }
         ensures told { IsTold (V.setting (clerk_view clerk.old).origin) (clerk_view clerk.old) (record { by = clerk.old.number; moment = moment; command = Command.Tick }) result (clerk_view clerk.new) }
         ensures stopped { IfErr result (λ r. r ≡ Refused Stopped → HasStopped V.origin V.history V.lawful V.has_stopped (clerk_view clerk.new)) }
@@ -158,8 +158,8 @@ impl<V: Serving> OfficeOf<V> {
         member: u64,
         ending: Ending,
     ) -> Result<Told, OfficeRefusal>
-        requires { IsClerkOf self.now.lock clerk.old }
-        ensures clerk { IsClerkOf self.now.lock clerk.new }
+        requires { IsClerkOf self.now.lock V.covers clerk.old }
+        ensures clerk { IsClerkOf self.now.lock V.covers clerk.new }
         ensures number { clerk.new.number ≡ clerk.old.number }
         ensures told { IsTold (V.setting (clerk_view clerk.old).origin) (clerk_view clerk.old) (record { by = clerk.old.number; moment = moment; command = Command.Report member ending }) result (clerk_view clerk.new) }
         ensures stopped { IfErr result (λ r. r ≡ Refused Stopped → HasStopped V.origin V.history V.lawful V.has_stopped (clerk_view clerk.new)) }
@@ -174,8 +174,8 @@ impl<V: Serving> OfficeOf<V> {
         clerk: &mut Clerk<V>,
         moment: u64,
     ) -> Result<Told, OfficeRefusal>
-        requires { IsClerkOf self.now.lock clerk.old }
-        ensures clerk { IsClerkOf self.now.lock clerk.new }
+        requires { IsClerkOf self.now.lock V.covers clerk.old }
+        ensures clerk { IsClerkOf self.now.lock V.covers clerk.new }
         ensures number { clerk.new.number ≡ clerk.old.number }
         ensures told { IsTold (V.setting (clerk_view clerk.old).origin) (clerk_view clerk.old) (record { by = clerk.old.number; moment = moment; command = Command.Restart }) result (clerk_view clerk.new) }
         ensures stopped { IfErr result (λ r. r ≡ Refused Stopped → HasStopped V.origin V.history V.lawful V.has_stopped (clerk_view clerk.new)) }
@@ -192,8 +192,8 @@ impl<V: Serving> OfficeOf<V> {
         action: u64,
         limit: u64,
     ) -> Result<Told, OfficeRefusal>
-        requires { IsClerkOf self.now.lock clerk.old }
-        ensures clerk { IsClerkOf self.now.lock clerk.new }
+        requires { IsClerkOf self.now.lock V.covers clerk.old }
+        ensures clerk { IsClerkOf self.now.lock V.covers clerk.new }
         ensures number { clerk.new.number ≡ clerk.old.number }
         ensures told { IsTold (V.setting (clerk_view clerk.old).origin) (clerk_view clerk.old) (record { by = clerk.old.number; moment = moment; command = Command.Renew action limit }) result (clerk_view clerk.new) }
         ensures stopped { IfErr result (λ r. r ≡ Refused Stopped → HasStopped V.origin V.history V.lawful V.has_stopped (clerk_view clerk.new)) }
@@ -208,8 +208,8 @@ impl<V: Serving> OfficeOf<V> {
         clerk: &mut Clerk<V>,
         action: u64,
     ) -> Result<Told, OfficeRefusal>
-        requires { IsClerkOf self.now.lock clerk.old }
-        ensures clerk { IsClerkOf self.now.lock clerk.new }
+        requires { IsClerkOf self.now.lock V.covers clerk.old }
+        ensures clerk { IsClerkOf self.now.lock V.covers clerk.new }
         ensures number { clerk.new.number ≡ clerk.old.number }
         ensures told { IsTold (V.setting (clerk_view clerk.old).origin) (clerk_view clerk.old) (record { by = clerk.old.number; moment = 0; command = Command.Status action }) result (clerk_view clerk.new) }
         ensures stopped { IfErr result (λ r. r ≡ Refused Stopped → HasStopped V.origin V.history V.lawful V.has_stopped (clerk_view clerk.new)) }
@@ -224,8 +224,8 @@ impl<V: Serving> OfficeOf<V> {
         clerk: &mut Clerk<V>,
         member: u64,
     ) -> Result<Told, OfficeRefusal>
-        requires { IsClerkOf self.now.lock clerk.old }
-        ensures clerk { IsClerkOf self.now.lock clerk.new }
+        requires { IsClerkOf self.now.lock V.covers clerk.old }
+        ensures clerk { IsClerkOf self.now.lock V.covers clerk.new }
         ensures number { clerk.new.number ≡ clerk.old.number }
         ensures told { IsTold (V.setting (clerk_view clerk.old).origin) (clerk_view clerk.old) (record { by = clerk.old.number; moment = 0; command = Command.MemberStatus member }) result (clerk_view clerk.new) }
         ensures stopped { IfErr result (λ r. r ≡ Refused Stopped → HasStopped V.origin V.history V.lawful V.has_stopped (clerk_view clerk.new)) }
@@ -240,8 +240,8 @@ impl<V: Serving> OfficeOf<V> {
         clerk: &mut Clerk<V>,
         moment: u64,
     ) -> Result<Option<Errand>, OfficeRefusal>
-        requires { IsClerkOf self.now.lock clerk.old }
-        ensures clerk { IsClerkOf self.now.lock clerk.new }
+        requires { IsClerkOf self.now.lock V.covers clerk.old }
+        ensures clerk { IsClerkOf self.now.lock V.covers clerk.new }
         ensures number { clerk.new.number ≡ clerk.old.number }
         ensures errand { IsErrand (V.setting (clerk_view clerk.old).origin) (clerk_view clerk.old) (record { by = clerk.old.number; moment = moment; command = Command.NextAsk }) result (clerk_view clerk.new) }
         ensures stopped { IfErr result (λ r. r ≡ Refused Stopped → HasStopped V.origin V.history V.lawful V.has_stopped (clerk_view clerk.new)) }
@@ -259,9 +259,9 @@ impl<V: Serving> OfficeOf<V> {
         errand: Errand,
         outcome: Outcome,
     ) -> Result<Told, (OfficeRefusal, Errand)>
-        requires clerk { IsClerkOf self.now.lock clerk.old }
+        requires clerk { IsClerkOf self.now.lock V.covers clerk.old }
         requires suits { outcome_suits errand.kind outcome ≡ true }
-        ensures clerk { IsClerkOf self.now.lock clerk.new }
+        ensures clerk { IsClerkOf self.now.lock V.covers clerk.new }
         ensures number { clerk.new.number ≡ clerk.old.number }
         ensures recorded { IsRecorded (V.setting (clerk_view clerk.old).origin) (clerk_view clerk.old) clerk.old.number moment errand outcome result (clerk_view clerk.new) }
         ensures stopped { IfErr result (λ r. r.0 ≡ Refused Stopped → HasStopped V.origin V.history V.lawful V.has_stopped (clerk_view clerk.new)) }

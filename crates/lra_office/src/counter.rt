@@ -45,8 +45,8 @@ impl<V: Serving> OfficeOf<V> {
         moment: u64,
         order: &Order<'_>,
     ) -> Result<Told, CounterFault>
-        requires { IsClerkOf self.now.lock clerk.old }
-        ensures clerk { IsClerkOf self.now.lock clerk.new }
+        requires { IsClerkOf self.now.lock V.covers clerk.old }
+        ensures clerk { IsClerkOf self.now.lock V.covers clerk.new }
         ensures number { clerk.new.number ≡ clerk.old.number }
         ensures origin { (clerk_view clerk.new).origin ≡ (clerk_view clerk.old).origin }
         ensures given { KeepsInTurn V.setting V.origin V.history V.lawful V.has_stopped (sight_of V.setting clerk.old) moment order.now result (sight_of V.setting clerk.new) }

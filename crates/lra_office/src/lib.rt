@@ -21,7 +21,7 @@ mod window;
 pub use clerk::Clerk;
 pub use desk::Desk;
 pub use fault::{OfficeRefusal, ReopenFault, StartFault, TryRefusal};
-pub use laws::journals_are_sound;
+pub use laws::{calls_are_stopped, journals_are_sound};
 pub use office::{Office, OfficeOf};
 pub use serving::Serving;
 pub use window::{WhichLock, Window};

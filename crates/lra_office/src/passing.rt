@@ -16,14 +16,18 @@ use lra_ticket::Pass;
 impl<V: Serving> OfficeOf<V> {
     /// A second pass, for a clerk to be enrolled by: it has seen as much as the clerk.
     pub fn split(&self, clerk: Clerk<V>) -> (Clerk<V>, Pass<V>)
-        requires { IsClerkOf self.now.lock clerk }
-        ensures clerk { IsClerkOf self.now.lock result.0 }
+        requires { IsClerkOf self.now.lock V.covers clerk }
+        ensures clerk { IsClerkOf self.now.lock V.covers result.0 }
         ensures pass { pass_id result.1 ≡ lock_id self.now.lock }
         ensures number { result.0.number ≡ clerk.number }
         ensures same { clerk_view result.0 ≡ clerk_view clerk }
         ensures newcomer { pass_view result.1 ≡ newcomer (clerk_view clerk) }
     {
-        let Clerk { number, pass } = clerk;
+        let Clerk {
+            number,
+            position,
+            pass,
+        } = clerk;
         let Some(pass) = pass else {
             unreachable!();
         };
@@ -31,6 +35,7 @@ impl<V: Serving> OfficeOf<V> {
         (
             Clerk {
                 number,
+                position,
                 pass: Some(first),
             },
             second,
@@ -39,10 +44,11 @@ impl<V: Serving> OfficeOf<V> {
 
     /// Lets two clerks compare what they have seen: the history of one begins that of the other.
     pub fn meet(&self, first: &mut Clerk<V>, second: &mut Clerk<V>)
-        requires first { IsClerkOf self.now.lock first.old }
-        requires second { IsClerkOf self.now.lock second.old }
-        ensures first { IsClerkOf self.now.lock first.new }
-        ensures second { IsClerkOf self.now.lock second.new }
+        requires first { IsClerkOf self.now.lock V.covers first.old }
+        requires second { IsClerkOf self.now.lock V.covers second.old }
+        requires origin { (clerk_view second.old).origin ≡ (clerk_view first.old).origin }
+        ensures first { IsClerkOf self.now.lock V.covers first.new }
+        ensures second { IsClerkOf self.now.lock V.covers second.new }
         ensures numbers { (first.new.number ≡ first.old.number) × (second.new.number ≡ second.old.number) }
         ensures first_view { clerk_view first.new ≡ moved (clerk_view first.old) Idle }
         ensures second_view { clerk_view second.new ≡ record (clerk_view second.old) { origin = (clerk_view first.old).origin; tries = 0; place = Idle } }
@@ -60,29 +66,32 @@ impl<V: Serving> OfficeOf<V> {
 
     /// Ends a clerk: the other one has then seen what either had.
     pub fn retire(&self, clerk: &mut Clerk<V>, second: Clerk<V>)
-        requires clerk { IsClerkOf self.now.lock clerk.old }
-        requires second { IsClerkOf self.now.lock second }
-        ensures clerk { IsClerkOf self.now.lock clerk.new }
+        requires clerk { IsClerkOf self.now.lock V.covers clerk.old }
+        requires second { IsClerkOf self.now.lock V.covers second }
+        requires origin { (clerk_view second).origin ≡ (clerk_view clerk.old).origin }
+        ensures clerk { IsClerkOf self.now.lock V.covers clerk.new }
         ensures number { clerk.new.number ≡ clerk.old.number }
         ensures view { clerk_view clerk.new ≡ record (clerk_view clerk.old) { seen = longer (clerk_view clerk.old).seen (clerk_view second).seen; place = Idle } }
         ensures seen { IsPrefix (clerk_view clerk.old).seen (clerk_view clerk.new).seen × IsPrefix (clerk_view second).seen (clerk_view clerk.new).seen }
     {
         let Clerk {
             number: _,
+            position,
             pass: second,
         } = second;
         let (Some(pass), Some(second)) = (clerk.pass.take(), second) else {
             unreachable!();
         };
         clerk.pass = Some(self.lock.join(pass, second));
+        clerk.position = clerk.position.max(position);
     }
 
     /// Ends the office, if no one else holds its lock or waits for it, and gives what it kept.
     pub fn into_kept(self, clerk: Clerk<V>) -> Result<V, (OfficeOf<V>, Clerk<V>)>
-        requires { IsClerkOf self.lock clerk }
+        requires { IsClerkOf self.lock V.covers clerk }
         ensures value { IfOk result (λ x. Suits V.origin V.history V.lawful (clerk_view clerk) x) }
         ensures same { IfErr result (λ e. e.0 ≡ self) }
-        ensures clerk { IfErr result (λ e. IsClerkOf self.lock e.1 × (e.1.number ≡ clerk.number)) }
+        ensures clerk { IfErr result (λ e. IsClerkOf self.lock V.covers e.1 × (e.1.number ≡ clerk.number)) }
         ensures missed { IfErr result (λ e. HasMissed (clerk_view clerk) (clerk_view e.1)) }
     {
         let OfficeOf {
@@ -90,7 +99,11 @@ impl<V: Serving> OfficeOf<V> {
             instance,
             base,
         } = self;
-        let Clerk { number, pass } = clerk;
+        let Clerk {
+            number,
+            position,
+            pass,
+        } = clerk;
         let Some(pass) = pass else {
             unreachable!();
         };
@@ -104,6 +117,7 @@ impl<V: Serving> OfficeOf<V> {
                 },
                 Clerk {
                     number,
+                    position,
                     pass: Some(pass),
                 },
             )),

@@ -8,7 +8,8 @@ use lra_ticket::Kept;
 
 /// A kept value at which the commands of clerks are done, and queries are told.
 pub trait Serving: Kept {
-    ghost use Rattle.std.specs.Prelude.{Bool, IfErr};
+    ghost use Rattle.std.specs.Prelude.{ℕ, ◌≤◌, Bool, IsTrue, IfErr};
+    ghost use Rattle.lra_model.specs.History.{History};
     ghost use Rattle.lra_core.specs.Prepares.{is_suited};
     ghost use Rattle.lra_commands.specs.declared.refusal.Refusal.TheVariants.{Stopped};
     ghost use Rattle.lra_commands.specs.Counters.{Setting};
@@ -22,6 +23,9 @@ pub trait Serving: Kept {
     // Whether the scribe of its journal has stopped.
     ghost has_stopped: { Self → Bool };
 
+    // Whether so many bytes of the journal, from the first that was written behind an origin, tell of all of a history.
+    ghost covers: { Self.Origin → History → ℕ → Bool };
+
     /// Does a command of a clerk, and gives what it is told, or changes nothing. That its scribe has stopped it says only where that has.
     fn serve(&mut self, by: u32, moment: u64, command: &Command<'_>) -> Result<Committed, Refusal>
         requires suited { is_suited command.now ≡ true }
@@ -29,7 +33,11 @@ pub trait Serving: Kept {
         ensures lawful { Self.lawful self.new }
         ensures origin { Self.origin self.new ≡ Self.origin self.old }
         ensures served { IsServed (setting (Self.origin self.old)) (Self.history self.old) (record { by = by; moment = moment; command = command.now }) result (Self.history self.new) }
-        ensures stopped { IfErr result (λ refusal. refusal ≡ Stopped → has_stopped self.new ≡ true) };
+        ensures stopped { IfErr result (λ refusal. refusal ≡ Stopped → has_stopped self.new ≡ true) }
+
+        // Once it has stopped it stays so, and nothing is appended any more.
+        ensures stays { has_stopped self.old ≡ true
+            → (has_stopped self.new ≡ true) × (Self.history self.new ≡ Self.history self.old) };
 
     /// What a query is told of its history.
     fn query(&self, query: Query) -> Result<Known, Refusal>
@@ -38,6 +46,15 @@ pub trait Serving: Kept {
     /// The first moment at which something is due or late in its history, in milliseconds, where there is any.
     fn next_moment(&self) -> Option<u64>
         ensures { IsFirstMoment (setting (Self.origin self.now)).limits (Self.history self.now) result };
+
+    /// Returns how many bytes of its journal have to be durable so that all of its history is.
+    fn position(&self) -> u64
+        requires { Self.lawful self.now }
+        ensures { IsTrue (covers (Self.origin self.now) (Self.history self.now) result) };
+
+    // A later position covers as much.
+    ghost later: { (o : Self.Origin) (J : History) (n m : ℕ) → n ≤ m → IsTrue (covers o J n)
+        → IsTrue (covers o J m) };
 
     // What its laws say of its history.
     ghost tells: { (x : Self) → Self.Kept.lawful x → IsKeptBy (setting (Self.Kept.origin x)) (Self.Kept.history x) };

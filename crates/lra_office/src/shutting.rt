@@ -3,6 +3,7 @@
 ghost use Rattle.std.specs.Prelude.{◌≡◌, IfOk, IfErr};
 ghost use Rattle.lra_ticket.specs.Locks.{HasMissed};
 ghost use Rattle.lra_office.specs.Clerks.{clerk_view, IsClerkOf};
+ghost use Rattle.lra_office.specs.Positions.{has_text};
 ghost use Rattle.lra_office.specs.Shut.{IsShut};
 
 use crate::clerk::Clerk;
@@ -18,10 +19,10 @@ impl<W: Write + Drop> Office<W> {
         self,
         clerk: Clerk<Desk<W>>,
     ) -> Result<(CoordinatorOf<Counted>, Scribe<W>), (Office<W>, Clerk<Desk<W>>)>
-        requires { IsClerkOf self.lock clerk }
+        requires { IsClerkOf self.lock has_text clerk }
         ensures shut { IfOk result (λ kept. IsShut W.contents (clerk_view clerk) kept.0 kept.1) }
         ensures same { IfErr result (λ left. left.0 ≡ self) }
-        ensures clerk { IfErr result (λ left. IsClerkOf self.lock left.1 × (left.1.number ≡ clerk.number)) }
+        ensures clerk { IfErr result (λ left. IsClerkOf self.lock has_text left.1 × (left.1.number ≡ clerk.number)) }
         ensures missed { IfErr result (λ left. HasMissed (clerk_view clerk) (clerk_view left.1)) }
     {
         let Desk {

@@ -9,6 +9,7 @@ ghost use Rattle.lra_office.specs.Clerks.{clerk_view, IsClerkOf};
 ghost use Rattle.lra_office.specs.Stops.{HasStopped};
 ghost use Rattle.lra_office.specs.declared.fault.TryRefusal.TheVariants.{Refused};
 ghost use Rattle.lra_office.specs.Orders.{IsTried};
+ghost use Rattle.lra_office.specs.Positions.{IsTriedAt};
 ghost use Rattle.lra_office.specs.inner.Given.{IsNumberOf, refusal_of};
 
 use crate::clerk::Clerk;
@@ -48,6 +49,7 @@ impl<V: Serving> OfficeOf<V> {
         by: u32,
         moment: u64,
         command: &Command<'_>,
+        position: &mut u64,
     ) -> (Pass<V>, Result<Told, TryRefusal>)
         requires lock { pass_id pass ≡ lock_id self.now.lock }
         requires suited { is_suited command.now ≡ true }
@@ -55,12 +57,14 @@ impl<V: Serving> OfficeOf<V> {
         ensures lock { pass_id result.0 ≡ lock_id self.now.lock }
         ensures tried { IsTried (V.setting (pass_view pass).origin) (pass_view pass) (record { by = by; moment = moment; command = command.now }) result.1 (pass_view result.0) }
         ensures stopped { IfErr result.1 (λ r. r ≡ Refused Stopped → HasStopped V.origin V.history V.lawful V.has_stopped (pass_view result.0)) }
+        ensures placed { IsTriedAt V.covers result.1 (pass_view result.0) position.old position.new }
     {
         let (held, mut value) = match self.lock.try_take(pass) {
             Ok(taken) => taken,
             Err((pass, fault)) => return (pass, Err(refusal_of(fault))),
         };
         let served = value.serve(by, moment, command);
+        *position = value.position();
         let pass = self.lock.give(held, value);
         match served {
             Ok(committed) => (pass, Ok(told_alone(committed))),
@@ -75,24 +79,24 @@ impl<V: Serving> OfficeOf<V> {
         moment: u64,
         command: &Command<'_>,
     ) -> Result<Told, TryRefusal>
-        requires clerk { IsClerkOf self.now.lock clerk.old }
+        requires clerk { IsClerkOf self.now.lock V.covers clerk.old }
         requires suited { is_suited command.now ≡ true }
         requires other { IsNumberOf command.now clerk.old.number clerk.old.number }
-        ensures clerk { IsClerkOf self.now.lock clerk.new }
+        ensures clerk { IsClerkOf self.now.lock V.covers clerk.new }
         ensures number { clerk.new.number ≡ clerk.old.number }
         ensures tried { IsTried (V.setting (clerk_view clerk.old).origin) (clerk_view clerk.old) (record { by = clerk.old.number; moment = moment; command = command.now }) result (clerk_view clerk.new) }
         ensures stopped { IfErr result (λ r. r ≡ Refused Stopped → HasStopped V.origin V.history V.lawful V.has_stopped (clerk_view clerk.new)) }
     {
         let pass = clerk.take_pass();
-        let (pass, tried) = self.try_give(pass, clerk.number, moment, command);
+        let (pass, tried) = self.try_give(pass, clerk.number, moment, command, &mut clerk.position);
         clerk.pass = Some(pass);
         tried
     }
 
     /// Tells the status of an action, if the lock is free.
     pub fn try_status(&self, clerk: &mut Clerk<V>, action: u64) -> Result<Told, TryRefusal>
-        requires { IsClerkOf self.now.lock clerk.old }
-        ensures clerk { IsClerkOf self.now.lock clerk.new }
+        requires { IsClerkOf self.now.lock V.covers clerk.old }
+        ensures clerk { IsClerkOf self.now.lock V.covers clerk.new }
         ensures number { clerk.new.number ≡ clerk.old.number }
         ensures tried { IsTried (V.setting (clerk_view clerk.old).origin) (clerk_view clerk.old) (record { by = clerk.old.number; moment = 0; command = Command.Status action }) result (clerk_view clerk.new) }
         ensures stopped { IfErr result (λ r. r ≡ Refused Stopped → HasStopped V.origin V.history V.lawful V.has_stopped (clerk_view clerk.new)) }
@@ -107,8 +111,8 @@ impl<V: Serving> OfficeOf<V> {
         moment: u64,
         action: u64,
     ) -> Result<Told, TryRefusal>
-        requires { IsClerkOf self.now.lock clerk.old }
-        ensures clerk { IsClerkOf self.now.lock clerk.new }
+        requires { IsClerkOf self.now.lock V.covers clerk.old }
+        ensures clerk { IsClerkOf self.now.lock V.covers clerk.new }
         ensures number { clerk.new.number ≡ clerk.old.number }
         ensures tried { IsTried (V.setting (clerk_view clerk.old).origin) (clerk_view clerk.old) (record { by = clerk.old.number; moment = moment; command = Command.Close action }) result (clerk_view clerk.new) }
         ensures stopped { IfErr result (λ r. r ≡ Refused Stopped → HasStopped V.origin V.history V.lawful V.has_stopped (clerk_view clerk.new)) }

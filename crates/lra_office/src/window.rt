@@ -11,7 +11,7 @@ use crate::clerk::Clerk;
 use crate::fault::OfficeRefusal;
 use crate::office::OfficeOf;
 use crate::serving::Serving;
-use lra_commands::{Counter, CounterFault, Known, Order, Query, Told};
+use lra_commands::{Counter, CounterFault, Known, Order, Query, Session, Told};
 use lra_ids::{Base, Instance};
 use std::marker::{Brand, PhantomData};
 use std::sync::Wait;
@@ -35,7 +35,7 @@ pub struct Window<'a, V: Serving, R, L: WhichLock> {
     office: &'a OfficeOf<V>,
     clerk: Clerk<V>,
     of: PhantomData<L>,
-    ghost there: { IsClerkOf office.now.lock clerk },
+    ghost there: { IsClerkOf office.now.lock V.covers clerk },
     ghost made: { IsOfficeOf (V.setting (clerk_view clerk).origin) office.now },
     ghost here: { lock_id office.now.lock ≡ L.lock },
 }
@@ -43,7 +43,7 @@ pub struct Window<'a, V: Serving, R, L: WhichLock> {
 impl<'a, V: Serving, R, L: WhichLock> Window<'a, V, R, L> {
     /// A window of an office, for a clerk of it.
     pub fn new(rt: &'a R, office: &'a OfficeOf<V>, clerk: Clerk<V>) -> Window<'a, V, R, L>
-        requires there { IsClerkOf office.now.lock clerk }
+        requires there { IsClerkOf office.now.lock V.covers clerk }
         requires made { IsOfficeOf (V.setting (clerk_view clerk).origin) office.now }
         requires here { lock_id office.now.lock ≡ L.lock }
         ensures { result.clerk ≡ clerk }
@@ -59,7 +59,7 @@ impl<'a, V: Serving, R, L: WhichLock> Window<'a, V, R, L> {
     /// Its clerk, with what that has seen by now.
     pub fn into_clerk(self) -> Clerk<V>
         ensures clerk { result ≡ self.entry.clerk }
-        ensures there { IsClerkOf self.entry.office.now.lock result }
+        ensures there { IsClerkOf self.entry.office.now.lock V.covers result }
         ensures here { lock_id self.entry.office.now.lock ≡ L.lock }
     {
         let Window {
@@ -104,5 +104,15 @@ impl<V: Serving, R: Wait, L: WhichLock> Counter for Window<'_, V, R, L> {
     fn give(&mut self, moment: u64, order: &Order<'_>) -> Result<Told, CounterFault> {
         self.office
             .give_order(self.rt, &mut self.clerk, moment, order)
+    }
+}
+
+impl<V: Serving, R: Wait, L: WhichLock> Session for Window<'_, V, R, L> {
+    ghost use Rattle.lra_office.specs.Clerks.{clerk_view};
+
+    ghost covers = { λ w n. V.covers (clerk_view w.clerk).origin (clerk_view w.clerk).seen n };
+
+    fn position(&self) -> u64 {
+        self.clerk.position()
     }
 }

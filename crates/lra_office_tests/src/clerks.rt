@@ -1,15 +1,16 @@
 //! Clerks of one office: what they see of one another, and what one is answered while another is served.
 
 ghost use Rattle.std.specs.Prelude.{◌≡◌, IfOk, IfSome};
-ghost use Rattle.lra_office.specs.Clerks.{IsClerkOf};
+ghost use Rattle.lra_office.specs.Clerks.{clerk_view, IsClerkOf};
 ghost use Rattle.lra_ticket.specs.Locks.{lock_id, pass_id, pass_view};
 
 use crate::making::{enrolled, enrolled_two, made, shut};
 use crate::signals::{Signals, wait_for};
+use lra_commands::{CounterFault, Order};
 use lra_core::Told;
 use lra_journal::read_journal;
 use lra_model::{ActionStatus, Entry};
-use lra_office::{Clerk, OfficeOf, OfficeRefusal, Serving, TryRefusal};
+use lra_office::{Clerk, OfficeOf, Serving, TryRefusal};
 use lra_ticket::Pass;
 use std::alloc::Global;
 use std::io::{self, Write};
@@ -22,8 +23,8 @@ use std::time::Clock;
 
 /// Whether a clerk is answered as one who is alone.
 fn acts_alone<V: Serving, R: Wait>(rt: &R, office: &OfficeOf<V>, clerk: &mut Clerk<V>) -> bool
-    requires { IsClerkOf office.now.lock clerk.old }
-    ensures { IsClerkOf office.now.lock clerk.new }
+    requires { IsClerkOf office.now.lock V.covers clerk.old }
+    ensures { IsClerkOf office.now.lock V.covers clerk.new }
 {
     let started = office.start(rt, clerk, 0, None, 0) == Ok(Told::Action(1));
     let closed = office.try_close(clerk, 5, 1) == Ok(Told::Now(ActionStatus::Closed));
@@ -40,7 +41,7 @@ fn alone<V: Serving, R: Wait>(
 ) -> Result<(Clerk<V>, bool), Fail>
     requires lock { pass_id pass ≡ lock_id office.now.lock }
     requires newcomer { (pass_view pass).number ≡ 0 }
-    ensures { IfOk result (λ r. IsClerkOf office.now.lock r.0) }
+    ensures { IfOk result (λ r. IsClerkOf office.now.lock V.covers r.0) }
 {
     let mut clerk = enrolled(rt, office, pass)?;
     let is_served = acts_alone(rt, office, &mut clerk);
@@ -66,7 +67,7 @@ fn who_is_alone_is_never_told_to_wait(rt: HostRuntime) -> Result<(), Fail> {
 }
 
 /// The number of an action that was started.
-fn started(told: Result<Told, OfficeRefusal>) -> Option<u64> {
+fn started(told: Result<Told, CounterFault>) -> Option<u64> {
     match told {
         Ok(Told::Action(action)) => Some(action),
         _ => None,
@@ -79,10 +80,15 @@ fn starts<V: Serving, R: Wait>(
     office: &OfficeOf<V>,
     mut clerk: Clerk<V>,
 ) -> Option<(Clerk<V>, u64)>
-    requires { IsClerkOf office.now.lock clerk }
-    ensures { IfSome result (λ r. IsClerkOf office.now.lock r.0) }
+    requires { IsClerkOf office.now.lock V.covers clerk }
+    ensures clerk { IfSome result (λ r. IsClerkOf office.now.lock V.covers r.0) }
+    ensures origin { IfSome result (λ r. (clerk_view r.0).origin ≡ (clerk_view clerk).origin) }
 {
-    match started(office.start(rt, &mut clerk, 1, None, 0)) {
+    let order = Order::Start {
+        parent: None,
+        limit: 0,
+    };
+    match started(office.give_order(rt, &mut clerk, 1, &order)) {
         Some(action) => Some((clerk, action)),
         None => {
             drop(clerk);
@@ -99,7 +105,8 @@ fn enrols_and_starts<V: Serving, R: Wait>(
 ) -> Option<(Clerk<V>, u64)>
     requires lock { pass_id pass ≡ lock_id office.now.lock }
     requires newcomer { (pass_view pass).number ≡ 0 }
-    ensures { IfSome result (λ r. IsClerkOf office.now.lock r.0) }
+    ensures clerk { IfSome result (λ r. IsClerkOf office.now.lock V.covers r.0) }
+    ensures origin { IfSome result (λ r. (clerk_view r.0).origin ≡ (pass_view pass).origin) }
 {
     match office.clerk(rt, pass, 1) {
         Ok(clerk) => starts(rt, office, clerk),
@@ -116,20 +123,23 @@ fn two<V: Serving + Send, R: Threads + Wait + Sync>(
     office: &OfficeOf<V>,
     clerk: Clerk<V>,
 ) -> Option<(Clerk<V>, Clerk<V>, u64)>
-    requires { IsClerkOf office.now.lock clerk }
-    ensures first { IfSome result (λ r. IsClerkOf office.now.lock r.0) }
-    ensures second { IfSome result (λ r. IsClerkOf office.now.lock r.1) }
+    requires { IsClerkOf office.now.lock V.covers clerk }
+    ensures first { IfSome result (λ r. IsClerkOf office.now.lock V.covers r.0) }
+    ensures second { IfSome result (λ r. IsClerkOf office.now.lock V.covers r.1) }
+    ensures origin { IfSome result (λ r. (clerk_view r.1).origin ≡ (clerk_view r.0).origin) }
 {
     let (clerk, pass) = office.split(clerk);
     let (first, second) = join(
         rt,
         move || -> Option<(Clerk<V>, u64)>
-            requires { IsClerkOf office.now.lock clerk }
-            ensures { IfSome result (λ r. IsClerkOf office.entry.now.lock r.0) }
+            requires { IsClerkOf office.now.lock V.covers clerk }
+            ensures clerk { IfSome result (λ r. IsClerkOf office.entry.now.lock V.covers r.0) }
+            ensures origin { IfSome result (λ r. (clerk_view r.0).origin ≡ (clerk_view clerk.entry).origin) }
         { starts(rt, office, clerk) },
         move || -> Option<(Clerk<V>, u64)>
             requires { (pass_id pass ≡ lock_id office.now.lock) × ((pass_view pass).number ≡ 0) }
-            ensures { IfSome result (λ r. IsClerkOf office.entry.now.lock r.0) }
+            ensures clerk { IfSome result (λ r. IsClerkOf office.entry.now.lock V.covers r.0) }
+            ensures origin { IfSome result (λ r. (clerk_view r.0).origin ≡ (pass_view pass.entry).origin) }
         { enrols_and_starts(rt, office, pass) },
     );
     let Some((first, _)) = first else {
@@ -171,12 +181,12 @@ fn sees_the_other<V: Serving + Send, R: Threads + Wait + Sync>(
 ) -> Result<(Clerk<V>, bool), Fail>
     requires lock { pass_id pass ≡ lock_id office.now.lock }
     requires newcomer { (pass_view pass).number ≡ 0 }
-    ensures { IfOk result (λ r. IsClerkOf office.now.lock r.0) }
+    ensures { IfOk result (λ r. IsClerkOf office.now.lock V.covers r.0) }
 {
     let Some((mut first, mut second, action)) = two(rt, office, enrolled(rt, office, pass)?) else {
         return Err("both can start one")?;
     };
-    let status = office.status(rt, &mut first, action);
+    let status = office.give_order(rt, &mut first, 0, &Order::Status { action });
     office.meet(&mut first, &mut second);
     office.retire(&mut first, second);
     let is_active = status == Ok(Told::ActionIs(ActionStatus::Active));
@@ -227,7 +237,7 @@ impl<R: Clock> Write for Slow<'_, R> {
 
 /// Whether an action is started while the writer waits.
 fn starts_slowly<V: Serving, R: Wait>(rt: &R, office: &OfficeOf<V>, mut clerk: Clerk<V>) -> bool
-    requires { IsClerkOf office.now.lock clerk }
+    requires { IsClerkOf office.now.lock V.covers clerk }
 {
     let told = office.start(rt, &mut clerk, 1, None, 0);
     drop(clerk);
@@ -241,7 +251,7 @@ fn is_told_busy<V: Serving, R: Clock>(
     mut clerk: Clerk<V>,
     signals: &Signals,
 ) -> bool
-    requires { IsClerkOf office.now.lock clerk }
+    requires { IsClerkOf office.now.lock V.covers clerk }
 {
     let has_entered = wait_for(rt, &signals.entered);
     let answer = office.try_status(&mut clerk, 1);
@@ -265,10 +275,10 @@ fn do_overlap<V: Serving + Send, R: Threads + Wait + Clock + Sync>(
     let (started, busy) = join(
         rt,
         move || -> bool
-            requires { IsClerkOf office.now.lock first }
+            requires { IsClerkOf office.now.lock V.covers first }
         { starts_slowly(rt, office, first) },
         move || -> bool
-            requires { IsClerkOf office.now.lock second }
+            requires { IsClerkOf office.now.lock V.covers second }
         { is_told_busy(rt, office, second, signals) },
     );
     Ok(started && busy)

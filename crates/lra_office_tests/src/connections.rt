@@ -81,9 +81,9 @@ fn answers_one<V: Serving, R: Wait>(
     office: &OfficeOf<V>,
     clerk: Clerk<V>,
 ) -> (Clerk<V>, bool)
-    requires clerk { IsClerkOf office.now.lock clerk }
+    requires clerk { IsClerkOf office.now.lock V.covers clerk }
     requires made { IsOfficeOf (V.setting (clerk_view clerk).origin) office.now }
-    ensures { IsClerkOf office.now.lock result.0 }
+    ensures { IsClerkOf office.now.lock V.covers result.0 }
 {
     let mut clock = Still;
     let (clerk, end) = serve_connections(rt, alloc, door, office, clerk, &mut clock, 1);
@@ -99,21 +99,21 @@ fn two_answer<V: Serving + Send, R: Threads + Wait + Sync>(
     first: Clerk<V>,
     second: Clerk<V>,
 ) -> (Clerk<V>, bool)
-    requires first { IsClerkOf office.now.lock first }
-    requires second { IsClerkOf office.now.lock second }
+    requires first { IsClerkOf office.now.lock V.covers first }
+    requires second { IsClerkOf office.now.lock V.covers second }
     requires first_made { IsOfficeOf (V.setting (clerk_view first).origin) office.now }
     requires second_made { IsOfficeOf (V.setting (clerk_view second).origin) office.now }
-    ensures { IsClerkOf office.now.lock result.0 }
+    ensures { IsClerkOf office.now.lock V.covers result.0 }
 {
     let (one, other) = join(
         rt,
         move || -> (Clerk<V>, bool)
-            requires { IsClerkOf office.now.lock first × IsOfficeOf (V.setting (clerk_view first).origin) office.now }
-            ensures { IsClerkOf office.entry.now.lock result.0 }
+            requires { IsClerkOf office.now.lock V.covers first × IsOfficeOf (V.setting (clerk_view first).origin) office.now }
+            ensures { IsClerkOf office.entry.now.lock V.covers result.0 }
         { answers_one(rt, alloc, door, office, first) },
         move || -> (Clerk<V>, bool)
-            requires { IsClerkOf office.now.lock second × IsOfficeOf (V.setting (clerk_view second).origin) office.now }
-            ensures { IsClerkOf office.entry.now.lock result.0 }
+            requires { IsClerkOf office.now.lock V.covers second × IsOfficeOf (V.setting (clerk_view second).origin) office.now }
+            ensures { IsClerkOf office.entry.now.lock V.covers result.0 }
         { answers_one(rt, alloc, door, office, second) },
     );
     let (clerk, has_ended) = one;
@@ -140,14 +140,14 @@ fn visited<
     requires lock { pass_id pass ≡ lock_id office.now.lock }
     requires newcomer { (pass_view pass).number ≡ 0 }
     requires made { IsOfficeOf (V.setting (pass_view pass).origin) office.now }
-    ensures { IfOk result (λ r. IsClerkOf office.now.lock r.0) }
+    ensures { IfOk result (λ r. IsClerkOf office.now.lock V.covers r.0) }
 {
     let (first, second) = enrolled_two(rt, office, pass)?;
     let ((clerk, have_ended), replies) = join(
         rt,
         move || -> (Clerk<V>, bool)
-            requires { IsClerkOf office.now.lock first × IsClerkOf office.now.lock second × IsOfficeOf (V.setting (clerk_view first).origin) office.now × IsOfficeOf (V.setting (clerk_view second).origin) office.now × IsSync R.row }
-            ensures { IsClerkOf office.entry.now.lock result.0 }
+            requires { IsClerkOf office.now.lock V.covers first × IsClerkOf office.now.lock V.covers second × IsOfficeOf (V.setting (clerk_view first).origin) office.now × IsOfficeOf (V.setting (clerk_view second).origin) office.now × IsSync R.row }
+            ensures { IsClerkOf office.entry.now.lock V.covers result.0 }
         { two_answer(rt, alloc, door, office, first, second) },
         move || visit(rt, alloc, address),
     );

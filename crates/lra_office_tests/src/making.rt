@@ -3,6 +3,7 @@
 ghost use Rattle.std.specs.Prelude.{◌≡◌, true, IfOk};
 ghost use Rattle.lra_ids.specs.Addresses.{is_base};
 ghost use Rattle.lra_office.specs.Clerks.{clerk_view, IsClerkOf};
+ghost use Rattle.lra_office.specs.Positions.{has_text};
 ghost use Rattle.lra_office.specs.Windows.{IsOfficeOf};
 ghost use Rattle.lra_ticket.specs.Locks.{lock_id, pass_id, pass_view};
 
@@ -53,7 +54,7 @@ pub fn enrolled<V: Serving, R: Wait>(
 ) -> Result<Clerk<V>, Fail>
     requires lock { pass_id pass ≡ lock_id office.now.lock }
     requires newcomer { (pass_view pass).number ≡ 0 }
-    ensures clerk { IfOk result (IsClerkOf office.now.lock) }
+    ensures clerk { IfOk result (IsClerkOf office.now.lock V.covers) }
     ensures origin { IfOk result (λ clerk. (clerk_view clerk).origin ≡ (pass_view pass).origin) }
 {
     match office.clerk(rt, pass, 0) {
@@ -73,8 +74,8 @@ pub fn enrolled_two<V: Serving, R: Wait>(
 ) -> Result<(Clerk<V>, Clerk<V>), Fail>
     requires lock { pass_id pass ≡ lock_id office.now.lock }
     requires newcomer { (pass_view pass).number ≡ 0 }
-    ensures first { IfOk result (λ r. IsClerkOf office.now.lock r.0) }
-    ensures second { IfOk result (λ r. IsClerkOf office.now.lock r.1) }
+    ensures first { IfOk result (λ r. IsClerkOf office.now.lock V.covers r.0) }
+    ensures second { IfOk result (λ r. IsClerkOf office.now.lock V.covers r.1) }
     ensures first_origin { IfOk result (λ r. (clerk_view r.0).origin ≡ (pass_view pass).origin) }
     ensures second_origin { IfOk result (λ r. (clerk_view r.1).origin ≡ (pass_view pass).origin) }
 {
@@ -94,7 +95,7 @@ pub fn ended<W: Write + Drop, T: Drop>(
     clerk: Clerk<Desk<W>>,
     told: T,
 ) -> Result<(W, T), Fail>
-    requires { IsClerkOf office.lock clerk }
+    requires { IsClerkOf office.lock has_text clerk }
 {
     match office.shut(clerk) {
         Ok((coordinator, scribe)) => {
@@ -114,7 +115,7 @@ pub fn shut<W: Write + Drop, T: Drop>(
     office: Office<W>,
     worked: Result<(Clerk<Desk<W>>, T), Fail>,
 ) -> Result<(W, T), Fail>
-    requires { IfOk worked (λ r. IsClerkOf office.lock r.0) }
+    requires { IfOk worked (λ r. IsClerkOf office.lock has_text r.0) }
 {
     match worked {
         Ok((clerk, told)) => ended(office, clerk, told),

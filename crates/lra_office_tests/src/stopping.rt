@@ -2,6 +2,7 @@
 
 ghost use Rattle.std.specs.Prelude.{◌≡◌};
 ghost use Rattle.lra_office.specs.Clerks.{IsClerkOf};
+ghost use Rattle.lra_office.specs.Positions.{has_text};
 ghost use Rattle.lra_ticket.specs.Locks.{lock_id, pass_id, pass_view};
 
 use crate::faulty::Faulty;
@@ -116,8 +117,8 @@ fn ask<R: Wait>(
     moment: u64,
     answers: &mut Answers,
 ) -> Option<Errand>
-    requires { IsClerkOf office.now.lock clerk.old }
-    ensures { IsClerkOf office.now.lock clerk.new }
+    requires { IsClerkOf office.now.lock has_text clerk.old }
+    ensures { IsClerkOf office.now.lock has_text clerk.new }
 {
     match office.next_ask(rt, clerk, moment) {
         Ok(errand) => {
@@ -141,8 +142,8 @@ fn record<R: Wait>(
     outcome: Outcome,
     answers: &mut Answers,
 )
-    requires { IsClerkOf office.now.lock clerk.old }
-    ensures { IsClerkOf office.now.lock clerk.new }
+    requires { IsClerkOf office.now.lock has_text clerk.old }
+    ensures { IsClerkOf office.now.lock has_text clerk.new }
 {
     let Some(errand) = errand else {
         answers.note(b'-');
@@ -170,8 +171,8 @@ fn give_orders<R: Wait>(
     second: &Uris,
     answers: &mut Answers,
 )
-    requires { IsClerkOf office.now.lock clerk.old }
-    ensures { IsClerkOf office.now.lock clerk.new }
+    requires { IsClerkOf office.now.lock has_text clerk.old }
+    ensures { IsClerkOf office.now.lock has_text clerk.new }
 {
     answers.note_told(office.start(rt, clerk, 10, None, 0));
     answers.note_told(office.join(rt, clerk, 11, 1, first));
@@ -186,8 +187,8 @@ fn ask_both<R: Wait>(
     clerk: &mut Clerk<Desk<Faulty>>,
     answers: &mut Answers,
 )
-    requires { IsClerkOf office.now.lock clerk.old }
-    ensures { IsClerkOf office.now.lock clerk.new }
+    requires { IsClerkOf office.now.lock has_text clerk.old }
+    ensures { IsClerkOf office.now.lock has_text clerk.new }
 {
     let one = ask(rt, office, clerk, 21, answers);
     let two = ask(rt, office, clerk, 22, answers);
@@ -203,8 +204,8 @@ fn give_all<R: Wait>(
     first: &Uris,
     second: &Uris,
 ) -> Answers
-    requires { IsClerkOf office.now.lock clerk.old }
-    ensures { IsClerkOf office.now.lock clerk.new }
+    requires { IsClerkOf office.now.lock has_text clerk.old }
+    ensures { IsClerkOf office.now.lock has_text clerk.new }
 {
     let mut answers = Answers::new();
     give_orders(rt, office, clerk, first, second, &mut answers);
@@ -225,7 +226,7 @@ fn run_by<R: Wait>(
     first: &Uris,
     second: &Uris,
 ) -> Result<Ran, Fail>
-    requires { IsClerkOf office.lock clerk }
+    requires { IsClerkOf office.lock has_text clerk }
 {
     let answers = give_all(rt, &office, &mut clerk, first, second);
     Ok(Some(ended(office, clerk, answers)?))
@@ -343,7 +344,7 @@ fn started_at<R: Wait>(
     mut clerk: Clerk<Desk<Faulty>>,
     moment: u64,
 ) -> Result<Vec<u8>, Fail>
-    requires { IsClerkOf office.lock clerk }
+    requires { IsClerkOf office.lock has_text clerk }
 {
     let is_started = office.start(rt, &mut clerk, moment, None, 0).is_ok();
     let (writer, is_started) = ended(office, clerk, is_started)?;

@@ -97,7 +97,7 @@ struct Worker<'a, V: Serving, R> {
     clerk: Clerk<V>,
     number: u32,
     written: Vec<Own>,
-    ghost there: { IsClerkOf office.now.lock clerk },
+    ghost there: { IsClerkOf office.now.lock V.covers clerk },
 }
 
 impl<V: Serving, R: Wait> Worker<'_, V, R> {
@@ -235,7 +235,7 @@ fn work_of<V: Serving, R: Wait>(
     clerk: Clerk<V>,
     number: u32,
 ) -> Option<Vec<Own>>
-    requires { IsClerkOf office.now.lock clerk }
+    requires { IsClerkOf office.now.lock V.covers clerk }
 {
     let mut worker = Worker {
         rt,
@@ -260,7 +260,7 @@ fn clerks<V: Serving, R: Wait>(
     requires none { all.old.items ≡ [] }
     requires lock { pass_id pass ≡ lock_id office.now.lock }
     requires newcomer { (pass_view pass).number ≡ 0 }
-    ensures jobs { OnOk result (All (λ job. IsClerkOf office.now.lock job.1) all.new.items) }
+    ensures jobs { OnOk result (All (λ job. IsClerkOf office.now.lock V.covers job.1) all.new.items) }
     ensures lock { IfOk result (λ pass. pass_id pass ≡ lock_id office.now.lock) }
     ensures newcomer { IfOk result (λ pass. (pass_view pass).number ≡ 0) }
 {
@@ -282,13 +282,13 @@ fn work_all<V: Serving + Send, R: Threads + Wait + Sync>(
     office: &OfficeOf<V>,
     jobs: Vec<(u32, Clerk<V>)>,
 ) -> Written
-    requires { All (λ job. IsClerkOf office.now.lock job.1) jobs.items }
+    requires { All (λ job. IsClerkOf office.now.lock V.covers job.1) jobs.items }
 {
     thread::map_vec(
         rt,
         jobs,
         &|job: (u32, Clerk<V>)| -> Option<Vec<Own>>
-            requires { IsClerkOf office.now.lock job.1 }
+            requires { IsClerkOf office.now.lock V.covers job.1 }
         { work_of(rt, alloc, office, job.1, job.0) },
     )
 }
@@ -302,7 +302,7 @@ fn work_at<V: Serving + Send, R: Threads + Wait + Sync>(
 ) -> Result<(Clerk<V>, Written), Fail>
     requires lock { pass_id pass ≡ lock_id office.now.lock }
     requires newcomer { (pass_view pass).number ≡ 0 }
-    ensures { IfOk result (λ r. IsClerkOf office.now.lock r.0) }
+    ensures { IfOk result (λ r. IsClerkOf office.now.lock V.covers r.0) }
 {
     let mut jobs = Vec::new(alloc);
     let pass = clerks(rt, office, pass, &mut jobs)?;

@@ -122,8 +122,8 @@ fn joins<V: Serving, R: Wait>(
     clerk: &mut Clerk<V>,
     member: u64,
 ) -> Result<bool, Fail>
-    requires { IsClerkOf office.now.lock clerk.old }
-    ensures { IsClerkOf office.now.lock clerk.new }
+    requires { IsClerkOf office.now.lock V.covers clerk.old }
+    ensures { IsClerkOf office.now.lock V.covers clerk.new }
 {
     let host = format!(in alloc; "http://p{member}.test")?;
     let uris = participant(alloc, &host, false)?;
@@ -140,8 +140,8 @@ fn closes<V: Serving, R: Wait>(
     clerk: &mut Clerk<V>,
     members: u64,
 ) -> Result<bool, Fail>
-    requires { IsClerkOf office.now.lock clerk.old }
-    ensures { IsClerkOf office.now.lock clerk.new }
+    requires { IsClerkOf office.now.lock V.covers clerk.old }
+    ensures { IsClerkOf office.now.lock V.covers clerk.new }
 {
     let mut done = office.start(rt, clerk, 1, None, 0) == Ok(Told::Action(1));
     for place in 0..members {
@@ -158,8 +158,8 @@ fn holds_back<V: Serving, R: Wait>(
     clerk: Clerk<V>,
     holds: u32,
 ) -> (Clerk<V>, (WorkerEnd, u32))
-    requires { IsClerkOf office.now.lock clerk }
-    ensures { IsClerkOf office.now.lock result.0 }
+    requires { IsClerkOf office.now.lock V.covers clerk }
+    ensures { IsClerkOf office.now.lock V.covers result.0 }
 {
     let mut gate = Holding {
         holds,
@@ -180,7 +180,7 @@ fn held_at<V: Serving, R: Wait>(
 ) -> Result<(Clerk<V>, (WorkerEnd, u32)), Fail>
     requires lock { pass_id pass ≡ lock_id office.now.lock }
     requires newcomer { (pass_view pass).number ≡ 0 }
-    ensures { IfOk result (λ r. IsClerkOf office.now.lock r.0) }
+    ensures { IfOk result (λ r. IsClerkOf office.now.lock V.covers r.0) }
 {
     let mut clerk = enrolled(rt, office, pass)?;
     match closes(rt, alloc, office, &mut clerk, 1) {
@@ -236,8 +236,8 @@ fn answers_one<V: Serving, R: Wait + time::Clock>(
     clerk: Clerk<V>,
     second: &AtomicBool,
 ) -> (Clerk<V>, bool)
-    requires { IsClerkOf office.now.lock clerk }
-    ensures { IsClerkOf office.now.lock result.0 }
+    requires { IsClerkOf office.now.lock V.covers clerk }
+    ensures { IsClerkOf office.now.lock V.covers result.0 }
 {
     let mut gate = Patient {
         rt,
@@ -256,19 +256,19 @@ fn two_answer<V: Serving + Send, R: Threads + Wait + time::Clock + Sync>(
     second: Clerk<V>,
     signal: &AtomicBool,
 ) -> (Clerk<V>, bool)
-    requires first { IsClerkOf office.now.lock first }
-    requires second { IsClerkOf office.now.lock second }
-    ensures { IsClerkOf office.now.lock result.0 }
+    requires first { IsClerkOf office.now.lock V.covers first }
+    requires second { IsClerkOf office.now.lock V.covers second }
+    ensures { IsClerkOf office.now.lock V.covers result.0 }
 {
     let (one, other) = join(
         rt,
         move || -> (Clerk<V>, bool)
-            requires { IsClerkOf office.now.lock first }
-            ensures { IsClerkOf office.entry.now.lock result.0 }
+            requires { IsClerkOf office.now.lock V.covers first }
+            ensures { IsClerkOf office.entry.now.lock V.covers result.0 }
         { answers_one(rt, office, first, signal) },
         move || -> (Clerk<V>, bool)
-            requires { IsClerkOf office.now.lock second }
-            ensures { IsClerkOf office.entry.now.lock result.0 }
+            requires { IsClerkOf office.now.lock V.covers second }
+            ensures { IsClerkOf office.entry.now.lock V.covers result.0 }
         { answers_one(rt, office, second, signal) },
     );
     let (clerk, has_ended) = one;
@@ -286,7 +286,7 @@ fn overlap<V: Serving + Send, R: Threads + Wait + time::Clock + Sync>(
 ) -> Result<(Clerk<V>, bool), Fail>
     requires lock { pass_id pass ≡ lock_id office.now.lock }
     requires newcomer { (pass_view pass).number ≡ 0 }
-    ensures { IfOk result (λ r. IsClerkOf office.now.lock r.0) }
+    ensures { IfOk result (λ r. IsClerkOf office.now.lock V.covers r.0) }
 {
     let (mut first, second) = enrolled_two(rt, office, pass)?;
     match closes(rt, alloc, office, &mut first, 2) {

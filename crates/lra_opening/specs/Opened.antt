@@ -11,13 +11,14 @@ use Rattle.lra_office.specs.Clerks.{clerk_view, IsClerkOf}
 use Rattle.lra_office.specs.Enrolled.{IsEnrolled}
 use Rattle.lra_office.specs.Made.{new_origin}
 use Rattle.lra_office.specs.Origins.{Origin}
+use Rattle.lra_office.specs.Positions.{has_text}
 use Rattle.lra_office.specs.Reopened.{IsFrontOf, IsReopened}
 use Rattle.lra_office.specs.Windows.{IsOfficeOf}
 use Rattle.lra_office.specs.Wholes.{whole_lines}
 
 -- a new office of an origin, and its first clerk, which has enrolled
 pub record IsBegun {X : Type 0} {g : Ghosts X Origin} (o : Origin) (moment : ℕ) (office : OfficeOf X Origin) (clerk : Clerk X Origin g) : Type 0 where
-  pub known : IsClerkOf office.lock clerk
+  pub known : IsClerkOf office.lock has_text clerk
   pub copies : IsOfficeOf o.setting office
   pub enrolled : IsEnrolled o.setting (first_view 0 o []) moment clerk.number (clerk_view clerk)
 

@@ -5,6 +5,7 @@
 
 ghost use Rattle.std.specs.Prelude.{◌≡◌, IfSome};
 ghost use Rattle.lra_office.specs.Clerks.{IsClerkOf};
+ghost use Rattle.lra_office.specs.Positions.{has_text};
 ghost use Rattle.lra_ticket.specs.Locks.{lock_id, pass_id, pass_view};
 
 use crate::answers::{put_answer, put_known, put_next};
@@ -62,7 +63,7 @@ struct Player<'a, V: Serving, R> {
     held: Errands,
     /// The commands, each with its answer.
     text: &'a mut Vec<u8>,
-    ghost there: { IsClerkOf office.lock clerk },
+    ghost there: { IsClerkOf office.lock V.covers clerk },
 }
 
 impl<V: Serving, R: Wait> Player<'_, V, R> {
@@ -266,8 +267,8 @@ fn named<V: Serving, R: Wait>(
     moment: u64,
     order: &Order<'_>,
 ) -> Result<Told, OfficeRefusal>
-    requires { IsClerkOf office.now.lock clerk.old }
-    ensures { IsClerkOf office.now.lock clerk.new }
+    requires { IsClerkOf office.now.lock V.covers clerk.old }
+    ensures { IsClerkOf office.now.lock V.covers clerk.new }
 {
     match *order {
         Order::Start { parent, limit } => office.start(rt, clerk, moment, parent, limit),
@@ -331,7 +332,7 @@ fn enrolled<V: Serving, R: Wait>(
 ) -> Option<Clerk<V>>
     requires lock { pass_id pass ≡ lock_id office.now.lock }
     requires newcomer { (pass_view pass).number ≡ 0 }
-    ensures { IfSome result (IsClerkOf office.now.lock) }
+    ensures { IfSome result (IsClerkOf office.now.lock V.covers) }
 {
     match office.clerk(rt, pass, moment) {
         Ok(clerk) => Some(clerk),
@@ -342,7 +343,7 @@ fn enrolled<V: Serving, R: Wait>(
 
 /// An office and its clerk after a script that the clerk gives.
 fn given<V: Serving, R: Wait>(mut player: Player<'_, V, R>, script: &str) -> (OfficeOf<V>, Clerk<V>)
-    ensures { IsClerkOf result.0.lock result.1 }
+    ensures { IsClerkOf result.0.lock V.covers result.1 }
 {
     let _ = player.play(script);
     let Player {
@@ -360,7 +361,7 @@ fn given<V: Serving, R: Wait>(mut player: Player<'_, V, R>, script: &str) -> (Of
 
 /// Shuts an office by its clerk, and lets go of what is left of it.
 fn shut<W: Write + Drop>(office: Office<W>, clerk: Clerk<Desk<W>>)
-    requires { IsClerkOf office.lock clerk }
+    requires { IsClerkOf office.lock has_text clerk }
 {
     match office.shut(clerk) {
         Ok((coordinator, scribe)) => {

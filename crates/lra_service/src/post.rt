@@ -29,10 +29,10 @@ fn engage<V: Serving, R: Wait>(
     moment: u64,
     jobs: &mut Vec<(Duty, Clerk<V>)>,
 ) -> Result<Clerk<V>, ServeFault>
-    requires clerk { IsAt V.setting office.now clerk }
-    requires hired { All (λ job. IsAt V.setting office.now job.1) jobs.old.items }
-    ensures other { IfOk result (λ other. IsAt V.setting office.now other) }
-    ensures hired { OnOk result (All (λ job. IsAt V.setting office.now job.1) jobs.new.items) }
+    requires clerk { IsAt V.setting V.covers office.now clerk }
+    requires hired { All (λ job. IsAt V.setting V.covers office.now job.1) jobs.old.items }
+    ensures other { IfOk result (λ other. IsAt V.setting V.covers office.now other) }
+    ensures hired { OnOk result (All (λ job. IsAt V.setting V.covers office.now job.1) jobs.new.items) }
     ensures fault { IfErr result IsOfNoScript }
 {
     let (clerk, pass) = office.split(clerk);
@@ -55,9 +55,9 @@ fn add_all<V: Serving, R: Wait>(
     workers: u32,
     jobs: &mut Vec<(Duty, Clerk<V>)>,
 ) -> Result<(), ServeFault>
-    requires first { IsAt V.setting office.now first }
-    requires hired { All (λ job. IsAt V.setting office.now job.1) jobs.old.items }
-    ensures hired { OnOk result (All (λ job. IsAt V.setting office.now job.1) jobs.new.items) }
+    requires first { IsAt V.setting V.covers office.now first }
+    requires hired { All (λ job. IsAt V.setting V.covers office.now job.1) jobs.old.items }
+    ensures hired { OnOk result (All (λ job. IsAt V.setting V.covers office.now job.1) jobs.new.items) }
     ensures fault { IfErr result IsOfNoScript }
 {
     let mut next = first;
@@ -80,9 +80,9 @@ fn add_each<V: Serving, R: Wait>(
     is_watched: bool,
     jobs: &mut Vec<(Duty, Clerk<V>)>,
 ) -> Result<(), ServeFault>
-    requires first { IsAt V.setting office.now first }
-    requires hired { All (λ job. IsAt V.setting office.now job.1) jobs.old.items }
-    ensures hired { OnOk result (All (λ job. IsAt V.setting office.now job.1) jobs.new.items) }
+    requires first { IsAt V.setting V.covers office.now first }
+    requires hired { All (λ job. IsAt V.setting V.covers office.now job.1) jobs.old.items }
+    ensures hired { OnOk result (All (λ job. IsAt V.setting V.covers office.now job.1) jobs.new.items) }
     ensures fault { IfErr result IsOfNoScript }
 {
     if is_watched {
@@ -102,8 +102,8 @@ pub(crate) fn hire_all<V: Serving, R: Wait>(
     workers: u32,
     is_watched: bool,
 ) -> Result<Vec<(Duty, Clerk<V>)>, ServeFault>
-    requires { IsAt V.setting office.now first }
-    ensures hired { IfOk result (λ jobs. All (λ job. IsAt V.setting office.now job.1) jobs.items) }
+    requires { IsAt V.setting V.covers office.now first }
+    ensures hired { IfOk result (λ jobs. All (λ job. IsAt V.setting V.covers office.now job.1) jobs.items) }
     ensures fault { IfErr result IsOfNoScript }
 {
     let mut jobs = Vec::new(alloc);

@@ -195,7 +195,7 @@ impl<R: Wait + Clock, H: Journalist> Shift<'_, R, H> {
         office: &OfficeOf<V>,
         clerk: Clerk<V>,
     )
-        requires clerk { IsAt V.setting office.now clerk }
+        requires clerk { IsAt V.setting V.covers office.now clerk }
         requires here { lock_id office.now.lock ≡ Q.lock }
     {
         let window: Window<'_, V, R, Q> = Window::new(self.rt, office, clerk);
@@ -217,7 +217,7 @@ impl<R: Wait + Clock, H: Journalist> Shift<'_, R, H> {
 
     /// Answers operators, where any come in.
     fn watch<V: Serving>(&self, office: &OfficeOf<V>, clerk: Clerk<V>)
-        requires { IsAt V.setting office.now clerk }
+        requires { IsAt V.setting V.covers office.now clerk }
     {
         match self.watchpost {
             Some(post) => self.watch_at::<V, Brand>(post, office, clerk),
@@ -251,7 +251,7 @@ impl<
         office: &OfficeOf<V>,
         clerk: Clerk<V>,
     )
-        requires clerk { IsAt V.setting office.now clerk }
+        requires clerk { IsAt V.setting V.covers office.now clerk }
         requires here { lock_id office.now.lock ≡ Q.lock }
     {
         let window: Window<'_, V, R, Q> = Window::new(self.rt, office, clerk);
@@ -281,7 +281,7 @@ impl<
 
     /// Answers connections.
     fn answer<V: Serving>(&self, place: u32, office: &OfficeOf<V>, clerk: Clerk<V>)
-        requires { IsAt V.setting office.now clerk }
+        requires { IsAt V.setting V.covers office.now clerk }
     {
         match self.door.arrivals(place) {
             Some(arrivals) => {
@@ -394,7 +394,7 @@ impl<
 
     /// Lets limits fire and carries errands, many at once, at a place whose poll was taken.
     fn carry_at<V: Serving>(&self, stall: &Stall, poll: Poll, office: &OfficeOf<V>, clerk: Clerk<V>)
-        requires { IsAt V.setting office.now clerk }
+        requires { IsAt V.setting V.covers office.now clerk }
     {
         let journal = office.instance();
         let mut gate = self.gate(stall, journal);
@@ -426,7 +426,7 @@ impl<
 
     /// Lets limits fire and carries errands, many at once. Where there is no place for that no one answers any more.
     fn carry<V: Serving>(&self, place: u32, office: &OfficeOf<V>, clerk: Clerk<V>)
-        requires { IsAt V.setting office.now clerk }
+        requires { IsAt V.setting V.covers office.now clerk }
     {
         match self.take_poll(place) {
             Some((stall, poll)) => self.carry_at(stall, poll, office, clerk),
@@ -497,7 +497,7 @@ impl<
 
     /// Waits until all stand, and does a clerk's duty. With the last clerk's end all end.
     pub(crate) fn stand<V: Serving>(&self, office: &OfficeOf<V>, duty: Duty, clerk: Clerk<V>)
-        requires { IsAt V.setting office.now clerk }
+        requires { IsAt V.setting V.covers office.now clerk }
     {
         if !self.latch.pass(self.rt) {
             drop(clerk);
@@ -510,7 +510,7 @@ impl<
     }
 
     fn work<V: Serving>(&self, office: &OfficeOf<V>, duty: Duty, clerk: Clerk<V>)
-        requires { IsAt V.setting office.now clerk }
+        requires { IsAt V.setting V.covers office.now clerk }
     {
         match duty {
             Duty::Answer(place) => self.answer(place, office, clerk),

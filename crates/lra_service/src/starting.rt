@@ -36,7 +36,7 @@ pub(crate) fn work<
     address: &str,
     writer: &mut W,
 ) -> Result<(), ServeFault>
-    requires { All (λ job. IsAt V.setting office.now job.1) jobs.items }
+    requires { All (λ job. IsAt V.setting V.covers office.now job.1) jobs.items }
     ensures said { OnOk result (Appends (W.contents writer.old) (W.contents writer.new) (serving_line address.now)) }
     ensures fault { IfErr result (IsSaid address.now (W.contents writer.old) (W.contents writer.new)) }
 {
@@ -45,7 +45,7 @@ pub(crate) fn work<
         thread::scope_env(),
         shift.rt,
         move |scope|
-            requires { IsSync R.row × IsSync H.row × IsSend V.row × All (λ job. IsAt V.setting office.now job.1) jobs.items }
+            requires { IsSync R.row × IsSync H.row × IsSend V.row × All (λ job. IsAt V.setting V.covers office.now job.1) jobs.items }
             ensures said { OnOk result.0 (Appends (W.contents writer.entry.now) (W.contents result.1.now) (serving_line address.entry.now)) }
             ensures fault { IfErr result.0 (IsSaid address.entry.now (W.contents writer.entry.now) (W.contents result.1.now)) }
             ensures back { result.1.ghost_name ≡ writer.entry.ghost_name }
@@ -54,7 +54,7 @@ pub(crate) fn work<
                 let started = Builder::new().spawn_scoped(
                     scope,
                     move ||
-                        requires { IsAt V.setting office.now job.1 }
+                        requires { IsAt V.setting V.covers office.now job.1 }
                     { shift.stand(office, job.0, job.1) },
                 );
                 if started.is_err() {

@@ -56,10 +56,10 @@ fn note<V: Serving, R: Wait, C: Carriage, G: Gate, K: Clock>(
     errand: Errand,
     outcome: Outcome,
 ) -> Result<(), WorkerEnd>
-    requires clerk { IsClerkOf office.now.lock clerk.old }
+    requires clerk { IsClerkOf office.now.lock V.covers clerk.old }
     requires of_ask { IsOfAsk (clerk_view clerk.old).seen errand }
     requires given { C.gives errand.ask errand.kind outcome }
-    ensures clerk { IsClerkOf office.now.lock clerk.new }
+    ensures clerk { IsClerkOf office.now.lock V.covers clerk.new }
     ensures number { clerk.new.number ≡ clerk.old.number }
     ensures work { (s : Post V.Origin K) → Carries V.setting C.gives K.tells s (post (clerk_view clerk.old) clock.old)
         → MatchResult result (λ _. Carries V.setting C.gives K.tells s (post (clerk_view clerk.new) clock.new)) (λ end. EndsCarrying V.setting C.gives K.tells s end (post (clerk_view clerk.new) clock.new)) }
@@ -102,10 +102,10 @@ fn hand_over<V: Serving, R: Wait, C: Carriage, G: Gate, K: Clock>(
     clock: &mut K,
     errand: Errand,
 ) -> Result<(), WorkerEnd>
-    requires clerk { IsClerkOf office.now.lock clerk.old }
+    requires clerk { IsClerkOf office.now.lock V.covers clerk.old }
     requires held { AreOfAsks (clerk_view clerk.old).seen (C.held carriage.old) }
     requires of_ask { IsOfAsk (clerk_view clerk.old).seen errand }
-    ensures clerk { IsClerkOf office.now.lock clerk.new }
+    ensures clerk { IsClerkOf office.now.lock V.covers clerk.new }
     ensures number { clerk.new.number ≡ clerk.old.number }
     ensures held { AreOfAsks (clerk_view clerk.new).seen (C.held carriage.new) }
     ensures work { (s : Post V.Origin K) → Carries V.setting C.gives K.tells s (post (clerk_view clerk.old) clock.old)
@@ -135,9 +135,9 @@ fn take_one<V: Serving, R: Wait, C: Carriage, G: Gate, K: Clock>(
     gate: &mut G,
     clock: &mut K,
 ) -> Result<bool, WorkerEnd>
-    requires clerk { IsClerkOf office.now.lock clerk.old }
+    requires clerk { IsClerkOf office.now.lock V.covers clerk.old }
     requires held { AreOfAsks (clerk_view clerk.old).seen (C.held carriage.old) }
-    ensures clerk { IsClerkOf office.now.lock clerk.new }
+    ensures clerk { IsClerkOf office.now.lock V.covers clerk.new }
     ensures number { clerk.new.number ≡ clerk.old.number }
     ensures held { AreOfAsks (clerk_view clerk.new).seen (C.held carriage.new) }
     ensures work { (s : Post V.Origin K) → Carries V.setting C.gives K.tells s (post (clerk_view clerk.old) clock.old)
@@ -163,9 +163,9 @@ fn take_due<V: Serving, R: Wait, C: Carriage, G: Gate, K: Clock>(
     gate: &mut G,
     clock: &mut K,
 ) -> Result<(), WorkerEnd>
-    requires clerk { IsClerkOf office.now.lock clerk.old }
+    requires clerk { IsClerkOf office.now.lock V.covers clerk.old }
     requires held { AreOfAsks (clerk_view clerk.old).seen (C.held carriage.old) }
-    ensures clerk { IsClerkOf office.now.lock clerk.new }
+    ensures clerk { IsClerkOf office.now.lock V.covers clerk.new }
     ensures number { clerk.new.number ≡ clerk.old.number }
     ensures held { AreOfAsks (clerk_view clerk.new).seen (C.held carriage.new) }
     ensures work { (s : Post V.Origin K) → Carries V.setting C.gives K.tells s (post (clerk_view clerk.old) clock.old)
@@ -194,9 +194,9 @@ fn record_one<V: Serving, R: Wait, C: Carriage, G: Gate, K: Clock>(
     gate: &mut G,
     clock: &mut K,
 ) -> Result<bool, WorkerEnd>
-    requires clerk { IsClerkOf office.now.lock clerk.old }
+    requires clerk { IsClerkOf office.now.lock V.covers clerk.old }
     requires held { AreOfAsks (clerk_view clerk.old).seen (C.held carriage.old) }
-    ensures clerk { IsClerkOf office.now.lock clerk.new }
+    ensures clerk { IsClerkOf office.now.lock V.covers clerk.new }
     ensures number { clerk.new.number ≡ clerk.old.number }
     ensures held { AreOfAsks (clerk_view clerk.new).seen (C.held carriage.new) }
     ensures work { (s : Post V.Origin K) → Carries V.setting C.gives K.tells s (post (clerk_view clerk.old) clock.old)
@@ -221,9 +221,9 @@ fn record_done<V: Serving, R: Wait, C: Carriage, G: Gate, K: Clock>(
     gate: &mut G,
     clock: &mut K,
 ) -> Result<(), WorkerEnd>
-    requires clerk { IsClerkOf office.now.lock clerk.old }
+    requires clerk { IsClerkOf office.now.lock V.covers clerk.old }
     requires held { AreOfAsks (clerk_view clerk.old).seen (C.held carriage.old) }
-    ensures clerk { IsClerkOf office.now.lock clerk.new }
+    ensures clerk { IsClerkOf office.now.lock V.covers clerk.new }
     ensures number { clerk.new.number ≡ clerk.old.number }
     ensures held { AreOfAsks (clerk_view clerk.new).seen (C.held carriage.new) }
     ensures work { (s : Post V.Origin K) → Carries V.setting C.gives K.tells s (post (clerk_view clerk.old) clock.old)
@@ -249,9 +249,9 @@ fn begin<V: Serving, R: Wait, C: Carriage, G: Gate, K: Clock>(
     gate: &mut G,
     clock: &mut K,
 ) -> Result<(), WorkerEnd>
-    requires clerk { IsClerkOf office.now.lock clerk.old }
+    requires clerk { IsClerkOf office.now.lock V.covers clerk.old }
     requires held { AreOfAsks (clerk_view clerk.old).seen (C.held carriage.old) }
-    ensures clerk { IsClerkOf office.now.lock clerk.new }
+    ensures clerk { IsClerkOf office.now.lock V.covers clerk.new }
     ensures number { clerk.new.number ≡ clerk.old.number }
     ensures held { AreOfAsks (clerk_view clerk.new).seen (C.held carriage.new) }
     ensures work { (s : Post V.Origin K) → Carries V.setting C.gives K.tells s (post (clerk_view clerk.old) clock.old)
@@ -273,9 +273,9 @@ fn begin_next<V: Serving, R: Wait, C: Carriage, G: Gate, K: Clock>(
     gate: &mut G,
     clock: &mut K,
 ) -> Result<Option<u64>, WorkerEnd>
-    requires clerk { IsClerkOf office.now.lock clerk.old }
+    requires clerk { IsClerkOf office.now.lock V.covers clerk.old }
     requires held { AreOfAsks (clerk_view clerk.old).seen (C.held carriage.old) }
-    ensures clerk { IsClerkOf office.now.lock clerk.new }
+    ensures clerk { IsClerkOf office.now.lock V.covers clerk.new }
     ensures number { clerk.new.number ≡ clerk.old.number }
     ensures held { AreOfAsks (clerk_view clerk.new).seen (C.held carriage.new) }
     ensures next { IfOk result (λ next. G.is_closing gate.new ⊎ IsFirstMoment (V.setting (clerk_view clerk.new).origin).limits (clerk_view clerk.new).seen next) }
@@ -305,9 +305,9 @@ fn carry_on<V: Serving, R: Wait, C: Carriage, G: Gate, K: Clock>(
     clock: &mut K,
     next: Option<u64>,
 ) -> Result<(), WorkerEnd>
-    requires clerk { IsClerkOf office.now.lock clerk.old }
+    requires clerk { IsClerkOf office.now.lock V.covers clerk.old }
     requires held { AreOfAsks (clerk_view clerk.old).seen (C.held carriage.old) }
-    ensures clerk { IsClerkOf office.now.lock clerk.new }
+    ensures clerk { IsClerkOf office.now.lock V.covers clerk.new }
     ensures number { clerk.new.number ≡ clerk.old.number }
     ensures held { AreOfAsks (clerk_view clerk.new).seen (C.held carriage.new) }
     ensures work { (s : Post V.Origin K) → Carries V.setting C.gives K.tells s (post (clerk_view clerk.old) clock.old)
@@ -327,9 +327,9 @@ fn take_turn<V: Serving, R: Wait, C: Carriage, G: Gate, K: Clock>(
     gate: &mut G,
     clock: &mut K,
 ) -> Result<(), WorkerEnd>
-    requires clerk { IsClerkOf office.now.lock clerk.old }
+    requires clerk { IsClerkOf office.now.lock V.covers clerk.old }
     requires held { AreOfAsks (clerk_view clerk.old).seen (C.held carriage.old) }
-    ensures clerk { IsClerkOf office.now.lock clerk.new }
+    ensures clerk { IsClerkOf office.now.lock V.covers clerk.new }
     ensures number { clerk.new.number ≡ clerk.old.number }
     ensures held { AreOfAsks (clerk_view clerk.new).seen (C.held carriage.new) }
     ensures work { (s : Post V.Origin K) → Carries V.setting C.gives K.tells s (post (clerk_view clerk.old) clock.old)
@@ -355,9 +355,9 @@ pub fn run_carrier<V: Serving, R: Wait, C: Carriage, G: Gate, K: Clock>(
     gate: &mut G,
     clock: &mut K,
 ) -> (Clerk<V>, WorkerEnd)
-    requires clerk { IsClerkOf office.now.lock clerk }
+    requires clerk { IsClerkOf office.now.lock V.covers clerk }
     requires none { AreFree (C.held carriage.old) }
-    ensures clerk { IsClerkOf office.now.lock result.0 }
+    ensures clerk { IsClerkOf office.now.lock V.covers result.0 }
     ensures number { result.0.number ≡ clerk.number }
     ensures work { EndsCarrying V.setting C.gives K.tells (post (clerk_view clerk) clock.old) result.1 (post (clerk_view result.0) clock.new) }
     ensures why { TellsWhy (G.is_shut gate.new) (G.holds gate.new) (HasStopped V.origin V.history V.lawful V.has_stopped (clerk_view result.0)) (clerk_view result.0).seen result.1 }

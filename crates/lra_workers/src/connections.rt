@@ -58,10 +58,10 @@ fn answer<V: Serving, R: Wait, L: Line, K: Clock, Q: WhichLock>(
     clerk: Clerk<V>,
     clock: &mut K,
 ) -> Clerk<V>
-    requires clerk { IsClerkOf office.now.lock clerk }
+    requires clerk { IsClerkOf office.now.lock V.covers clerk }
     requires made { IsOfficeOf (V.setting (clerk_view clerk).origin) office.now }
     requires here { lock_id office.now.lock ≡ Q.lock }
-    ensures clerk { IsClerkOf office.now.lock result }
+    ensures clerk { IsClerkOf office.now.lock V.covers result }
     ensures answered { Connection (KeepsInTurn V.setting V.origin V.history V.lawful V.has_stopped) K.tells (clerk_sight V.setting clerk) clock.old (clerk_sight V.setting result) clock.new }
 {
     let mut window: Window<'_, V, R, Q> = Window::new(rt, office, clerk);
@@ -81,9 +81,9 @@ pub fn serve_connections<V: Serving, R: Wait, D: Door, K: Clock>(
     clock: &mut K,
     count: u64,
 ) -> (Clerk<V>, ServeEnd)
-    requires clerk { IsClerkOf office.now.lock clerk }
+    requires clerk { IsClerkOf office.now.lock V.covers clerk }
     requires made { IsOfficeOf (V.setting (clerk_view clerk).origin) office.now }
-    ensures clerk { IsClerkOf office.now.lock result.0 }
+    ensures clerk { IsClerkOf office.now.lock V.covers result.0 }
     ensures number { result.0.number ≡ clerk.number }
     ensures setting { V.setting (clerk_view result.0).origin ≡ V.setting (clerk_view clerk).origin }
     ensures seen { IsPrefix (clerk_view clerk).seen (clerk_view result.0).seen }

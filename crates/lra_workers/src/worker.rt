@@ -42,8 +42,8 @@ pub(crate) fn fire<V: Serving, R: Wait, C: Courier, K: Clock>(
     clerk: &mut Clerk<V>,
     clock: &mut K,
 ) -> Result<(), OfficeRefusal>
-    requires { IsClerkOf office.now.lock clerk.old }
-    ensures clerk { IsClerkOf office.now.lock clerk.new }
+    requires { IsClerkOf office.now.lock V.covers clerk.old }
+    ensures clerk { IsClerkOf office.now.lock V.covers clerk.new }
     ensures number { clerk.new.number ≡ clerk.old.number }
     ensures work { (s : Post V.Origin K) → Works V.setting C.gives K.tells s (post (clerk_view clerk.old) clock.old)
         → MatchResult result (λ _. Works V.setting C.gives K.tells s (post (clerk_view clerk.new) clock.new)) (λ r. WorksUpTo V.setting C.gives K.tells s r (post (clerk_view clerk.new) clock.new)) }
@@ -91,8 +91,8 @@ pub(crate) fn next_errand<V: Serving, R: Wait, C: Courier, K: Clock>(
     clerk: &mut Clerk<V>,
     clock: &mut K,
 ) -> Result<Option<Errand>, OfficeRefusal>
-    requires { IsClerkOf office.now.lock clerk.old }
-    ensures clerk { IsClerkOf office.now.lock clerk.new }
+    requires { IsClerkOf office.now.lock V.covers clerk.old }
+    ensures clerk { IsClerkOf office.now.lock V.covers clerk.new }
     ensures number { clerk.new.number ≡ clerk.old.number }
     ensures of_ask { IfOk result (λ errand. IfSome errand (λ e. IsOfAsk (clerk_view clerk.new).seen e)) }
     ensures work { (s : Post V.Origin K) → Works V.setting C.gives K.tells s (post (clerk_view clerk.old) clock.old)
@@ -114,10 +114,10 @@ fn record<V: Serving, R: Wait, C: Courier, G: Gate, K: Clock>(
     errand: Errand,
     outcome: Outcome,
 ) -> Result<(), WorkerEnd>
-    requires clerk { IsClerkOf office.now.lock clerk.old }
+    requires clerk { IsClerkOf office.now.lock V.covers clerk.old }
     requires of_ask { IsOfAsk (clerk_view clerk.old).seen errand }
     requires given { C.gives errand.ask errand.kind outcome }
-    ensures clerk { IsClerkOf office.now.lock clerk.new }
+    ensures clerk { IsClerkOf office.now.lock V.covers clerk.new }
     ensures number { clerk.new.number ≡ clerk.old.number }
     ensures work { (s : Post V.Origin K) → Works V.setting C.gives K.tells s (post (clerk_view clerk.old) clock.old)
         → MatchResult result (λ _. Works V.setting C.gives K.tells s (post (clerk_view clerk.new) clock.new)) (λ end. EndsWork V.setting C.gives K.tells s end (post (clerk_view clerk.new) clock.new)) }
@@ -147,9 +147,9 @@ fn carry<V: Serving, R: Wait, C: Courier, G: Gate, K: Clock>(
     clock: &mut K,
     errand: Errand,
 ) -> Result<(), WorkerEnd>
-    requires clerk { IsClerkOf office.now.lock clerk.old }
+    requires clerk { IsClerkOf office.now.lock V.covers clerk.old }
     requires of_ask { IsOfAsk (clerk_view clerk.old).seen errand }
-    ensures clerk { IsClerkOf office.now.lock clerk.new }
+    ensures clerk { IsClerkOf office.now.lock V.covers clerk.new }
     ensures number { clerk.new.number ≡ clerk.old.number }
     ensures work { (s : Post V.Origin K) → Works V.setting C.gives K.tells s (post (clerk_view clerk.old) clock.old)
         → MatchResult result (λ _. Works V.setting C.gives K.tells s (post (clerk_view clerk.new) clock.new)) (λ end. EndsWork V.setting C.gives K.tells s end (post (clerk_view clerk.new) clock.new)) }
@@ -172,8 +172,8 @@ fn take_turn<V: Serving, R: Wait, C: Courier, G: Gate, K: Clock>(
     gate: &mut G,
     clock: &mut K,
 ) -> Result<(), WorkerEnd>
-    requires { IsClerkOf office.now.lock clerk.old }
-    ensures clerk { IsClerkOf office.now.lock clerk.new }
+    requires { IsClerkOf office.now.lock V.covers clerk.old }
+    ensures clerk { IsClerkOf office.now.lock V.covers clerk.new }
     ensures number { clerk.new.number ≡ clerk.old.number }
     ensures work { (s : Post V.Origin K) → Works V.setting C.gives K.tells s (post (clerk_view clerk.old) clock.old)
         → MatchResult result (λ _. Works V.setting C.gives K.tells s (post (clerk_view clerk.new) clock.new)) (λ end. EndsWork V.setting C.gives K.tells s end (post (clerk_view clerk.new) clock.new)) }
@@ -199,8 +199,8 @@ pub fn run_worker<V: Serving, R: Wait, C: Courier, G: Gate, K: Clock>(
     gate: &mut G,
     clock: &mut K,
 ) -> (Clerk<V>, WorkerEnd)
-    requires { IsClerkOf office.now.lock clerk }
-    ensures clerk { IsClerkOf office.now.lock result.0 }
+    requires { IsClerkOf office.now.lock V.covers clerk }
+    ensures clerk { IsClerkOf office.now.lock V.covers result.0 }
     ensures number { result.0.number ≡ clerk.number }
     ensures work { EndsWork V.setting C.gives K.tells (post (clerk_view clerk) clock.old) result.1 (post (clerk_view result.0) clock.new) }
     ensures why { TellsWhy (G.is_shut gate.new) (G.holds gate.new) (HasStopped V.origin V.history V.lawful V.has_stopped (clerk_view result.0)) (clerk_view result.0).seen result.1 }

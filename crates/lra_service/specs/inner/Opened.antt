@@ -1,5 +1,6 @@
 -- What is known of a clerk and its office.
-use Rattle.std.specs.Prelude.{◌≡◌, ℕ, List, Option, IfSome}
+use Rattle.std.specs.Prelude.{◌≡◌, ℕ, Bool, List, Option, IfSome}
+use Rattle.lra_model.specs.History.{History}
 use Rattle.lra_ticket.specs.declared.kept.Kept.{Ghosts}
 use Rattle.lra_commands.specs.declared.limits.Limits.{Limits}
 use Rattle.lra_commands.specs.Counters.{Setting}
@@ -11,8 +12,9 @@ use Rattle.lra_office.specs.Windows.{IsOfficeOf}
 use Rattle.lra_opening.specs.Opened.{GoesOn}
 
 -- a clerk is one of an office, which keeps a copy of what its coordinator was made with
-pub record IsAt {X O : Type 0} {g : Ghosts X O} (setting : O → Setting) (office : OfficeOf X O) (clerk : Clerk X O g) : Type 0 where
-  pub known : IsClerkOf office.lock clerk
+pub record IsAt {X O : Type 0} {g : Ghosts X O} (setting : O → Setting) (covers : O → History → ℕ → Bool)
+    (office : OfficeOf X O) (clerk : Clerk X O g) : Type 0 where
+  pub known : IsClerkOf office.lock covers clerk
   pub copies : IsOfficeOf (setting (clerk_view clerk).origin) office
 
 -- an office goes on from the bytes that were found where a journal is kept, if they are known, with these limits; and its first clerk

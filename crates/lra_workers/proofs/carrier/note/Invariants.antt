@@ -7,7 +7,7 @@ use Rattle.lra_workers.proofs.carrier.note.Given as goal
 
 abbrev pub invariant-loop : goal.invariant-loop
 invariant-loop g l = record {
-  clerk : IsClerkOf l.office.lock l.clerk;
+  clerk : IsClerkOf l.office.lock g.V.Serving.covers l.clerk;
   number : l.clerk.number ≡ l.fn.clerk.number;
   of_ask : IsOfAsk (clerk_view l.clerk).seen l.errand;
   given : g.C.Carriage.gives l.errand.ask l.errand.kind l.outcome;

@@ -1,5 +1,6 @@
 use Rattle.lra_ticket.specs.Locks.{held_view, pass_view}
 use Rattle.lra_office.proofs.AtLock.{extends_same, may_add_nothing, foretold}
+use Rattle.lra_office.proofs.Covers.{covered_at}
 use Rattle.lra_office.proofs.office.OfficeOf.look_ahead.Goals as goal
 
 pub give-pass-requires-clause-extends : goal.give-pass-requires-clause-extends
@@ -13,3 +14,10 @@ returns-clause-next g c =
     let suits = c.in-Ok.ensures.value in
     foretold g.V.Serving.setting (pass_view c.args.pass) (held_view c.in-Ok.taken.0) (pass_view c.give-pass.result) _ _ _ suits.same_origin
     (record { begins = suits.begins; seen_own = suits.seen_own; own = suits.own; enrolled = suits.enrolled; kept = g.met.V.Serving.tells c.in-Ok.taken.1 suits.lawful_now }) c.in-Ok.ensures.view c.next_moment-next.ensures c.give-pass.ensures.view
+
+pub returns-clause-placed : goal.returns-clause-placed
+returns-clause-placed g c =
+    covered_at g.V.Serving.covers (pass_view c.args.pass)
+    (held_view c.in-Ok.taken.0) (pass_view c.give-pass.result) _ _ _ c.position.result
+    c.in-Ok.ensures.value.same_origin c.in-Ok.ensures.view
+    c.give-pass.ensures.view c.position.ensures

@@ -1,4 +1,4 @@
-use Rattle.std.proofs.Common.{◌≡◌, subst, sym}
+use Rattle.std.proofs.Common.{◌≡◌, ◌∙◌, subst, sym}
 use Rattle.lra_ticket.specs.Locks.{held_view, pass_view, tried}
 use Rattle.lra_commands.specs.declared.command.Told.{Told}
 use Rattle.lra_commands.specs.Calls.{Call}
@@ -6,6 +6,7 @@ use Rattle.lra_commands.specs.declared.refusal.Refusal.TheVariants.{Stopped}
 use Rattle.lra_office.specs.Serves.{IsKeptBy}
 use Rattle.lra_office.specs.Orders.{IsGrown}
 use Rattle.lra_office.proofs.AtLock.{extends, may_add, grown, not_grown, stopped_at}
+use Rattle.lra_office.proofs.Covers.{covered_at}
 use Rattle.lra_office.proofs.office.OfficeOf.try_give.Goals as goal
 
 pub give-pass-requires-clause-extends : goal.give-pass-requires-clause-extends
@@ -40,3 +41,17 @@ returns-in-Err-served-clause-stopped g c = λ e.
     let same : c.in-Err-served.refusal ≡ Stopped = cc in
     stopped_at g.V.Kept.origin g.V.Kept.history g.V.Kept.lawful g.V.Serving.has_stopped c.in-Ok.taken.1 c.serve-served.new.self (tried (pass_view c.args.pass)) (held_view c.in-Ok.taken.0) (pass_view c.give-pass.result) c.in-Ok.ensures.value.same_origin c.in-Ok.ensures.view
     c.serve-served.ensures.lawful c.serve-served.ensures.origin c.give-pass.ensures.view (c.in-Err-served.ensures.stopped same)
+
+pub returns-in-Ok-served-clause-placed : goal.returns-in-Ok-served-clause-placed
+returns-in-Ok-served-clause-placed g c =
+    covered_at g.V.Serving.covers (tried (pass_view c.args.pass))
+    (held_view c.in-Ok.taken.0) (pass_view c.give-pass.result) _ _ _ c.position.result
+    (c.serve-served.ensures.origin ∙ c.in-Ok.ensures.value.same_origin) c.in-Ok.ensures.view
+    c.give-pass.ensures.view c.position.ensures
+
+pub returns-in-Err-served-clause-placed : goal.returns-in-Err-served-clause-placed
+returns-in-Err-served-clause-placed g c =
+    covered_at g.V.Serving.covers (tried (pass_view c.args.pass))
+    (held_view c.in-Ok.taken.0) (pass_view c.give-pass.result) _ _ _ c.position.result
+    (c.serve-served.ensures.origin ∙ c.in-Ok.ensures.value.same_origin) c.in-Ok.ensures.view
+    c.give-pass.ensures.view c.position.ensures
