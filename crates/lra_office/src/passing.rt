@@ -42,11 +42,11 @@ impl<V: Serving> OfficeOf<V> {
         )
     }
 
-    /// Lets two clerks compare what they have seen: the history of one begins that of the other.
+    /// Lets two clerks compare what they have seen: the history of one begins that of the other. The second one's
+    /// position is the greatest, which covers all, until it is answered again.
     pub fn meet(&self, first: &mut Clerk<V>, second: &mut Clerk<V>)
         requires first { IsClerkOf self.now.lock V.covers first.old }
         requires second { IsClerkOf self.now.lock V.covers second.old }
-        requires origin { (clerk_view second.old).origin ≡ (clerk_view first.old).origin }
         ensures first { IsClerkOf self.now.lock V.covers first.new }
         ensures second { IsClerkOf self.now.lock V.covers second.new }
         ensures numbers { (first.new.number ≡ first.old.number) × (second.new.number ≡ second.old.number) }
@@ -62,13 +62,14 @@ impl<V: Serving> OfficeOf<V> {
         let (one, other) = self.lock.meet(one, other);
         first.pass = Some(one);
         second.pass = Some(other);
+        second.position = u64::MAX;
     }
 
-    /// Ends a clerk: the other one has then seen what either had.
+    /// Ends a clerk: the other one has then seen what either had. Its position is the greatest, which covers all, until
+    /// it is answered again.
     pub fn retire(&self, clerk: &mut Clerk<V>, second: Clerk<V>)
         requires clerk { IsClerkOf self.now.lock V.covers clerk.old }
         requires second { IsClerkOf self.now.lock V.covers second }
-        requires origin { (clerk_view second).origin ≡ (clerk_view clerk.old).origin }
         ensures clerk { IsClerkOf self.now.lock V.covers clerk.new }
         ensures number { clerk.new.number ≡ clerk.old.number }
         ensures view { clerk_view clerk.new ≡ record (clerk_view clerk.old) { seen = longer (clerk_view clerk.old).seen (clerk_view second).seen; place = Idle } }
@@ -76,14 +77,14 @@ impl<V: Serving> OfficeOf<V> {
     {
         let Clerk {
             number: _,
-            position,
+            position: _,
             pass: second,
         } = second;
         let (Some(pass), Some(second)) = (clerk.pass.take(), second) else {
             unreachable!();
         };
         clerk.pass = Some(self.lock.join(pass, second));
-        clerk.position = clerk.position.max(position);
+        clerk.position = u64::MAX;
     }
 
     /// Ends the office, if no one else holds its lock or waits for it, and gives what it kept.

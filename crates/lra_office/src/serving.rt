@@ -8,7 +8,7 @@ use lra_ticket::Kept;
 
 /// A kept value at which the commands of clerks are done, and queries are told.
 pub trait Serving: Kept {
-    ghost use Rattle.std.specs.Prelude.{ℕ, ◌≤◌, Bool, IsTrue, IfErr};
+    ghost use Rattle.std.specs.Prelude.{ℕ, ◌-◌, ◌^◌, Bool, IsTrue, IfErr};
     ghost use Rattle.lra_model.specs.History.{History};
     ghost use Rattle.lra_core.specs.Prepares.{is_suited};
     ghost use Rattle.lra_commands.specs.declared.refusal.Refusal.TheVariants.{Stopped};
@@ -52,9 +52,8 @@ pub trait Serving: Kept {
         requires { Self.lawful self.now }
         ensures { IsTrue (covers (Self.origin self.now) (Self.history self.now) result) };
 
-    // A later position covers as much.
-    ghost later: { (o : Self.Origin) (J : History) (n m : ℕ) → n ≤ m → IsTrue (covers o J n)
-        → IsTrue (covers o J m) };
+    // The greatest position covers all.
+    ghost most: { (o : Self.Origin) (J : History) → IsTrue (covers o J (2 ^ 64 - 1)) };
 
     // What its laws say of its history.
     ghost tells: { (x : Self) → Self.Kept.lawful x → IsKeptBy (setting (Self.Kept.origin x)) (Self.Kept.history x) };

@@ -1,16 +1,15 @@
 //! Clerks of one office: what they see of one another, and what one is answered while another is served.
 
 ghost use Rattle.std.specs.Prelude.{◌≡◌, IfOk, IfSome};
-ghost use Rattle.lra_office.specs.Clerks.{clerk_view, IsClerkOf};
+ghost use Rattle.lra_office.specs.Clerks.{IsClerkOf};
 ghost use Rattle.lra_ticket.specs.Locks.{lock_id, pass_id, pass_view};
 
 use crate::making::{enrolled, enrolled_two, made, shut};
 use crate::signals::{Signals, wait_for};
-use lra_commands::{CounterFault, Order};
 use lra_core::Told;
 use lra_journal::read_journal;
 use lra_model::{ActionStatus, Entry};
-use lra_office::{Clerk, OfficeOf, Serving, TryRefusal};
+use lra_office::{Clerk, OfficeOf, OfficeRefusal, Serving, TryRefusal};
 use lra_ticket::Pass;
 use std::alloc::Global;
 use std::io::{self, Write};
@@ -67,7 +66,7 @@ fn who_is_alone_is_never_told_to_wait(rt: HostRuntime) -> Result<(), Fail> {
 }
 
 /// The number of an action that was started.
-fn started(told: Result<Told, CounterFault>) -> Option<u64> {
+fn started(told: Result<Told, OfficeRefusal>) -> Option<u64> {
     match told {
         Ok(Told::Action(action)) => Some(action),
         _ => None,
@@ -81,14 +80,9 @@ fn starts<V: Serving, R: Wait>(
     mut clerk: Clerk<V>,
 ) -> Option<(Clerk<V>, u64)>
     requires { IsClerkOf office.now.lock V.covers clerk }
-    ensures clerk { IfSome result (λ r. IsClerkOf office.now.lock V.covers r.0) }
-    ensures origin { IfSome result (λ r. (clerk_view r.0).origin ≡ (clerk_view clerk).origin) }
+    ensures { IfSome result (λ r. IsClerkOf office.now.lock V.covers r.0) }
 {
-    let order = Order::Start {
-        parent: None,
-        limit: 0,
-    };
-    match started(office.give_order(rt, &mut clerk, 1, &order)) {
+    match started(office.start(rt, &mut clerk, 1, None, 0)) {
         Some(action) => Some((clerk, action)),
         None => {
             drop(clerk);
@@ -105,8 +99,7 @@ fn enrols_and_starts<V: Serving, R: Wait>(
 ) -> Option<(Clerk<V>, u64)>
     requires lock { pass_id pass ≡ lock_id office.now.lock }
     requires newcomer { (pass_view pass).number ≡ 0 }
-    ensures clerk { IfSome result (λ r. IsClerkOf office.now.lock V.covers r.0) }
-    ensures origin { IfSome result (λ r. (clerk_view r.0).origin ≡ (pass_view pass).origin) }
+    ensures { IfSome result (λ r. IsClerkOf office.now.lock V.covers r.0) }
 {
     match office.clerk(rt, pass, 1) {
         Ok(clerk) => starts(rt, office, clerk),
@@ -126,20 +119,17 @@ fn two<V: Serving + Send, R: Threads + Wait + Sync>(
     requires { IsClerkOf office.now.lock V.covers clerk }
     ensures first { IfSome result (λ r. IsClerkOf office.now.lock V.covers r.0) }
     ensures second { IfSome result (λ r. IsClerkOf office.now.lock V.covers r.1) }
-    ensures origin { IfSome result (λ r. (clerk_view r.1).origin ≡ (clerk_view r.0).origin) }
 {
     let (clerk, pass) = office.split(clerk);
     let (first, second) = join(
         rt,
         move || -> Option<(Clerk<V>, u64)>
             requires { IsClerkOf office.now.lock V.covers clerk }
-            ensures clerk { IfSome result (λ r. IsClerkOf office.entry.now.lock V.covers r.0) }
-            ensures origin { IfSome result (λ r. (clerk_view r.0).origin ≡ (clerk_view clerk.entry).origin) }
+            ensures { IfSome result (λ r. IsClerkOf office.entry.now.lock V.covers r.0) }
         { starts(rt, office, clerk) },
         move || -> Option<(Clerk<V>, u64)>
             requires { (pass_id pass ≡ lock_id office.now.lock) × ((pass_view pass).number ≡ 0) }
-            ensures clerk { IfSome result (λ r. IsClerkOf office.entry.now.lock V.covers r.0) }
-            ensures origin { IfSome result (λ r. (clerk_view r.0).origin ≡ (pass_view pass.entry).origin) }
+            ensures { IfSome result (λ r. IsClerkOf office.entry.now.lock V.covers r.0) }
         { enrols_and_starts(rt, office, pass) },
     );
     let Some((first, _)) = first else {
@@ -186,7 +176,7 @@ fn sees_the_other<V: Serving + Send, R: Threads + Wait + Sync>(
     let Some((mut first, mut second, action)) = two(rt, office, enrolled(rt, office, pass)?) else {
         return Err("both can start one")?;
     };
-    let status = office.give_order(rt, &mut first, 0, &Order::Status { action });
+    let status = office.status(rt, &mut first, action);
     office.meet(&mut first, &mut second);
     office.retire(&mut first, second);
     let is_active = status == Ok(Told::ActionIs(ActionStatus::Active));
