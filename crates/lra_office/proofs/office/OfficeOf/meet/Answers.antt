@@ -18,7 +18,7 @@ in_line : {X O : Type 0} {g : Ghosts X O} (first second : Option (Pass X O g)) (
     → Comparable (seen_by first).seen (seen_by second).seen
 in_line first second one other a b line =
     subst (λ p. Comparable (seen_by p).seen (seen_by second).seen) (sym a)
-      (subst (λ p. Comparable (pass_view one).seen (seen_by p).seen) (sym b) line)
+    (subst (λ p. Comparable (pass_view one).seen (seen_by p).seen) (sym b) line)
 
 pub returns-clause-in_line : goal.returns-clause-in_line
 returns-clause-in_line g c =
