@@ -454,6 +454,46 @@ def test_actions_are_listed_and_shown(setting):
         refusal(service.ask("/actions/00000000-0000-8007-8000-000000000001"), 404, "NoSuchAction")
 
 
+def waits_told(setting, name):
+    """What the story of an action ends with, as a listing has it: an indented line each."""
+    story = setting.run("explain", setting.journal, name)
+    equal(f"the story of {name}", (story.status, story.told), (0, ""))
+    return "".join("  " + line for line in story.output.splitlines(True)[1:] if not line.startswith("line "))
+
+
+def test_a_listing_tells_what_each_action_waits_for(setting):
+    """Of members that nobody reaches or that are at it, of a limit, of a nested action, and of one still to be told."""
+    gone = f"http://{HOST}:{free_port()}/"
+    with Watched(setting) as service, Participant(lambda request: (202, b"")) as member, service.client() as client:
+        hanging, slow, open_one, closed = client.start(), client.start(), client.start(limit=3_600_000), client.start()
+        nested, told = client.start(parent=hanging), client.start()
+        for action in (hanging, nested):
+            client.join(action, complete=gone + "complete", compensate=gone + "compensate")
+        for action in (hanging, slow):
+            client.join(action, **member.addresses("complete", "compensate"))
+        client.join(open_one, **member.addresses("compensate"))
+        client.join(told, after=gone + "after")
+        for action in (hanging, slow, closed, told):
+            client.end(action, "close")
+        member.wait("complete", 4)
+        silent = 'lra_members_overdue{why="silent"}'
+        wait_until("two are silent", lambda: measures(service)[silent] == 2)
+    lines = setting.run("list", setting.journal).output.splitlines(True)
+    equal("how many are listed", len(lines), 6)
+    waits = {line: waits_told(setting, line.split(" ")[0]) for line in lines}
+    of = {line.split(" ")[1]: told for line, told in waits.items()}
+    check(f"the member that hangs: {of}", f"{gone}complete" in of[id_of(hanging)])
+    check(f"how often it was asked: {of}", " times for that, " in of[id_of(hanging)])
+    check(f"the nested one: {of}", " below it, which is Closing\n" in of[id_of(hanging)])
+    check(f"the limit: {of}", " within 3600.000 s of " in of[id_of(open_one)])
+    check(f"the notice: {of}", f"told how the action ended at {gone}after" in of[id_of(told)])
+    equal("one that waits for nothing", of[id_of(closed)], "")
+    for options in ((), ("--state", "Closing"), ("--older-than", "0")):
+        chosen = setting.run("list", setting.journal, *options).output.splitlines(True)
+        wanted = "".join(line + waits[line] for line in chosen)
+        equal(f"list {options}", setting.run("list", setting.journal, *options, "--waits"), (0, wanted, ""))
+
+
 def test_a_folder_s_journals_are_all_told(setting):
     with WatchedFolder(setting, *folders.FAR) as service:
         old = service.first(4)

@@ -291,6 +291,37 @@ def test_a_listing(setting):
         equal(f"list {options}", setting.run("list", setting.journal, *options), (2, "", "lra: usage\n"))
 
 
+def test_a_listing_with_what_is_waited_for(setting):
+    """Below each action's line stand those with which its story ends, also once it has ended; in a folder too."""
+    text = played(setting, *SILENCES)
+    lines = {
+        "1": (f"1 {FIRST_ID} Active * 7.900 *\n", "waits for its client to close or cancel it\n"),
+        "2": (f"2 {ID} Cancelling 1 6.900 Compensating=1,Left=1\n", SILENT.rpartition("line 12:")[2].split("\n", 1)[1]),
+    }
+
+    def waited(numbers, prefix=""):
+        told = ([lines[number][0], *("  " + it for it in lines[number][1].splitlines(True))] for number in numbers)
+        return "".join(prefix + line for each in told for line in each)
+
+    for options, wanted in (
+        (("--waits",), waited("12")),
+        (("--state", "Cancelling", "--waits"), waited("2")),
+        (("--waits", "--older-than", "7"), waited("1")),
+        (("--older-than", "8", "--waits"), ""),
+        ((), lines["1"][0] + lines["2"][0]),
+    ):
+        equal(f"list {options}", setting.run("list", setting.journal, *options), (0, wanted, ""))
+    place = Place(setting)
+    place.put("a.journal", text)
+    equal("a folder", setting.run("list", place.path, "--waits"), (0, waited("12", "a.journal "), ""))
+    write_played(setting, notices((2000, "reply 2 silent")))
+    line = f"1 {FIRST_ID} Closed * 2.000 Completed=1\n"
+    wanted = line + "".join("  " + it for it in SILENT_NOTICE.splitlines(True)[1:])
+    equal("a notice", setting.run("list", setting.journal, "--waits"), (0, wanted, ""))
+    write_played(setting, notices((2000, "reply 2 done")))
+    equal("nothing", setting.run("list", setting.journal, "--waits"), (0, line, ""))
+
+
 def test_a_listing_of_what_ended_badly(setting):
     played(setting, (6100, "reply 1 failed"))
     line = f"2 {ID} FailedToCancel 1 5.100 FailedToCompensate=1,Left=1\n"

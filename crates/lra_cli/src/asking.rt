@@ -36,12 +36,13 @@ impl<'a> Asking<'a> {
     }
 }
 
-/// Which actions are listed, and whether their ages count up to now.
+/// Which actions are listed, whether their ages count up to now, and whether it is told what they wait for.
 #[derive(Clone, Copy)]
 pub(crate) struct Listed {
     pub(crate) status: Option<ActionStatus>,
     pub(crate) older_than: Option<u64>,
     pub(crate) is_now: bool,
+    pub(crate) waits: bool,
 }
 
 impl Listed {
@@ -49,6 +50,7 @@ impl Listed {
         status: None,
         older_than: None,
         is_now: false,
+        waits: false,
     };
 }
 
@@ -84,6 +86,7 @@ impl Choosing {
             "--state" => next.open = Some(Valued::State),
             "--older-than" => next.open = Some(Valued::OlderThan),
             "--now" => next.choice.is_now = true,
+            "--waits" => next.choice.waits = true,
             _ => return None,
         }
         Some(next)

@@ -10,7 +10,7 @@ const CALLS: [(&str, &str); 10] = [
     ("show", "show FILE"),
     (
         "list",
-        "list FILE [--state STATUS] [--older-than SECONDS] [--now]",
+        "list FILE [--state STATUS] [--older-than SECONDS] [--now] [--waits]",
     ),
     ("explain", "explain FILE ID [--svg]"),
     ("follow", "follow FILE [--stop-at-eof]"),
@@ -86,7 +86,7 @@ fn listing_misuse(options: &[String]) -> Option<Misuse<'_>> {
                 open = None;
             }
             None if word == "--state" || word == "--older-than" => open = Some(word),
-            None if word == "--now" => {}
+            None if word == "--now" || word == "--waits" => {}
             None => return Some(Misuse::Option(word)),
         }
     }

@@ -39,6 +39,7 @@ fn choice_of<R: Clock>(rt: &R, listed: Listed) -> Option<Choice> {
         status: listed.status,
         older_than: listed.older_than,
         now,
+        waits: listed.waits,
     })
 }
 
@@ -60,7 +61,7 @@ fn list<R: AllocGlobal + Files + Input + Print + Eprint>(
 #[derive(Drop)]
 struct Listing {
     name: String,
-    /// A line for each action, behind the journal's name.
+    /// The lines of each action, behind the journal's name.
     text: Vec<u8>,
     outcome: Result<u8, RunFault>,
 }

@@ -6,7 +6,7 @@ lra                               audits standard input
 lra audit FILE                    audits a journal, or all that a folder has
 lra show FILE                     lists a sound journal's actions and members, or those of all that a folder has
 lra list FILE                     lists a sound journal's actions, or those of all that a folder has, a line each:
-                                  [--state STATUS] [--older-than SECONDS] [--now]
+                                  [--state STATUS] [--older-than SECONDS] [--now], and what each waits for [--waits]
 lra explain FILE ID               tells what happened to an action of a journal, by its number, its UUID or its URI, or of a folder's, by its UUID or its URI [--svg]
 lra follow FILE                   audits a journal, or all that a folder has, as they grow [--stop-at-eof]
 lra upgrade FILE                  prints a sound journal in version 2

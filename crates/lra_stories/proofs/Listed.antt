@@ -7,6 +7,7 @@ use Rattle.std.proofs.lemmas.Bool.{false≢true}
 use Rattle.std.proofs.lemmas.Bool.Decides.{eqb_tells}
 use Rattle.std.proofs.lemmas.List.{length-append, get_or-set_same, get_or-set_other, length-set, map-append, take_more, take_all, length-map}
 use Rattle.std.proofs.lemmas.List.Filters.{length-filter_more}
+use Rattle.std.proofs.lemmas.Result.{IfOk-weaker}
 use Rattle.std.proofs.Math.Seq.{drop-append_seam}
 use Rattle.std.proofs.lemmas.Option.{same_Some, none-some, slice_get-map, get_or_from_slice_get, slice_get_within}
 use Rattle.lra_model.specs.declared.status.MemberStatus.{MemberStatus}
@@ -33,9 +34,12 @@ use Rattle.lra_model.specs.Names.{member_status_name}
 use Rattle.lra_reports.proofs.Lines.{IsPaged-line}
 use Rattle.lra_stories.specs.declared.listing.Choice.{Choice}
 use Rattle.lra_stories.specs.declared.register.Register.{Register}
-use Rattle.lra_stories.specs.Lines.{Begun, begun_by, starts, place_of, is_counted, count_of, counted, listed_words, statuses, tally_text, chosen_line, start_line, lines_text}
+use Rattle.lra_stories.specs.Lines.{Begun, begun_by, starts, place_of, is_counted, count_of}
+use Rattle.lra_stories.specs.Lines.{counted, listed_words, statuses, tally_text}
+use Rattle.lra_stories.specs.Lines.{is_chosen, action_line, asked_waits, chosen_lines, start_lines, lines_text}
 use Rattle.lra_stories.specs.inner.Registered.{start_moments, Hears, Registers}
 use Rattle.lra_stories.specs.inner.Tallied.{Tallied, IsMore}
+use Rattle.lra_stories.proofs.Calling.{all_called}
 
 -- ---- starts
 
@@ -114,32 +118,52 @@ listed_begun J l is =
     map_twice [] = refl
     map_twice (b ∷ bs) = ap (λ (t : List ListedAction). listed_action J b.action ∷ t) (map_twice bs)
 
--- the line of a start, by what is known of it
-pub start_told : (c : Choice) (prefix : List ℕ) (i : ℕ) (J : History) (l : Listed) (b : Begun) (x : ListedAction) (m end : ℕ) (text : List ℕ) → l ≡ listing J → x ≡ listed_action J b.action
-    → m ≡ b.moment → end ≡ unwrap_or c.now (last_moment J) → text ≡ chosen_line c prefix i l.members x (end - m) → text ≡ start_line c prefix i J b
+-- the lines of an action that is listed are the line and what it waits for
+pub chosen_told : {E : Type 0} (c : Choice) (prefix : List ℕ) (i : ℕ) (ms : List ListedMember) (x : ListedAction)
+    (n m : ℕ) (waits : List ℕ) (r : Result (String Global) E) → is_chosen c x.status n ≡ true → m ≡ n
+    → IfOk r (λ text. string_bytes text ≡ action_line prefix i ms x m ++ waits)
+    → IfOk r (λ text. string_bytes text ≡ chosen_lines c prefix i ms x n waits)
+chosen_told c prefix i ms x n m waits r is same = IfOk-weaker r _ _ (λ text told.
+    told
+    ∙ ap (λ (k : ℕ). action_line prefix i ms x k ++ waits) same
+    ∙ sym (ap (λ (b : Bool). cond b (action_line prefix i ms x n ++ waits) []) is))
+
+-- the lines of a start, by what is known of it
+pub start_told : (c : Choice) (prefix : List ℕ) (i : ℕ) (J : History) (l : Listed) (b : Begun) (x : ListedAction)
+    (m end : ℕ) (text : List ℕ)
+    → l ≡ listing J → x ≡ listed_action J b.action → m ≡ b.moment → end ≡ unwrap_or c.now (last_moment J)
+    → text ≡ chosen_lines c prefix i l.members x (end - m) (asked_waits c prefix J x.action)
+    → text ≡ start_lines c prefix i J b
 start_told c prefix i J l b x m end text is_l is_x is_m is_end told =
     told
-    ∙ ap (λ (y : Listed). chosen_line c prefix i y.members x (end - m)) is_l
-    ∙ ap (λ (y : ListedAction). chosen_line c prefix i (listing J).members y (end - m)) is_x
-    ∙ ap (λ (n : ℕ). chosen_line c prefix i (listing J).members (listed_action J b.action) (end - n)) is_m
-    ∙ ap (λ (n : ℕ). chosen_line c prefix i (listing J).members (listed_action J b.action) (n - b.moment)) is_end
+    ∙ ap (λ (y : Listed). chosen_lines c prefix i y.members x (end - m) (asked_waits c prefix J x.action)) is_l
+    ∙ ap (λ (y : ListedAction). of_action y (end - m)) is_x
+    ∙ ap (λ (n : ℕ). of_action (listed_action J b.action) (end - n)) is_m
+    ∙ ap (λ (n : ℕ). of_action (listed_action J b.action) (n - b.moment)) is_end
+  where
+    of_action : ListedAction → ℕ → List ℕ
+    of_action y n = chosen_lines c prefix i (listing J).members y n (asked_waits c prefix J y.action)
 
--- the line of one start more is paged
-pub line_more : (c : Choice) (prefix : List ℕ) (i : ℕ) (J : History) (l : Listed) (ms : List ℕ) (place : ℕ) (x : ListedAction) (m d end : ℕ) (text : List ℕ) (k p q : List ℕ) (r s t : Option (List ℕ))
-    → l ≡ listing J → ms ≡ start_moments J → row_at l.actions (place + 1) ≡ Some x → m ≡ get_or ms place d → end ≡ unwrap_or c.now (last_moment J)
-    → text ≡ chosen_line c prefix i l.members x (end - m) → IsPaged r s k p (flat_map (start_line c prefix i J) (take place (starts J))) → IsPaged s t p q text
-    → IsPaged r t k q (flat_map (start_line c prefix i J) (take (place + 1) (starts J)))
+-- the lines of one start more are paged
+pub line_more : (c : Choice) (prefix : List ℕ) (i : ℕ) (J : History) (l : Listed) (ms : List ℕ) (place : ℕ)
+    (x : ListedAction) (m d end : ℕ) (text : List ℕ) (k p q : List ℕ) (r s t : Option (List ℕ))
+    → l ≡ listing J → ms ≡ start_moments J → row_at l.actions (place + 1) ≡ Some x → m ≡ get_or ms place d
+    → end ≡ unwrap_or c.now (last_moment J)
+    → text ≡ chosen_lines c prefix i l.members x (end - m) (asked_waits c prefix J x.action)
+    → IsPaged r s k p (flat_map (start_lines c prefix i J) (take place (starts J))) → IsPaged s t p q text
+    → IsPaged r t k q (flat_map (start_lines c prefix i J) (take (place + 1) (starts J)))
 line_more c prefix i J l ms place x m d end text k p q r s t is_l is_ms here at is_end told before now =
     let (b, found, is_x, is_m) = start_at J l.actions ms place x m d (listed_begun J l is_l) is_ms here at in
-    IsPaged-line (start_line c prefix i J) (starts J) place b text k p q r s t found (start_told c prefix i J l b x m end text is_l is_x is_m is_end told) before now
+    IsPaged-line (start_lines c prefix i J) (starts J) place b text k p q r s t found
+    (start_told c prefix i J l b x m end text is_l is_x is_m is_end told) before now
 
 -- and all of them are the lines of a history
 pub lines_whole : (c : Choice) (prefix : List ℕ) (i : ℕ) (J : History) (ms : List ℕ) (n : ℕ) → ms ≡ start_moments J → length ms ≤ n
-    → flat_map (start_line c prefix i J) (take n (starts J)) ≡ lines_text c prefix i J
+    → flat_map (start_lines c prefix i J) (take n (starts J)) ≡ lines_text c prefix i J
 unfolding lines_text
 lines_whole c prefix i J ms n is_ms all =
     let size : length (starts J) ≡ length ms = sym (length-map (starts J) (λ (b : Begun). b.moment)) ∙ ap length (sym is_ms) in
-    ap (flat_map (start_line c prefix i J)) (take_all n (starts J) (omega (arith, size, all)))
+    ap (flat_map (start_lines c prefix i J)) (take_all n (starts J) (omega (arith, size, all)))
 
 -- ---- an auditor and a register
 
@@ -150,9 +174,14 @@ followed_anyway H a b s = record { fed = s.fed; reads = read_anyway H a.stage a.
 -- a register that heard the history of a journal is one of it
 pub heard_registers : (r : Register) (v w : Version) (i j : ℕ) (J K : History) (b : List ℕ) → IsTextOf v i J b → IsTextOf w j K b → Hears r (Some (record { version = w; instance = j; entries = K }))
     → Registers r i J
-heard_registers r v w i j J K b t u (instance, moments, end) =
+heard_registers r v w i j J K b t u (instance, moments, end, keeps) =
     let same = texts_apart v w i j J K t.spelled u.spelled (sym t.whole ∙ u.whole) in
-    record { instance = instance ∙ ap Some (sym same.1); moments = moments ∙ ap start_moments (sym same.2); end = end ∙ ap last_moment (sym same.2) }
+    record {
+      instance = instance ∙ ap Some (sym same.1);
+      moments = moments ∙ ap start_moments (sym same.2);
+      end = end ∙ ap last_moment (sym same.2);
+      called = all_called r.calls v J K t.legal (sym same.2) keeps;
+    }
 
 -- what holds of a result for each input that may be known
 pub ok_for_some : {E : Type 0} (o : Option (List ℕ)) (r : Result ℕ E) (P : List ℕ → ℕ → Type 0) → ((b : List ℕ) → o ≡ Some b → IfOk r (P b)) → IfOk r (λ status. IfSome o (λ b. P b status))

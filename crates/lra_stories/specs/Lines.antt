@@ -1,4 +1,4 @@
--- What is written of a journal's actions, a line each: which are listed, how old each is, and how many of its members have each status.
+-- What is written of a journal's actions: which are listed, how old each is, its members, and what it waits for.
 use Rattle.std.specs.Prelude.{◌≡◌, ◌⊎◌, ℕ, zero, suc, ◌-◌, ◌*◌, ◌==◌, nat_lt, Bool, true, ◌&&◌, List, [], ◌∷◌, ◌++◌, length, filter, codes, Option, Some, None, option_map, unwrap_or, cond}
 use Rattle.std.specs.Option.{option_map_or}
 use Rattle.std.specs.List.{filter_map, flat_map}
@@ -17,9 +17,13 @@ use Rattle.lra_journal.specs.Line.{or_star}
 use Rattle.lra_course.specs.declared.listing.ListedAction.{ListedAction}
 use Rattle.lra_course.specs.declared.listing.ListedMember.{ListedMember}
 use Rattle.lra_course.specs.Listings.{listed_action, listing}
+use Rattle.lra_rows.specs.declared.found.ActionRow.{ActionRow}
+use Rattle.lra_rows.specs.Found.{found_action}
 use Rattle.lra_auditor.specs.Verdicts.{IsTextOf}
 use Rattle.lra_audits.specs.Report.{joined, line_feed, ReportsAudit}
 use Rattle.lra_stories.specs.declared.listing.Choice.{Choice}
+use Rattle.lra_stories.specs.Facts.{told}
+use Rattle.lra_stories.specs.Waits.{notes}
 use Rattle.lra_stories.specs.Times.{seconds_text}
 
 -- that an action started, and the moment at which it did, in milliseconds
@@ -102,17 +106,35 @@ line_end ms x n =
 abbrev pub action_line : List ℕ → ℕ → List ListedMember → ListedAction → ℕ → List ℕ
 action_line prefix i ms x n = line_front prefix i x ++ line_end ms x n
 
--- the same where the action is listed
-abbrev pub chosen_line : Choice → List ℕ → ℕ → List ListedMember → ListedAction → ℕ → List ℕ
-chosen_line c prefix i ms x n = cond (is_chosen c x.status n) (action_line prefix i ms x n) []
+-- a line that is noted of an action, behind a prefix and two spaces; nothing, where nothing is noted
+abbrev pub indented : List ℕ → List ℕ → List ℕ
+indented prefix [] = []
+indented prefix (c ∷ cs) = prefix ++ (codes "  " ++ (c ∷ cs))
 
--- what is written of a start: the line of its action as it is at the history's end
-abbrev pub start_line : Choice → List ℕ → ℕ → History → Begun → List ℕ
-start_line c prefix i J b = chosen_line c prefix i (listing J).members (listed_action J b.action) (age c J b.moment)
+-- what is noted at the end of the story of an action of a history, an indented line each: what it waits for, or which
+-- of those below it failed, and what its members are asked
+abbrev pub waits_text : List ℕ → History → ℕ → List ℕ
+waits_text prefix J a =
+    option_map_or (λ (r : ActionRow). flat_map (indented prefix) (notes J (told a J) a r)) (found_action J a) []
 
--- what is written of a history of an instance: a line for each action that is listed, in the order in which they started
+-- the same where it is asked for
+abbrev pub asked_waits : Choice → List ℕ → History → ℕ → List ℕ
+asked_waits c prefix J a = cond c.waits (waits_text prefix J a) []
+
+-- the line of an action and what it waits for, where the action is listed
+abbrev pub chosen_lines : Choice → List ℕ → ℕ → List ListedMember → ListedAction → ℕ → List ℕ → List ℕ
+chosen_lines c prefix i ms x n waits = cond (is_chosen c x.status n) (action_line prefix i ms x n ++ waits) []
+
+-- what is written of a start: the line of its action as it is at the history's end, and what the action waits for,
+-- where that is asked for
+abbrev pub start_lines : Choice → List ℕ → ℕ → History → Begun → List ℕ
+start_lines c prefix i J b =
+    chosen_lines c prefix i (listing J).members (listed_action J b.action) (age c J b.moment)
+    (asked_waits c prefix J b.action)
+
+-- what is written of a history of an instance: the lines of each action that is listed, in the order of their starts
 unfoldable pub lines_text : Choice → List ℕ → ℕ → History → List ℕ
-lines_text c prefix i J = flat_map (start_line c prefix i J) (starts J)
+lines_text c prefix i J = flat_map (start_lines c prefix i J) (starts J)
 
 -- the input is the text of this history; what was written are the lines of its actions, and the status is 0
 pub record WritesLines (c : Choice) (prefix input : List ℕ) (status : ℕ) (before after : Option (List ℕ)) (v : Version) (i : ℕ) (J : History) : Type 0 where

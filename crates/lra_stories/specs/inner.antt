@@ -4,3 +4,4 @@ pub mod Ids
 pub mod Draws
 pub mod Registered
 pub mod Tallied
+pub mod Called

@@ -1,6 +1,8 @@
-//! What happened to one action of a journal, told in sentences or drawn; and a line for each action of one.
+//! What happened to one action of a journal, told in sentences or drawn; and a line for each action of one, with what
+//! it waits for.
 #![tactic(auto)]
 
+mod calls;
 mod drawing;
 mod explaining;
 mod facts;
@@ -11,6 +13,7 @@ mod sentences;
 mod story;
 mod tallies;
 mod times;
+mod waiting;
 mod waits;
 mod wanted;
 

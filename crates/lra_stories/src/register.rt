@@ -1,9 +1,11 @@
-//! What a listing of actions wants to know beside their statuses: the journal's instance, when each action started, and the last moment.
+//! What a listing of actions wants to know beside their statuses: the journal's instance, when each action started, the
+//! last moment, and, where it is asked for, the calls that tell what the actions wait for.
 
 ghost use Rattle.std.specs.Prelude.{◌≡◌, ◌++◌, OnOk, None, option_map, option_to_list};
 ghost use Rattle.lra_entries.specs.Borrowed.{entry_seen};
 ghost use Rattle.lra_stories.specs.Lines.{begun_by};
 
+use crate::calls::{Calls, calls_where, take_call};
 use lra_auditor::Follower;
 use lra_journal::{DeedRef, EntryRef};
 use lra_model::{Instance, Memory, Version};
@@ -16,19 +18,22 @@ pub(crate) struct Register {
     pub(crate) starts: Vec<u64>,
     /// The moment of the last entry.
     pub(crate) last: u64,
+    /// Where it is told what actions wait for.
+    pub(crate) calls: Option<Calls>,
 }
 
 impl Register {
     ghost use Rattle.lra_stories.specs.inner.Registered.{Hears};
 
-    /// No entry yet.
-    pub(crate) fn new(alloc: Global) -> Register
+    /// No entry yet; whether calls are kept.
+    pub(crate) fn new(alloc: Global, keeps_calls: bool) -> Register
         ensures { Hears result None }
     {
         Register {
             instance: None,
             starts: Vec::new(alloc),
             last: 0,
+            calls: calls_where(alloc, keeps_calls),
         }
     }
 }
@@ -64,6 +69,7 @@ impl Follower for Register {
 
     fn take(&mut self, entry: &EntryRef<'_>) -> Result<(), Memory> {
         self.last = entry.moment;
+        take_call(&mut self.calls, entry)?;
         add(&mut self.starts, started_at(entry))
     }
 }

@@ -9,6 +9,7 @@ use Rattle.lra_auditor.specs.Accounts.{IsAccount}
 use Rattle.lra_auditor.specs.Verdicts.{IsTextOf, IsFault}
 use Rattle.lra_stories.specs.declared.register.Register.{Register}
 use Rattle.lra_stories.specs.Lines.{Begun, starts}
+use Rattle.lra_stories.specs.inner.Called.{Keeps, Called}
 
 -- the moments at which the actions of a history started
 abbrev pub start_moments : History → List ℕ
@@ -16,14 +17,19 @@ start_moments J = map (λ (b : Begun). b.moment) (starts J)
 
 -- a register has heard nothing, or a header and the entries of a history
 abbrev pub Hears : Register → Option Heard → Type 0
-Hears r None = (r.starts.items ≡ []) × (r.last ≡ 0)
-Hears r (Some h) = (r.instance ≡ Some h.instance) × (r.starts.items ≡ start_moments h.entries) × (r.last ≡ last_moment h.entries)
+Hears r None = (r.starts.items ≡ []) × (r.last ≡ 0) × IfSome r.calls (λ c. Keeps c [])
+Hears r (Some h) =
+    (r.instance ≡ Some h.instance)
+    × (r.starts.items ≡ start_moments h.entries)
+    × (r.last ≡ last_moment h.entries)
+    × IfSome r.calls (λ c. Keeps c h.entries)
 
 -- a register of a history of an instance
 pub record Registers (r : Register) (i : ℕ) (J : History) : Type 0 where
   pub instance : r.instance ≡ Some i
   pub moments : r.starts.items ≡ start_moments J
   pub end : r.last ≡ last_moment J
+  pub called : IfSome r.calls (λ c. Called c J)
 
 -- what is said of bytes: their first fault; or, of a legal history's text, what a register has heard of it; and their account
 pub record IsSaid (bytes : List ℕ) (fault : Option FaultyLine) (account : Account) (r : Register) : Type 0 where

@@ -6,5 +6,7 @@ use Rattle.lra_stories.specs.Waits.{member_notes}
 use Rattle.lra_stories.proofs.waits.push_members.Given as goal
 
 abbrev pub invariant-loop-member : goal.invariant-loop-member
-invariant-loop-member l = (J : History) → StandsFor l.story.rows.sheet J
-    → map string_bytes l.notes.items ≡ map string_bytes l.fn.notes.items ++ flat_map (member_notes J l.story.told.items l.status) (take l.member-index l.members)
+invariant-loop-member l = (J : History) → StandsFor l.known.rows.now.sheet J
+    → map string_bytes l.notes.items
+    ≡ map string_bytes l.fn.notes.items
+    ++ flat_map (member_notes J l.known.told.now l.status) (take l.member-index l.members)

@@ -1,15 +1,18 @@
 use Rattle.std.proofs.Common.{◌≡◌, take}
-use Rattle.std.specs.Prelude.{unwrap_or}
+use Rattle.std.specs.Prelude.{unwrap_or, IfSome}
 use Rattle.std.specs.List.{flat_map}
 use Rattle.lra_model.specs.History.{History, last_moment}
 use Rattle.lra_course.specs.Listings.{listing}
 use Rattle.lra_reports.specs.Paging.{IsPaged}
-use Rattle.lra_stories.specs.Lines.{starts, start_line}
+use Rattle.lra_stories.specs.Lines.{starts, start_lines}
 use Rattle.lra_stories.specs.inner.Registered.{start_moments}
+use Rattle.lra_stories.specs.inner.Called.{Called}
 use Rattle.lra_stories.specs.inner.Tallied.{Tallied}
 use Rattle.lra_stories.proofs.listing.Sheet.put_lines.Given as goal
 
 abbrev pub invariant-loop-place : goal.invariant-loop-place
-invariant-loop-place g l = (J : History) → l.listing ≡ listing J → l.starts ≡ start_moments J → Tallied l.listing.members l.counts → l.self.end ≡ unwrap_or l.self.choice.now.now (last_moment J)
+invariant-loop-place g l =
+    (J : History) → l.listing ≡ listing J → l.starts ≡ start_moments J → Tallied l.listing.members l.counts
+    → IfSome l.self.register.now.calls (λ c. Called c J) → l.self.end ≡ unwrap_or l.self.choice.now.now (last_moment J)
     → IsPaged (g.W.Write.contents l.fn.writer) (g.W.Write.contents l.writer) l.fn.page.items l.page.items
-    (flat_map (start_line l.self.choice.now l.self.prefix.now l.self.instance J) (take l.place (starts J)))
+    (flat_map (start_lines l.self.choice.now l.self.prefix.now l.self.instance J) (take l.place (starts J)))

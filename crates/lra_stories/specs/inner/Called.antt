@@ -1,0 +1,78 @@
+-- What is told of the asks of an action's members, and kept of a journal while it is read.
+use Rattle.std.specs.Prelude.{◌≡◌, ℕ, ◌==◌, Bool, true, false, List, [], ◌∷◌, filter, slice_get}
+use Rattle.std.specs.Prelude.{Option, Some, None, option_map, unwrap_or, cond}
+use Rattle.std.specs.Option.{option_and_then, option_map_or}
+use Rattle.lra_model.specs.declared.asks.Outcome.{Outcome}
+use Rattle.lra_model.specs.declared.entry.Deed.{Deed}
+use Rattle.lra_model.specs.declared.entry.Deed.TheVariants.{Ask, Reply}
+use Rattle.lra_model.specs.declared.entry.Entry.{Entry}
+use Rattle.lra_model.specs.Words.{is_undecided}
+use Rattle.lra_model.specs.Wants.{stage_of}
+use Rattle.lra_model.specs.History.{History}
+use Rattle.lra_laws.specs.Sheets.{sheet_of, StandsFor}
+use Rattle.lra_rows.specs.declared.found.AskRow.{AskRow}
+use Rattle.lra_rows.specs.declared.found.MemberRow.{MemberRow}
+use Rattle.lra_rows.specs.Found.{found_member, found_ask}
+use Rattle.lra_stories.specs.declared.calls.Call.{Call}
+use Rattle.lra_stories.specs.declared.calls.Calls.{Calls}
+use Rattle.lra_stories.specs.declared.facts.Fact.{Fact}
+use Rattle.lra_stories.specs.declared.facts.Fact.TheVariants.{Asked, Answered}
+use Rattle.lra_stories.specs.declared.facts.Told.{Told}
+use Rattle.lra_stories.specs.Facts.{told, status_now}
+
+-- whether a fact is an ask, or an answer after which the member is asked again
+abbrev pub is_call : Fact → Bool
+is_call (Asked n p kind) = true
+is_call (Answered n p stage o) = is_undecided o
+is_call _ = false
+
+-- whether one that is told is
+abbrev pub tells_call : Told → Bool
+tells_call t = is_call t.fact
+
+-- these of what is told of an action
+abbrev pub calls : ℕ → History → List Told
+calls a J = filter tells_call (told a J)
+
+-- a fact of a member, as one of the member's action
+abbrev pub of_member : History → ℕ → Fact → Option Call
+of_member J p f = option_map (λ (r : MemberRow). record { action = r.action; fact = f }) (found_member J p)
+
+-- the answer to an ask, where the member is asked again after it
+abbrev pub of_answer : History → ℕ → Outcome → AskRow → Option Call
+of_answer J n o x =
+    cond (is_undecided o) (of_member J x.member (Answered n x.member (stage_of x.kind x.direction) o)) None
+
+-- the ask that an entry is after a history, or the answer after which the member is asked again
+abbrev pub call_in : History → Entry → Option Call
+call_in J e = of_deed e.deed
+  where
+    of_deed : Deed → Option Call
+    of_deed (Ask n p kind) = of_member J p (Asked n p kind)
+    of_deed (Reply n o) = option_and_then (of_answer J n o) (found_ask J n)
+    of_deed _ = None
+
+-- what stands at the place of an action's number
+abbrev pub kept_at : List (List Told) → ℕ → List Told
+kept_at rows a = unwrap_or (slice_get rows a) []
+
+-- one more is kept of an action
+abbrev pub kept_more : ℕ → Told → ℕ → List Told
+kept_more b t a = cond (b == a) (t ∷ []) []
+
+-- what is kept more of an action after an entry at a line and a moment, by the call that the entry is, if it is one
+abbrev pub told_call : History → ℕ → ℕ → Option Call → ℕ → List Told
+told_call J line moment o a = option_map_or (λ (c : Call). kept_more c.action (told_as c) a) o []
+  where
+    told_as : Call → Told
+    told_as c = record { line = line; moment = moment; status = status_now J c.action; fact = c.fact }
+
+-- rows of a history, and what is told of each action's calls
+pub record Keeps (c : Calls) (J : History) : Type 0 where
+  pub sheet : c.rows.sheet ≡ sheet_of J
+  pub told : (a : ℕ) → kept_at c.told.items a ≡ calls a J
+
+-- the same of a legal history
+pub record Called (c : Calls) (J : History) : Type 0 where
+  pub stands : StandsFor c.rows.sheet J
+  pub told : (a : ℕ) → kept_at c.told.items a ≡ calls a J
