@@ -9,7 +9,7 @@ ghost use Rattle.lra_office.specs.Clerks.{clerk_view, IsClerkOf};
 ghost use Rattle.lra_office.specs.Stops.{HasStopped};
 ghost use Rattle.lra_office.specs.declared.fault.TryRefusal.TheVariants.{Refused};
 ghost use Rattle.lra_office.specs.Orders.{IsTried};
-ghost use Rattle.lra_office.specs.Positions.{IsTriedAt};
+ghost use Rattle.lra_office.specs.inner.Placed.{IsTriedAt};
 ghost use Rattle.lra_office.specs.inner.Given.{IsNumberOf, refusal_of};
 
 use crate::clerk::Clerk;
