@@ -55,6 +55,7 @@ members_fit r (member key value rest) = member_fits r key value && members_fit r
 abbrev pub text_under : List ℕ → Members → Option (List ℕ)
 text_under key members = option_and_then as_str (get_member key members)
 
+-- the number under a key, if there is one that 64 bits hold
 abbrev pub number_under : List ℕ → Members → Option ℕ
 number_under key members = option_and_then as_u64 (option_and_then as_number (get_member key members))
 

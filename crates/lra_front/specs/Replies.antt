@@ -91,6 +91,7 @@ denial_name denial.Worn = codes "Worn"
 abbrev pub one_text : List ℕ → List ℕ → Data
 one_text key text = object (member key (string text) no_members)
 
+-- an object of two texts, each under its key
 abbrev pub two_texts : List ℕ → List ℕ → List ℕ → List ℕ → Data
 two_texts key text other more = object (member key (string text) (member other (string more) no_members))
 

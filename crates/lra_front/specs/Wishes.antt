@@ -22,6 +22,7 @@ use Rattle.lra_front.specs.Bodies.{body_of, reads_body, text_under, number_under
 abbrev pub no_action : Denial
 no_action = Refused refusal.NoSuchAction
 
+-- an identifier of no member is denied so
 abbrev pub no_member : Denial
 no_member = Refused refusal.NoSuchMember
 

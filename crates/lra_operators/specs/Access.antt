@@ -90,6 +90,7 @@ is_own host = option_map_or (λ value. is_own_name (text_of value)) host false
 abbrev pub bearer_of : Fields → Option (List ℕ)
 bearer_of fields = option_map (λ value. bearer_in (text_of value)) fields.authorization
 
+-- the password that a request gives, by the Basic scheme (RFC 7617)
 abbrev pub password_of : Fields → Option (List ℕ)
 password_of fields = option_map (λ value. password_in (text_of value)) fields.authorization
 

@@ -10,6 +10,7 @@ use Rattle.lra_rules.specs.declared.network.Network.{Network}
 use Rattle.lra_rules.specs.Texts.{at_last, number}
 
 infixl 10 ◌>>=◌
+-- what a function makes of a value, where there is one
 abbrev pub ◌>>=◌ : {A B : Type 0} → Option A → (A → Option B) → Option B
 o >>= f = option_and_then f o
 
@@ -19,6 +20,7 @@ o >>= f = option_and_then f o
 abbrev pub ipv4 : List ℕ → IpAddr
 ipv4 octets = V4 (record { octets = octets })
 
+-- the IPv6 address of eight numbers
 abbrev pub ipv6 : List ℕ → IpAddr
 ipv6 segments = V6 (record { segments = segments })
 
@@ -108,9 +110,11 @@ network_of text = option_map_or (λ parts. prefix_of parts.0 parts.1) (at_last 4
 
 -- ---- special addresses
 
+-- the network of the first so many bits of an IPv4 address
 abbrev pub of_v4 : List ℕ → ℕ → Network
 of_v4 octets bits = record { first = ipv4 octets; bits = bits }
 
+-- the network of the first so many bits of an IPv6 address
 abbrev pub of_v6 : List ℕ → ℕ → Network
 of_v6 segments bits = record { first = ipv6 segments; bits = bits }
 

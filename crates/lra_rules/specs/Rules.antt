@@ -78,9 +78,11 @@ names ip port text = of_rule (λ r. is_for r.port port && has_address r.hosts ip
 
 -- ---- what rules let
 
+-- some rule lets a host, at a port
 abbrev pub some_lets : List (List ℕ) → List ℕ → ℕ → Bool
 some_lets rules host port = list_any (lets host port) rules
 
+-- some rule names an address, at a port
 abbrev pub some_names : List (List ℕ) → IpAddr → ℕ → Bool
 some_names rules ip port = list_any (names ip port) rules
 

@@ -7,6 +7,7 @@ use Rattle.lra_settings.specs.declared.settings.Settings.{Settings}
 abbrev pub taken_by_file : ℕ → ℕ
 taken_by_file workers = 5 * workers + 2
 
+-- how many descriptors a service of a folder takes, with so many workers and journals
 abbrev pub taken_by_folder : ℕ → ℕ → ℕ
 taken_by_folder workers journals = 3 * workers + 4 * (journals + 1)
 

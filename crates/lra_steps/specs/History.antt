@@ -92,6 +92,7 @@ pub record IsServed (h : History) : Type 0 where
   pub replied : Replies h.ended h
   pub bound : length h.kept ≤ 73728
 
+-- a connection of which nothing has come
 abbrev pub begun : ℕ → List ℕ → History
 begun instance base = record {
   instance = instance;
