@@ -11,6 +11,8 @@ ROOT = os.path.dirname(os.path.dirname(os.path.abspath(__file__)))
 PARTS = f"{ROOT}/tools/debian"
 DOC = "usr/share/doc/raxunto"
 MAINTAINER = "Raxunto maintainers <maintainers@users.noreply.raxunto.example>"
+# The pages for those who use and run it.
+USE = sorted(f"docs/use/{name}" for name in os.listdir(f"{ROOT}/docs/use"))
 # Where each file of the repository goes, and whether it is packed by gzip there.
 FILES = (
     ("examples/systemd/lra.service", "usr/lib/systemd/system/lra.service", False),
@@ -23,10 +25,7 @@ FILES = (
     ("man/lra_audit.1", "usr/share/man/man1/lra_audit.1.gz", True),
     ("tools/debian/lintian-overrides", "usr/share/lintian/overrides/raxunto", False),
     ("README.md", f"{DOC}/README.md", False),
-    ("docs/OPERATING.md", f"{DOC}/OPERATING.md", False),
-    ("docs/OPERATORS.md", f"{DOC}/OPERATORS.md", False),
-    ("docs/openapi.yaml", f"{DOC}/openapi.yaml", False),
-    ("docs/HTTP.md", f"{DOC}/HTTP.md", False),
+    *((path, f"{DOC}/use/{os.path.basename(path)}", False) for path in USE),
     ("docs/PROVED.md", f"{DOC}/PROVED.md", False),
     ("docs/HEADLINE.md", f"{DOC}/HEADLINE.md", False),
     ("docs/MEASURED.md", f"{DOC}/MEASURED.md", False),

@@ -39,7 +39,7 @@ And an agency that books there. The trip is closed at the end, or cancelled by w
         urllib.request.urlopen(urllib.request.Request("http://127.0.0.1:8081/rooms", b"", fields), timeout=10)
     print(trip.wait(10))  # Closed
 
-What a call raises is a `RaxuntoError`: a `Refused` by the name that docs/HTTP.md lists, an `Unreachable`, or a
+What a call raises is a `RaxuntoError`: a `Refused` by the name that docs/use/http.md lists, an `Unreachable`, or a
 `BadReply`. A mistake of the caller's is a ValueError, and then nothing was sent.
 """
 from __future__ import annotations

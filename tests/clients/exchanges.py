@@ -1,4 +1,4 @@
-"""Each call over a stand-in, each refusal of docs/HTTP.md, what is never sent, and the block of an action."""
+"""Each call over a stand-in, each refusal of docs/use/http.md, what is never sent, and the block of an action."""
 import inspect
 import json
 import re
@@ -44,8 +44,8 @@ def quick(place, **more):
 
 
 def refusals(setting):
-    """The code and the name of each refusal that docs/HTTP.md lists."""
-    with open(f"{setting.root}/docs/HTTP.md", encoding="utf-8") as page:
+    """The code and the name of each refusal that docs/use/http.md lists."""
+    with open(f"{setting.root}/docs/use/http.md", encoding="utf-8") as page:
         part = page.read().split("## Refusals")[1].split("\n## ")[0]
     for code, row in re.findall(r"^\| (\d{3}) [A-Z][^|]*\| (.*) \|$", part, re.MULTILINE):
         for name in re.findall(r"\b[A-Z][a-z]+(?:[A-Z][a-z]+)*\b", re.split(r"[:(]| with ", row)[0]):

@@ -1,4 +1,4 @@
-"""A member that is made of `MemberHandler`, asked as docs/HTTP.md says that a coordinator asks."""
+"""A member that is made of `MemberHandler`, asked as docs/use/http.md says that a coordinator asks."""
 import http.client
 import http.server
 import socket
@@ -18,7 +18,7 @@ RECOVERY = f"http://127.0.0.1:8080/lra-recovery/{NAME}"
 METHODS = {"complete": "PUT", "compensate": "PUT", "status": "GET", "forget": "DELETE", "after": "PUT"}
 FAILS = object()
 
-# What a method returns, and the code and the body of the reply, by what is asked. HTTP.md says what these come to.
+# What a method returns, and the code and the body of the reply, by what is asked. http.md says what these come to.
 DIRECTED = {
     "complete": ("Completed", "Completing", "FailedToComplete"),
     "compensate": ("Compensated", "Compensating", "FailedToCompensate"),

@@ -1,4 +1,4 @@
-"""A stand-in for a coordinator, written from the tables of docs/HTTP.md alone, that fails as it is told."""
+"""A stand-in for a coordinator, written from the tables of docs/use/http.md alone, that fails as it is told."""
 import json
 import re
 import socket

@@ -214,7 +214,7 @@ def limits(caller):
 
 
 def backup_of(site, to):
-    """A backup of a folder in use, as docs/OPERATING.md has it."""
+    """A backup of a folder in use, as docs/use/operating.md has it."""
     os.makedirs(to)
     for name in site.journals():
         journal.write(f"{to}/{name}.journal", journal.whole(journal.read(site.path(name + ".journal"))))

@@ -203,8 +203,8 @@ def guard(setting, name):
 
 
 def test_a_journal_of_an_older_unit_is_taken_up(setting):
-    """As OPERATING.md says: until it has its instance for a name the unit doesn't start."""
-    page = journal.read(f"{setting.root}/docs/OPERATING.md").decode().partition("### An older unit")[2]
+    """As operating.md says: until it has its instance for a name the unit doesn't start."""
+    page = journal.read(f"{setting.root}/docs/use/operating.md").decode().partition("### An older unit")[2]
     command = re.search("^mv .*$", page, re.M)[0]
     usual = re.search("^LRA_JOURNAL=(.*)$", journal.read(f"{setting.root}/examples/systemd/lra.default").decode(), re.M)[1]
     equal("an empty folder", guard(setting, usual).returncode, 0)

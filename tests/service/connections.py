@@ -1,4 +1,4 @@
-"""The connections of vectors/front and of docs/HTTP.md by socket: the replies are the same byte for byte.
+"""The connections of vectors/front and of docs/use/http.md by socket: the replies are the same byte for byte.
 
 A case is a journal, an empty line and a connection's bytes; its replies are those of a coordinator whose clock stands still and which
 carries nothing to members. A service's clock goes on and its workers carry, so that a case is left out where that could be seen:

@@ -1,4 +1,4 @@
-"""Real replies of both ports, held against docs/openapi.yaml."""
+"""Real replies of both ports, held against docs/use/openapi.yaml."""
 import json
 import re
 
@@ -14,12 +14,12 @@ except ImportError:
 
 
 class Description:
-    """What docs/openapi.yaml says."""
+    """What docs/use/openapi.yaml says."""
 
     def __init__(self, setting):
         if yaml is None:
             raise LeftOut("there is no python3-yaml or no python3-jsonschema")
-        with open(f"{setting.root}/docs/openapi.yaml", encoding="utf-8") as text:
+        with open(f"{setting.root}/docs/use/openapi.yaml", encoding="utf-8") as text:
             self.all = yaml.safe_load(text)
         # What was replied, by operation.
         self.codes = {}
