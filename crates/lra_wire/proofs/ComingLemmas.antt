@@ -8,7 +8,7 @@ use Rattle.std.proofs.lemmas.List.{take-append-drop, take_at, drop-drop, drop_al
 use Rattle.std.proofs.lemmas.List.Folds.{list_any-append}
 use Rattle.std.proofs.lemmas.List.Elements.{All-push, All-nil}
 use Rattle.httparse.specs.Ascii.{crlf_bytes}
-use Rattle.httparse.specs.Grammar.{print_response, HasNoResponse, MayBecomeResponse, status_code, print_chunk_line, chunk_size, HasNoChunkLine, NeverHasChunkLine, HasNoSection}
+use Rattle.httparse.specs.Grammar.{print_response, HasNoResponse, MayBecomeResponse, status_code, print_chunk_line, chunk_size, ReadsChunkLine, HasNoChunkLine, NeverHasChunkLine, MayBecomeChunkLine, HasNoSection, MayBecomeSection}
 use Rattle.httparse.specs.Spans.{SectionOverflows}
 use Rattle.lra_wire.specs.declared.coming.ChunksRead.{ChunksRead}
 use Rattle.lra_wire.specs.declared.coming.Part.{Part}
@@ -26,16 +26,14 @@ use Rattle.lra_wire.specs.declared.response.Head.{Head}
 use Rattle.lra_wire.specs.Chunks.{IsChunk, print_chunk, content_of, HasLast, RefusesTrailer, RefusesContent, RefusesChunk, RefusesChunks, AwaitsChunk}
 use Rattle.lra_wire.specs.Coming.{Lasts, IsWhole, IsOpen}
 use Rattle.lra_wire.specs.Fields.{is_alike, values_of, stated_of}
-use Rattle.lra_wire.specs.Response.{NeverShort, is_interim, IsInterim, HasFinal, fields_in, stated_framing, coded_framing, framing_of, IsBody, RefusesFramed, RefusesResponse, IsOpenResponse, AwaitsBody, AwaitsResponse}
+use Rattle.lra_wire.specs.Response.{NeverShort, is_interim, IsInterim, HasFinal, fields_in, stated_framing, coded_framing, framing_of, IsBody, RefusesFramed, IsResponse, EndsInResponse, RefusesResponse, IsOpenResponse, AwaitsBody, AwaitsResponse}
 use Rattle.lra_wire.specs.Seen.{SeesResponse}
-use Rattle.lra_wire.specs.inner.Parts.{IsMissing, count_wanted, HasLooked, IsOpenAt, Seeks, SkipsTo, Heads, IsFinalOf, FindsHead, LastsAt, IsTrailerTo, FindsEnd, FindsContent, FindsPart, Joined, ChunksTo, HasRead, SeesBody, IsBodyTo}
+use Rattle.lra_wire.specs.inner.Parts.{IsMissing, count_wanted, HasLooked, IsOpenAt, Seeks, SkipsTo, Heads, IsFinalOf, FindsHead, LastsAt, IsTrailerTo, FindsEnd, FindsContent, FindsPart, Joined, ChunksTo, HasRead, SeesBody, IsBodyTo, EndsBody, EndsOpen}
 use Rattle.lra_wire.specs.inner.Steps.{IsHeadOf, IsLineOf, IsTrailerOf, IsPieceAt, IsSmall}
 use Rattle.lra_wire.proofs.HeadLemmas.{up_to_all, no_response}
 use Rattle.lra_wire.proofs.SearchLemmas.{no_feed, no_line, no_section}
 use Rattle.lra_wire.proofs.StreamLemmas.{drop_more_bytes, behind_in}
-use Rattle.lra_wire.proofs.ChunkLemmas.{NeverHasChunkLine-append, SectionOverflows-append, passes, line_there, trailer_there, two_at}
-use Rattle.lra_wire.proofs.PieceLemmas.{IsOpenBehind, content_there, line_some}
-use Rattle.lra_wire.proofs.ChunksLemmas.{joined_more}
+use Rattle.lra_wire.proofs.ChunkLemmas.{NeverHasChunkLine-append, SectionOverflows-append, passes, line_there, trailer_there, two_at, IsOpenBehind, content_there, line_some, joined_more}
 use Rattle.lra_wire.proofs.ResponseLemmas.{NeverShort-append, response_there, rest_says, framing_small, framing_other, framed_other}
 
 -- ---- what follows
@@ -165,12 +163,10 @@ heads_final bytes start interim found heads at status = record {
 }
 
 -- one isn't whole
-pub head_open : (text : List ℕ) → HasNoResponse text → MayBecomeResponse text → length text < 8192 → IsOpenResponse text × (length text < 8192)
-head_open text none may few = ((none, up_to_all MayBecomeResponse text may), few)
-
-pub heads_open : (bytes : List ℕ) (start interim : ℕ) → Heads bytes start interim → IsOpenResponse (drop start bytes) → length (drop start bytes) < 8192
+pub heads_open : (bytes : List ℕ) (start interim : ℕ) → Heads bytes start interim → HasNoResponse (drop start bytes) → MayBecomeResponse (drop start bytes) → length (drop start bytes) < 8192
     → IsOpenAt AwaitsResponse 0 bytes (Feed (length bytes))
-heads_open bytes start interim heads here few =
+heads_open bytes start interim heads open_head may few =
+    let here : IsOpenResponse (drop start bytes) = (open_head, up_to_all MayBecomeResponse (drop start bytes) may) in
     let room : length bytes < 1048576 = omega (arith, heads.place, heads.few, few, length-drop start bytes, heads.within) in
     let o = open_now IsOpenResponse response_stays start bytes heads.within here room in
     record {
@@ -180,6 +176,11 @@ heads_open bytes start interim heads here few =
           let before = heads_ahead bytes more start interim heads in
           inl (record { interim = before.heads; rest = drop start (bytes ++ more); skips = before.skips; open_head = o.awaits more missing });
     }
+
+-- the stream ends in it
+pub heads_end : (bytes : List ℕ) (start interim : ℕ) → Heads bytes start interim → HasNoResponse (drop start bytes) → MayBecomeResponse (drop start bytes) → EndsInResponse bytes
+heads_end bytes start interim heads open_head may =
+    record { interim = heads.so_far.heads; rest = drop start bytes; skips = heads.so_far.skips; open_head = open_head; lawful = may }
 
 -- none comes
 pub heads_refused : (bytes : List ℕ) (start interim : ℕ) → Heads bytes start interim → NeverShort (drop start bytes) → Lasts RefusesResponse bytes BadHead
@@ -226,9 +227,10 @@ end_long bytes start len within at long = λ more.
     )))
 
 -- it isn't whole
-pub end_open : (bytes : List ℕ) (start : ℕ) (wanted : Wanted) → start ≤ length bytes → HasNoSection (drop start bytes) → (wanted ≡ Feed (length bytes)) × (length bytes < 1048576)
-    → IsOpenAt HasNoSection start bytes wanted
-end_open bytes start wanted within none more = subst (IsOpenAt HasNoSection start bytes) (sym more.0) (open_now HasNoSection section_stays start bytes within none more.1)
+pub end_open : (bytes : List ℕ) (start : ℕ) (wanted : Wanted) → start ≤ length bytes → HasNoSection (drop start bytes) → MayBecomeSection (drop start bytes)
+    → (wanted ≡ Feed (length bytes)) × (length bytes < 1048576) → IsOpenAt HasNoSection start bytes wanted × RefusesTrailer start (drop start bytes) Cut
+end_open bytes start wanted within none may more =
+    (subst (IsOpenAt HasNoSection start bytes) (sym more.0) (open_now HasNoSection section_stays start bytes within none more.1), inr (inr (inr (refl, none, may))))
 
 -- it isn't whole, and the limit is reached
 pub end_open_long : (bytes : List ℕ) (start : ℕ) → start ≤ length bytes → HasNoSection (drop start bytes) → 1048576 ≤ length bytes → LastsAt (RefusesTrailer start) start bytes TooLarge
@@ -265,11 +267,13 @@ content_refused bytes start room size within there other = λ more.
 -- ---- parts of a chunked body
 
 -- a line isn't whole
-pub line_open : (bytes : List ℕ) (start : ℕ) (wanted : Wanted) → start ≤ length bytes → HasNoChunkLine (drop start bytes) → (wanted ≡ Feed (length bytes)) × (length bytes < 1048576)
-    → IsOpenAt AwaitsChunk start bytes wanted
-line_open bytes start wanted within none more =
-    let o = open_now HasNoChunkLine line_stays start bytes within none more.1 in
-    subst (IsOpenAt AwaitsChunk start bytes) (sym more.0) (record { next = refl; bound = o.bound; awaits = λ tail missing. inl (o.awaits tail missing) })
+pub line_open : (bytes : List ℕ) (start room : ℕ) (wanted : Wanted) → start ≤ length bytes → HasNoChunkLine (drop start bytes) → MayBecomeChunkLine (drop start bytes)
+    → (wanted ≡ Feed (length bytes)) × (length bytes < 1048576) → IsOpenAt AwaitsChunk start bytes wanted × RefusesChunk start room (drop start bytes) Cut
+line_open bytes start room wanted within none may more =
+    let o = open_now HasNoChunkLine line_stays start bytes within none more.1 in (
+      subst (IsOpenAt AwaitsChunk start bytes) (sym more.0) (record { next = refl; bound = o.bound; awaits = λ tail missing. inl (o.awaits tail missing) }),
+      inl (inr (inr (refl, none, may))),
+    )
 
 -- a line isn't whole, and the limit is reached
 pub line_open_long : (bytes : List ℕ) (start room : ℕ) → start ≤ length bytes → HasNoChunkLine (drop start bytes) → 1048576 ≤ length bytes → LastsAt (RefusesChunk start room) start bytes TooLarge
@@ -296,9 +300,23 @@ last_found bytes start end found within at zero trailer = (
   },
 )
 
-pub last_open : (bytes : List ℕ) (start : ℕ) (wanted : Wanted) (found : ℕ × ℕ) → start ≤ length bytes → IsLineOf (drop start bytes) found → found.1 ≡ 0
+-- a line stands there, and the stream ends behind it
+cut_behind : (bytes : List ℕ) (start room : ℕ) (found : ℕ × ℕ) → (at : IsLineOf (drop start bytes) found)
+    → (((found.1 ≡ 0) × RefusesTrailer (start + found.0) (drop (start + found.0) bytes) Cut) ⊎ ((0 < found.1) × RefusesContent (start + found.0) room found.1 (drop (start + found.0) bytes) Cut))
+    → RefusesChunk start room (drop start bytes) Cut
+cut_behind bytes start room found at why =
+    let behind : List ℕ = drop (start + found.0) bytes in
+    let Why : ℕ → ℕ → Type 0 = λ place size. ((size ≡ 0) × RefusesTrailer (start + place) behind Cut) ⊎ ((0 < size) × RefusesContent (start + place) room size behind Cut) in
+    inr (record {
+      line = at.line;
+      behind = behind;
+      reads = subst (λ (bs : List ℕ). ReadsChunkLine (drop start bytes) at.line bs) (drop-drop found.0 start bytes) at.reads;
+      refused = subst (λ (n : ℕ). Why n (chunk_size at.line)) at.len (subst (Why found.0) at.size why);
+    })
+
+open_behind : (bytes : List ℕ) (start : ℕ) (wanted : Wanted) (found : ℕ × ℕ) → start ≤ length bytes → IsLineOf (drop start bytes) found → found.1 ≡ 0
     → IsOpenAt HasNoSection (start + found.0) bytes wanted → IsOpenAt AwaitsChunk start bytes wanted
-last_open bytes start wanted found within at zero o = record {
+open_behind bytes start wanted found within at zero o = record {
   next = o.next;
   bound = o.bound;
   awaits = λ more missing. inr (
@@ -308,6 +326,11 @@ last_open bytes start wanted found within at zero o = record {
     subst (λ (n : ℕ). IsOpenBehind n (drop (start + found.0) (bytes ++ more))) at.size (inl (zero, o.awaits more missing)),
   );
 }
+
+pub last_open : (bytes : List ℕ) (start room : ℕ) (wanted : Wanted) (found : ℕ × ℕ) → start ≤ length bytes → IsLineOf (drop start bytes) found → found.1 ≡ 0
+    → IsOpenAt HasNoSection (start + found.0) bytes wanted × RefusesTrailer (start + found.0) (drop (start + found.0) bytes) Cut
+    → IsOpenAt AwaitsChunk start bytes wanted × RefusesChunk start room (drop start bytes) Cut
+last_open bytes start room wanted found within at zero o = (open_behind bytes start wanted found within at zero o.0, cut_behind bytes start room found at (inl (zero, o.1)))
 
 pub last_refused : (bytes : List ℕ) (start room : ℕ) (found : ℕ × ℕ) (fault : WireFault) → start ≤ length bytes → IsLineOf (drop start bytes) found → found.1 ≡ 0
     → LastsAt (RefusesTrailer (start + found.0)) (start + found.0) bytes fault → LastsAt (RefusesChunk start room) start bytes fault
@@ -341,19 +364,23 @@ chunk_found bytes start room from to found within at line some h =
       },
     )
 
-pub chunk_open : (bytes : List ℕ) (start : ℕ) (wanted : Wanted) (found : ℕ × ℕ) → start ≤ length bytes → IsLineOf (drop start bytes) found → 0 < found.1
-    → (wanted ≡ Bytes (start + found.0 + found.1 + 2)) × (length bytes < start + found.0 + found.1 + 2) × (start + found.0 + found.1 + 2 ≤ 1048576) → IsOpenAt AwaitsChunk start bytes wanted
-chunk_open bytes start wanted found within at some h = subst (IsOpenAt AwaitsChunk start bytes) (sym h.0) (record {
-  next = h.1;
-  bound = h.2;
-  awaits = λ more few. inr (
-    at.line,
-    drop (start + found.0) (bytes ++ more),
-    line_there start bytes more found within at,
-    subst (λ (n : ℕ). IsOpenBehind n (drop (start + found.0) (bytes ++ more))) at.size
-        (inr (some, omega (arith, few, length-drop (start + found.0) (bytes ++ more)))),
-  );
-})
+pub chunk_open : (bytes : List ℕ) (start room : ℕ) (wanted : Wanted) (found : ℕ × ℕ) → start ≤ length bytes → IsLineOf (drop start bytes) found → 0 < found.1
+    → (wanted ≡ Bytes (start + found.0 + found.1 + 2)) × (length bytes < start + found.0 + found.1 + 2) × (start + found.0 + found.1 + 2 ≤ 1048576)
+    → IsOpenAt AwaitsChunk start bytes wanted × RefusesChunk start room (drop start bytes) Cut
+chunk_open bytes start room wanted found within at some h = (
+  subst (IsOpenAt AwaitsChunk start bytes) (sym h.0) (record {
+    next = h.1;
+    bound = h.2;
+    awaits = λ more few. inr (
+      at.line,
+      drop (start + found.0) (bytes ++ more),
+      line_there start bytes more found within at,
+      subst (λ (n : ℕ). IsOpenBehind n (drop (start + found.0) (bytes ++ more))) at.size
+          (inr (some, omega (arith, few, length-drop (start + found.0) (bytes ++ more)))),
+    );
+  }),
+  cut_behind bytes start room found at (inr (some, inr (inr (refl, omega (arith, h.1, length-drop (start + found.0) bytes))))),
+)
 
 pub chunk_refused : (bytes : List ℕ) (start room : ℕ) (found : ℕ × ℕ) (fault : WireFault) → start ≤ length bytes → IsLineOf (drop start bytes) found → 0 < found.1
     → LastsAt (RefusesContent (start + found.0) room found.1) (start + found.0) bytes fault → LastsAt (RefusesChunk start room) start bytes fault
@@ -374,14 +401,14 @@ chunk_refused bytes start room found fault within at some refused =
 pub part_last : (bytes : List ℕ) (start room : ℕ) (found : ℕ × ℕ) (result : Result Part WireFault) → start ≤ length bytes → IsLineOf (drop start bytes) found → found.1 ≡ 0
     → FindsEnd (start + found.0) bytes result → FindsPart start room bytes result
 part_last bytes start room found (Ok (Last end)) within at zero h = last_found bytes start end found within at zero h
-part_last bytes start room found (Ok (Open wanted)) within at zero h = last_open bytes start wanted found within at zero h
+part_last bytes start room found (Ok (Open wanted)) within at zero h = last_open bytes start room wanted found within at zero h
 part_last bytes start room found (Ok (Content from to)) within at zero h = absurd h
 part_last bytes start room found (Err fault) within at zero h = last_refused bytes start room found fault within at zero h
 
 pub part_content : (bytes : List ℕ) (start room : ℕ) (found : ℕ × ℕ) (result : Result Part WireFault) → start ≤ length bytes → IsLineOf (drop start bytes) found → 0 < found.1
     → FindsContent (start + found.0) room found.1 bytes result → FindsPart start room bytes result
 part_content bytes start room found (Ok (Content from to)) within at some h = chunk_found bytes start room from to found within at (line_some (drop start bytes) found at) some h
-part_content bytes start room found (Ok (Open wanted)) within at some h = chunk_open bytes start wanted found within at some h
+part_content bytes start room found (Ok (Open wanted)) within at some h = chunk_open bytes start room wanted found within at some h
 part_content bytes start room found (Ok (Last end)) within at some h = absurd h
 part_content bytes start room found (Err fault) within at some h = chunk_refused bytes start room found fault within at some h
 
@@ -465,6 +492,19 @@ chunks_open bytes start at wanted body chunks o = record {
       record { chunks = joined.chunks; text = drop at (bytes ++ more); has = joined.has; open_text = o.awaits more missing };
 }
 
+-- the stream ends in them
+pub chunks_cut : (bytes : List ℕ) (start at : ℕ) (body : List ℕ) → ChunksTo bytes start at body → RefusesChunk at (65536 - length body) (drop at bytes) Cut → RefusesFramed Chunks start (drop start bytes) Cut
+chunks_cut bytes start at body chunks cut =
+    let joined = chunks.so_far in
+    let place : start + (length (drop start bytes) - length (drop at bytes)) ≡ at = omega (arith, chunks.behind, chunks.within, length-drop start bytes, length-drop at bytes) in
+    record {
+      chunks = joined.chunks;
+      text = drop at bytes;
+      has = joined.has;
+      refused = subst (λ (n : ℕ). RefusesChunk n (65536 - length (content_of joined.chunks)) (drop at bytes) Cut) (sym place)
+          (subst (λ (bs : List ℕ). RefusesChunk at (65536 - length bs) (drop at bytes) Cut) joined.body_is cut);
+    }
+
 pub chunks_refused : (bytes : List ℕ) (start at : ℕ) (body : List ℕ) (fault : WireFault) → ChunksTo bytes start at body
     → LastsAt (RefusesChunk at (65536 - length body)) at bytes fault → LastsAt (RefusesFramed Chunks start) start bytes fault
 chunks_refused bytes start at body fault chunks refused =
@@ -503,15 +543,20 @@ sized_whole bytes body start size whole limit small is = record {
       );
 }
 
-pub sized_open : (bytes : List ℕ) (start size : ℕ) → start ≤ length bytes → length bytes < start + size → start ≤ 73728 → size ≤ 65536 → IsOpenAt (AwaitsBody (Sized size)) start bytes (Bytes (start + size))
-sized_open bytes start size within few limit small = record {
-  next = few;
-  bound = omega (arith, limit, small);
-  awaits = λ more less. omega (arith, less, few, within, length-drop start (bytes ++ more), length-append bytes more);
-}
+pub sized_open : (bytes : List ℕ) (start size : ℕ) → start ≤ length bytes → length bytes < start + size → start ≤ 73728 → size ≤ 65536
+    → IsOpenAt (AwaitsBody (Sized size)) start bytes (Bytes (start + size)) × EndsBody (Sized size) start bytes
+sized_open bytes start size within few limit small = (
+  record {
+    next = few;
+    bound = omega (arith, limit, small);
+    awaits = λ more less. omega (arith, less, few, within, length-drop start (bytes ++ more), length-append bytes more);
+  },
+  (refl, omega (arith, few, within, length-drop start bytes)),
+)
 
-pub rest_open : (bytes : List ℕ) (start : ℕ) → start ≤ 73728 → length bytes ≤ start + 65536 → IsOpenAt (AwaitsBody ToTheEnd) start bytes (Bytes (start + 65536 + 1))
-rest_open bytes start limit few = record { next = omega (arith, few); bound = omega (arith, limit); awaits = λ more less. tt }
+pub rest_open : (bytes : List ℕ) (start : ℕ) → start ≤ 73728 → length bytes ≤ start + 65536
+    → IsOpenAt (AwaitsBody ToTheEnd) start bytes (Bytes (start + 65536 + 1)) × EndsBody ToTheEnd start bytes
+rest_open bytes start limit few = (record { next = omega (arith, few); bound = omega (arith, limit); awaits = λ more less. tt }, few)
 
 pub rest_large : (bytes : List ℕ) (start : ℕ) → start + 65536 < length bytes → LastsAt (RefusesFramed ToTheEnd start) start bytes TooLarge
 rest_large bytes start long = λ more. (refl, omega (arith, long, length-drop start (bytes ++ more), length-append bytes more))
@@ -605,6 +650,47 @@ response_open_now bytes found framing wanted final framed o = record {
     open_body = o.awaits more missing;
   });
 }
+
+-- the head and the framing of what is open
+ends_as : (bytes : List ℕ) (found : Head) (framing : Framing) → EndsOpen (Some found) bytes → found.framing ≡ Ok framing → EndsBody framing found.len bytes
+ends_as bytes found framing (other, is, ends) framed = let same : other ≡ framing = cc in subst (λ (f : Framing). EndsBody f found.len bytes) same ends
+
+final_now : (bytes : List ℕ) (found : Head) → (final : IsFinalOf bytes found) → HasFinal bytes final.head (drop found.len bytes)
+final_now bytes found final = subst (λ (bs : List ℕ). HasFinal bs final.head (drop found.len bs)) (append-nil bytes) (final.final [])
+
+-- the stream ends in its body
+pub response_cut_now : (bytes : List ℕ) (found : Head) (framing : Framing) → IsFinalOf bytes found → EndsOpen (Some found) bytes → found.framing ≡ Ok framing
+    → (EndsBody framing found.len bytes → RefusesFramed framing found.len (drop found.len bytes) Cut) → RefusesResponse bytes Cut
+response_cut_now bytes found framing final ends framed cut =
+    let place : found.len ≡ length bytes - length (drop found.len bytes) = omega (arith, final.within, length-drop found.len bytes) in
+    inr (record {
+      head = final.head;
+      behind = drop found.len bytes;
+      final = final_now bytes found final;
+      refused = inr (
+        framing,
+        sym final.framing ∙ framed,
+        subst (λ (n : ℕ). RefusesFramed framing n (drop found.len bytes) Cut) place (cut (ends_as bytes found framing ends framed)),
+      );
+    })
+
+-- its body ends with the stream
+pub rest_whole : (bytes : List ℕ) (found : Head) (framing : Framing) (body : List ℕ) → IsFinalOf bytes found → EndsOpen (Some found) bytes → found.framing ≡ Ok framing → framing ≡ ToTheEnd
+    → body ≡ drop found.len bytes → (length bytes ≤ length bytes) × IsResponse bytes found.code body (drop (length bytes) bytes)
+rest_whole bytes found framing body final ends framed is same =
+    let few : length bytes ≤ found.len + 65536 = ends_as bytes found ToTheEnd ends (framed ∙ ap Ok is) in (
+      omega arith,
+      record {
+        head = final.head;
+        behind = drop found.len bytes;
+        final = final_now bytes found final;
+        status = final.code;
+        framing = ToTheEnd;
+        framed = sym final.framing ∙ framed ∙ ap Ok is;
+        content = (sym same, drop_all (length bytes) bytes (omega arith), omega (arith, few, ap length same, length-drop found.len bytes));
+        size = omega (arith, few, final.bound);
+      },
+    )
 
 -- a stated length is within its limit
 pub final_small : (bytes : List ℕ) (found : Head) (framing : Framing) → IsFinalOf bytes found → found.framing ≡ Ok framing → IsSmall framing

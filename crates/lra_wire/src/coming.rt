@@ -1,10 +1,10 @@
 //! The response at the front of bytes that came, with no reader.
-ghost use Rattle.std.specs.Prelude.{◌≡◌, ◌≤◌, ℕ, List, ◌++◌, [], length, drop, IfSome, IfNone};
+ghost use Rattle.std.specs.Prelude.{◌≡◌, ◌≤◌, ℕ, List, ◌++◌, [], length, drop, IfOk, IfSome, IfNone};
 ghost use Rattle.lra_wire.specs.declared.coming.SeenResponse.{SeenResponse};
 ghost use Rattle.lra_wire.specs.Coming.{IsComing};
 ghost use Rattle.lra_wire.specs.Response.{AwaitsResponse};
 ghost use Rattle.lra_wire.specs.Seen.{SeesResponse};
-ghost use Rattle.lra_wire.specs.inner.Parts.{IsMissing, count_wanted, most_bytes, IsOpenAt, Passes, HasRead, FindsHead, FindsFinal, OneMore, FindsEnd, FindsContent, FindsPart, FindsBodyFront};
+ghost use Rattle.lra_wire.specs.inner.Parts.{IsMissing, count_wanted, most_bytes, IsOpenAt, Passes, HasRead, FindsHead, FindsFinal, OneMore, FindsEnd, FindsContent, FindsPart, FindsBodyFront, EndsOpen, EndsAsOpen, IsLast};
 ghost use Rattle.lra_wire.specs.inner.Steps.{IsSmall};
 
 use crate::chunks::{MAX_RESPONSE, has_line_end, line_at, trailer_at};
@@ -165,6 +165,26 @@ impl SeenResponse {
         self.chunks.start = head.len;
         self.chunks.end = head.len;
         Ok(Some(head))
+    }
+
+    /// Returns the response whose body ends with the stream, and how many bytes it takes.
+    fn rest(&self, alloc: Global, bytes: &[u8]) -> Result<(ResponseRead, usize), WireFault>
+        requires sees { SeesResponse self.now bytes.now }
+        requires ends { EndsOpen self.now.head bytes.now }
+        ensures { IsLast bytes.now result }
+    {
+        let Some(head) = self.head else {
+            return Err(WireFault::Cut);
+        };
+        match head.framing? {
+            Framing::ToTheEnd => {
+                let body = Vec::from_slice(alloc, behind(bytes, head.len))?;
+                let code = head.code;
+                Ok((ResponseRead { code, body }, bytes.len()))
+            }
+            Framing::Sized(_) => Err(WireFault::Cut),
+            Framing::Chunks => Err(WireFault::Cut),
+        }
     }
 
     /// That is wanted before a response can be whole.
@@ -354,6 +374,16 @@ pub fn response_front_seen(
     if let Some(wanted) = seen.still_wanted(bytes) {
         return Ok(seen.open(wanted));
     }
+    read_on(alloc, bytes, seen)
+}
+
+/// Reads on from what was seen of these bytes.
+fn read_on(alloc: Global, bytes: &[u8], seen: &mut SeenResponse) -> Result<Coming, WireFault>
+    requires { SeesResponse seen.old bytes.now }
+    ensures coming { IsComing bytes.now result }
+    ensures seen { SeesResponse seen.new bytes.now }
+    ensures ends { IfOk result (EndsAsOpen seen.new.head bytes.now) }
+{
     let Some(head) = seen.find_head(bytes)? else {
         return Ok(seen.open(Wanted::Feed(bytes.len())));
     };
@@ -363,6 +393,21 @@ pub fn response_front_seen(
             Ok(Coming::Whole(ResponseRead { code, body }, len))
         }
         BodyFront::Open(wanted) => Ok(seen.open(wanted)),
+    }
+}
+
+/// Returns the response of a stream that ends with these bytes, of which a front was seen, and how many bytes it takes.
+pub(crate) fn response_at_end(
+    alloc: Global,
+    bytes: &[u8],
+    seen: &mut SeenResponse,
+) -> Result<(ResponseRead, usize), WireFault>
+    requires { SeesResponse seen.old bytes.now }
+    ensures { IsLast bytes.now result }
+{
+    match read_on(alloc, bytes, seen)? {
+        Coming::Whole(response, len) => Ok((response, len)),
+        Coming::Open(_) => seen.rest(alloc, bytes),
     }
 }
 

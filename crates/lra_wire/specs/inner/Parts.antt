@@ -2,9 +2,11 @@
 use Rattle.std.specs.Prelude.{◌≡◌, ℕ, ◌+◌, ◌*◌, ◌<◌, ◌≤◌, ◌==◌, false, List, [], ◌++◌, length, drop, Option, Some, None, Result, Ok, Err, ⊤}
 use Rattle.std.specs.List.{list_any}
 use Rattle.httparse.specs.Ascii.{crlf_bytes}
-use Rattle.httparse.specs.Grammar.{ResponseHead, status_code, HasNoSection}
+use Rattle.httparse.specs.Grammar.{ResponseHead, status_code, HasNoResponse, MayBecomeResponse, HasNoSection}
 use Rattle.lra_wire.specs.declared.coming.BodyFront.{BodyFront}
 use Rattle.lra_wire.specs.declared.coming.BodyFront.TheVariants as body
+use Rattle.lra_wire.specs.declared.coming.Coming.{Coming}
+use Rattle.lra_wire.specs.declared.coming.Coming.TheVariants as coming
 use Rattle.lra_wire.specs.declared.coming.ChunksRead.{ChunksRead}
 use Rattle.lra_wire.specs.declared.coming.Passed.{Passed}
 use Rattle.lra_wire.specs.declared.coming.Wanted.{Wanted}
@@ -12,12 +14,14 @@ use Rattle.lra_wire.specs.declared.coming.Wanted.TheVariants.{Feed, Bytes}
 use Rattle.lra_wire.specs.declared.coming.Part.{Part}
 use Rattle.lra_wire.specs.declared.coming.Part.TheVariants.{Content, Last, Open}
 use Rattle.lra_wire.specs.declared.fault.WireFault.{WireFault}
-use Rattle.lra_wire.specs.declared.fault.WireFault.TheVariants.{TooLarge}
+use Rattle.lra_wire.specs.declared.fault.WireFault.TheVariants.{TooLarge, Cut}
 use Rattle.lra_wire.specs.declared.framing.Framing.{Framing}
+use Rattle.lra_wire.specs.declared.framing.Framing.TheVariants.{Sized, Chunks, ToTheEnd}
 use Rattle.lra_wire.specs.declared.response.Head.{Head}
+use Rattle.lra_wire.specs.declared.response.ResponseRead.{ResponseRead}
 use Rattle.lra_wire.specs.Chunks.{Chunk, content_of, HasChunks, HasTrailer, HasLast, RefusesTrailer, RefusesContent, RefusesChunk, AwaitsChunk}
 use Rattle.lra_wire.specs.Coming.{Lasts}
-use Rattle.lra_wire.specs.Response.{Skips, HasFinal, fields_in, framing_of, IsBody, RefusesFramed, RefusesResponse, IsOpenResponse, AwaitsBody, AwaitsResponse}
+use Rattle.lra_wire.specs.Response.{Skips, HasFinal, fields_in, framing_of, IsBody, RefusesFramed, IsResponse, EndsInResponse, RefusesResponse, AwaitsBody, AwaitsResponse}
 use Rattle.lra_wire.specs.inner.Steps.{IsPieceAt}
 
 -- what is wanted hasn't come: a line feed behind so many bytes, or so many bytes
@@ -86,13 +90,13 @@ pub record IsFinalOf (bytes : List ℕ) (found : Head) : Type 0 where
 -- a final head, or a head that more bytes may complete behind the interim ones, or none whatever follows
 abbrev pub FindsFinal : ℕ → List ℕ → Result (Option Head) WireFault → Type 0
 FindsFinal start bytes (Ok (Some found)) = IsFinalOf bytes found
-FindsFinal start bytes (Ok None) = IsOpenResponse (drop start bytes) × (length (drop start bytes) < 8192)
+FindsFinal start bytes (Ok None) = HasNoResponse (drop start bytes) × MayBecomeResponse (drop start bytes) × (length (drop start bytes) < 8192)
 FindsFinal start bytes (Err fault) = Lasts RefusesResponse bytes fault
 
 -- the final head that was seen, or that a line feed is wanted, or none whatever follows
 abbrev pub FindsHead : Option Head → List ℕ → Result (Option Head) WireFault → Type 0
 FindsHead seen bytes (Ok (Some found)) = seen ≡ Some found
-FindsHead seen bytes (Ok None) = IsOpenAt AwaitsResponse 0 bytes (Feed (length bytes))
+FindsHead seen bytes (Ok None) = (seen ≡ None) × IsOpenAt AwaitsResponse 0 bytes (Feed (length bytes)) × EndsInResponse bytes
 FindsHead seen bytes (Err fault) = Lasts RefusesResponse bytes fault
 
 -- from a place on, whatever follows
@@ -114,7 +118,7 @@ pub record IsTrailerTo (start end : ℕ) (bytes : List ℕ) : Type 0 where
 -- that trailer, or that more bytes are wanted, or why there is none
 abbrev pub FindsEnd : ℕ → List ℕ → Result Part WireFault → Type 0
 FindsEnd start bytes (Ok (Last end)) = IsTrailerTo start end bytes
-FindsEnd start bytes (Ok (Open wanted)) = IsOpenAt HasNoSection start bytes wanted
+FindsEnd start bytes (Ok (Open wanted)) = IsOpenAt HasNoSection start bytes wanted × RefusesTrailer start (drop start bytes) Cut
 FindsEnd start bytes (Ok (Content from to)) = ⊥
 FindsEnd start bytes (Err fault) = LastsAt (RefusesTrailer start) start bytes fault
 
@@ -130,7 +134,7 @@ FindsContent start room size bytes (Err fault) = LastsAt (RefusesContent start r
 abbrev pub FindsPart : ℕ → ℕ → List ℕ → Result Part WireFault → Type 0
 FindsPart start room bytes (Ok (Content from to)) = (start < from) × (from < to) × (to + 2 ≤ length bytes) × (to + 2 ≤ 1048576) × (to ≤ from + room) × IsPieceAt start bytes from to
 FindsPart start room bytes (Ok (Last end)) = (start ≤ end) × (end ≤ length bytes) × (end ≤ 1048576) × ((more : List ℕ) → HasLast (drop start (bytes ++ more)) (drop end (bytes ++ more)))
-FindsPart start room bytes (Ok (Open wanted)) = IsOpenAt AwaitsChunk start bytes wanted
+FindsPart start room bytes (Ok (Open wanted)) = IsOpenAt AwaitsChunk start bytes wanted × RefusesChunk start room (drop start bytes) Cut
 FindsPart start room bytes (Err fault) = LastsAt (RefusesChunk start room) start bytes fault
 
 -- the chunks from a place of the bytes up to another, and the body that they make up
@@ -163,8 +167,29 @@ pub record IsBodyTo (framing : Framing) (start : ℕ) (bytes body : List ℕ) (e
   pub bound : end ≤ 1048576
   pub there : (more : List ℕ) → IsBody framing (drop start (bytes ++ more)) body (drop end (bytes ++ more))
 
--- the body behind a place, or that more bytes are wanted, or why there is none
+-- what the body of that framing comes to where the stream ends with these bytes: it is cut, or ends with them
+abbrev pub EndsBody : Framing → ℕ → List ℕ → Type 0
+EndsBody (Sized n) start bytes = RefusesFramed (Sized n) start (drop start bytes) Cut
+EndsBody Chunks start bytes = RefusesFramed Chunks start (drop start bytes) Cut
+EndsBody ToTheEnd start bytes = length bytes ≤ start + 65536
+
+-- the body behind a place, or that more bytes are wanted, and what it comes to without them, or why there is none
 abbrev pub FindsBodyFront : Framing → ℕ → List ℕ → Result BodyFront WireFault → Type 0
 FindsBodyFront framing start bytes (Ok (body.Whole content end)) = IsBodyTo framing start bytes content.items end
-FindsBodyFront framing start bytes (Ok (body.Open wanted)) = IsOpenAt (AwaitsBody framing) start bytes wanted
+FindsBodyFront framing start bytes (Ok (body.Open wanted)) = IsOpenAt (AwaitsBody framing) start bytes wanted × EndsBody framing start bytes
 FindsBodyFront framing start bytes (Err fault) = LastsAt (RefusesFramed framing start) start bytes fault
+
+-- a final head is open where the stream ends with these bytes, or the body behind one
+abbrev pub EndsOpen : Option Head → List ℕ → Type 0
+EndsOpen None bytes = EndsInResponse bytes
+EndsOpen (Some head) bytes = (framing : Framing) × (head.framing ≡ Ok framing) × EndsBody framing head.len bytes
+
+-- the same where no whole response was found
+abbrev pub EndsAsOpen : Option Head → List ℕ → Coming → Type 0
+EndsAsOpen head bytes (coming.Whole read len) = ⊤
+EndsAsOpen head bytes (coming.Open wanted) = EndsOpen head bytes
+
+-- the response of a stream that ends with these bytes, and how many of them it takes, or why there is none
+abbrev pub IsLast : List ℕ → Result (ResponseRead × ℕ) WireFault → Type 0
+IsLast bytes (Ok found) = (found.1 ≤ length bytes) × IsResponse bytes found.0.code found.0.body.items (drop found.1 bytes)
+IsLast bytes (Err fault) = RefusesResponse bytes fault

@@ -1,6 +1,5 @@
 -- One reading of a request, from an inbox to an inbox.
-use Rattle.std.specs.Prelude.{◌≡◌, ℕ, ◌≤◌, ◌||◌, ◌==◌, List, [], length, take, drop, map, slice_range, Option, Result, Ok, Err, IfSome}
-use Rattle.std.specs.Global.{Vec}
+use Rattle.std.specs.Prelude.{◌≡◌, ℕ, ◌||◌, ◌==◌, List, [], take, map, Option, Result, Ok, Err, IfSome}
 use Rattle.httparse.specs.declared.spans.HeaderSpan.{HeaderSpan}
 use Rattle.httparse.specs.declared.spans.RequestSpans.{RequestSpans}
 use Rattle.httparse.specs.Spans.{span_bytes, header_bytes}
@@ -8,8 +7,7 @@ use Rattle.lra_wire.specs.declared.fault.WireFault.{WireFault}
 use Rattle.lra_wire.specs.declared.inbox.Inbox.{Inbox}
 use Rattle.lra_wire.specs.declared.request.RequestRead.{RequestRead}
 use Rattle.lra_wire.specs.Fields.{lists_close}
-use Rattle.lra_wire.specs.Inbox.{kept_bytes, stream_of}
-use Rattle.lra_wire.specs.inner.Growth.{Grows, FillsTo}
+use Rattle.lra_wire.specs.Inbox.{stream_of}
 use Rattle.lra_wire.specs.Request.{GivesRequest, RefusesRequest, Request, told_by}
 use Rattle.lra_wire.specs.Streams.{IfBothKnown}
 
@@ -29,16 +27,7 @@ request_at bytes headers spans = record {
   fields = told_by (map (header_bytes bytes) (take spans.headers headers));
 }
 
--- a body between these places, and behind it what came early
-pub record HasBody {R : Type 0} (remaining : R → Option (List ℕ)) (start end : ℕ) (old new : Inbox R) (body : List ℕ) : Type 0 where
-  pub full : Inbox R
-  pub grows : Grows remaining old full
-  pub whole : end ≤ length (kept_bytes full)
-  pub is : body ≡ slice_range (kept_bytes full) start end
-  pub kept : kept_bytes new ≡ drop end (kept_bytes full)
-  pub reader : new.reader ≡ full.reader
-
--- that body, or the stream ends before
-abbrev pub TakesBody : {R : Type 0} → (R → Option (List ℕ)) → ℕ → ℕ → Inbox R → Inbox R → Result (Vec ℕ) WireFault → Type 0
-TakesBody remaining start end old new (Ok body) = HasBody remaining start end old new body.items
-TakesBody remaining start end old new (Err fault) = FillsTo remaining end old new (Err fault)
+-- A stream that ends with these bytes has no further request since there are none, or that is refused.
+abbrev pub EndsAt : List ℕ → Result (Unit {0}) WireFault → Type 0
+EndsAt bytes (Ok u) = bytes ≡ []
+EndsAt bytes (Err fault) = RefusesRequest bytes fault

@@ -1,11 +1,13 @@
-use Rattle.std.proofs.Common.{◌≡◌, ℕ, ◌+◌, ◌-◌, List, length, Ok, Err, sym, subst, arith}
+use Rattle.std.proofs.Common.{◌≡◌, ℕ, ◌+◌, ◌-◌, List, length, drop, Ok, Err, sym, subst, arith}
 use Rattle.std.proofs.lemmas.Result.{err_from_is_err_and}
 use Rattle.lra_wire.specs.declared.coming.Part.{Part}
 use Rattle.lra_wire.specs.declared.coming.Part.TheVariants.{Content, Last, Open}
+use Rattle.lra_wire.specs.declared.fault.WireFault.TheVariants.{Cut}
 use Rattle.lra_wire.specs.declared.framing.Framing.TheVariants.{Chunks}
+use Rattle.lra_wire.specs.Chunks.{RefusesChunk}
 use Rattle.lra_wire.specs.Response.{RefusesFramed, AwaitsBody}
 use Rattle.lra_wire.specs.inner.Parts.{IsOpenAt, LastsAt, FindsPart, ChunksTo, IsBodyTo}
-use Rattle.lra_wire.proofs.ComingLemmas.{chunks_more, chunks_whole, chunks_open, chunks_refused, read_again}
+use Rattle.lra_wire.proofs.ComingLemmas.{chunks_more, chunks_whole, chunks_open, chunks_cut, chunks_refused, read_again}
 use Rattle.lra_wire.proofs.coming.chunks_at.Goals as goal
 
 pub returns-in_err-from-clause-finds : goal.returns-in_err-from-clause-finds
@@ -45,8 +47,13 @@ returns-in-Last-clause-finds c =
 
 pub returns-in-Open-clause-finds : goal.returns-in-Open-clause-finds
 returns-in-Open-clause-finds c =
+    let bytes = c.args.bytes.now in
     let read = c.loop-from.chunks in
-    let part : FindsPart read.end (65536 - c.len.result) c.args.bytes.now (Ok (Open c.in-Open.wanted)) =
-    subst (λ (p : Part). FindsPart read.end (65536 - c.len.result) c.args.bytes.now (Ok p)) c.in-Open.is c.in_ok-from.ensures in
-    subst (λ (n : ℕ). IsOpenAt (AwaitsBody Chunks) n c.args.bytes.now c.in-Open.wanted) c.loop-from.invariant.1
-    (chunks_open c.args.bytes.now read.start read.end c.in-Open.wanted read.body.items c.loop-from.invariant.0 part)
+    let count : c.len.result ≡ length read.body.items = omega (arith, c.len.ensures, read.body.ok.0) in
+    let part : FindsPart read.end (65536 - c.len.result) bytes (Ok (Open c.in-Open.wanted)) =
+    subst (λ (p : Part). FindsPart read.end (65536 - c.len.result) bytes (Ok p)) c.in-Open.is c.in_ok-from.ensures in
+    let cut = subst (λ (n : ℕ). RefusesChunk read.end (65536 - n) (drop read.end bytes) Cut) count part.1 in
+    subst (λ (n : ℕ). IsOpenAt (AwaitsBody Chunks) n bytes c.in-Open.wanted × RefusesFramed Chunks n (drop n bytes) Cut) c.loop-from.invariant.1 (
+      chunks_open bytes read.start read.end c.in-Open.wanted read.body.items c.loop-from.invariant.0 part.0,
+      chunks_cut bytes read.start read.end read.body.items c.loop-from.invariant.0 cut,
+    )

@@ -1,6 +1,6 @@
 use Rattle.std.proofs.Common.{ℕ, List, Option, Ok, Err, sym, subst}
 use Rattle.std.proofs.lemmas.Result.{err_from_is_err_and}
-use Rattle.httparse.specs.Grammar.{HasNoSection}
+use Rattle.httparse.specs.Grammar.{HasNoSection, MayBecomeSection}
 use Rattle.httparse.specs.Spans.{SectionOverflows}
 use Rattle.lra_wire.specs.declared.fault.WireFault.{WireFault}
 use Rattle.lra_wire.specs.inner.Parts.{FindsEnd}
@@ -18,7 +18,8 @@ returns-in_err-len c =
 pub returns-in_default : goal.returns-in_default
 returns-in_default c =
     let none = subst (λ (o : Option ℕ). FindsTrailer c.behind.result.now (Ok o)) c.in_default.is c.in_ok-len.ensures in
-    end_open c.args.bytes.now c.args.start c.in_ok-next_feed.field-0 c.requires (subst HasNoSection c.behind.ensures none.0) c.in_ok-next_feed.ensures
+    end_open c.args.bytes.now c.args.start c.in_ok-next_feed.field-0 c.requires (subst HasNoSection c.behind.ensures none.0) (subst MayBecomeSection c.behind.ensures none.1)
+    c.in_ok-next_feed.ensures
 
 pub returns-in_err-next_feed : goal.returns-in_err-next_feed
 returns-in_err-next_feed c =

@@ -1,5 +1,5 @@
 use Rattle.std.proofs.Common.{ℕ, List, Option, Ok, subst, arith}
-use Rattle.httparse.specs.Grammar.{HasNoChunkLine}
+use Rattle.httparse.specs.Grammar.{HasNoChunkLine, MayBecomeChunkLine}
 use Rattle.lra_wire.specs.inner.Steps.{FindsLine, IsLineOf}
 use Rattle.lra_wire.proofs.ComingLemmas.{line_open, part_last, part_content}
 use Rattle.lra_wire.proofs.coming.part_at.Goals as goal
@@ -7,7 +7,8 @@ use Rattle.lra_wire.proofs.coming.part_at.Goals as goal
 pub returns-in_default : goal.returns-in_default
 returns-in_default c =
     let none = subst (λ (o : Option (ℕ × ℕ)). FindsLine c.behind.result.now (Ok o)) c.in_default.is c.in_ok-line.ensures in
-    line_open c.args.bytes.now c.args.start c.in_ok-next_feed.field-0 c.requires.start (subst HasNoChunkLine c.behind.ensures none.0) c.in_ok-next_feed.ensures
+    line_open c.args.bytes.now c.args.start c.args.room c.in_ok-next_feed.field-0 c.requires.start (subst HasNoChunkLine c.behind.ensures none.0) (subst MayBecomeChunkLine c.behind.ensures none.1)
+    c.in_ok-next_feed.ensures
 
 pub returns-then-size-eq0 : goal.returns-then-size-eq0
 returns-then-size-eq0 c =
