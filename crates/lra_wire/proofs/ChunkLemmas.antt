@@ -12,8 +12,7 @@ use Rattle.httparse.specs.Spans.{SectionOverflows}
 use Rattle.httparse.proofs.GrammarLemmas.{ReadsSection-append}
 use Rattle.httparse.proofs.ChunkLemmas.{ReadsChunkLine-append}
 use Rattle.lra_wire.specs.Chunks.{Chunk, IsChunk, print_chunk, content_of, HasTrailer, PassesLimit}
-use Rattle.lra_wire.specs.inner.Parts.{Joined}
-use Rattle.lra_wire.specs.inner.Steps.{has_line_end, IsTrailerOf, IsLineOf, IsPieceAt}
+use Rattle.lra_wire.specs.inner.Chunked.{Joined, has_line_end, IsTrailerOf, IsLineOf, IsPieceAt}
 use Rattle.lra_wire.proofs.StreamLemmas.{drop_more_bytes}
 
 -- ---- whatever follows

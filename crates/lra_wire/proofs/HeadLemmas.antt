@@ -1,13 +1,11 @@
 -- A search for a head in what comes, which looks only where a line feed came.
-use Rattle.std.proofs.Common.{◌≡◌, ℕ, ◌≤◌, false, ◌||◌, ◌==◌, List, [], ◌∷◌, ◌++◌, length, take, drop, refl, sym, ap, ◌∙◌, arith, append_assoc, None, inl}
-use Rattle.std.specs.Prelude.{slice_range, IsTrue}
-use Rattle.std.specs.Char.{is_ascii_digit}
+use Rattle.std.proofs.Common.{◌≡◌, ℕ, ◌≤◌, false, ◌||◌, ◌==◌, List, [], ◌∷◌, ◌++◌, length, take, drop, refl, sym, ap, ◌∙◌, append_assoc, inl}
+use Rattle.std.specs.Prelude.{slice_range}
 use Rattle.std.specs.List.{list_any}
 use Rattle.std.proofs.lemmas.List.{take-append-drop, append-nil}
-use Rattle.std.proofs.lemmas.List.Elements.{All-cons, All-nil}
 use Rattle.std.proofs.lemmas.List.Folds.{list_any-append}
 use Rattle.httparse.specs.Ascii.{space}
-use Rattle.httparse.specs.Grammar.{RequestHead, ResponseHead, IsResponseHead, IsField, crlf, print_blank, print_version, print_end, print_reason, print_section, print_request, print_response, is_value_byte, MayBecomeRequest, MayBecomeResponse}
+use Rattle.httparse.specs.Grammar.{RequestHead, ResponseHead, print_blank, print_version, print_end, print_reason, print_section, print_request, print_response, MayBecomeRequest, MayBecomeResponse}
 use Rattle.lra_wire.specs.Request.{IsOpenRequest}
 use Rattle.lra_wire.specs.Response.{IsOpenResponse}
 use Rattle.lra_wire.specs.Streams.{UpToLine}
@@ -60,23 +58,4 @@ pub no_response : (bytes : List ℕ) (n : ℕ) → n ≤ length bytes → IsOpen
 no_response bytes n within so_far feed = (
   λ head rest reads. let there = ends_before bytes (print_response head) rest n (response_ends head) within reads.1 (no_feed bytes n feed) in so_far.0 head there.0 (reads.0, there.1),
   up_to_more MayBecomeResponse bytes n so_far.1 (no_feed bytes n feed),
-)
-
--- a short head
-reply : ResponseHead
-reply = record { blank = []; minor = 0; digits = 50 ∷ 48 ∷ 48 ∷ []; reason = None; line_end = crlf; fields = []; last = crlf }
-
-reply_is : IsResponseHead reply
-unfolding reply
-reply_is = record {
-  minor = omega arith;
-  digits = (refl, All-cons (λ b. IsTrue (is_ascii_digit b)) 50 (48 ∷ 48 ∷ []) refl (All-cons (λ b. IsTrue (is_ascii_digit b)) 48 (48 ∷ []) refl (All-cons (λ b. IsTrue (is_ascii_digit b)) 48 [] refl (All-nil (λ b. IsTrue (is_ascii_digit b))))));
-  reason = All-nil (λ b. IsTrue (is_value_byte b));
-  fields = All-nil IsField;
-}
-
-pub no_response_yet : IsOpenResponse []
-no_response_yet = (
-  λ head rest reads. ends_some (print_response head) rest (response_ends head) reads.1,
-  up_to_all MayBecomeResponse [] (print_response reply, reply, (reply_is, sym (append-nil (print_response reply)))),
 )

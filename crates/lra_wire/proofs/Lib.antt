@@ -10,5 +10,7 @@ pub mod ChunkLemmas
 pub mod ResponseLemmas
 pub mod RequestsLemmas
 pub mod HeadLemmas
+pub mod OpenLemmas
+pub mod ChunksLemmas
 pub mod ComingLemmas
 pub mod TakenLemmas

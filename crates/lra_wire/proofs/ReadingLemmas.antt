@@ -1,4 +1,4 @@
--- From the spans of a head to the request that the stream begins with.
+-- From the spans of a head to the request that the bytes begin with.
 use Rattle.std.proofs.Common.{◌≡◌, ℕ, ◌+◌, ◌-◌, ◌<◌, ◌≤◌, ◌||◌, ◌==◌, Bool, true, false, cond, List, [], ◌++◌, length, map, take, drop, sym, ap, subst, ◌∙◌, arith, append_assoc, Result, Ok, Err, inl, inr}
 use Rattle.std.specs.Prelude.{◌⊎◌, nat_le, slice_range}
 use Rattle.std.proofs.lemmas.List.{take-append-drop, drop-append-le, length-append, length-take, length-drop, drop-drop}
@@ -12,8 +12,7 @@ use Rattle.lra_wire.specs.declared.fault.WireFault.TheVariants.{Chunked, BadLeng
 use Rattle.lra_wire.specs.declared.fields.Stated.{Stated}
 use Rattle.lra_wire.specs.declared.fields.Stated.TheVariants.{Nothing, Length, Malformed}
 use Rattle.lra_wire.specs.Fields.{is_coded, stated_of, stated_body, body_length_of, lists_close}
-use Rattle.lra_wire.specs.inner.Heads.{IsHeadAt}
-use Rattle.lra_wire.specs.inner.Reading.{request_at}
+use Rattle.lra_wire.specs.inner.Heads.{IsHeadAt, request_at}
 use Rattle.lra_wire.specs.Request.{IsRequest, Request, told_by, EndsInBody}
 
 ok_is_no_err : {n : ℕ} {fault : WireFault} → ¬ (◌≡◌ {A = Result ℕ WireFault} (Ok n) (Err fault))

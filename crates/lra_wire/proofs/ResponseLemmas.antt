@@ -1,6 +1,6 @@
--- Why no continuation makes a head of a response within the limits, and what a stream has of the heads that were read.
-use Rattle.std.proofs.Common.{◌≡◌, ◌≢◌, ℕ, ◌+◌, ◌-◌, ◌<◌, ◌≤◌, Bool, true, false, cond, List, [], ◌∷◌, ◌++◌, length, take, drop, refl, sym, ap, subst, ◌∙◌, arith, append_assoc, Option, Result, Ok, Err, inl, inr}
-use Rattle.std.specs.Prelude.{◌⊎◌, ◌||◌, ◌==◌, nat_le, codes, IfSome}
+-- Why no continuation makes a head of a response within the limits, and which faults a response has.
+use Rattle.std.proofs.Common.{◌≡◌, ◌≢◌, ℕ, ◌+◌, ◌-◌, ◌<◌, ◌≤◌, Bool, true, false, cond, List, [], ◌∷◌, ◌++◌, length, take, drop, refl, sym, ap, subst, ◌∙◌, arith, append_assoc, Result, Ok, Err, inl, inr}
+use Rattle.std.specs.Prelude.{◌⊎◌, ◌||◌, ◌==◌, nat_le, codes}
 use Rattle.std.proofs.lemmas.Bool.{leb-true}
 use Rattle.std.proofs.lemmas.List.{take-append-drop, take-append-le, take_at, drop-drop, length-drop}
 use Rattle.httparse.specs.Grammar.{ResponseHead, print_response, ReadsResponse, HasNoResponse, print_chunk_line, chunk_size}
@@ -14,10 +14,9 @@ use Rattle.lra_wire.specs.declared.framing.Framing.TheVariants.{Sized, Chunks, T
 use Rattle.lra_wire.specs.declared.response.Head.{Head}
 use Rattle.lra_wire.specs.Chunks.{content_of, RefusesLine, RefusesTrailer, RefusesContent, RefusesBehind, RefusesChunk}
 use Rattle.lra_wire.specs.Fields.{is_alike, values_of, stated_of}
-use Rattle.lra_wire.specs.Inbox.{IsOutside}
 use Rattle.lra_wire.specs.Response.{IsShort, HasResponse, NeverShort, stated_framing, coded_framing, framing_of, RefusesFramed, RefusesRest, RefusesResponse}
-use Rattle.lra_wire.specs.inner.Steps.{IsHeadOf, IsSmall}
-use Rattle.lra_wire.proofs.StreamLemmas.{drop_more_bytes, known}
+use Rattle.lra_wire.specs.inner.Parts.{IsHeadOf, IsSmall}
+use Rattle.lra_wire.proofs.StreamLemmas.{drop_more_bytes}
 
 -- ---- heads
 
@@ -77,16 +76,6 @@ framing_small code fields framing e = go ((code == 204) || (code == 304)) (value
     go false [] s same = stated s same
     go false (coding ∷ []) s same = coded (is_alike coding (codes "chunked")) same
     go false (coding ∷ other ∷ codings) s same = absurd cc
-
--- no fault of a reader or of memory says anything of the bytes
-outside_says : (o : Option (List ℕ)) (fault : WireFault) → IsOutside fault → IfSome o (λ stream. RefusesResponse stream fault)
-outside_says o Io h = known o (λ stream. RefusesResponse stream Io) (λ stream. tt)
-outside_says o Memory h = known o (λ stream. RefusesResponse stream Memory) (λ stream. tt)
-outside_says o BadHead h = absurd h
-outside_says o Chunked h = absurd h
-outside_says o BadLength h = absurd h
-outside_says o TooLarge h = absurd h
-outside_says o Cut h = absurd h
 
 -- ---- behind the final head
 

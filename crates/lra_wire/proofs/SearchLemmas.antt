@@ -67,9 +67,3 @@ no_section bytes n within none feed fields last rest reads =
 
 pub ends_some : (text rest : List ℕ) → EndsLine text → ¬ ([] ≡ text ++ rest)
 ends_some text rest (front, ends) e = omega (arith, ap length e, length-append text rest, ap length ends, length-append front (10 ∷ []))
-
-pub no_line_yet : HasNoChunkLine []
-no_line_yet line rest reads = ends_some (print_chunk_line line) rest (line_ends line) reads.1
-
-pub no_section_yet : HasNoSection []
-no_section_yet fields last rest reads = ends_some (print_section fields last) rest (section_ends fields last) reads.1

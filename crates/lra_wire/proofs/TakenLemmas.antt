@@ -12,8 +12,7 @@ use Rattle.lra_wire.specs.Coming.{Lasts, IsWhole, IsOpen}
 use Rattle.lra_wire.specs.Fronts.{RefusesFront, IsFront, IsFrontSeen}
 use Rattle.lra_wire.specs.Inbox.{kept_bytes, stream_of, IsOutside}
 use Rattle.lra_wire.specs.inner.Growth.{Grows}
-use Rattle.lra_wire.specs.inner.Parts.{IsLast}
-use Rattle.lra_wire.specs.inner.Reading.{EndsAt}
+use Rattle.lra_wire.specs.inner.Reading.{IsLast, EndsAt}
 use Rattle.lra_wire.specs.Request.{request_of, RefusesRequest, GivesRequest, AwaitsRequest}
 use Rattle.lra_wire.specs.Response.{IsResponse, RefusesResponse, AwaitsResponse}
 use Rattle.lra_wire.specs.Streams.{IfBothKnown}
@@ -62,19 +61,15 @@ taken_at_end {R} remaining old mid new n P grows end h kept reader =
 
 -- ---- requests
 
--- what a failing reader or want of memory says of the bytes: nothing
-outside_refuses : (fault : WireFault) (bytes : List ℕ) → IsOutside fault → RefusesRequest bytes fault
-outside_refuses Io bytes h = tt
-outside_refuses Memory bytes h = tt
-outside_refuses BadHead bytes h = absurd h
-outside_refuses Chunked bytes h = absurd h
-outside_refuses BadLength bytes h = absurd h
-outside_refuses TooLarge bytes h = absurd h
-outside_refuses Cut bytes h = absurd h
-
 -- a failing reader, or want of memory
 pub request_outside : (stream : Option (List ℕ)) (fault : WireFault) → IsOutside fault → IfSome stream (λ bytes. RefusesRequest bytes fault)
-request_outside stream fault outside = known stream (λ bytes. RefusesRequest bytes fault) (λ bytes. outside_refuses fault bytes outside)
+request_outside stream Io h = known stream (λ bytes. RefusesRequest bytes Io) (λ bytes. tt)
+request_outside stream Memory h = known stream (λ bytes. RefusesRequest bytes Memory) (λ bytes. tt)
+request_outside stream BadHead h = absurd h
+request_outside stream Chunked h = absurd h
+request_outside stream BadLength h = absurd h
+request_outside stream TooLarge h = absurd h
+request_outside stream Cut h = absurd h
 
 -- a fault of a front is one of the stream
 pub front_says : (bytes : List ℕ) (fault : WireFault) → RefusesFront bytes fault → RefusesRequest bytes fault
@@ -113,6 +108,16 @@ pub request_cut : {R : Type 0} (remaining : R → Option (List ℕ)) (old new : 
 request_cut remaining old new fault grows end refused = on_stream_end grows (λ bytes. RefusesRequest bytes fault) end refused
 
 -- ---- responses
+
+-- a failing reader, or want of memory
+pub response_outside : (stream : Option (List ℕ)) (fault : WireFault) → IsOutside fault → IfSome stream (λ bytes. RefusesResponse bytes fault)
+response_outside stream Io h = known stream (λ bytes. RefusesResponse bytes Io) (λ bytes. tt)
+response_outside stream Memory h = known stream (λ bytes. RefusesResponse bytes Memory) (λ bytes. tt)
+response_outside stream BadHead h = absurd h
+response_outside stream Chunked h = absurd h
+response_outside stream BadLength h = absurd h
+response_outside stream TooLarge h = absurd h
+response_outside stream Cut h = absurd h
 
 -- a fault that lasts is one of the stream
 lasts_says : (bytes more : List ℕ) (fault : WireFault) → Lasts RefusesResponse bytes fault → RefusesResponse (bytes ++ more) fault

@@ -1,24 +1,61 @@
-//! The chunks of a body, read (RFC 9112, section 7.1).
-ghost use Rattle.std.specs.Prelude.{◌≡◌, ◌≤◌, ◌+◌, length};
-ghost use Rattle.lra_wire.specs.inner.Steps.{FindsLine, FindsTrailer, has_line_end};
+//! The chunks of a body, read of the bytes that came (RFC 9112, section 7.1).
+ghost use Rattle.std.specs.Prelude.{◌≡◌, ◌≤◌, ◌+◌, [], length};
+ghost use Rattle.lra_wire.specs.inner.Chunked.{FindsLine, FindsTrailer, has_line_end, HasRead, OneMore, FindsEnd, FindsContent, FindsPart};
+ghost use Rattle.lra_wire.specs.inner.Parts.{FindsBodyFront};
 
 use crate::fault::WireFault;
+use crate::framing::Framing;
 use crate::head::MAX_FIELDS;
+use crate::request::MAX_BODY;
+use crate::wanted::{BodyFront, Wanted, behind};
 use httparse::spans::{EMPTY_HEADER_SPAN, parse_headers};
 use httparse::{Status, parse_chunk_size};
+use std::alloc::Global;
+use std::mem;
 
 /// The most bytes of a response, with the interim heads before it.
 pub const MAX_RESPONSE: usize = 1 << 20;
 
+/// What stands behind the chunks that were read.
+#[derive(Clone, Copy)]
+enum Part {
+    /// A chunk, whose content lies between these places. Two bytes of line end follow it.
+    Content(usize, usize),
+    /// The last line and the trailer, which end here.
+    Last(usize),
+    Open(Wanted),
+}
+
+/// The chunks of a body that were read.
+#[derive(Drop)]
+pub(crate) struct ChunksRead {
+    pub(crate) start: usize,
+    pub(crate) end: usize,
+    pub(crate) body: Vec<u8>,
+}
+
+impl ChunksRead {
+    /// The whole body. It may be read anew from where it began.
+    fn hand_out(&mut self, alloc: Global) -> Vec<u8>
+        ensures body { result.items ≡ self.old.body.items }
+        ensures start { self.new.start ≡ self.old.start }
+        ensures end { self.new.end ≡ self.old.start }
+        ensures none { self.new.body.items ≡ [] }
+    {
+        self.end = self.start;
+        mem::replace(&mut self.body, Vec::new(alloc))
+    }
+}
+
 /// Whether a line ends there in CRLF.
-pub(crate) fn has_line_end(bytes: &[u8], at: usize) -> bool
+fn has_line_end(bytes: &[u8], at: usize) -> bool
     requires { at + 2 ≤ length bytes.now }
     ensures { result ≡ has_line_end bytes.now at }
 {
     bytes[at] == b'\r' && bytes[at + 1] == b'\n'
 }
 
-pub(crate) fn line_at(bytes: &[u8]) -> Result<Option<(usize, u64)>, WireFault>
+fn line_at(bytes: &[u8]) -> Result<Option<(usize, u64)>, WireFault>
     ensures { FindsLine bytes.now result }
 {
     match parse_chunk_size(bytes) {
@@ -28,7 +65,7 @@ pub(crate) fn line_at(bytes: &[u8]) -> Result<Option<(usize, u64)>, WireFault>
     }
 }
 
-pub(crate) fn trailer_at(bytes: &[u8]) -> Result<Option<usize>, WireFault>
+fn trailer_at(bytes: &[u8]) -> Result<Option<usize>, WireFault>
     ensures { FindsTrailer bytes.now result }
 {
     let mut headers = [EMPTY_HEADER_SPAN; MAX_FIELDS];
@@ -36,5 +73,91 @@ pub(crate) fn trailer_at(bytes: &[u8]) -> Result<Option<usize>, WireFault>
         Ok(Status::Complete((length, _))) => Ok(Some(length)),
         Ok(Status::Partial) => Ok(None),
         Err(_) => Err(WireFault::BadLength),
+    }
+}
+
+/// A line or a trailer is open at the end of these bytes.
+fn next_feed(bytes: &[u8]) -> Result<Wanted, WireFault>
+    ensures { OneMore bytes.now result }
+{
+    if bytes.len() >= MAX_RESPONSE {
+        return Err(WireFault::TooLarge);
+    }
+    Ok(Wanted::Feed(bytes.len()))
+}
+
+/// The trailer that begins at `start`, behind the last line.
+fn last_at(bytes: &[u8], start: usize) -> Result<Part, WireFault>
+    requires { start ≤ length bytes.now }
+    ensures { FindsEnd start bytes.now result }
+{
+    let Some(len) = trailer_at(behind(bytes, start))? else {
+        return Ok(Part::Open(next_feed(bytes)?));
+    };
+    let end = start + len;
+    if end > MAX_RESPONSE {
+        return Err(WireFault::TooLarge);
+    }
+    Ok(Part::Last(end))
+}
+
+/// The content of a chunk that begins at `start`, where the body has so much room left.
+fn content_at(bytes: &[u8], start: usize, room: usize, size: u64) -> Result<Part, WireFault>
+    requires start { start ≤ length bytes.now }
+    requires room { room ≤ 65536 }
+    ensures { FindsContent start room size bytes.now result }
+{
+    if size > room as u64 {
+        return Err(WireFault::TooLarge);
+    }
+    let to = start + size as usize;
+    if to + 2 > MAX_RESPONSE {
+        return Err(WireFault::TooLarge);
+    }
+    if bytes.len() < to + 2 {
+        return Ok(Part::Open(Wanted::Bytes(to + 2)));
+    }
+    if !has_line_end(bytes, to) {
+        return Err(WireFault::BadLength);
+    }
+    Ok(Part::Content(start, to))
+}
+
+/// The part of a chunked body that begins at `start`, where the body has so much room left.
+fn part_at(bytes: &[u8], start: usize, room: usize) -> Result<Part, WireFault>
+    requires start { start ≤ length bytes.now }
+    requires room { room ≤ 65536 }
+    ensures { FindsPart start room bytes.now result }
+{
+    let Some((line, size)) = line_at(behind(bytes, start))? else {
+        return Ok(Part::Open(next_feed(bytes)?));
+    };
+    if size == 0 {
+        last_at(bytes, start + line)
+    } else {
+        content_at(bytes, start + line, room, size)
+    }
+}
+
+/// The rest of the chunks, and the trailer.
+pub(crate) fn chunks_at(
+    alloc: Global,
+    bytes: &[u8],
+    chunks: &mut ChunksRead,
+) -> Result<BodyFront, WireFault>
+    requires { HasRead bytes.now chunks.old }
+    ensures start { chunks.new.start ≡ chunks.old.start }
+    ensures read { HasRead bytes.now chunks.new }
+    ensures finds { FindsBodyFront Framing.Chunks chunks.old.start bytes.now result }
+{
+    loop {
+        match part_at(bytes, chunks.end, MAX_BODY - chunks.body.len())? {
+            Part::Content(from, to) => {
+                chunks.body.extend_from_slice(&bytes[from..to])?;
+                chunks.end = to + 2;
+            }
+            Part::Last(end) => return Ok(BodyFront::Whole(chunks.hand_out(alloc), end)),
+            Part::Open(wanted) => return Ok(BodyFront::Open(wanted)),
+        }
     }
 }

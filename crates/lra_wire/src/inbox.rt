@@ -43,7 +43,7 @@ pub struct Inbox<R> {
 }
 
 impl<R: Read + Drop> Inbox<R> {
-    ghost use Rattle.std.specs.Prelude.{length, drop, OnOk, IsFalse};
+    ghost use Rattle.std.specs.Prelude.{length, drop, IsFalse};
     ghost use Rattle.lra_wire.specs.Inbox.{kept_bytes, stream_of, asked_at, is_spent, AsksAt};
     ghost use Rattle.lra_wire.specs.inner.Growth.{Fills};
 

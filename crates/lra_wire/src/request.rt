@@ -3,10 +3,10 @@ ghost use Rattle.std.specs.Prelude.{◌≡◌, ◌≤◌, ℕ, List, Option, len
 ghost use Rattle.httparse.specs.Spans.{IsHeaderWithin, header_bytes};
 ghost use Rattle.lra_wire.specs.declared.fault.WireFault.{WireFault};
 ghost use Rattle.lra_wire.specs.Fields.{body_length_of};
-ghost use Rattle.lra_wire.specs.inner.Heads.{has_host, IsHeadAt, FindsHead};
+ghost use Rattle.lra_wire.specs.inner.Heads.{has_host, IsHeadAt, FindsHead, request_at};
+ghost use Rattle.lra_wire.specs.inner.Reading.{NextRequest, EndsAt};
 ghost use Rattle.lra_wire.specs.Inbox.{stream_of, is_spent, AsksAt};
 ghost use Rattle.lra_wire.specs.Request.{Request, IsRequest, GivesRequest, RefusesRequest, AwaitsRequest, request_of};
-ghost use Rattle.lra_wire.specs.inner.Reading.{NextRequest, EndsAt, request_at};
 ghost use Rattle.lra_wire.specs.Requests.{Requests, EndsAlike};
 ghost use Rattle.lra_wire.specs.Streams.{IfBothKnown};
 

@@ -2,7 +2,8 @@
 ghost use Rattle.std.specs.Prelude.{◌≡◌, IfOk, IfErr, IfSome, OnOk, OnErr, IsTrue, IsFalse, Err};
 ghost use Rattle.lra_wire.specs.Inbox.{stream_of, is_spent, AsksAt};
 ghost use Rattle.lra_wire.specs.Response.{is_interim, IsResponse, RefusesResponse, AwaitsResponse};
-ghost use Rattle.lra_wire.specs.inner.Steps.{FindsResponse, NextResponse};
+ghost use Rattle.lra_wire.specs.inner.Parts.{FindsResponse};
+ghost use Rattle.lra_wire.specs.inner.Reading.{NextResponse};
 ghost use Rattle.lra_wire.specs.Streams.{IfBothKnown};
 
 use crate::coming::{Coming, SeenResponse, response_at_end, response_front_seen};

@@ -1,13 +1,13 @@
 -- What a search for a request's head finds at the front of the bytes that came so far.
-use Rattle.std.specs.Prelude.{◌≡◌, ℕ, ◌<◌, Bool, ◌||◌, ◌==◌, List, length, codes, Option, Some, None, Result, Ok, Err}
-use Rattle.httparse.specs.declared.spans.HeaderSpan.{HeaderSpan}
-use Rattle.httparse.specs.declared.spans.RequestSpans.{RequestSpans}
+use Rattle.std.specs.Prelude.{◌≡◌, ℕ, ◌<◌, Bool, ◌==◌, List, length, Option, Some, None, Result, Ok, Err, [], ◌||◌, take, map, codes}
 use Rattle.httparse.specs.Grammar.{RequestHead, HasNoRequest, MayBecomeRequest}
-use Rattle.httparse.specs.Spans.{IsRequestWithin, IsRequestAt}
+use Rattle.httparse.specs.Spans.{span_bytes, header_bytes, IsRequestWithin, IsRequestAt}
 use Rattle.lra_wire.specs.declared.fault.WireFault.{WireFault}
 use Rattle.lra_wire.specs.declared.fault.WireFault.TheVariants.{BadHead}
-use Rattle.lra_wire.specs.Fields.{values_of}
-use Rattle.lra_wire.specs.Request.{IsLawful, NeverLawful}
+use Rattle.httparse.specs.declared.spans.HeaderSpan.{HeaderSpan}
+use Rattle.httparse.specs.declared.spans.RequestSpans.{RequestSpans}
+use Rattle.lra_wire.specs.Fields.{lists_close, values_of}
+use Rattle.lra_wire.specs.Request.{Request, told_by, IsLawful, NeverLawful}
 
 -- HTTP/1.0 asks for no Host, HTTP/1.1 for exactly one
 abbrev pub has_host : ℕ → List (List ℕ × List ℕ) → Bool
@@ -25,3 +25,14 @@ abbrev pub FindsHead : List ℕ → List HeaderSpan → Result (Option RequestSp
 FindsHead bytes headers (Ok (Some spans)) = IsHeadAt bytes headers spans
 FindsHead bytes headers (Ok None) = HasNoRequest bytes × MayBecomeRequest bytes × (length bytes < 8192)
 FindsHead bytes headers (Err fault) = (fault ≡ BadHead) × NeverLawful bytes
+
+-- the parts at the places that the spans give, and no body yet
+abbrev pub request_at : List ℕ → List HeaderSpan → RequestSpans → Request
+request_at bytes headers spans = record {
+  method = span_bytes bytes spans.method;
+  target = span_bytes bytes spans.path;
+  minor = spans.version;
+  close = (spans.version == 0) || lists_close (map (header_bytes bytes) (take spans.headers headers));
+  body = [];
+  fields = told_by (map (header_bytes bytes) (take spans.headers headers));
+}

@@ -4,8 +4,7 @@ use Rattle.lra_wire.specs.declared.fault.WireFault.{WireFault}
 use Rattle.lra_wire.specs.declared.response.Head.{Head}
 use Rattle.lra_wire.specs.Coming.{Lasts}
 use Rattle.lra_wire.specs.Response.{NeverShort, RefusesResponse}
-use Rattle.lra_wire.specs.inner.Parts.{Heads}
-use Rattle.lra_wire.specs.inner.Steps.{FindsResponse, IsHeadOf}
+use Rattle.lra_wire.specs.inner.Parts.{Heads, FindsResponse, IsHeadOf}
 use Rattle.lra_wire.proofs.ComingLemmas.{heads_more, heads_final, heads_refused, heads_ninth}
 use Rattle.lra_wire.proofs.coming.final_head.Goals as goal
 

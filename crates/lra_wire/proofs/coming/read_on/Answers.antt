@@ -1,7 +1,7 @@
 use Rattle.std.proofs.Common.{ℕ, Ok, Err, subst}
 use Rattle.std.proofs.lemmas.Result.{err_from_is_err_and}
-use Rattle.lra_wire.specs.declared.coming.BodyFront.{BodyFront}
-use Rattle.lra_wire.specs.declared.coming.BodyFront.TheVariants.{Whole}
+use Rattle.lra_wire.specs.declared.wanted.BodyFront.{BodyFront}
+use Rattle.lra_wire.specs.declared.wanted.BodyFront.TheVariants.{Whole}
 use Rattle.lra_wire.specs.inner.Parts.{FindsBodyFront}
 use Rattle.lra_wire.proofs.ComingLemmas.{seen_final, body_refused_now, response_whole}
 use Rattle.lra_wire.proofs.coming.read_on.Goals as goal

@@ -6,7 +6,7 @@ use Rattle.lra_wire.specs.Inbox.{kept_bytes}
 use Rattle.lra_wire.specs.Response.{AwaitsResponse}
 use Rattle.lra_wire.specs.Seen.{SeesResponse}
 use Rattle.lra_wire.specs.inner.Growth.{Fills}
-use Rattle.lra_wire.specs.inner.Parts.{IsLast}
+use Rattle.lra_wire.specs.inner.Reading.{IsLast}
 use Rattle.lra_wire.proofs.ComingLemmas.{sees_more}
 use Rattle.lra_wire.proofs.InboxLemmas.{Grows_refl, Grows_trans, asks_more, asks_taken, waits_more}
 use Rattle.lra_wire.proofs.TakenLemmas.{response_open, response_cut, last_taken}

@@ -1,7 +1,7 @@
 use Rattle.std.proofs.Common.{◌+◌, refl, arith}
 use Rattle.lra_wire.proofs.ChunkLemmas.{missed_line_end}
-use Rattle.lra_wire.proofs.ComingLemmas.{content_refused}
-use Rattle.lra_wire.proofs.coming.content_at.Goals as goal
+use Rattle.lra_wire.proofs.ChunksLemmas.{content_refused}
+use Rattle.lra_wire.proofs.chunks.content_at.Goals as goal
 
 pub returns-then-not-has_line_end : goal.returns-then-not-has_line_end
 returns-then-not-has_line_end c =

@@ -1,14 +1,16 @@
 use Rattle.std.proofs.Common.{◌≡◌, ℕ, ◌+◌, ◌-◌, List, length, drop, Ok, Err, sym, subst, arith}
 use Rattle.std.proofs.lemmas.Result.{err_from_is_err_and}
-use Rattle.lra_wire.specs.declared.coming.Part.{Part}
-use Rattle.lra_wire.specs.declared.coming.Part.TheVariants.{Content, Last, Open}
+use Rattle.lra_wire.specs.declared.chunks.Part.{Part}
+use Rattle.lra_wire.specs.declared.chunks.Part.TheVariants.{Content, Last, Open}
 use Rattle.lra_wire.specs.declared.fault.WireFault.TheVariants.{Cut}
 use Rattle.lra_wire.specs.declared.framing.Framing.TheVariants.{Chunks}
 use Rattle.lra_wire.specs.Chunks.{RefusesChunk}
 use Rattle.lra_wire.specs.Response.{RefusesFramed, AwaitsBody}
-use Rattle.lra_wire.specs.inner.Parts.{IsOpenAt, LastsAt, FindsPart, ChunksTo, IsBodyTo}
-use Rattle.lra_wire.proofs.ComingLemmas.{chunks_more, chunks_whole, chunks_open, chunks_cut, chunks_refused, read_again}
-use Rattle.lra_wire.proofs.coming.chunks_at.Goals as goal
+use Rattle.lra_wire.specs.inner.Wanted.{IsOpenAt, LastsAt}
+use Rattle.lra_wire.specs.inner.Chunked.{FindsPart, ChunksTo}
+use Rattle.lra_wire.specs.inner.Parts.{IsBodyTo}
+use Rattle.lra_wire.proofs.ChunksLemmas.{chunks_more, chunks_whole, chunks_open, chunks_cut, chunks_refused, read_again}
+use Rattle.lra_wire.proofs.chunks.chunks_at.Goals as goal
 
 pub returns-in_err-from-clause-finds : goal.returns-in_err-from-clause-finds
 returns-in_err-from-clause-finds c =

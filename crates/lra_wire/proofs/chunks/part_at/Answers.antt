@@ -1,8 +1,8 @@
 use Rattle.std.proofs.Common.{ℕ, List, Option, Ok, subst, arith}
 use Rattle.httparse.specs.Grammar.{HasNoChunkLine, MayBecomeChunkLine}
-use Rattle.lra_wire.specs.inner.Steps.{FindsLine, IsLineOf}
-use Rattle.lra_wire.proofs.ComingLemmas.{line_open, part_last, part_content}
-use Rattle.lra_wire.proofs.coming.part_at.Goals as goal
+use Rattle.lra_wire.specs.inner.Chunked.{FindsLine, IsLineOf}
+use Rattle.lra_wire.proofs.ChunksLemmas.{line_open, part_last, part_content}
+use Rattle.lra_wire.proofs.chunks.part_at.Goals as goal
 
 pub returns-in_default : goal.returns-in_default
 returns-in_default c =

@@ -3,10 +3,9 @@ use Rattle.std.proofs.lemmas.Result.{err_from_is_err_and}
 use Rattle.httparse.specs.Grammar.{HasNoSection, MayBecomeSection}
 use Rattle.httparse.specs.Spans.{SectionOverflows}
 use Rattle.lra_wire.specs.declared.fault.WireFault.{WireFault}
-use Rattle.lra_wire.specs.inner.Parts.{FindsEnd}
-use Rattle.lra_wire.specs.inner.Steps.{FindsTrailer, IsTrailerOf}
-use Rattle.lra_wire.proofs.ComingLemmas.{end_refused, end_open, end_open_long, end_long}
-use Rattle.lra_wire.proofs.coming.last_at.Goals as goal
+use Rattle.lra_wire.specs.inner.Chunked.{FindsEnd, FindsTrailer, IsTrailerOf}
+use Rattle.lra_wire.proofs.ChunksLemmas.{end_refused, end_open, end_open_long, end_long}
+use Rattle.lra_wire.proofs.chunks.last_at.Goals as goal
 
 pub returns-in_err-len : goal.returns-in_err-len
 returns-in_err-len c =

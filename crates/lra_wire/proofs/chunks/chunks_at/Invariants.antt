@@ -1,6 +1,6 @@
 use Rattle.std.proofs.Common.{◌≡◌, ◌-◌}
-use Rattle.lra_wire.specs.inner.Parts.{HasRead}
-use Rattle.lra_wire.proofs.coming.chunks_at.Given as goal
+use Rattle.lra_wire.specs.inner.Chunked.{HasRead}
+use Rattle.lra_wire.proofs.chunks.chunks_at.Given as goal
 
 -- the chunks so far begin where they began
 abbrev pub invariant-loop-from : goal.invariant-loop-from
