@@ -1,6 +1,7 @@
 //! The chunks of a body, read of the bytes that came (RFC 9112, section 7.1).
 ghost use Rattle.std.specs.Prelude.{◌≡◌, ◌≤◌, ◌+◌, [], length};
-ghost use Rattle.lra_wire.specs.inner.Chunked.{FindsLine, FindsTrailer, has_line_end, HasRead, OneMore, FindsEnd, FindsContent, FindsPart};
+ghost use Rattle.lra_wire.specs.inner.Chunked.{FindsLine, FindsTrailer, has_line_end, OneMore};
+ghost use Rattle.lra_wire.specs.inner.Chunked.{HasRead, FindsEnd, FindsContent, FindsPart};
 ghost use Rattle.lra_wire.specs.inner.Parts.{FindsBodyFront};
 
 use crate::fault::WireFault;
@@ -16,13 +17,14 @@ use std::mem;
 /// The most bytes of a response, with the interim heads before it.
 pub const MAX_RESPONSE: usize = 1 << 20;
 
-/// What stands behind the chunks that were read.
+/// The next part of a chunked body, as far as it came.
 #[derive(Clone, Copy)]
 enum Part {
     /// A chunk, whose content lies between these places. Two bytes of line end follow it.
     Content(usize, usize),
     /// The last line and the trailer, which end here.
     Last(usize),
+    /// A part that isn't whole.
     Open(Wanted),
 }
 
@@ -35,7 +37,7 @@ pub(crate) struct ChunksRead {
 }
 
 impl ChunksRead {
-    /// The whole body. It may be read anew from where it began.
+    /// Hands the whole body out, and begins anew where it began.
     fn hand_out(&mut self, alloc: Global) -> Vec<u8>
         ensures body { result.items ≡ self.old.body.items }
         ensures start { self.new.start ≡ self.old.start }
@@ -47,7 +49,7 @@ impl ChunksRead {
     }
 }
 
-/// Whether a line ends there in CRLF.
+/// Returns whether a CRLF stands there.
 fn has_line_end(bytes: &[u8], at: usize) -> bool
     requires { at + 2 ≤ length bytes.now }
     ensures { result ≡ has_line_end bytes.now at }
@@ -55,6 +57,7 @@ fn has_line_end(bytes: &[u8], at: usize) -> bool
     bytes[at] == b'\r' && bytes[at + 1] == b'\n'
 }
 
+/// Returns the length of the chunk line at the front of the bytes, and its number, or none where more may complete it.
 fn line_at(bytes: &[u8]) -> Result<Option<(usize, u64)>, WireFault>
     ensures { FindsLine bytes.now result }
 {
@@ -65,6 +68,7 @@ fn line_at(bytes: &[u8]) -> Result<Option<(usize, u64)>, WireFault>
     }
 }
 
+/// Returns the length of the trailer at the front of the bytes, or none where more may complete it.
 fn trailer_at(bytes: &[u8]) -> Result<Option<usize>, WireFault>
     ensures { FindsTrailer bytes.now result }
 {
@@ -76,7 +80,7 @@ fn trailer_at(bytes: &[u8]) -> Result<Option<usize>, WireFault>
     }
 }
 
-/// A line or a trailer is open at the end of these bytes.
+/// Returns that a line feed is wanted behind these bytes, if there may be more.
 fn next_feed(bytes: &[u8]) -> Result<Wanted, WireFault>
     ensures { OneMore bytes.now result }
 {
@@ -86,7 +90,7 @@ fn next_feed(bytes: &[u8]) -> Result<Wanted, WireFault>
     Ok(Wanted::Feed(bytes.len()))
 }
 
-/// The trailer that begins at `start`, behind the last line.
+/// Reads the trailer that begins at `start`, behind the last line.
 fn last_at(bytes: &[u8], start: usize) -> Result<Part, WireFault>
     requires { start ≤ length bytes.now }
     ensures { FindsEnd start bytes.now result }
@@ -101,7 +105,7 @@ fn last_at(bytes: &[u8], start: usize) -> Result<Part, WireFault>
     Ok(Part::Last(end))
 }
 
-/// The content of a chunk that begins at `start`, where the body has so much room left.
+/// Reads the content of a chunk that begins at `start`, where the body has so much room left.
 fn content_at(bytes: &[u8], start: usize, room: usize, size: u64) -> Result<Part, WireFault>
     requires start { start ≤ length bytes.now }
     requires room { room ≤ 65536 }
@@ -123,7 +127,7 @@ fn content_at(bytes: &[u8], start: usize, room: usize, size: u64) -> Result<Part
     Ok(Part::Content(start, to))
 }
 
-/// The part of a chunked body that begins at `start`, where the body has so much room left.
+/// Reads the part of a chunked body that begins at `start`, where the body has so much room left.
 fn part_at(bytes: &[u8], start: usize, room: usize) -> Result<Part, WireFault>
     requires start { start ≤ length bytes.now }
     requires room { room ≤ 65536 }
@@ -139,7 +143,7 @@ fn part_at(bytes: &[u8], start: usize, room: usize) -> Result<Part, WireFault>
     }
 }
 
-/// The rest of the chunks, and the trailer.
+/// Reads the rest of the chunks, and the trailer.
 pub(crate) fn chunks_at(
     alloc: Global,
     bytes: &[u8],

@@ -1,7 +1,7 @@
-//! What has to come of a message before more of it can be said.
+//! Bytes that are wanted before more of a message can be said.
 ghost use Rattle.std.specs.Prelude.{◌≡◌, ◌≤◌, length, drop};
 
-/// What has to come before more can be said.
+/// Bytes that are wanted before more can be said.
 #[derive(Clone, Copy)]
 pub(crate) enum Wanted {
     /// A line feed, behind so many bytes.
@@ -10,15 +10,16 @@ pub(crate) enum Wanted {
     Bytes(usize),
 }
 
-/// What stands behind a head.
+/// The body behind a head, as far as it came.
 #[derive(Drop)]
 pub(crate) enum BodyFront {
     /// A whole body, and where it ends.
     Whole(Vec<u8>, usize),
+    /// A body that isn't whole.
     Open(Wanted),
 }
 
-/// The bytes from a place on.
+/// Returns the bytes from a place on.
 pub(crate) fn behind(bytes: &[u8], start: usize) -> &[u8]
     requires { start ≤ length bytes.now }
     ensures { result.now ≡ drop start bytes.now }
