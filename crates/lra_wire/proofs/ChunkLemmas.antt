@@ -1,21 +1,19 @@
--- Chunk lines, contents and trailers, from the bytes that were kept to the stream.
-use Rattle.std.proofs.Common.{◌≡◌, ◌≢◌, get_or, ℕ, ◌+◌, ◌<◌, ◌≤◌, ◌&&◌, ◌==◌, true, false, Bool, List, ◌∷◌, ◌++◌, length, take, drop, refl, sym, ap, subst, ◌∙◌, arith, append_assoc, Option, Ok, Err, inl, inr}
-use Rattle.std.specs.Prelude.{IfSome, ◌⊎◌}
+-- Chunk lines, contents and trailers in the bytes that came, whatever follows them.
+use Rattle.std.proofs.Common.{◌≡◌, ◌≢◌, get_or, ℕ, ◌+◌, ◌-◌, ◌<◌, ◌≤◌, ◌&&◌, ◌==◌, true, false, Bool, List, [], ◌∷◌, ◌++◌, length, drop, refl, sym, ap, subst, ◌∙◌, arith, append_assoc, inl, inr}
+use Rattle.std.specs.Prelude.{◌⊎◌, slice_range}
+use Rattle.std.specs.List.{flat_map}
 use Rattle.std.proofs.lemmas.Bool.Decides.{nat_tests}
-use Rattle.std.proofs.lemmas.List.{length-append, length-drop, length-take, drop-drop, drop_more, take-append-drop}
+use Rattle.std.proofs.lemmas.Grind.{flat_map-append}
+use Rattle.std.proofs.lemmas.List.{append-nil, length-append, length-drop, length-take, drop-drop, drop_more, take-append-drop}
+use Rattle.std.proofs.lemmas.List.Elements.{All-push}
 use Rattle.httparse.specs.Ascii.{crlf_bytes}
-use Rattle.httparse.specs.Grammar.{ReadsChunkLine, HasNoChunkLine, NeverHasChunkLine, ReadsSection, HasNoSection}
+use Rattle.httparse.specs.Grammar.{print_chunk_line, print_extension, ReadsChunkLine, NeverHasChunkLine, ReadsSection, HasNoSection}
 use Rattle.httparse.specs.Spans.{SectionOverflows}
 use Rattle.httparse.proofs.GrammarLemmas.{ReadsSection-append}
 use Rattle.httparse.proofs.ChunkLemmas.{ReadsChunkLine-append}
-use Rattle.lra_wire.specs.declared.fault.WireFault.{WireFault}
-use Rattle.lra_wire.specs.declared.fault.WireFault.TheVariants.{BadLength, TooLarge}
-use Rattle.lra_wire.specs.declared.inbox.Inbox.{Inbox}
-use Rattle.lra_wire.specs.Chunks.{HasTrailer, PassesLimit, RefusesLine, RefusesTrailer, RefusesContent}
-use Rattle.lra_wire.specs.Inbox.{kept_bytes, stream_of, IsOutside}
-use Rattle.lra_wire.specs.inner.Growth.{Grows}
-use Rattle.lra_wire.specs.inner.Steps.{has_line_end, IsTrailerOf, IsLineOf, ReadsTrailerAt, ReadsLineAt}
-use Rattle.lra_wire.proofs.StreamLemmas.{on_stream, on_stream_end, grown, drop_more_bytes}
+use Rattle.lra_wire.specs.Chunks.{Chunk, IsChunk, print_chunk, content_of, HasTrailer, PassesLimit}
+use Rattle.lra_wire.specs.inner.Chunked.{Joined, has_line_end, IsTrailerOf, IsLineOf, IsPieceAt}
+use Rattle.lra_wire.proofs.StreamLemmas.{drop_more_bytes}
 
 -- ---- whatever follows
 
@@ -40,23 +38,6 @@ passes Lacks place kept rest within long none = record {
 
 -- ---- chunk lines
 
-pub line_refused : {R : Type 0} (remaining : R → Option (List ℕ)) (start : ℕ) (old new : Inbox R) (fault : WireFault) → start ≤ length (kept_bytes old)
-    → ReadsLineAt remaining start old new (Err fault)
-    → IsOutside fault ⊎ IfSome (stream_of remaining old) (λ stream. RefusesLine start (drop start stream) fault)
-line_refused remaining start old new fault within (inl outside) = inl outside
-line_refused remaining start old new fault within (inr (grows, inl (bad, never))) =
-    inr (on_stream grows (λ stream. RefusesLine start (drop start stream) fault)
-    (λ rest. inl (
-      bad,
-      subst NeverHasChunkLine (drop_more_bytes start (kept_bytes new) rest (grown start grows within))
-          (NeverHasChunkLine-append (drop start (kept_bytes new)) rest never),
-    )))
-line_refused remaining start old new fault within (inr (grows, inr (inl (large, none, long)))) =
-    inr (on_stream grows (λ stream. RefusesLine start (drop start stream) fault)
-    (λ rest. inr (inl (large, passes HasNoChunkLine start (kept_bytes new) rest (grown start grows within) long none))))
-line_refused remaining start old new fault within (inr (grows, inr (inr (cut, end, none, open_line)))) =
-    inr (on_stream_end grows (λ stream. RefusesLine start (drop start stream) fault) end (inr (inr (cut, none, open_line))))
-
 -- a chunk line of the stream
 pub line_there : (start : ℕ) (kept rest : List ℕ) (found : ℕ × ℕ) → start ≤ length kept → (at : IsLineOf (drop start kept) found)
     → ReadsChunkLine (drop start (kept ++ rest)) at.line (drop (start + found.0) (kept ++ rest))
@@ -68,23 +49,6 @@ line_there start kept rest found within at =
     (ReadsChunkLine-append (drop start kept) at.line (drop found.0 (drop start kept)) rest at.reads))
 
 -- ---- trailers
-
-pub trailer_refused : {R : Type 0} (remaining : R → Option (List ℕ)) (start : ℕ) (old new : Inbox R) (fault : WireFault) → start ≤ length (kept_bytes old)
-    → ReadsTrailerAt remaining start old new (Err fault)
-    → IsOutside fault ⊎ IfSome (stream_of remaining old) (λ stream. RefusesTrailer start (drop start stream) fault)
-trailer_refused remaining start old new fault within (inl outside) = inl outside
-trailer_refused remaining start old new fault within (inr (grows, inl (bad, over))) =
-    inr (on_stream grows (λ stream. RefusesTrailer start (drop start stream) fault)
-    (λ rest. inl (
-      bad,
-      subst (SectionOverflows 64) (drop_more_bytes start (kept_bytes new) rest (grown start grows within))
-          (SectionOverflows-append (drop start (kept_bytes new)) rest over),
-    )))
-trailer_refused remaining start old new fault within (inr (grows, inr (inl (large, none, long)))) =
-    inr (on_stream grows (λ stream. RefusesTrailer start (drop start stream) fault)
-    (λ rest. inr (inl (large, passes HasNoSection start (kept_bytes new) rest (grown start grows within) long none))))
-trailer_refused remaining start old new fault within (inr (grows, inr (inr (cut, end, none, open_trailer)))) =
-    inr (on_stream_end grows (λ stream. RefusesTrailer start (drop start stream) fault) end (inr (inr (inr (cut, none, open_trailer)))))
 
 -- a trailer of the stream
 pub trailer_there : (start : ℕ) (kept rest : List ℕ) (len : ℕ) → start ≤ length kept → IsTrailerOf (drop start kept) len
@@ -100,31 +64,6 @@ trailer_there start kept rest len within at =
           (ReadsSection-append (drop start kept) at.has.fields at.has.end (drop len (drop start kept)) rest at.has.reads));
       count = at.has.count;
     }
-
--- a trailer that ends behind the limit
-pub trailer_long : {R : Type 0} (remaining : R → Option (List ℕ)) (start len : ℕ) (old new : Inbox R) → start ≤ length (kept_bytes old)
-    → ReadsTrailerAt remaining start old new (Ok len) → 1048576 < start + len
-    → IfSome (stream_of remaining old) (λ stream. RefusesTrailer start (drop start stream) TooLarge)
-trailer_long remaining start len old new within found long =
-    on_stream found.0 (λ stream. RefusesTrailer start (drop start stream) TooLarge) (λ rest.
-    let stream : List ℕ = kept_bytes new ++ rest in
-    let here : start ≤ length (kept_bytes new) = grown start found.0 within in
-    let inside : len ≤ length (drop start (kept_bytes new)) = found.1.within in
-    inr (inr (inl (
-      refl,
-      drop (start + len) stream,
-      trailer_there start (kept_bytes new) rest len here found.1,
-      omega (arith, length-drop start (kept_bytes new), length-drop start stream, length-drop (start + len) stream, length-append (kept_bytes new) rest),
-    ))))
-
-pub trailer_found : {R : Type 0} (remaining : R → Option (List ℕ)) (start len : ℕ) (old new : Inbox R) → start ≤ length (kept_bytes old)
-    → ReadsTrailerAt remaining start old new (Ok len)
-    → (start + len ≤ length (kept_bytes new)) × IfSome (stream_of remaining old) (λ stream. HasTrailer (drop start stream) (drop (start + len) stream))
-trailer_found remaining start len old new within found =
-    let here : start ≤ length (kept_bytes new) = grown start found.0 within in (
-      omega (arith, found.1.within, length-drop start (kept_bytes new)),
-      on_stream found.0 (λ stream. HasTrailer (drop start stream) (drop (start + len) stream)) (λ rest. trailer_there start (kept_bytes new) rest len here found.1),
-    )
 
 -- ---- contents
 
@@ -159,28 +98,45 @@ found_line_end bytes kept n found same is yes_it_is h =
 pub missed_line_end : (bytes kept : List ℕ) (n : ℕ) (found : Bool) → bytes ≡ kept → found ≡ has_line_end bytes n → found ≡ false → (get_or kept n 0 ≢ 13) ⊎ (get_or kept (n + 1) 0 ≢ 10)
 missed_line_end bytes kept n found same is none = one_differs (get_or kept n 0) (get_or kept (n + 1) 0) (sym (is ∙ ap (λ bs. has_line_end bs n) same) ∙ none)
 
--- none does, whatever follows
-pub no_line_end : {R : Type 0} (remaining : R → Option (List ℕ)) (start room size : ℕ) (old new : Inbox R) → start ≤ length (kept_bytes old)
-    → Grows remaining old new → start + size + 2 ≤ length (kept_bytes new)
-    → (get_or (kept_bytes new) (start + size) 0 ≢ 13) ⊎ (get_or (kept_bytes new) (start + size + 1) 0 ≢ 10)
-    → IfSome (stream_of remaining old) (λ stream. RefusesContent start room size (drop start stream) BadLength)
-no_line_end remaining start room size old new within grows there other =
-    on_stream grows (λ stream. RefusesContent start room size (drop start stream) BadLength) (λ rest.
-    let kept : List ℕ = kept_bytes new in
-    let text : List ℕ = drop start kept in
-    let behind : List ℕ = drop (start + size) kept in
-    inl (
-      refl,
-      record {
-        content = take size text;
-        behind = behind ++ rest;
-        whole = sym (drop_more_bytes start kept rest (grown start grows within)) ∙ ap (λ bs. bs ++ rest) (sym (take-append-drop size text))
-            ∙ append_assoc (take size text) (drop size text) rest ∙ ap (λ bs. take size text ++ (bs ++ rest)) (drop-drop size start kept);
-        count = omega (arith, length-take size text, length-drop start kept);
-        none = λ more tail e. differ behind rest more tail (two_at kept (start + size) there) other e;
-      },
-    ))
-  where
-    differ : {a b : ℕ} (behind rest more tail : List ℕ) {left : List ℕ} → behind ≡ a ∷ b ∷ left → (a ≢ 13) ⊎ (b ≢ 10) → ¬ ((behind ++ rest) ++ more ≡ 13 ∷ 10 ∷ tail)
-    differ behind rest more tail is (inl other) e = other (let f = sym (ap (λ bs. (bs ++ rest) ++ more) is) ∙ e in cc)
-    differ behind rest more tail is (inr other) e = other (let f = sym (ap (λ bs. (bs ++ rest) ++ more) is) ∙ e in cc)
+-- the content of a chunk and its line end
+pub content_there : (from to size : ℕ) (kept : List ℕ) → to ≡ from + size → to + 2 ≤ length kept → drop to kept ≡ crlf_bytes ++ drop (to + 2) kept
+    → (drop from kept ≡ (slice_range kept from to ++ crlf_bytes) ++ drop (to + 2) kept) × (length (slice_range kept from to) ≡ size)
+content_there from to size kept is within ends = (
+  let n : ℕ = to - from in
+      let same : from + n ≡ to = omega arith in
+      sym (take-append-drop n (drop from kept)) ∙ ap (λ bs. slice_range kept from to ++ bs) (drop-drop n from kept ∙ ap (λ k. drop k kept) same ∙ ends)
+      ∙ sym (append_assoc (slice_range kept from to) crlf_bytes (drop (to + 2) kept)),
+  omega (arith, length-take (to - from) (drop from kept), length-drop from kept),
+)
+
+-- what may be open behind a line of that size
+abbrev pub IsOpenBehind : ℕ → List ℕ → Type 0
+IsOpenBehind size behind = ((size ≡ 0) × HasNoSection behind) ⊎ ((0 < size) × (length behind < size + 2))
+
+-- a chunk line has a digit at least
+pub line_some : (bytes : List ℕ) (found : ℕ × ℕ) → IsLineOf bytes found → 0 < found.0
+unfolding print_chunk_line
+line_some bytes found at =
+    omega (arith, at.len, at.reads.0.digits.0, length-append (at.line.digits ++ at.line.pad ++ print_extension at.line.extension) crlf_bytes)
+
+-- ---- chunks
+
+-- one more
+pub joined_more : (kept : List ℕ) (start at from to : ℕ) (body : List ℕ) → length body + length (slice_range kept from to) ≤ 65536
+    → Joined kept start at body → IsPieceAt at kept from to → Joined kept start (to + 2) (body ++ slice_range kept from to)
+joined_more kept start at from to body room joined piece =
+    let content : content_of (joined.chunks ++ piece.chunk ∷ []) ≡ body ++ slice_range kept from to =
+    flat_map-append (λ (chunk : Chunk). chunk.content) joined.chunks (piece.chunk ∷ []) ∙ ap (λ bs. content_of joined.chunks ++ bs) (append-nil piece.chunk.content ∙ piece.content)
+    ∙ ap (λ bs. bs ++ slice_range kept from to) (sym joined.body_is) in
+    record {
+      chunks = joined.chunks ++ piece.chunk ∷ [];
+      has = record {
+        each = All-push IsChunk joined.chunks piece.chunk joined.has.each piece.valid;
+        front = joined.has.front ∙ ap (λ bs. flat_map print_chunk joined.chunks ++ bs) piece.front
+            ∙ sym (append_assoc (flat_map print_chunk joined.chunks) (print_chunk piece.chunk) (drop (to + 2) kept))
+            ∙ ap (λ bs. (flat_map print_chunk joined.chunks ++ bs) ++ drop (to + 2) kept) (sym (append-nil (print_chunk piece.chunk)))
+            ∙ ap (λ bs. bs ++ drop (to + 2) kept) (sym (flat_map-append print_chunk joined.chunks (piece.chunk ∷ [])));
+        limit = omega (arith, ap length content, length-append body (slice_range kept from to));
+      };
+      body_is = sym content;
+    }

@@ -17,8 +17,7 @@ use Rattle.lra_wire.specs.Fields.{is_coded, stated_of, stated_body, body_length_
 use Rattle.lra_wire.specs.declared.front.Seen.{Seen}
 use Rattle.lra_wire.specs.Fronts.{RefusesFront, IsUnfinished, Sees}
 use Rattle.lra_wire.specs.inner.Sought.{LacksBody, StaysOpen}
-use Rattle.lra_wire.specs.inner.Heads.{IsHeadAt}
-use Rattle.lra_wire.specs.inner.Reading.{request_at}
+use Rattle.lra_wire.specs.inner.Heads.{IsHeadAt, request_at}
 use Rattle.lra_wire.specs.Request.{IsRequest, HasHead, Request, NeverLawful, RefusesBody, EndsInBody, IsOpenRequest, AwaitsRequest, fields_of}
 use Rattle.lra_wire.proofs.HeadLemmas.{up_to_all, no_request, no_request_yet}
 use Rattle.lra_wire.proofs.ReadingLemmas.{request_there, lacks_body, length_fault}

@@ -46,7 +46,7 @@ asks_more P a b c first then here = asks_on P (λ bytes. bytes ≡ kept_bytes b)
 pub asks_taken : {R : Type 0} (P : List ℕ → Type 0) (a b c : Inbox R) → AsksAt P a b → c.reader ≡ b.reader → asked_at c ≡ asked_at b → AsksAt P a c
 asks_taken P a b c first reader asked = asks_on P P P a b c first (inl (reader, asked)) (λ bytes p. p) (λ bytes p. p)
 
--- a wider reason
-pub asks_weaker : {R : Type 0} (P Q : List ℕ → Type 0) (a b : Inbox R) → AsksAt P a b → ((bytes : List ℕ) → P bytes → Q bytes) → AsksAt Q a b
-asks_weaker P Q a b (inl same) f = inl same
-asks_weaker P Q a b (inr p) f = inr (f (asked_at b) p)
+-- one more read, where more was wanted
+pub waits_more : {R : Type 0} {remaining : R → Option (List ℕ)} (P : List ℕ → Type 0) (a b c : Inbox R) → Waits remaining P a b → P (kept_bytes b)
+    → Grows remaining b c → AsksAt (λ bytes. bytes ≡ kept_bytes b) b c → Waits remaining P a c
+waits_more P a b c waits here grows asks = record { grows = Grows_trans waits.grows grows; asks = asks_more P a b c waits.asks asks here }

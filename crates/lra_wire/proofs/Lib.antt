@@ -7,9 +7,10 @@ pub mod ReadingLemmas
 pub mod WritingLemmas
 pub mod StreamLemmas
 pub mod ChunkLemmas
-pub mod PieceLemmas
-pub mod ChunksLemmas
 pub mod ResponseLemmas
 pub mod RequestsLemmas
 pub mod HeadLemmas
+pub mod OpenLemmas
+pub mod ChunksLemmas
 pub mod ComingLemmas
+pub mod TakenLemmas

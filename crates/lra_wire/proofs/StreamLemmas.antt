@@ -1,9 +1,8 @@
 -- From the bytes that an inbox kept to the stream that it stands for.
-use Rattle.std.proofs.Common.{◌≡◌, ℕ, ◌-◌, ◌≤◌, Bool, true, ◌==◌, List, [], ◌∷◌, ◌++◌, length, drop, refl, sym, ap, subst, ◌∙◌, arith, Option, Some, None}
+use Rattle.std.proofs.Common.{◌≡◌, ℕ, ◌-◌, ◌≤◌, List, [], ◌++◌, length, drop, refl, sym, ap, subst, ◌∙◌, arith, Option, Some, None}
 use Rattle.std.specs.Prelude.{IfSome, slice_range}
-use Rattle.std.proofs.lemmas.Bool.Decides.{nat_tests}
 use Rattle.std.specs.Io.KnownBytes.{Keeps, prepend_known, IsAtEnd}
-use Rattle.std.proofs.lemmas.List.{drop-append-le, length-append, length-drop, append-nil, take_all}
+use Rattle.std.proofs.lemmas.List.{drop-append-le, length-drop, append-nil, take_all}
 use Rattle.lra_wire.specs.declared.inbox.Inbox.{Inbox}
 use Rattle.lra_wire.specs.Inbox.{kept_bytes, stream_of}
 use Rattle.lra_wire.specs.inner.Growth.{Grows}
@@ -28,21 +27,6 @@ on_stream_end {R} {remaining} {old} {new} grows P end h =
     (λ rest known. let none : rest ≡ [] = subst IsAtEnd known end in
     subst P (sym (append-nil (kept_bytes new)) ∙ ap (λ r. kept_bytes new ++ r) (sym none)) h)
 
--- what follows of a stream
-pub some_weaker : (o : Option (List ℕ)) (P Q : List ℕ → Type 0) → IfSome o P → ((xs : List ℕ) → P xs → Q xs) → IfSome o Q
-some_weaker None P Q p f = tt
-some_weaker (Some xs) P Q p f = f xs p
-
--- a fact of the stream before and one of the same stream after
-pub some_both : (a b : Option (List ℕ)) (P Q S : List ℕ → Type 0) → Keeps a b → IfSome a P → IfSome b Q → ((xs : List ℕ) → P xs → Q xs → S xs) → IfSome a S
-some_both None b P Q S keeps p q f = tt
-some_both (Some xs) None P Q S keeps p q f = absurd keeps
-some_both (Some xs) (Some ys) P Q S keeps p q f = f xs p (subst Q keeps q)
-
--- a place of what was kept stays one
-pub grown : {R : Type 0} {remaining : R → Option (List ℕ)} {old new : Inbox R} (n : ℕ) → Grows remaining old new → n ≤ length (kept_bytes old) → n ≤ length (kept_bytes new)
-grown {R} {remaining} {old} {new} n grows h = omega (arith, ap length grows.kept, length-append (kept_bytes old) grows.more)
-
 -- the bytes behind a place of what was kept, and more
 pub drop_more_bytes : (n : ℕ) (kept rest : List ℕ) → n ≤ length kept → drop n kept ++ rest ≡ drop n (kept ++ rest)
 drop_more_bytes n kept rest h = sym (drop-append-le n kept rest h)
@@ -56,11 +40,6 @@ known (Some xs) P h = h xs
 pub prepend_none : (kept : List ℕ) (left : Option (List ℕ)) → kept ≡ [] → prepend_known kept left ≡ left
 prepend_none kept None e = refl
 prepend_none kept (Some xs) e = ap (λ bs. Some (bs ++ xs)) e
-
--- no byte came
-pub empty_bytes : (bytes kept : List ℕ) (is_empty : Bool) → bytes ≡ kept → is_empty ≡ (length bytes == 0) → is_empty ≡ true → kept ≡ []
-empty_bytes [] kept is_empty same says shown = sym same
-empty_bytes (b ∷ bytes) kept is_empty same says shown = grind (arith, nat_tests)
 
 -- the bytes from a place on
 pub behind_in : {bytes kept : List ℕ} (n : ℕ) → bytes ≡ kept → slice_range bytes n (length bytes) ≡ drop n kept

@@ -2,7 +2,8 @@
 pub mod Growth
 pub mod Fields
 pub mod Heads
-pub mod Reading
 pub mod Sought
-pub mod Steps
+pub mod Wanted
+pub mod Chunked
 pub mod Parts
+pub mod Reading

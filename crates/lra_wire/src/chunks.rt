@@ -1,164 +1,64 @@
-//! The chunks of a body, read (RFC 9112, section 7.1).
-ghost use Rattle.std.specs.Prelude.{◌≡◌, ◌≤◌, ◌<◌, ◌+◌, length, take, IfOk, IfErr};
-ghost use Rattle.httparse.specs.Grammar.{HasNoChunkLine, HasNoSection};
-ghost use Rattle.lra_wire.specs.Chunks.{AwaitsChunk, AwaitsChunks};
-ghost use Rattle.lra_wire.specs.Inbox.{kept_bytes, stream_of, AsksAt};
-ghost use Rattle.lra_wire.specs.inner.Growth.{LacksBytes};
-ghost use Rattle.lra_wire.specs.inner.Steps.{FindsLine, FindsNewLine, ReadsLineAt, FindsTrailer, FindsNewTrailer, ReadsTrailerAt, ReadsLast, ReadsContent, ReadsPiece, FindsBody, LacksBody, AsksBehind, has_line_end};
+//! The chunks of a body, read of the bytes that came (RFC 9112, section 7.1).
+ghost use Rattle.std.specs.Prelude.{◌≡◌, ◌≤◌, ◌+◌, [], length};
+ghost use Rattle.lra_wire.specs.inner.Chunked.{FindsLine, FindsTrailer, has_line_end, OneMore};
+ghost use Rattle.lra_wire.specs.inner.Chunked.{HasRead, FindsEnd, FindsContent, FindsPart};
+ghost use Rattle.lra_wire.specs.inner.Parts.{FindsBodyFront};
 
 use crate::fault::WireFault;
 use crate::framing::Framing;
 use crate::head::MAX_FIELDS;
-use crate::inbox::Inbox;
 use crate::request::MAX_BODY;
+use crate::wanted::{BodyFront, Wanted, behind};
 use httparse::spans::{EMPTY_HEADER_SPAN, parse_headers};
 use httparse::{Status, parse_chunk_size};
 use std::alloc::Global;
-use std::io::Read;
+use std::mem;
 
 /// The most bytes of a response, with the interim heads before it.
 pub const MAX_RESPONSE: usize = 1 << 20;
 
-/// A part of a chunked body.
+/// The next part of a chunked body, as far as it came.
 #[derive(Clone, Copy)]
-pub(crate) enum Piece {
+enum Part {
     /// A chunk, whose content lies between these places. Two bytes of line end follow it.
     Content(usize, usize),
     /// The last line and the trailer, which end here.
     Last(usize),
+    /// A part that isn't whole.
+    Open(Wanted),
 }
 
-/// Reads the chunks and the trailer that begin at `start`, and answers where they end.
-pub(crate) fn next_chunks<R: Read + Drop>(
-    alloc: Global,
-    inbox: &mut Inbox<R>,
-    start: usize,
-) -> Result<(Vec<u8>, usize), WireFault>
-    requires start { start ≤ length (kept_bytes inbox.old) }
-    requires limit { start ≤ 1048576 }
-    ensures ok { IfOk result (λ found. FindsBody R.remaining Framing.Chunks start inbox.old inbox.new found.0.items found.1) }
-    ensures err { IfErr result (LacksBody R.remaining Framing.Chunks start inbox.old) }
-    ensures asks { AsksBehind AwaitsChunks start inbox.old inbox.new }
-{
-    let mut body = Vec::new(alloc);
-    let mut at = start;
-    loop {
-        match next_piece(inbox, at, MAX_BODY - body.len())? {
-            Piece::Content(from, to) => {
-                body.extend_from_slice(&inbox.bytes()[from..to])?;
-                at = to + 2;
-            }
-            Piece::Last(end) => return Ok((body, end)),
-        }
+/// The chunks of a body that were read.
+#[derive(Drop)]
+pub(crate) struct ChunksRead {
+    pub(crate) start: usize,
+    pub(crate) end: usize,
+    pub(crate) body: Vec<u8>,
+}
+
+impl ChunksRead {
+    /// Hands the whole body out, and begins anew where it began.
+    fn hand_out(&mut self, alloc: Global) -> Vec<u8>
+        ensures body { result.items ≡ self.old.body.items }
+        ensures start { self.new.start ≡ self.old.start }
+        ensures end { self.new.end ≡ self.old.start }
+        ensures none { self.new.body.items ≡ [] }
+    {
+        self.end = self.start;
+        mem::replace(&mut self.body, Vec::new(alloc))
     }
 }
 
-/// Reads the part that begins at `start`, where the body has so much room left.
-fn next_piece<R: Read + Drop>(
-    inbox: &mut Inbox<R>,
-    start: usize,
-    room: usize,
-) -> Result<Piece, WireFault>
-    requires start { start ≤ length (kept_bytes inbox.old) }
-    requires room { room ≤ 65536 }
-    ensures reads { ReadsPiece R.remaining start room inbox.old inbox.new result }
-    ensures asks { AsksBehind AwaitsChunk start inbox.old inbox.new }
-{
-    let (line, size) = next_line(inbox, start)?;
-    let from = start + line;
-    if size == 0 {
-        return Ok(Piece::Last(next_last(inbox, from)?));
-    }
-    let to = next_content(inbox, from, room, size)?;
-    Ok(Piece::Content(from, to))
-}
-
-/// Reads the content that begins at `start`, and answers where it ends.
-fn next_content<R: Read + Drop>(
-    inbox: &mut Inbox<R>,
-    start: usize,
-    room: usize,
-    size: u64,
-) -> Result<usize, WireFault>
-    requires start { start ≤ length (kept_bytes inbox.old) }
-    requires room { room ≤ 65536 }
-    ensures reads { ReadsContent R.remaining start room size inbox.old inbox.new result }
-    ensures asks { AsksAt (LacksBytes (start + size + 2) (kept_bytes inbox.old)) inbox.old inbox.new }
-{
-    if size > room as u64 {
-        return Err(WireFault::TooLarge);
-    }
-    let to = start + size as usize;
-    if to + 2 > MAX_RESPONSE {
-        return Err(WireFault::TooLarge);
-    }
-    inbox.fill_to(to + 2)?;
-    if !has_line_end(inbox.bytes(), to) {
-        return Err(WireFault::BadLength);
-    }
-    Ok(to)
-}
-
-/// Whether a line ends there in CRLF.
-pub(crate) fn has_line_end(bytes: &[u8], at: usize) -> bool
+/// Returns whether a CRLF stands there.
+fn has_line_end(bytes: &[u8], at: usize) -> bool
     requires { at + 2 ≤ length bytes.now }
     ensures { result ≡ has_line_end bytes.now at }
 {
     bytes[at] == b'\r' && bytes[at + 1] == b'\n'
 }
 
-/// Reads the trailer that begins at `start`, and answers where it ends.
-fn next_last<R: Read + Drop>(inbox: &mut Inbox<R>, start: usize) -> Result<usize, WireFault>
-    requires { start ≤ length (kept_bytes inbox.old) }
-    ensures reads { ReadsLast R.remaining start inbox.old inbox.new result }
-    ensures asks { AsksBehind HasNoSection start inbox.old inbox.new }
-{
-    let end = start + next_trailer(inbox, start)?;
-    if end > MAX_RESPONSE {
-        return Err(WireFault::TooLarge);
-    }
-    Ok(end)
-}
-
-/// Reads until there is a whole chunk line behind `start`, and answers its length and its number.
-fn next_line<R: Read + Drop>(inbox: &mut Inbox<R>, start: usize) -> Result<(usize, u64), WireFault>
-    requires { start ≤ length (kept_bytes inbox.old) }
-    ensures reads { ReadsLineAt R.remaining start inbox.old inbox.new result }
-    ensures asks { AsksBehind HasNoChunkLine start inbox.old inbox.new }
-{
-    let mut searched = 0;
-    loop {
-        let bytes = inbox.bytes_behind(start);
-        if let Some(line) = new_line(bytes, searched)? {
-            return Ok(line);
-        }
-        searched = bytes.len();
-        if inbox.bytes().len() >= MAX_RESPONSE {
-            return Err(WireFault::TooLarge);
-        }
-        if !inbox.fill()? {
-            return match line_at(inbox.bytes_behind(start))? {
-                Some(line) => Ok(line),
-                None => Err(WireFault::Cut),
-            };
-        }
-    }
-}
-
-/// The chunk line at the front of the bytes, of which the first `searched` are known to have none.
-/// A line ends in a line feed: without a new one nothing is parsed.
-fn new_line(bytes: &[u8], searched: usize) -> Result<Option<(usize, u64)>, WireFault>
-    requires within { searched ≤ length bytes.now }
-    requires none { HasNoChunkLine (take searched bytes.now) }
-    ensures { FindsNewLine bytes.now result }
-{
-    if !bytes[searched..].contains(&b'\n') {
-        return Ok(None);
-    }
-    line_at(bytes)
-}
-
-pub(crate) fn line_at(bytes: &[u8]) -> Result<Option<(usize, u64)>, WireFault>
+/// Returns the length of the chunk line at the front of the bytes, and its number, or none where more may complete it.
+fn line_at(bytes: &[u8]) -> Result<Option<(usize, u64)>, WireFault>
     ensures { FindsLine bytes.now result }
 {
     match parse_chunk_size(bytes) {
@@ -168,45 +68,8 @@ pub(crate) fn line_at(bytes: &[u8]) -> Result<Option<(usize, u64)>, WireFault>
     }
 }
 
-/// Reads until there is a whole trailer behind `start`, and answers its length.
-fn next_trailer<R: Read + Drop>(inbox: &mut Inbox<R>, start: usize) -> Result<usize, WireFault>
-    requires { start ≤ length (kept_bytes inbox.old) }
-    ensures reads { ReadsTrailerAt R.remaining start inbox.old inbox.new result }
-    ensures asks { AsksBehind HasNoSection start inbox.old inbox.new }
-{
-    let mut searched = 0;
-    loop {
-        let bytes = inbox.bytes_behind(start);
-        if let Some(length) = new_trailer(bytes, searched)? {
-            return Ok(length);
-        }
-        searched = bytes.len();
-        if inbox.bytes().len() >= MAX_RESPONSE {
-            return Err(WireFault::TooLarge);
-        }
-        if !inbox.fill()? {
-            return match trailer_at(inbox.bytes_behind(start))? {
-                Some(length) => Ok(length),
-                None => Err(WireFault::Cut),
-            };
-        }
-    }
-}
-
-/// The trailer at the front of the bytes, of which the first `searched` are known to have none.
-/// It ends in a line feed: without a new one nothing is parsed.
-fn new_trailer(bytes: &[u8], searched: usize) -> Result<Option<usize>, WireFault>
-    requires within { searched ≤ length bytes.now }
-    requires none { HasNoSection (take searched bytes.now) }
-    ensures { FindsNewTrailer bytes.now result }
-{
-    if !bytes[searched..].contains(&b'\n') {
-        return Ok(None);
-    }
-    trailer_at(bytes)
-}
-
-pub(crate) fn trailer_at(bytes: &[u8]) -> Result<Option<usize>, WireFault>
+/// Returns the length of the trailer at the front of the bytes, or none where more may complete it.
+fn trailer_at(bytes: &[u8]) -> Result<Option<usize>, WireFault>
     ensures { FindsTrailer bytes.now result }
 {
     let mut headers = [EMPTY_HEADER_SPAN; MAX_FIELDS];
@@ -214,5 +77,91 @@ pub(crate) fn trailer_at(bytes: &[u8]) -> Result<Option<usize>, WireFault>
         Ok(Status::Complete((length, _))) => Ok(Some(length)),
         Ok(Status::Partial) => Ok(None),
         Err(_) => Err(WireFault::BadLength),
+    }
+}
+
+/// Returns that a line feed is wanted behind these bytes, if there may be more.
+fn next_feed(bytes: &[u8]) -> Result<Wanted, WireFault>
+    ensures { OneMore bytes.now result }
+{
+    if bytes.len() >= MAX_RESPONSE {
+        return Err(WireFault::TooLarge);
+    }
+    Ok(Wanted::Feed(bytes.len()))
+}
+
+/// Reads the trailer that begins at `start`, behind the last line.
+fn last_at(bytes: &[u8], start: usize) -> Result<Part, WireFault>
+    requires { start ≤ length bytes.now }
+    ensures { FindsEnd start bytes.now result }
+{
+    let Some(len) = trailer_at(behind(bytes, start))? else {
+        return Ok(Part::Open(next_feed(bytes)?));
+    };
+    let end = start + len;
+    if end > MAX_RESPONSE {
+        return Err(WireFault::TooLarge);
+    }
+    Ok(Part::Last(end))
+}
+
+/// Reads the content of a chunk that begins at `start`, where the body has so much room left.
+fn content_at(bytes: &[u8], start: usize, room: usize, size: u64) -> Result<Part, WireFault>
+    requires start { start ≤ length bytes.now }
+    requires room { room ≤ 65536 }
+    ensures { FindsContent start room size bytes.now result }
+{
+    if size > room as u64 {
+        return Err(WireFault::TooLarge);
+    }
+    let to = start + size as usize;
+    if to + 2 > MAX_RESPONSE {
+        return Err(WireFault::TooLarge);
+    }
+    if bytes.len() < to + 2 {
+        return Ok(Part::Open(Wanted::Bytes(to + 2)));
+    }
+    if !has_line_end(bytes, to) {
+        return Err(WireFault::BadLength);
+    }
+    Ok(Part::Content(start, to))
+}
+
+/// Reads the part of a chunked body that begins at `start`, where the body has so much room left.
+fn part_at(bytes: &[u8], start: usize, room: usize) -> Result<Part, WireFault>
+    requires start { start ≤ length bytes.now }
+    requires room { room ≤ 65536 }
+    ensures { FindsPart start room bytes.now result }
+{
+    let Some((line, size)) = line_at(behind(bytes, start))? else {
+        return Ok(Part::Open(next_feed(bytes)?));
+    };
+    if size == 0 {
+        last_at(bytes, start + line)
+    } else {
+        content_at(bytes, start + line, room, size)
+    }
+}
+
+/// Reads the rest of the chunks, and the trailer.
+pub(crate) fn chunks_at(
+    alloc: Global,
+    bytes: &[u8],
+    chunks: &mut ChunksRead,
+) -> Result<BodyFront, WireFault>
+    requires { HasRead bytes.now chunks.old }
+    ensures start { chunks.new.start ≡ chunks.old.start }
+    ensures read { HasRead bytes.now chunks.new }
+    ensures finds { FindsBodyFront Framing.Chunks chunks.old.start bytes.now result }
+{
+    loop {
+        match part_at(bytes, chunks.end, MAX_BODY - chunks.body.len())? {
+            Part::Content(from, to) => {
+                chunks.body.extend_from_slice(&bytes[from..to])?;
+                chunks.end = to + 2;
+            }
+            Part::Last(end) => return Ok(BodyFront::Whole(chunks.hand_out(alloc), end)),
+            Part::Open(wanted) => return Ok(BodyFront::Open(wanted)),
+        }
     }
 }

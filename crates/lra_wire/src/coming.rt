@@ -1,20 +1,22 @@
 //! The response at the front of bytes that came, with no reader.
-ghost use Rattle.std.specs.Prelude.{◌≡◌, ◌≤◌, ℕ, List, ◌++◌, [], length, drop, IfSome, IfNone};
+ghost use Rattle.std.specs.Prelude.{◌≡◌, ◌≤◌, ℕ, List, ◌++◌, length, IfOk, IfSome, IfNone};
 ghost use Rattle.lra_wire.specs.declared.coming.SeenResponse.{SeenResponse};
 ghost use Rattle.lra_wire.specs.Coming.{IsComing};
 ghost use Rattle.lra_wire.specs.Response.{AwaitsResponse};
 ghost use Rattle.lra_wire.specs.Seen.{SeesResponse};
-ghost use Rattle.lra_wire.specs.inner.Parts.{IsMissing, count_wanted, most_bytes, IsOpenAt, Passes, HasRead, FindsHead, FindsFinal, OneMore, FindsEnd, FindsContent, FindsPart, FindsBodyFront};
-ghost use Rattle.lra_wire.specs.inner.Steps.{IsSmall};
+ghost use Rattle.lra_wire.specs.inner.Wanted.{IsMissing, count_wanted, IsOpenAt};
+ghost use Rattle.lra_wire.specs.inner.Parts.{most_bytes, Passes, FindsHead, FindsFinal, FindsBodyFront, EndsOpen, EndsAsOpen, IsSmall};
+ghost use Rattle.lra_wire.specs.inner.Chunked.{HasRead};
+ghost use Rattle.lra_wire.specs.inner.Reading.{IsLast};
 
-use crate::chunks::{MAX_RESPONSE, has_line_end, line_at, trailer_at};
+use crate::chunks::{ChunksRead, MAX_RESPONSE, chunks_at};
 use crate::fault::WireFault;
 use crate::framing::Framing;
 use crate::head::MAX_HEAD;
 use crate::request::MAX_BODY;
 use crate::response::{Head, MAX_INTERIM, ResponseRead, head_at, is_interim};
+use crate::wanted::{BodyFront, Wanted, behind};
 use std::alloc::Global;
-use std::mem;
 
 /// What stands at the front of bytes that came.
 #[derive(Debug, Drop)]
@@ -25,60 +27,12 @@ pub enum Coming {
     Open(usize),
 }
 
-/// What has to come before more can be said.
-#[derive(Clone, Copy)]
-enum Wanted {
-    /// A line feed, behind so many bytes.
-    Feed(usize),
-    /// So many bytes.
-    Bytes(usize),
-}
-
-/// What stands behind a head.
-#[derive(Drop)]
-enum BodyFront {
-    /// A whole body, and where it ends.
-    Whole(Vec<u8>, usize),
-    Open(Wanted),
-}
-
-/// What stands behind the chunks that were read.
-#[derive(Clone, Copy)]
-enum Part {
-    /// A chunk, whose content lies between these places. Two bytes of line end follow it.
-    Content(usize, usize),
-    /// The last line and the trailer, which end here.
-    Last(usize),
-    Open(Wanted),
-}
-
 /// The interim heads that were read.
 #[derive(Clone, Copy)]
 struct Passed {
     /// Where they end.
     end: usize,
     count: usize,
-}
-
-/// The chunks of a body that were read.
-#[derive(Drop)]
-struct ChunksRead {
-    start: usize,
-    end: usize,
-    body: Vec<u8>,
-}
-
-impl ChunksRead {
-    /// The whole body. It may be read anew from where it began.
-    fn hand_out(&mut self, alloc: Global) -> Vec<u8>
-        ensures body { result.items ≡ self.old.body.items }
-        ensures start { self.new.start ≡ self.old.start }
-        ensures end { self.new.end ≡ self.old.start }
-        ensures none { self.new.body.items ≡ [] }
-    {
-        self.end = self.start;
-        mem::replace(&mut self.body, Vec::new(alloc))
-    }
 }
 
 /// What was found of bytes that hold no whole response, so that they needn't be read anew with each piece that follows.
@@ -167,6 +121,26 @@ impl SeenResponse {
         Ok(Some(head))
     }
 
+    /// Returns the response whose body ends with the stream, and how many bytes it takes.
+    fn rest(&self, alloc: Global, bytes: &[u8]) -> Result<(ResponseRead, usize), WireFault>
+        requires sees { SeesResponse self.now bytes.now }
+        requires ends { EndsOpen self.now.head bytes.now }
+        ensures { IsLast bytes.now result }
+    {
+        let Some(head) = self.head else {
+            return Err(WireFault::Cut);
+        };
+        match head.framing? {
+            Framing::ToTheEnd => {
+                let body = Vec::from_slice(alloc, behind(bytes, head.len))?;
+                let code = head.code;
+                Ok((ResponseRead { code, body }, bytes.len()))
+            }
+            Framing::Sized(_) => Err(WireFault::Cut),
+            Framing::Chunks => Err(WireFault::Cut),
+        }
+    }
+
     /// That is wanted before a response can be whole.
     fn open(&mut self, wanted: Wanted) -> Coming
         requires { count_wanted wanted ≤ 1048576 }
@@ -179,14 +153,6 @@ impl SeenResponse {
             Wanted::Bytes(count) => Coming::Open(count),
         }
     }
-}
-
-/// The bytes from a place on.
-fn behind(bytes: &[u8], start: usize) -> &[u8]
-    requires { start ≤ length bytes.now }
-    ensures { result.now ≡ drop start bytes.now }
-{
-    &bytes[start..]
 }
 
 /// The head behind the interim ones, with the place where it ends, or none where more bytes may complete it.
@@ -212,88 +178,6 @@ fn final_head(bytes: &[u8], passed: &mut Passed) -> Result<Option<Head>, WireFau
         }
         passed.end = end;
         passed.count += 1;
-    }
-}
-
-/// A line or a trailer is open at the end of these bytes.
-fn next_feed(bytes: &[u8]) -> Result<Wanted, WireFault>
-    ensures { OneMore bytes.now result }
-{
-    if bytes.len() >= MAX_RESPONSE {
-        return Err(WireFault::TooLarge);
-    }
-    Ok(Wanted::Feed(bytes.len()))
-}
-
-/// The trailer that begins at `start`, behind the last line.
-fn last_at(bytes: &[u8], start: usize) -> Result<Part, WireFault>
-    requires { start ≤ length bytes.now }
-    ensures { FindsEnd start bytes.now result }
-{
-    let Some(len) = trailer_at(behind(bytes, start))? else {
-        return Ok(Part::Open(next_feed(bytes)?));
-    };
-    let end = start + len;
-    if end > MAX_RESPONSE {
-        return Err(WireFault::TooLarge);
-    }
-    Ok(Part::Last(end))
-}
-
-/// The content of a chunk that begins at `start`, where the body has so much room left.
-fn content_at(bytes: &[u8], start: usize, room: usize, size: u64) -> Result<Part, WireFault>
-    requires start { start ≤ length bytes.now }
-    requires room { room ≤ 65536 }
-    ensures { FindsContent start room size bytes.now result }
-{
-    if size > room as u64 {
-        return Err(WireFault::TooLarge);
-    }
-    let to = start + size as usize;
-    if to + 2 > MAX_RESPONSE {
-        return Err(WireFault::TooLarge);
-    }
-    if bytes.len() < to + 2 {
-        return Ok(Part::Open(Wanted::Bytes(to + 2)));
-    }
-    if !has_line_end(bytes, to) {
-        return Err(WireFault::BadLength);
-    }
-    Ok(Part::Content(start, to))
-}
-
-/// The part of a chunked body that begins at `start`, where the body has so much room left.
-fn part_at(bytes: &[u8], start: usize, room: usize) -> Result<Part, WireFault>
-    requires start { start ≤ length bytes.now }
-    requires room { room ≤ 65536 }
-    ensures { FindsPart start room bytes.now result }
-{
-    let Some((line, size)) = line_at(behind(bytes, start))? else {
-        return Ok(Part::Open(next_feed(bytes)?));
-    };
-    if size == 0 {
-        last_at(bytes, start + line)
-    } else {
-        content_at(bytes, start + line, room, size)
-    }
-}
-
-/// The rest of the chunks, and the trailer.
-fn chunks_at(alloc: Global, bytes: &[u8], chunks: &mut ChunksRead) -> Result<BodyFront, WireFault>
-    requires { HasRead bytes.now chunks.old }
-    ensures start { chunks.new.start ≡ chunks.old.start }
-    ensures read { HasRead bytes.now chunks.new }
-    ensures finds { FindsBodyFront Framing.Chunks chunks.old.start bytes.now result }
-{
-    loop {
-        match part_at(bytes, chunks.end, MAX_BODY - chunks.body.len())? {
-            Part::Content(from, to) => {
-                chunks.body.extend_from_slice(&bytes[from..to])?;
-                chunks.end = to + 2;
-            }
-            Part::Last(end) => return Ok(BodyFront::Whole(chunks.hand_out(alloc), end)),
-            Part::Open(wanted) => return Ok(BodyFront::Open(wanted)),
-        }
     }
 }
 
@@ -354,6 +238,16 @@ pub fn response_front_seen(
     if let Some(wanted) = seen.still_wanted(bytes) {
         return Ok(seen.open(wanted));
     }
+    read_on(alloc, bytes, seen)
+}
+
+/// Reads on from what was seen of these bytes.
+fn read_on(alloc: Global, bytes: &[u8], seen: &mut SeenResponse) -> Result<Coming, WireFault>
+    requires { SeesResponse seen.old bytes.now }
+    ensures coming { IsComing bytes.now result }
+    ensures seen { SeesResponse seen.new bytes.now }
+    ensures ends { IfOk result (EndsAsOpen seen.new.head bytes.now) }
+{
     let Some(head) = seen.find_head(bytes)? else {
         return Ok(seen.open(Wanted::Feed(bytes.len())));
     };
@@ -363,6 +257,21 @@ pub fn response_front_seen(
             Ok(Coming::Whole(ResponseRead { code, body }, len))
         }
         BodyFront::Open(wanted) => Ok(seen.open(wanted)),
+    }
+}
+
+/// Returns the response of a stream that ends with these bytes, of which a front was seen, and how many bytes it takes.
+pub(crate) fn response_at_end(
+    alloc: Global,
+    bytes: &[u8],
+    seen: &mut SeenResponse,
+) -> Result<(ResponseRead, usize), WireFault>
+    requires { SeesResponse seen.old bytes.now }
+    ensures { IsLast bytes.now result }
+{
+    match read_on(alloc, bytes, seen)? {
+        Coming::Whole(response, len) => Ok((response, len)),
+        Coming::Open(_) => seen.rest(alloc, bytes),
     }
 }
 

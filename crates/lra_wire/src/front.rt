@@ -1,5 +1,5 @@
 //! The request at the front of bytes that came, with no reader.
-ghost use Rattle.std.specs.Prelude.{◌≡◌, ◌≢◌, ℕ, List, ◌++◌, length, true};
+ghost use Rattle.std.specs.Prelude.{◌≡◌, ◌≢◌, ℕ, List, ◌++◌, true};
 ghost use Rattle.lra_wire.specs.declared.fault.WireFault.{WireFault};
 ghost use Rattle.lra_wire.specs.declared.fault.WireFault.TheVariants.{Memory};
 ghost use Rattle.lra_wire.specs.declared.front.Seen.{Seen};

@@ -43,9 +43,9 @@ pub struct Inbox<R> {
 }
 
 impl<R: Read + Drop> Inbox<R> {
-    ghost use Rattle.std.specs.Prelude.{length, drop, OnOk, IsFalse};
+    ghost use Rattle.std.specs.Prelude.{length, drop, IsFalse};
     ghost use Rattle.lra_wire.specs.Inbox.{kept_bytes, stream_of, asked_at, is_spent, AsksAt};
-    ghost use Rattle.lra_wire.specs.inner.Growth.{Fills, FillsTo, LacksBytes};
+    ghost use Rattle.lra_wire.specs.inner.Growth.{Fills};
 
     /// An inbox that has read nothing yet. Where memory is refused the reader is dropped.
     pub fn new(alloc: Global, reader: R) -> Result<Inbox<R>, AllocError>
@@ -72,14 +72,6 @@ impl<R: Read + Drop> Inbox<R> {
         &self.kept.as_slice()[self.taken..]
     }
 
-    /// Those of these bytes that stand from a place on.
-    pub(crate) fn bytes_behind(&self, start: usize) -> &[u8]
-        requires { start ≤ length (kept_bytes self.now) }
-        ensures { result.now ≡ drop start (kept_bytes self.now) }
-    {
-        &self.bytes()[start..]
-    }
-
     /// Reads once, and answers whether bytes came: none come at the end of the stream alone.
     /// Nothing else asks the reader.
     pub(crate) fn fill(&mut self) -> Result<bool, WireFault>
@@ -92,19 +84,6 @@ impl<R: Read + Drop> Inbox<R> {
         self.kept
             .extend_from_slice(&self.piece.as_slice()[..count])?;
         Ok(count > 0)
-    }
-
-    /// Reads until there are so many bytes.
-    pub(crate) fn fill_to(&mut self, len: usize) -> Result<(), WireFault>
-        ensures fills { FillsTo R.remaining len self.old self.new result }
-        ensures asks { AsksAt (LacksBytes len (kept_bytes self.old)) self.old self.new }
-    {
-        while self.bytes().len() < len {
-            if !self.fill()? {
-                return Err(WireFault::Cut);
-            }
-        }
-        Ok(())
     }
 
     /// The first bytes were a message's.

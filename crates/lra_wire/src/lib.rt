@@ -16,6 +16,7 @@ mod inbox;
 mod request;
 mod response;
 mod told;
+mod wanted;
 mod write;
 
 pub use chunks::MAX_RESPONSE;

@@ -1,23 +1,23 @@
 //! Requests, read.
-ghost use Rattle.std.specs.Prelude.{◌≡◌, ◌<◌, ◌≤◌, ◌+◌, ℕ, List, Option, length, map, take, All, IfOk, IfErr, IfSome, OnOk, OnErr, IsTrue, IsFalse, Ok, Err, string_bytes, IsUtf8};
+ghost use Rattle.std.specs.Prelude.{◌≡◌, ◌≤◌, ℕ, List, Option, length, map, take, All, IfOk, IfErr, IfSome, OnOk, OnErr, IsTrue, IsFalse, Ok, Err, string_bytes, IsUtf8};
 ghost use Rattle.httparse.specs.Spans.{IsHeaderWithin, header_bytes};
 ghost use Rattle.lra_wire.specs.declared.fault.WireFault.{WireFault};
 ghost use Rattle.lra_wire.specs.Fields.{body_length_of};
-ghost use Rattle.lra_wire.specs.inner.Heads.{has_host, IsHeadAt, FindsHead, FindsNewHead, EndsHead, ReadsHead};
-ghost use Rattle.lra_wire.specs.Inbox.{kept_bytes, stream_of, is_spent, AsksAt};
-ghost use Rattle.lra_wire.specs.inner.Growth.{LacksBytes};
-ghost use Rattle.lra_wire.specs.Request.{Request, IsRequest, GivesRequest, RefusesRequest, IsOpenRequest, AwaitsRequest, request_of};
-ghost use Rattle.lra_wire.specs.inner.Reading.{NextRequest, TakesBody, request_at};
+ghost use Rattle.lra_wire.specs.inner.Heads.{has_host, IsHeadAt, FindsHead, request_at};
+ghost use Rattle.lra_wire.specs.inner.Reading.{NextRequest, EndsAt};
+ghost use Rattle.lra_wire.specs.Inbox.{stream_of, is_spent, AsksAt};
+ghost use Rattle.lra_wire.specs.Request.{Request, IsRequest, GivesRequest, RefusesRequest, AwaitsRequest, request_of};
 ghost use Rattle.lra_wire.specs.Requests.{Requests, EndsAlike};
 ghost use Rattle.lra_wire.specs.Streams.{IfBothKnown};
 
 use crate::fault::WireFault;
 use crate::fields::{Named, Stated, has, lists_close, lookup, stated_length};
+use crate::front::{Seen, end_fault, request_front, request_front_seen};
 use crate::head::{MAX_FIELDS, MAX_HEAD};
 use crate::inbox::Inbox;
 use crate::told::{RequestFields, fields_at};
 use httparse::Status;
-use httparse::spans::{EMPTY_HEADER_SPAN, HeaderSpan, RequestSpans, parse_request};
+use httparse::spans::{HeaderSpan, RequestSpans, parse_request};
 use std::alloc::{AllocError, Global};
 use std::io::Read;
 
@@ -81,6 +81,7 @@ pub fn one_reading()
         → AwaitsRequest bytes → ¬ (IsRequest bytes request rest) }
 {}
 
+/// Reads until a request stands at the front of what came, and takes it.
 fn next_request<R: Read + Drop>(
     alloc: Global,
     inbox: &mut Inbox<R>,
@@ -88,86 +89,31 @@ fn next_request<R: Read + Drop>(
     ensures next { NextRequest R.remaining inbox.old inbox.new result }
     ensures asks { AsksAt AwaitsRequest inbox.old inbox.new }
 {
-    let mut headers = [EMPTY_HEADER_SPAN; MAX_FIELDS];
-    let Some(head) = next_head(inbox, &mut headers)? else {
-        return Ok(None);
-    };
-    let size = body_length_at(inbox.bytes(), &headers, &head)?;
-    let mut request = request_at(alloc, inbox.bytes(), &headers, &head)?;
-    request.body = take_body(alloc, inbox, head.len, head.len + size)?;
-    Ok(Some(request))
-}
-
-/// Reads the body of the request that ends there, and leaves what came behind it.
-fn take_body<R: Read + Drop>(
-    alloc: Global,
-    inbox: &mut Inbox<R>,
-    start: usize,
-    end: usize,
-) -> Result<Vec<u8>, WireFault>
-    requires { start ≤ end }
-    ensures body { TakesBody R.remaining start end inbox.old inbox.new result }
-    ensures asks { AsksAt (LacksBytes end (kept_bytes inbox.old)) inbox.old inbox.new }
-{
-    inbox.fill_to(end)?;
-    let body = Vec::from_slice(alloc, &inbox.bytes()[start..end])?;
-    inbox.take(end);
-    Ok(body)
-}
-
-/// Reads until there is a whole head, and writes where its fields are. What came is parsed anew with
-/// each piece that has a line feed: it is less than [`MAX_HEAD`] bytes until the last.
-fn next_head<R: Read + Drop>(
-    inbox: &mut Inbox<R>,
-    headers: &mut [HeaderSpan; MAX_FIELDS],
-) -> Result<Option<RequestSpans>, WireFault>
-    ensures reads { ReadsHead R.remaining inbox.old inbox.new headers.new result }
-    ensures asks { AsksAt AwaitsRequest inbox.old inbox.new }
-{
-    let mut searched = 0;
+    let mut seen = Seen::nothing();
     loop {
-        if let Some(head) = new_head(inbox.bytes(), searched, headers)? {
-            return Ok(Some(head));
+        if let Some(front) = request_front_seen(alloc, inbox.bytes(), &mut seen)? {
+            inbox.take(front.len);
+            return Ok(Some(front.request));
         }
-        searched = inbox.bytes().len();
         if !inbox.fill()? {
-            return last_head(inbox.bytes(), headers);
+            end_at(alloc, inbox.bytes())?;
+            return Ok(None);
         }
     }
 }
 
-/// The head at the front of the bytes, of which the first `searched` are known to have none. A head
-/// ends in a line feed: without a new one nothing is parsed, unless there are as many bytes as a head
-/// may have.
-fn new_head(
-    bytes: &[u8],
-    searched: usize,
-    headers: &mut [HeaderSpan; MAX_FIELDS],
-) -> Result<Option<RequestSpans>, WireFault>
-    requires within { searched ≤ length bytes.now }
-    requires searched { IsOpenRequest (take searched bytes.now) }
-    ensures { FindsNewHead bytes.now headers.new result }
+/// Returns why a stream that ends with these bytes has no further request, unless there are none.
+fn end_at(alloc: Global, bytes: &[u8]) -> Result<(), WireFault>
+    requires { AwaitsRequest bytes.now }
+    ensures { EndsAt bytes.now result }
 {
-    if bytes.len() < MAX_HEAD && !bytes[searched..].contains(&b'\n') {
-        return Ok(None);
+    match request_front(alloc, bytes)? {
+        Some(_) => unreachable!(),
+        None => match end_fault(bytes) {
+            None => Ok(()),
+            Some(fault) => Err(fault),
+        },
     }
-    head_at(bytes, headers)
-}
-
-/// The head at the front of all the bytes that there are, or none where there are no bytes.
-fn last_head(
-    bytes: &[u8],
-    headers: &mut [HeaderSpan; MAX_FIELDS],
-) -> Result<Option<RequestSpans>, WireFault>
-    ensures { EndsHead bytes.now headers.new result }
-{
-    if let Some(head) = head_at(bytes, headers)? {
-        return Ok(Some(head));
-    }
-    if bytes.is_empty() {
-        return Ok(None);
-    }
-    Err(WireFault::Cut)
 }
 
 /// The head at the front of the bytes, or none where more bytes may complete it.

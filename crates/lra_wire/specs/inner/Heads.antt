@@ -1,17 +1,13 @@
 -- What a search for a request's head finds at the front of the bytes that came so far.
-use Rattle.std.specs.Prelude.{◌≡◌, ◌⊎◌, ℕ, ◌<◌, Bool, ◌||◌, ◌==◌, List, [], length, codes, Option, Some, None, Result, Ok, Err}
-use Rattle.std.specs.Io.KnownBytes.{IsAtEnd}
+use Rattle.std.specs.Prelude.{◌≡◌, ℕ, ◌<◌, Bool, ◌==◌, List, length, Option, Some, None, Result, Ok, Err, [], ◌||◌, take, map, codes}
+use Rattle.httparse.specs.Grammar.{RequestHead, HasNoRequest, MayBecomeRequest}
+use Rattle.httparse.specs.Spans.{span_bytes, header_bytes, IsRequestWithin, IsRequestAt}
+use Rattle.lra_wire.specs.declared.fault.WireFault.{WireFault}
+use Rattle.lra_wire.specs.declared.fault.WireFault.TheVariants.{BadHead}
 use Rattle.httparse.specs.declared.spans.HeaderSpan.{HeaderSpan}
 use Rattle.httparse.specs.declared.spans.RequestSpans.{RequestSpans}
-use Rattle.httparse.specs.Grammar.{RequestHead, HasNoRequest, MayBecomeRequest}
-use Rattle.httparse.specs.Spans.{IsRequestWithin, IsRequestAt}
-use Rattle.lra_wire.specs.declared.fault.WireFault.{WireFault}
-use Rattle.lra_wire.specs.declared.fault.WireFault.TheVariants.{BadHead, Cut}
-use Rattle.lra_wire.specs.declared.inbox.Inbox.{Inbox}
-use Rattle.lra_wire.specs.Fields.{values_of}
-use Rattle.lra_wire.specs.Inbox.{kept_bytes, IsOutside}
-use Rattle.lra_wire.specs.inner.Growth.{Grows}
-use Rattle.lra_wire.specs.Request.{IsLawful, NeverLawful, EndsInHead, IsOpenRequest}
+use Rattle.lra_wire.specs.Fields.{lists_close, values_of}
+use Rattle.lra_wire.specs.Request.{Request, told_by, IsLawful, NeverLawful}
 
 -- HTTP/1.0 asks for no Host, HTTP/1.1 for exactly one
 abbrev pub has_host : ℕ → List (List ℕ × List ℕ) → Bool
@@ -30,22 +26,13 @@ FindsHead bytes headers (Ok (Some spans)) = IsHeadAt bytes headers spans
 FindsHead bytes headers (Ok None) = HasNoRequest bytes × MayBecomeRequest bytes × (length bytes < 8192)
 FindsHead bytes headers (Err fault) = (fault ≡ BadHead) × NeverLawful bytes
 
--- the same of bytes that are looked at only where a head may end in them
-abbrev pub FindsNewHead : List ℕ → List HeaderSpan → Result (Option RequestSpans) WireFault → Type 0
-FindsNewHead bytes headers (Ok (Some spans)) = IsHeadAt bytes headers spans
-FindsNewHead bytes headers (Ok None) = IsOpenRequest bytes × (length bytes < 8192)
-FindsNewHead bytes headers (Err fault) = (fault ≡ BadHead) × NeverLawful bytes
-
--- the same at the end of the stream: no head where there are no bytes, and else why there is none
-abbrev pub EndsHead : List ℕ → List HeaderSpan → Result (Option RequestSpans) WireFault → Type 0
-EndsHead bytes headers (Ok (Some spans)) = IsHeadAt bytes headers spans
-EndsHead bytes headers (Ok None) = bytes ≡ []
-EndsHead bytes headers (Err fault) = ((fault ≡ BadHead) × NeverLawful bytes) ⊎ ((fault ≡ Cut) × EndsInHead bytes)
-
--- the same after reading as far as is needed, where no head is at the end of the stream alone
-abbrev pub ReadsHead : {R : Type 0} → (R → Option (List ℕ)) → Inbox R → Inbox R → List HeaderSpan → Result (Option RequestSpans) WireFault → Type 0
-ReadsHead remaining old new headers (Ok (Some spans)) = Grows remaining old new × IsHeadAt (kept_bytes new) headers spans
-ReadsHead remaining old new headers (Ok None) = Grows remaining old new × IsAtEnd (remaining new.reader) × (kept_bytes new ≡ [])
-ReadsHead remaining old new headers (Err fault) = IsOutside fault
-    ⊎ (Grows remaining old new × (((fault ≡ BadHead) × NeverLawful (kept_bytes new))
-    ⊎ ((fault ≡ Cut) × IsAtEnd (remaining new.reader) × EndsInHead (kept_bytes new))))
+-- the parts at the places that the spans give, and no body yet
+abbrev pub request_at : List ℕ → List HeaderSpan → RequestSpans → Request
+request_at bytes headers spans = record {
+  method = span_bytes bytes spans.method;
+  target = span_bytes bytes spans.path;
+  minor = spans.version;
+  close = (spans.version == 0) || lists_close (map (header_bytes bytes) (take spans.headers headers));
+  body = [];
+  fields = told_by (map (header_bytes bytes) (take spans.headers headers));
+}

@@ -1,44 +1,30 @@
--- One reading of a request, from an inbox to an inbox.
-use Rattle.std.specs.Prelude.{◌≡◌, ℕ, ◌≤◌, ◌||◌, ◌==◌, List, [], length, take, drop, map, slice_range, Option, Result, Ok, Err, IfSome}
-use Rattle.std.specs.Global.{Vec}
-use Rattle.httparse.specs.declared.spans.HeaderSpan.{HeaderSpan}
-use Rattle.httparse.specs.declared.spans.RequestSpans.{RequestSpans}
-use Rattle.httparse.specs.Spans.{span_bytes, header_bytes}
+-- One reading of a message, from an inbox to an inbox.
+use Rattle.std.specs.Prelude.{◌≡◌, ℕ, ◌≤◌, List, length, drop, Option, Result, Ok, Err, IfSome, []}
 use Rattle.lra_wire.specs.declared.fault.WireFault.{WireFault}
 use Rattle.lra_wire.specs.declared.inbox.Inbox.{Inbox}
-use Rattle.lra_wire.specs.declared.request.RequestRead.{RequestRead}
-use Rattle.lra_wire.specs.Fields.{lists_close}
-use Rattle.lra_wire.specs.Inbox.{kept_bytes, stream_of}
-use Rattle.lra_wire.specs.inner.Growth.{Grows, FillsTo}
-use Rattle.lra_wire.specs.Request.{GivesRequest, RefusesRequest, Request, told_by}
+use Rattle.lra_wire.specs.declared.response.ResponseRead.{ResponseRead}
+use Rattle.lra_wire.specs.Inbox.{stream_of}
+use Rattle.lra_wire.specs.Response.{IsResponse, RefusesResponse}
 use Rattle.lra_wire.specs.Streams.{IfBothKnown}
+use Rattle.lra_wire.specs.declared.request.RequestRead.{RequestRead}
+use Rattle.lra_wire.specs.Request.{GivesRequest, RefusesRequest}
 
 -- the request that the stream begins with, and the rest of the stream, or why there is none
 abbrev pub NextRequest : {R : Type 0} → (R → Option (List ℕ)) → Inbox R → Inbox R → Result (Option RequestRead) WireFault → Type 0
 NextRequest remaining old new (Ok read) = IfBothKnown (stream_of remaining old) (stream_of remaining new) (GivesRequest read)
 NextRequest remaining old new (Err fault) = IfSome (stream_of remaining old) (λ bytes. RefusesRequest bytes fault)
 
--- the parts at the places that the spans give, and no body yet
-abbrev pub request_at : List ℕ → List HeaderSpan → RequestSpans → Request
-request_at bytes headers spans = record {
-  method = span_bytes bytes spans.method;
-  target = span_bytes bytes spans.path;
-  minor = spans.version;
-  close = (spans.version == 0) || lists_close (map (header_bytes bytes) (take spans.headers headers));
-  body = [];
-  fields = told_by (map (header_bytes bytes) (take spans.headers headers));
-}
+-- A stream that ends with these bytes has no further request since there are none, or that is refused.
+abbrev pub EndsAt : List ℕ → Result (Unit {0}) WireFault → Type 0
+EndsAt bytes (Ok u) = bytes ≡ []
+EndsAt bytes (Err fault) = RefusesRequest bytes fault
 
--- a body between these places, and behind it what came early
-pub record HasBody {R : Type 0} (remaining : R → Option (List ℕ)) (start end : ℕ) (old new : Inbox R) (body : List ℕ) : Type 0 where
-  pub full : Inbox R
-  pub grows : Grows remaining old full
-  pub whole : end ≤ length (kept_bytes full)
-  pub is : body ≡ slice_range (kept_bytes full) start end
-  pub kept : kept_bytes new ≡ drop end (kept_bytes full)
-  pub reader : new.reader ≡ full.reader
+-- the response that the stream begins with, and the rest of the stream, or why there is none
+abbrev pub NextResponse : {R : Type 0} → (R → Option (List ℕ)) → Inbox R → Inbox R → Result ResponseRead WireFault → Type 0
+NextResponse remaining old new (Ok read) = IfBothKnown (stream_of remaining old) (stream_of remaining new) (λ bytes rest. IsResponse bytes read.code read.body.items rest)
+NextResponse remaining old new (Err fault) = IfSome (stream_of remaining old) (λ bytes. RefusesResponse bytes fault)
 
--- that body, or the stream ends before
-abbrev pub TakesBody : {R : Type 0} → (R → Option (List ℕ)) → ℕ → ℕ → Inbox R → Inbox R → Result (Vec ℕ) WireFault → Type 0
-TakesBody remaining start end old new (Ok body) = HasBody remaining start end old new body.items
-TakesBody remaining start end old new (Err fault) = FillsTo remaining end old new (Err fault)
+-- the response of a stream that ends with these bytes, and how many of them it takes, or why there is none
+abbrev pub IsLast : List ℕ → Result (ResponseRead × ℕ) WireFault → Type 0
+IsLast bytes (Ok found) = (found.1 ≤ length bytes) × IsResponse bytes found.0.code found.0.body.items (drop found.1 bytes)
+IsLast bytes (Err fault) = RefusesResponse bytes fault

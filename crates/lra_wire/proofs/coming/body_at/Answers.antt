@@ -1,7 +1,6 @@
 use Rattle.std.proofs.Common.{◌+◌, subst, sym, arith}
 use Rattle.lra_wire.specs.declared.framing.Framing.{Framing}
-use Rattle.lra_wire.specs.inner.Parts.{IsBodyTo}
-use Rattle.lra_wire.specs.inner.Steps.{IsSmall}
+use Rattle.lra_wire.specs.inner.Parts.{IsBodyTo, IsSmall}
 use Rattle.lra_wire.proofs.ComingLemmas.{sized_whole}
 use Rattle.lra_wire.proofs.coming.body_at.Goals as goal
 

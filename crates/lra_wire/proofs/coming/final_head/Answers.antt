@@ -4,9 +4,8 @@ use Rattle.lra_wire.specs.declared.fault.WireFault.{WireFault}
 use Rattle.lra_wire.specs.declared.response.Head.{Head}
 use Rattle.lra_wire.specs.Coming.{Lasts}
 use Rattle.lra_wire.specs.Response.{NeverShort, RefusesResponse}
-use Rattle.lra_wire.specs.inner.Parts.{Heads}
-use Rattle.lra_wire.specs.inner.Steps.{FindsResponse, IsHeadOf}
-use Rattle.lra_wire.proofs.ComingLemmas.{heads_more, heads_final, head_open, heads_refused, heads_ninth}
+use Rattle.lra_wire.specs.inner.Parts.{Heads, FindsResponse, IsHeadOf}
+use Rattle.lra_wire.proofs.ComingLemmas.{heads_more, heads_final, heads_refused, heads_ninth}
 use Rattle.lra_wire.proofs.coming.final_head.Goals as goal
 
 pub returns-in_err-head-clause-finds : goal.returns-in_err-head-clause-finds
@@ -19,8 +18,7 @@ returns-in_err-head-clause-finds c =
 pub returns-in_default-clause-finds : goal.returns-in_default-clause-finds
 returns-in_default-clause-finds c =
     let none = subst (λ (o : Option Head). FindsResponse c.behind.result.now (Ok o)) c.in_default.is c.in_ok-head.ensures in
-    let there = subst (λ (bs : List ℕ). FindsResponse bs (Ok None)) c.behind.ensures none in
-    head_open _ there.0 there.1 there.2
+    subst (λ (bs : List ℕ). FindsResponse bs (Ok None)) c.behind.ensures none
 
 pub returns-then-not-is_interim-clause-finds : goal.returns-then-not-is_interim-clause-finds
 returns-then-not-is_interim-clause-finds c =

@@ -1,6 +1,6 @@
 use Rattle.std.proofs.Common.{sym, subst, ◌∙◌, arith}
-use Rattle.lra_wire.specs.declared.coming.Wanted.{Wanted}
-use Rattle.lra_wire.specs.inner.Parts.{IsMissing, Seeks}
+use Rattle.lra_wire.specs.declared.wanted.Wanted.{Wanted}
+use Rattle.lra_wire.specs.inner.Wanted.{IsMissing, Seeks}
 use Rattle.lra_wire.proofs.ComingLemmas.{still_feed, came_feed}
 use Rattle.lra_wire.proofs.coming.SeenResponse.still_wanted.Goals as goal
 
