@@ -19,7 +19,8 @@ use Rattle.lra_front.specs.declared.operation.Place.TheVariants as place
 use Rattle.lra_front.specs.declared.denial.Denial.TheVariants as denial
 use Rattle.lra_front.specs.declared.answer.Answer.TheVariants as answer
 use Rattle.std.specs.List.{list_any}
-use Rattle.lra_front.specs.Operations.{operations, places, named_place, method, success, refusals, is_at, operation_at, allowed}
+use Rattle.lra_front.specs.Operations.{operations, places, named_place, method, is_at, operation_at, allowed}
+use Rattle.lra_front.specs.Operations.{success, refusals}
 use Rattle.lra_front.specs.Routes.{place_of, id_in}
 use Rattle.lra_front.specs.Replies.{refusal_code, denial_code, turned_code, reply_bytes, line_end}
 use Rattle.lra_front.specs.Listed.{has_code}
@@ -67,38 +68,51 @@ single = refl
 abbrev all_codes : List ℕ
 all_codes = 400 ∷ 404 ∷ 409 ∷ 410 ∷ 412 ∷ 500 ∷ 503 ∷ []
 
--- of these the ones of a body that isn't read, and of the grounds on which a call may be refused
+-- the codes of the grounds on which a call may be refused
+abbrev ground_codes : Terms → History → Call → List ℕ
+ground_codes s J c = map (λ (g : Ground). refusal_code g.0) (grounds s J c)
+
+-- those codes, and that of a body that isn't read
 abbrev codes_had : List ℕ → Terms → History → Call → List ℕ
-codes_had more s J c = filter (λ code. has_code code (more ++ map (λ (g : Ground). refusal_code g.0) (grounds s J c))) all_codes
+codes_had more s J c = filter (λ code. has_code code (more ++ ground_codes s J c)) all_codes
 
 abbrev bad_body : List ℕ
 bad_body = denial_code denial.BadBody ∷ []
 
-start_codes : (s : Terms) (J : History) (by m l : ℕ) (p : Option ℕ) → codes_had bad_body s J (call_of by m (order.Start p l)) ≡ refusals operation.Start
+start_codes : (s : Terms) (J : History) (by m l : ℕ) (p : Option ℕ)
+    → codes_had bad_body s J (call_of by m (order.Start p l)) ≡ refusals operation.Start
 start_codes s J by m l p = refl
 
-status_codes : (s : Terms) (J : History) (by m a : ℕ) → codes_had [] s J (call_of by m (order.Status a)) ≡ refusals operation.Status
+status_codes : (s : Terms) (J : History) (by m a : ℕ)
+    → codes_had [] s J (call_of by m (order.Status a)) ≡ refusals operation.Status
 status_codes s J by m a = refl
 
-join_codes : (s : Terms) (J : History) (by m a : ℕ) (given : Bor Addresses) → codes_had bad_body s J (call_of by m (order.Join a given)) ≡ refusals operation.Join
+join_codes : (s : Terms) (J : History) (by m a : ℕ) (given : Bor Addresses)
+    → codes_had bad_body s J (call_of by m (order.Join a given)) ≡ refusals operation.Join
 join_codes s J by m a given = refl
 
-close_codes : (s : Terms) (J : History) (by m a : ℕ) → codes_had bad_body s J (call_of by m (order.Close a)) ≡ refusals operation.Close
+close_codes : (s : Terms) (J : History) (by m a : ℕ)
+    → codes_had bad_body s J (call_of by m (order.Close a)) ≡ refusals operation.Close
 close_codes s J by m a = refl
 
-cancel_codes : (s : Terms) (J : History) (by m a : ℕ) → codes_had bad_body s J (call_of by m (order.Cancel a)) ≡ refusals operation.Cancel
+cancel_codes : (s : Terms) (J : History) (by m a : ℕ)
+    → codes_had bad_body s J (call_of by m (order.Cancel a)) ≡ refusals operation.Cancel
 cancel_codes s J by m a = refl
 
-remove_codes : (s : Terms) (J : History) (by m a p : ℕ) → codes_had bad_body s J (call_of by m (order.Leave a p)) ≡ refusals operation.Remove
+remove_codes : (s : Terms) (J : History) (by m a p : ℕ)
+    → codes_had bad_body s J (call_of by m (order.Leave a p)) ≡ refusals operation.Remove
 remove_codes s J by m a p = refl
 
-renew_codes : (s : Terms) (J : History) (by m a l : ℕ) → codes_had bad_body s J (call_of by m (order.Renew a l)) ≡ refusals operation.Renew
+renew_codes : (s : Terms) (J : History) (by m a l : ℕ)
+    → codes_had bad_body s J (call_of by m (order.Renew a l)) ≡ refusals operation.Renew
 renew_codes s J by m a l = refl
 
-member_codes : (s : Terms) (J : History) (by m p : ℕ) → codes_had [] s J (call_of by m (order.MemberStatus p)) ≡ refusals operation.MemberStatus
+member_codes : (s : Terms) (J : History) (by m p : ℕ)
+    → codes_had [] s J (call_of by m (order.MemberStatus p)) ≡ refusals operation.MemberStatus
 member_codes s J by m p = refl
 
-report_codes : (s : Terms) (J : History) (by m p : ℕ) (e : Ending) → codes_had bad_body s J (call_of by m (order.Report p e)) ≡ refusals operation.Report
+report_codes : (s : Terms) (J : History) (by m p : ℕ) (e : Ending)
+    → codes_had bad_body s J (call_of by m (order.Report p e)) ≡ refusals operation.Report
 report_codes s J by m p e = refl
 
 -- ---- replies

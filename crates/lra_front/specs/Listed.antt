@@ -18,7 +18,8 @@ use Rattle.lra_front.specs.Serving.{Responds}
 abbrev pub has_code : ℕ → List ℕ → Bool
 has_code code codes = list_any (λ x. x == code) codes
 
--- the table has an answer's code: among an operation's refusals where it isn't done, and else among the codes of its success
+-- the table has an answer's code: among an operation's refusals where it isn't done, and else among the codes of its
+-- success
 abbrev pub is_listed : Operation → Answer → Bool
 is_listed o (answer.Denied d) = has_code (denial_code d) (refusals o)
 is_listed o a = has_code (code_of a) (success o)
@@ -27,4 +28,5 @@ module _ (gives : Sight → ℕ → Order → Result Told CounterFault → Sight
   -- The table has the code of each reply to a request whose path and method ask for an operation.
   abbrev pub RepliesAreListed : Type 0
   RepliesAreListed = (before after : Sight) (moment : ℕ) (request : Request) (o : Operation) (a : Answer)
-      → operation_of request.method request.target ≡ Ok o → Responds gives before moment request after a → is_listed o a ≡ true
+      → operation_of request.method request.target ≡ Ok o → Responds gives before moment request after a
+      → is_listed o a ≡ true

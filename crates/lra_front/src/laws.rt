@@ -20,8 +20,8 @@ pub fn streams_write_in_turn<C: Counter, K: Clock>()
     ensures { AreWrittenInTurn C.gives K.tells }
 {}
 
-/// The table of operations has the code of each reply to a request that asks for one of them: where it is done, among the
-/// codes of its success, and else among those of its refusals.
+/// Shows that the table of operations has the code of each reply to a request that asks for one of them: where it is
+/// done, among the codes of its success, and else among those of its refusals.
 pub fn replies_are_listed<C: Counter>()
     ensures { RepliesAreListed C.gives }
 {}

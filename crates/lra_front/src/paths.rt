@@ -7,7 +7,7 @@ use lra_model::Memory;
 use matchit::{InsertError, Router};
 use std::alloc::{AllocError, Global};
 
-/// What a port serves, each at a path of its own: a table of all of them.
+/// Path that a port serves, one of a table of all of them.
 pub trait Path: Copy + Drop + 'static {
     ghost use Rattle.std.specs.Prelude.{◌≡◌, List, ℕ};
 
