@@ -6,4 +6,5 @@ mod Responding
 mod Streaming
 pub mod Transcribed
 mod InTurn
+mod Listing
 mod Worked

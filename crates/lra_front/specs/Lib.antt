@@ -1,9 +1,11 @@
 pub mod Operations
+pub mod Paths
 pub mod Routes
 pub mod Bodies
 pub mod Wishes
 pub mod Replies
 pub mod Serving
+pub mod Listed
 pub mod Streams
 pub mod Transcripts
 pub mod inner

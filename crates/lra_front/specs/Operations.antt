@@ -48,6 +48,42 @@ label operation.Renew = codes "renew"
 label operation.MemberStatus = codes "member"
 label operation.Report = codes "report"
 
+-- an operation, in a sentence
+abbrev pub summary : Operation → List ℕ
+summary operation.Start = codes "Starts an action, at the top or nested in another"
+summary operation.Status = codes "Returns an action's status"
+summary operation.Join = codes "Lets a member join an action"
+summary operation.Close = codes "Closes an action, so that its members complete"
+summary operation.Cancel = codes "Cancels an action, so that its members compensate"
+summary operation.Remove = codes "Lets a member leave its action"
+summary operation.Renew = codes "Sets an action's limit anew, from now"
+summary operation.MemberStatus = codes "Returns a member's status"
+summary operation.Report = codes "Takes down how a member ended"
+
+-- the codes of an operation's replies where it is done
+abbrev pub success : Operation → List ℕ
+success operation.Start = 201 ∷ []
+success operation.Status = 200 ∷ []
+success operation.Join = 200 ∷ []
+success operation.Close = 200 ∷ 202 ∷ []
+success operation.Cancel = 200 ∷ 202 ∷ []
+success operation.Remove = 200 ∷ []
+success operation.Renew = 200 ∷ []
+success operation.MemberStatus = 200 ∷ []
+success operation.Report = 200 ∷ []
+
+-- the codes by which a request for an operation is refused once it is read, admitted and routed
+abbrev pub refusals : Operation → List ℕ
+refusals operation.Start = 400 ∷ 404 ∷ 409 ∷ 412 ∷ 500 ∷ 503 ∷ []
+refusals operation.Status = 404 ∷ 500 ∷ 503 ∷ []
+refusals operation.Join = 400 ∷ 404 ∷ 412 ∷ 500 ∷ 503 ∷ []
+refusals operation.Close = 400 ∷ 404 ∷ 412 ∷ 500 ∷ 503 ∷ []
+refusals operation.Cancel = 400 ∷ 404 ∷ 412 ∷ 500 ∷ 503 ∷ []
+refusals operation.Remove = 400 ∷ 404 ∷ 409 ∷ 410 ∷ 412 ∷ 500 ∷ 503 ∷ []
+refusals operation.Renew = 400 ∷ 404 ∷ 409 ∷ 412 ∷ 500 ∷ 503 ∷ []
+refusals operation.MemberStatus = 404 ∷ 500 ∷ 503 ∷ []
+refusals operation.Report = 400 ∷ 404 ∷ 410 ∷ 412 ∷ 500 ∷ 503 ∷ []
+
 -- ---- places
 
 -- the places, in the order of their first operations

@@ -1,38 +1,15 @@
 -- What the path and the method of a request ask for.
-use Rattle.std.specs.Prelude.{ℕ, List, [], ◌∷◌, ◌==◌, Bool, if◌then◌else◌, Option, Some, None, option_map, Result, Ok, Err}
+use Rattle.std.specs.Prelude.{ℕ, List, ◌==◌, Bool, if◌then◌else◌, Option, None, Result, Ok, Err}
 use Rattle.std.specs.List.{list_any, before_first, after_first}
 use Rattle.std.specs.Option.{option_map_or}
-use Rattle.matchit.specs.Rows.{RowsOf}
-use Rattle.matchit.specs.Route.{Scan, parse_route}
-use Rattle.matchit.specs.Order.{placed}
-use Rattle.matchit.specs.Router.{RouteOf, route_from}
-use Rattle.matchit.specs.Seek.{first}
-use Rattle.matchit.specs.declared.error.InsertError.{InsertError}
 use Rattle.lra_front.specs.declared.operation.Place.{Place}
 use Rattle.lra_front.specs.declared.operation.Operation.{Operation}
 use Rattle.lra_front.specs.declared.denial.Denial.{Denial}
 use Rattle.lra_front.specs.declared.denial.Denial.TheVariants.{NoSuchPath, BadMethod}
 use Rattle.lra_front.specs.Operations.{places, path_of, operation_at}
+use Rattle.lra_front.specs.Paths.{served_at}
 
 -- ---- paths
-
--- the rows of a router with one path more, as `matchit` reads it
-abbrev pub with_scan : Result Scan InsertError → Place → RowsOf (RouteOf Place) → RowsOf (RouteOf Place)
-with_scan (Ok scan) p rows = placed (scan.pattern, route_from scan p) rows
-with_scan (Err error) p rows = rows
-
--- the same with the path of one place more
-abbrev pub with_path : Place → RowsOf (RouteOf Place) → RowsOf (RouteOf Place)
-with_path p rows = with_scan (parse_route (path_of p)) p rows
-
--- the rows of a router with the paths of these places more
-abbrev pub with_paths : List Place → RowsOf (RouteOf Place) → RowsOf (RouteOf Place)
-with_paths [] rows = rows
-with_paths (p ∷ rest) rows = with_paths rest (with_path p rows)
-
--- the router of the paths
-abbrev pub path_rows : RowsOf (RouteOf Place)
-path_rows = with_paths places []
 
 -- whether a target has a query, which its first question mark begins (RFC 3986, section 3.4)
 abbrev pub has_query : List ℕ → Bool
@@ -40,7 +17,7 @@ has_query target = list_any (λ b. b == 63) target
 
 -- what a target names: the path that `matchit` finds for it; nothing where it has a query, wherever that stands, or is in absolute form
 unfoldable pub place_of : List ℕ → Option Place
-place_of target = if has_query target then None else option_map (λ (r : RouteOf Place). r.value) (first path_rows target)
+place_of target = if has_query target then None else served_at path_of places target
 
 -- a slash
 abbrev pub is_slash : ℕ → Bool

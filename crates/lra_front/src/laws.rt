@@ -1,5 +1,6 @@
-//! Laws of streams: public functions that do nothing, whose contracts say what follows from the definitions.
+//! Laws of replies and of streams: public functions that do nothing, whose contracts say what follows from the definitions.
 
+ghost use Rattle.lra_front.specs.Listed.{RepliesAreListed};
 ghost use Rattle.lra_front.specs.Transcripts.{AreTranscripts, AreWrittenInTurn};
 
 use lra_clocks::Clock;
@@ -17,4 +18,10 @@ pub fn streams_are_transcripts<C: Counter, K: Clock>()
 /// from before, and then what each order adds at a history that begins with all that was seen before it.
 pub fn streams_write_in_turn<C: Counter, K: Clock>()
     ensures { AreWrittenInTurn C.gives K.tells }
+{}
+
+/// Shows that the table of operations has the code of each reply to a request that asks for one of them: where it is
+/// done, among the codes of its success, and else among those of its refusals.
+pub fn replies_are_listed<C: Counter>()
+    ensures { RepliesAreListed C.gives }
 {}

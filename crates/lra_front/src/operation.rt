@@ -3,6 +3,8 @@
 ghost use Rattle.std.specs.Prelude.{◌≡◌};
 ghost use Rattle.lra_front.specs.Operations as spec;
 
+use crate::paths::Path;
+
 /// What a path names.
 #[derive(Clone, Copy, Debug, PartialEq, Eq, Drop)]
 pub enum Place {
@@ -45,22 +47,26 @@ pub enum Operation {
     Report,
 }
 
-impl Place {
-    /// All of them, in the order of their first operations.
-    pub const ALL: [Place; 7] = [
-        Place::Actions,
-        Place::Action,
-        Place::Close,
-        Place::Cancel,
-        Place::Remove,
-        Place::Renew,
-        Place::Member,
-    ];
+impl Path for Place {
+    ghost use Rattle.lra_front.specs.Operations.{places, path_of as path_at};
 
-    /// Returns its path, as `matchit` reads it.
-    pub fn path(self) -> &'static str
-        ensures { result.now ≡ spec.path_of self }
-    {
+    ghost all = { places };
+
+    ghost path_of = { path_at };
+
+    fn all() -> &'static [Place] {
+        &[
+            Place::Actions,
+            Place::Action,
+            Place::Close,
+            Place::Cancel,
+            Place::Remove,
+            Place::Renew,
+            Place::Member,
+        ]
+    }
+
+    fn path(self) -> &'static str {
         match self {
             Place::Actions => "/lra-coordinator",
             Place::Action => "/lra-coordinator/{id}",
@@ -71,7 +77,9 @@ impl Place {
             Place::Member => "/lra-recovery/{id}",
         }
     }
+}
 
+impl Place {
     /// Returns the operation that a method asks for here, if there is one.
     pub(crate) fn operation(self, method: &str) -> Option<Operation>
         ensures { result ≡ spec.operation_at method.now self }
@@ -162,6 +170,52 @@ impl Operation {
             Operation::Renew => "renew",
             Operation::MemberStatus => "member",
             Operation::Report => "report",
+        }
+    }
+
+    /// Returns a sentence that says what it does.
+    pub fn summary(self) -> &'static str
+        ensures { result.now ≡ spec.summary self }
+    {
+        match self {
+            Operation::Start => "Starts an action, at the top or nested in another",
+            Operation::Status => "Returns an action's status",
+            Operation::Join => "Lets a member join an action",
+            Operation::Close => "Closes an action, so that its members complete",
+            Operation::Cancel => "Cancels an action, so that its members compensate",
+            Operation::Remove => "Lets a member leave its action",
+            Operation::Renew => "Sets an action's limit anew, from now",
+            Operation::MemberStatus => "Returns a member's status",
+            Operation::Report => "Takes down how a member ended",
+        }
+    }
+
+    /// Returns the status codes of its replies where it is done.
+    pub fn success(self) -> &'static [u16]
+        ensures { result.now ≡ spec.success self }
+    {
+        match self {
+            Operation::Start => &[201],
+            Operation::Close | Operation::Cancel => &[200, 202],
+            Operation::Status
+            | Operation::Join
+            | Operation::Remove
+            | Operation::Renew
+            | Operation::MemberStatus
+            | Operation::Report => &[200],
+        }
+    }
+
+    /// Returns the status codes by which a request for it is refused once it is read, admitted and routed.
+    pub fn refusals(self) -> &'static [u16]
+        ensures { result.now ≡ spec.refusals self }
+    {
+        match self {
+            Operation::Start | Operation::Renew => &[400, 404, 409, 412, 500, 503],
+            Operation::Status | Operation::MemberStatus => &[404, 500, 503],
+            Operation::Join | Operation::Close | Operation::Cancel => &[400, 404, 412, 500, 503],
+            Operation::Remove => &[400, 404, 409, 410, 412, 500, 503],
+            Operation::Report => &[400, 404, 410, 412, 500, 503],
         }
     }
 

@@ -1,46 +1,19 @@
 //! What the path and the method of a request ask for.
 
-ghost use Rattle.std.specs.Prelude.{◌≡◌, IfOk, OnOk};
+ghost use Rattle.std.specs.Prelude.{◌≡◌};
 ghost use Rattle.std.specs.List.{before_first, after_first};
-ghost use Rattle.lra_front.specs.Operations.{places};
-ghost use Rattle.lra_front.specs.Routes.{is_slash, has_query, with_path, with_paths, path_rows, place_of, id_in, operation_of};
+ghost use Rattle.lra_front.specs.Routes.{is_slash, has_query, place_of, id_in, operation_of};
 
 use crate::denial::Denial;
 use crate::operation::{Operation, Place};
+use crate::paths::PathRouter;
 use lra_model::Memory;
-use matchit::{InsertError, Router};
-use std::alloc::{AllocError, Global};
+use std::alloc::Global;
 
 /// The paths that are served.
 #[derive(Drop)]
 pub struct Routes {
-    router: Router<Place>,
-    ghost served: { router ≡ path_rows },
-}
-
-/// Serves the path of one place more.
-fn serve(router: &mut Router<Place>, place: Place) -> Result<(), InsertError>
-    ensures { OnOk result (router.new ≡ with_path place router.old) }
-{
-    router.insert(place.path(), place)
-}
-
-/// Serves the paths of all places.
-fn serve_all(router: &mut Router<Place>) -> Result<(), InsertError>
-    ensures { OnOk result (router.new ≡ with_paths places router.old) }
-{
-    for place in Place::ALL {
-        serve(router, place)?;
-    }
-    Ok(())
-}
-
-fn router(alloc: Global) -> Result<Router<Place>, InsertError>
-    ensures { IfOk result (λ router. router ≡ path_rows) }
-{
-    let mut router = Router::new(alloc);
-    serve_all(&mut router)?;
-    Ok(router)
+    router: PathRouter<Place>,
 }
 
 /// What follows the first slash, or nothing.
@@ -81,10 +54,8 @@ fn has_query(target: &str) -> bool
 impl Routes {
     /// The paths that are served.
     pub fn new(alloc: Global) -> Result<Routes, Memory> {
-        match router(alloc) {
-            Ok(router) => Ok(Routes { router }),
-            Err(_) => Err(AllocError),
-        }
+        let router = PathRouter::new(alloc)?;
+        Ok(Routes { router })
     }
 
     /// What a target names. One with a query names nothing.
@@ -95,10 +66,7 @@ impl Routes {
         if has_query(target) {
             return None;
         }
-        match self.router.at(target) {
-            Ok(found) => Some(*found.value),
-            Err(_) => None,
-        }
+        self.router.at(target)
     }
 
     /// What a request asks for: the path is looked at first, then the method.

@@ -5,22 +5,22 @@ use Rattle.lra_overview.specs.Orders.{Gives}
 use Rattle.lra_wire.specs.Request.{Request}
 use Rattle.lra_operators.specs.declared.access.Access.{Access}
 use Rattle.lra_operators.specs.declared.access.Admission.TheVariants.{Admitted}
-use Rattle.lra_operators.specs.declared.route.Place.{Place}
+use Rattle.lra_operators.specs.declared.operation.Operation.{Operation}
 use Rattle.lra_operators.specs.declared.visiting.Came.{Came}
 use Rattle.lra_operators.specs.declared.visiting.Came.TheVariants as came
-use Rattle.lra_operators.specs.Routes.{route_of}
+use Rattle.lra_operators.specs.Routes.{operation_of}
 use Rattle.lra_operators.specs.Access.{seen, admission_of}
 use Rattle.lra_operators.specs.Orders.{IsAsked, Answers, AnswersBytes}
 use Rattle.lra_operators.specs.inner.Targets.{Orders}
 use Rattle.lra_operators.specs.inner.Visits.{IsRead, AnswersCame}
 
 -- the order that was asked for was given
-pub asked_is_given : (target : List ℕ) (p : Place) (i : ℕ) (o : Order) (before after : List (ℕ × Order)) → IsAsked target p i o → Gives i o before after → Orders target p before after
+pub asked_is_given : (target : List ℕ) (p : Operation) (i : ℕ) (o : Order) (before after : List (ℕ × Order)) → IsAsked target p i o → Gives i o before after → Orders target p before after
 asked_is_given target p i o before after k (inl h) = inl h
 asked_is_given target p i o before after k (inr h) = inr (i, o, k, h)
 
 -- a request that has a route, and may be made there or orders nothing
-pub routed_answers : (access : Access) (request : Request) (p : Place) (before after : List (ℕ × Order)) → route_of request.method request.target ≡ Ok p
+pub routed_answers : (access : Access) (request : Request) (p : Operation) (before after : List (ℕ × Order)) → operation_of request.method request.target ≡ Ok p
     → (after ≡ before) ⊎ ((admission_of (seen access request p) ≡ Admitted) × Orders request.target p before after) → Answers access request before after
 routed_answers access request p before after routed (inl h) = inl h
 routed_answers access request p before after routed (inr (admitted, inl h)) = inl h

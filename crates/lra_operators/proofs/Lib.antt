@@ -1,4 +1,3 @@
-pub mod Routing
 pub mod Comparing
 pub mod Giving
 pub mod Texts

@@ -12,9 +12,9 @@ use Rattle.lra_operators.specs.declared.access.Admission.{Admission}
 use Rattle.lra_operators.specs.declared.access.Admission.TheVariants as admission
 use Rattle.lra_operators.specs.declared.access.Seen.{Seen}
 use Rattle.lra_wire.specs.Request.{Fields, Request}
-use Rattle.lra_operators.specs.declared.route.Place.{Place}
-use Rattle.lra_operators.specs.declared.route.Place.TheVariants as place
-use Rattle.lra_operators.specs.Routes.{is_order}
+use Rattle.lra_operators.specs.declared.operation.Operation.{Operation}
+use Rattle.lra_operators.specs.declared.operation.Operation.TheVariants as operation
+use Rattle.lra_operators.specs.Operations.{is_order}
 use Rattle.lra_operators.specs.Forms.{form_value}
 
 -- whether a text that was given, if one was, is the one that is wanted, if one is
@@ -100,17 +100,17 @@ is_json kind = option_map_or (λ value. begins (codes "application/json") value)
 
 -- ---- what is seen of a request, and what it comes to
 
--- the place where a member is given up
-abbrev pub is_give_up : Place → Bool
-is_give_up place.GiveUp = true
+-- the operation that gives a member up
+abbrev pub is_give_up : Operation → Bool
+is_give_up operation.GiveUp = true
 is_give_up _ = false
 
 -- the key that each has to give, if there is one
 abbrev pub key_of : Access → Option (List ℕ)
 key_of access = option_map (λ key. key.now) access.key
 
--- what of a request for a place says whether it may be made
-abbrev pub seen : Access → Request → Place → Seen
+-- what of a request for an operation says whether it may be made
+abbrev pub seen : Access → Request → Operation → Seen
 seen access request p = record {
   wants_key = is_some access.key;
   is_own = is_own request.fields.host;

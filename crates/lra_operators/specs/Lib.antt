@@ -1,3 +1,4 @@
+pub mod Operations
 pub mod Routes
 pub mod Forms
 pub mod Access

@@ -7,28 +7,28 @@ use Rattle.lra_commands.specs.declared.counter.Order.TheVariants as order
 use Rattle.lra_wire.specs.Request.{Request, IsRequest}
 use Rattle.lra_operators.specs.declared.access.Access.{Access}
 use Rattle.lra_operators.specs.declared.access.Admission.TheVariants.{Admitted}
-use Rattle.lra_operators.specs.declared.route.Place.{Place}
-use Rattle.lra_operators.specs.declared.route.Place.TheVariants as place
-use Rattle.lra_operators.specs.Routes.{path_in, id_in, route_of}
+use Rattle.lra_operators.specs.declared.operation.Operation.{Operation}
+use Rattle.lra_operators.specs.declared.operation.Operation.TheVariants as operation
+use Rattle.lra_operators.specs.Routes.{path_in, id_in, operation_of}
 use Rattle.lra_operators.specs.Access.{seen, admission_of}
 
--- the order of a place for a number: a close or a cancel of an action, or that a member failed, as it would tell itself; elsewhere none
-abbrev pub IsOrderAt : Place → ℕ → Order → Type 0
-IsOrderAt place.Close n o = o ≡ order.Close n
-IsOrderAt place.Cancel n o = o ≡ order.Cancel n
-IsOrderAt place.GiveUp n o = (o ≡ order.Report n ending.FailedToComplete) ⊎ (o ≡ order.Report n ending.FailedToCompensate)
+-- the order of an operation for a number: a close or a cancel of an action, or that a member failed, as it would tell itself; others give none
+abbrev pub IsOrderAt : Operation → ℕ → Order → Type 0
+IsOrderAt operation.Close n o = o ≡ order.Close n
+IsOrderAt operation.Cancel n o = o ≡ order.Cancel n
+IsOrderAt operation.GiveUp n o = (o ≡ order.Report n ending.FailedToComplete) ⊎ (o ≡ order.Report n ending.FailedToCompensate)
 IsOrderAt _ n o = ⊥
 
--- the order that a target asks for at a place, of a journal whose identifier its path has
-pub record IsAsked (target : List ℕ) (p : Place) (i : ℕ) (o : Order) : Type 0 where
+-- the order that a target asks for of an operation, of a journal whose identifier its path has
+pub record IsAsked (target : List ℕ) (p : Operation) (i : ℕ) (o : Order) : Type 0 where
   pub number : ℕ
   pub names : IsSpelling (id_text i) (id_in (path_in target)) number
   pub orders : IsOrderAt p number o
 
--- a request gives an order: its route leads to where that is given, it may be made there, and it is the one that it asks for
+-- a request gives an order: its path and method ask for an operation that gives one, it may be made, and it is the one that it asks for
 pub record GivesOrder (access : Access) (request : Request) (i : ℕ) (o : Order) : Type 0 where
-  pub at : Place
-  pub routed : route_of request.method request.target ≡ Ok at
+  pub at : Operation
+  pub routed : operation_of request.method request.target ≡ Ok at
   pub admitted : admission_of (seen access request at) ≡ Admitted
   pub asked : IsAsked request.target at i o
 

@@ -7,7 +7,7 @@ ghost use Rattle.lra_operators.specs.Access as spec;
 ghost use Rattle.lra_operators.specs.Forms.{form_value};
 
 use crate::forms::in_form;
-use crate::route::Place;
+use crate::operation::Operation;
 use base64::DecodeAllocError;
 use base64::engine::general_purpose::STANDARD;
 use lra_model::Memory;
@@ -250,11 +250,11 @@ fn is_json(kind: &Option<Vec<u8>>) -> bool
     }
 }
 
-/// Whether a place is one where a member is given up.
-fn is_give_up(place: Place) -> bool
-    ensures { result ≡ spec.is_give_up place }
+/// Returns whether an operation gives a member up.
+fn is_give_up(operation: Operation) -> bool
+    ensures { result ≡ spec.is_give_up operation }
 {
-    matches!(place, Place::GiveUp)
+    matches!(operation, Operation::GiveUp)
 }
 
 /// Whether a text is the one that is wanted, if one is.
@@ -347,9 +347,14 @@ impl<'a> Access<'a> {
         }
     }
 
-    /// What of a request for a place says whether it may be made.
-    fn see(&self, alloc: Global, request: &RequestRead, place: Place) -> Result<Seen, Memory>
-        ensures { IfOk result (λ s. s ≡ seen self.now (request_of request.now) place) }
+    /// Returns what of a request for an operation says whether it may be made.
+    fn see(
+        &self,
+        alloc: Global,
+        request: &RequestRead,
+        operation: Operation,
+    ) -> Result<Seen, Memory>
+        ensures { IfOk result (λ s. s ≡ seen self.now (request_of request.now) operation) }
     {
         let form = request.body.as_slice();
         let fields = &request.fields;
@@ -361,8 +366,8 @@ impl<'a> Access<'a> {
         Ok(Seen {
             wants_key: self.key.is_some(),
             is_own: is_own(&fields.host),
-            is_order: place.is_order(),
-            is_give_up: is_give_up(place),
+            is_order: operation.is_order(),
+            is_give_up: is_give_up(operation),
             head_has_key: bearer_has_key || basic_gives,
             bearer_has_key,
             form_has_key,
@@ -372,16 +377,16 @@ impl<'a> Access<'a> {
         })
     }
 
-    /// Whether a request may be made at a place.
+    /// Returns whether a request for an operation may be made.
     pub fn admit(
         &self,
         alloc: Global,
         request: &RequestRead,
-        place: Place,
+        operation: Operation,
     ) -> Result<Admission, Memory>
-        ensures { IfOk result (λ a. a ≡ admission_of (seen self.now (request_of request.now) place)) }
+        ensures { IfOk result (λ a. a ≡ admission_of (seen self.now (request_of request.now) operation)) }
     {
-        let seen = self.see(alloc, request, place)?;
+        let seen = self.see(alloc, request, operation)?;
         Ok(seen.admission())
     }
 }

@@ -4,6 +4,7 @@
 mod access;
 mod forms;
 mod memo;
+mod operation;
 mod ordering;
 mod port;
 mod reply;
@@ -12,7 +13,8 @@ mod telling;
 mod visiting;
 
 pub use access::{Access, Admission};
+pub use operation::Operation;
 pub use port::Port;
 pub use reply::Reply;
-pub use route::{Place, Routes, Unserved};
+pub use route::{Routes, Unserved};
 pub use visiting::{is_enough, reply_to};

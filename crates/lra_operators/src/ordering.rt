@@ -2,11 +2,12 @@
 
 ghost use Rattle.std.specs.Prelude.{◌≡◌, string_bytes};
 ghost use Rattle.lra_overview.specs.Orders.{Gives};
-ghost use Rattle.lra_operators.specs.declared.route.Place.TheVariants as place;
+ghost use Rattle.lra_operators.specs.declared.operation.Operation.TheVariants as operation;
 ghost use Rattle.lra_operators.specs.inner.Targets.{Orders};
 
 use crate::forms::in_form;
-use crate::route::{Place, id_in, path_in};
+use crate::operation::Operation;
+use crate::route::{id_in, path_in};
 use crate::telling::{action_named, find_named};
 use lra_commands::{Order, Refusal, Told};
 use lra_ids::Instance;
@@ -71,7 +72,7 @@ fn give<O: Overview>(
 
 /// Closes the action that a target names.
 fn close<O: Overview>(overview: &mut O, target: &str) -> Result<Told, Trouble>
-    ensures { Orders target.now place.Close (O.orders overview.old) (O.orders overview.new) }
+    ensures { Orders target.now operation.Close (O.orders overview.old) (O.orders overview.new) }
 {
     let found = action_named(overview, target)?;
     let action = found.number;
@@ -80,7 +81,7 @@ fn close<O: Overview>(overview: &mut O, target: &str) -> Result<Told, Trouble>
 
 /// Cancels the action that a target names.
 fn cancel<O: Overview>(overview: &mut O, target: &str) -> Result<Told, Trouble>
-    ensures { Orders target.now place.Cancel (O.orders overview.old) (O.orders overview.new) }
+    ensures { Orders target.now operation.Cancel (O.orders overview.old) (O.orders overview.new) }
 {
     let found = action_named(overview, target)?;
     let action = found.number;
@@ -107,7 +108,7 @@ fn give_up<O: Overview>(
     target: &str,
     given: Option<GivingUp>,
 ) -> Result<Told, Trouble>
-    ensures { Orders target.now place.GiveUp (O.orders overview.old) (O.orders overview.new) }
+    ensures { Orders target.now operation.GiveUp (O.orders overview.old) (O.orders overview.new) }
 {
     let Some(found) = find_named(overview, id_in(path_in(target))) else {
         return Err(Trouble::Refused(Refusal::NoSuchMember));
@@ -127,32 +128,32 @@ fn give_up<O: Overview>(
     }
 }
 
-/// Gives the order of a place for what a target names.
+/// Gives an operation's order for what a target names.
 fn order_of<O: Overview>(
     overview: &mut O,
     target: &str,
-    place: Place,
+    operation: Operation,
     given: Option<GivingUp>,
 ) -> Result<Told, Trouble>
-    ensures { Orders target.now place (O.orders overview.old) (O.orders overview.new) }
+    ensures { Orders target.now operation (O.orders overview.old) (O.orders overview.new) }
 {
-    match place {
-        Place::Close => close(overview, target),
-        Place::Cancel => cancel(overview, target),
-        Place::GiveUp => give_up(overview, target, given),
+    match operation {
+        Operation::Close => close(overview, target),
+        Operation::Cancel => cancel(overview, target),
+        Operation::GiveUp => give_up(overview, target, given),
         _ => Err(Trouble::Refused(Refusal::NoSuchAction)),
     }
 }
 
-/// Gives the order that a request asks for at a place.
+/// Gives the order of the operation that a request asks for.
 pub(crate) fn order_at<O: Overview>(
     alloc: Global,
     overview: &mut O,
     request: &RequestRead,
-    place: Place,
+    operation: Operation,
 ) -> Result<Told, Trouble>
-    ensures { Orders (string_bytes request.now.target) place (O.orders overview.old) (O.orders overview.new) }
+    ensures { Orders (string_bytes request.now.target) operation (O.orders overview.old) (O.orders overview.new) }
 {
     let given = giving_up_in(alloc, request.body.as_slice())?;
-    order_of(overview, request.target.as_str(), place, given)
+    order_of(overview, request.target.as_str(), operation, given)
 }

@@ -1,17 +1,20 @@
 //! The port: what each request does.
 
-ghost use Rattle.std.specs.Prelude.{◌≡◌, ◌⊎◌, IfOk, string_bytes};
+ghost use Rattle.std.specs.Prelude.{◌≡◌, ◌⊎◌, true, false, [], ◌∷◌, IfOk, string_bytes};
 ghost use Rattle.lra_wire.specs.Request.{request_of};
+ghost use Rattle.lra_front.specs.Listed.{has_code};
 ghost use Rattle.lra_operators.specs.declared.access.Admission.TheVariants as Admission;
 ghost use Rattle.lra_operators.specs.Access.{seen, admission_of};
+ghost use Rattle.lra_operators.specs.Operations.{is_order, success};
 ghost use Rattle.lra_operators.specs.Orders.{Answers};
 ghost use Rattle.lra_operators.specs.inner.Targets.{Orders};
 
 use crate::access::{Access, Admission};
 use crate::memo::Memo;
+use crate::operation::Operation;
 use crate::ordering::order_at;
 use crate::reply::{Kind, Reply};
-use crate::route::{Place, Routes, Unserved};
+use crate::route::{Routes, Unserved};
 use crate::telling::{tell_action, tell_actions, tell_health, tell_home, tell_metrics, tell_tree};
 use http::StatusCode;
 use lra_commands::{Refusal, Told};
@@ -116,14 +119,14 @@ impl Port {
         unserved: Unserved,
     ) -> Result<Reply, Memory> {
         match unserved {
-            Unserved::BadMethod(place) => {
+            Unserved::BadMethod(operation) => {
                 let mut reply = one_text(
                     self.alloc,
                     StatusCode::METHOD_NOT_ALLOWED,
                     "error",
                     "BadMethod",
                 )?;
-                reply.field = Some(("Allow", place.method()));
+                reply.field = Some(("Allow", operation.method()));
                 Ok(reply)
             }
             Unserved::NoSuchPath => self.tell_no_path(overview, request.target.as_str()),
@@ -145,15 +148,17 @@ impl Port {
         Ok(reply)
     }
 
-    /// What is told at a place where nothing is ordered.
+    /// Returns the reply of an operation that gives no order.
     fn tell<O: Overview>(
         &mut self,
         overview: &mut O,
         access: &Access<'_>,
-        place: Place,
+        operation: Operation,
         target: &str,
     ) -> Result<Reply, Trouble>
-        ensures { O.orders overview.new ≡ O.orders overview.old }
+        requires { is_order operation ≡ false }
+        ensures orders { O.orders overview.new ≡ O.orders overview.old }
+        ensures done { IfOk result (λ reply. has_code reply.status (success operation) ≡ true) }
     {
         let alloc = self.alloc;
         let memo = &mut self.memo;
@@ -161,36 +166,40 @@ impl Port {
             token: access.token,
             have_key: access.key.is_some(),
         };
-        match place {
-            Place::Health => tell_health(alloc, overview, memo, Probe::Whole),
-            Place::Live => tell_health(alloc, overview, memo, Probe::Live),
-            Place::Ready => tell_health(alloc, overview, memo, Probe::Ready),
-            Place::Started => tell_health(alloc, overview, memo, Probe::Started),
-            Place::Metrics => tell_metrics(alloc, overview, memo),
-            Place::Actions => tell_actions(alloc, overview, target),
-            Place::Action => tell_action(alloc, overview, target),
-            Place::Home => tell_home(alloc, overview, memo, &forms, target),
+        match operation {
+            Operation::Health => tell_health(alloc, overview, memo, Probe::Whole),
+            Operation::Live => tell_health(alloc, overview, memo, Probe::Live),
+            Operation::Ready => tell_health(alloc, overview, memo, Probe::Ready),
+            Operation::Started => tell_health(alloc, overview, memo, Probe::Started),
+            Operation::Metrics => tell_metrics(alloc, overview, memo),
+            Operation::Actions => tell_actions(alloc, overview, target),
+            Operation::Action => tell_action(alloc, overview, target),
+            Operation::Home => tell_home(alloc, overview, memo, &forms, target),
             _ => tell_tree(alloc, overview, &forms, target),
         }
     }
 
-    /// Gives the order that a request asks for at a place.
+    /// Gives the order of the operation that a request asks for, and returns its reply.
     fn order<O: Overview>(
         &self,
         overview: &mut O,
         request: &RequestRead,
-        place: Place,
+        operation: Operation,
     ) -> Result<Reply, Trouble>
-        ensures { Orders (string_bytes request.now.target) place (O.orders overview.old) (O.orders overview.new) }
+        requires { is_order operation ≡ true }
+        ensures orders { Orders (string_bytes request.now.target) operation (O.orders overview.old) (O.orders overview.new) }
+        ensures done { IfOk result (λ reply. has_code reply.status (success operation) ≡ true) }
     {
-        match order_at(self.alloc, overview, request, place) {
+        match order_at(self.alloc, overview, request, operation) {
             Ok(told) => self.tell_done(request, told),
             Err(trouble) => Err(trouble),
         }
     }
 
     /// What an order came to: a browser is sent to the first page.
-    fn tell_done(&self, request: &RequestRead, told: Told) -> Result<Reply, Trouble> {
+    fn tell_done(&self, request: &RequestRead, told: Told) -> Result<Reply, Trouble>
+        ensures { IfOk result (λ reply. has_code reply.status (200 ∷ 303 ∷ []) ≡ true) }
+    {
         let mut reply = one_text(self.alloc, StatusCode::OK, "status", status_told(told))?;
         if is_form(request) {
             reply.status = StatusCode::SEE_OTHER;
@@ -199,20 +208,22 @@ impl Port {
         Ok(reply)
     }
 
-    /// What is told or ordered at a place.
+    /// Does an operation, and returns its reply.
     fn serve<O: Overview>(
         &mut self,
         overview: &mut O,
         access: &Access<'_>,
         request: &RequestRead,
-        place: Place,
+        operation: Operation,
     ) -> Result<Reply, Trouble>
-        ensures { Orders (string_bytes request.now.target) place (O.orders overview.old) (O.orders overview.new) }
+        ensures orders { Orders (string_bytes request.now.target) operation (O.orders overview.old) (O.orders overview.new) }
+        // Where it is done, its code is one of the table.
+        ensures done { IfOk result (λ reply. has_code reply.status (success operation) ≡ true) }
     {
-        if place.is_order() {
-            return self.order(overview, request, place);
+        if operation.is_order() {
+            return self.order(overview, request, operation);
         }
-        self.tell(overview, access, place, request.target.as_str())
+        self.tell(overview, access, operation, request.target.as_str())
     }
 
     /// Why a request may not be made.
@@ -231,11 +242,11 @@ impl Port {
         overview: &mut O,
         access: &Access<'_>,
         request: &RequestRead,
-        place: Place,
+        operation: Operation,
     ) -> Result<Reply, Memory>
-        ensures { Orders (string_bytes request.now.target) place (O.orders overview.old) (O.orders overview.new) }
+        ensures { Orders (string_bytes request.now.target) operation (O.orders overview.old) (O.orders overview.new) }
     {
-        match self.serve(overview, access, request, place) {
+        match self.serve(overview, access, request, operation) {
             Ok(reply) => Ok(reply),
             Err(trouble) => {
                 let (status, word) = trouble_told(trouble);
@@ -250,15 +261,15 @@ impl Port {
         overview: &mut O,
         access: &Access<'_>,
         request: &RequestRead,
-        place: Place,
+        operation: Operation,
     ) -> Result<Reply, Memory>
         ensures { (O.orders overview.new ≡ O.orders overview.old)
-            ⊎ ((admission_of (seen access.now (request_of request.now) place) ≡ Admission.Admitted)
-            × Orders (string_bytes request.now.target) place (O.orders overview.old) (O.orders overview.new)) }
+            ⊎ ((admission_of (seen access.now (request_of request.now) operation) ≡ Admission.Admitted)
+            × Orders (string_bytes request.now.target) operation (O.orders overview.old) (O.orders overview.new)) }
     {
-        let admission = access.admit(self.alloc, request, place)?;
+        let admission = access.admit(self.alloc, request, operation)?;
         match admission {
-            Admission::Admitted => self.respond_to(overview, access, request, place),
+            Admission::Admitted => self.respond_to(overview, access, request, operation),
             denied => self.tell_denied(denied),
         }
     }
@@ -274,8 +285,8 @@ impl Port {
     {
         let method = request.method.as_str();
         let target = request.target.as_str();
-        match self.routes.route(method, target) {
-            Ok(place) => self.respond(overview, access, request, place),
+        match self.routes.operation(method, target) {
+            Ok(operation) => self.respond(overview, access, request, operation),
             Err(unserved) => self.tell_unserved(overview, request, unserved),
         }
     }

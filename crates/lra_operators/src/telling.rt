@@ -1,7 +1,8 @@
-//! What is told at each place where nothing is ordered.
+//! The replies of operations that give no order.
 
-ghost use Rattle.std.specs.Prelude.{◌≡◌, IfSome, IfOk};
+ghost use Rattle.std.specs.Prelude.{◌≡◌, true, [], ◌∷◌, IfSome, IfOk};
 ghost use Rattle.lra_ids.specs.Identifiers.{id_text, IsSpelling};
+ghost use Rattle.lra_front.specs.Listed.{has_code};
 ghost use Rattle.lra_operators.specs.Routes.{path_in as path_of, id_in as id_of};
 
 use crate::forms::in_form;
@@ -157,7 +158,9 @@ fn wanted_in<O: Overview>(
 }
 
 /// A reply of an empty page, which is filled.
-fn empty(alloc: Global, kind: Kind) -> Reply {
+fn empty(alloc: Global, kind: Kind) -> Reply
+    ensures { has_code result.status (200 ∷ []) ≡ true }
+{
     Reply::new(StatusCode::OK, kind, Vec::new(alloc))
 }
 
@@ -209,7 +212,8 @@ pub(crate) fn tell_health<O: Overview>(
     memo: &mut Memo,
     probe: Probe,
 ) -> Result<Reply, Trouble>
-    ensures { O.orders overview.new ≡ O.orders overview.old }
+    ensures orders { O.orders overview.new ≡ O.orders overview.old }
+    ensures done { IfOk result (λ reply. has_code reply.status (200 ∷ 503 ∷ []) ≡ true) }
 {
     let facts = overview.facts();
     let answered = answered_in(alloc, overview, memo, facts.moment);
@@ -244,7 +248,8 @@ pub(crate) fn tell_metrics<O: Overview>(
     overview: &mut O,
     memo: &mut Memo,
 ) -> Result<Reply, Trouble>
-    ensures { O.orders overview.new ≡ O.orders overview.old }
+    ensures orders { O.orders overview.new ≡ O.orders overview.old }
+    ensures done { IfOk result (λ reply. has_code reply.status (200 ∷ []) ≡ true) }
 {
     let facts = overview.facts();
     let known = Memo::look(memo, alloc, overview, facts.moment)?;
@@ -260,7 +265,8 @@ pub(crate) fn tell_actions<O: Overview>(
     overview: &mut O,
     target: &str,
 ) -> Result<Reply, Trouble>
-    ensures { O.orders overview.new ≡ O.orders overview.old }
+    ensures orders { O.orders overview.new ≡ O.orders overview.old }
+    ensures done { IfOk result (λ reply. has_code reply.status (200 ∷ []) ≡ true) }
 {
     let usual = first_of(overview)?;
     let wanted = wanted_in(alloc, overview, usual, target)?;
@@ -286,7 +292,9 @@ fn lay_action(
     names: &Names<'_>,
     shown: &Shown,
     lines: &[Line],
-) -> Result<(), Memory> {
+) -> Result<(), Memory>
+    ensures { reply.new.status ≡ reply.old.status }
+{
     let waiting = Waiting::new(shown.row, shown.awaited);
     put_action(
         &mut reply.text,
@@ -304,7 +312,8 @@ pub(crate) fn tell_action<O: Overview>(
     overview: &mut O,
     target: &str,
 ) -> Result<Reply, Trouble>
-    ensures { O.orders overview.new ≡ O.orders overview.old }
+    ensures orders { O.orders overview.new ≡ O.orders overview.old }
+    ensures done { IfOk result (λ reply. has_code reply.status (200 ∷ []) ≡ true) }
 {
     let found = action_named(overview, target)?;
     let shown = show_action(alloc, overview, found.instance, found.number)?;
@@ -320,7 +329,8 @@ fn tell_shown<O: Overview>(
     instance: Instance,
     shown: &Shown,
 ) -> Result<Reply, Trouble>
-    ensures { O.orders overview.new ≡ O.orders overview.old }
+    ensures orders { O.orders overview.new ≡ O.orders overview.old }
+    ensures done { IfOk result (λ reply. has_code reply.status (200 ∷ []) ≡ true) }
 {
     let moment = overview.facts().moment;
     let lines = lines_of(alloc, overview, instance, shown.members.as_slice(), moment)?;
@@ -413,7 +423,9 @@ fn lay_home(
     total: &Counts,
     state: Option<ActionStatus>,
     found: &Hanging,
-) -> Result<Reply, Trouble> {
+) -> Result<Reply, Trouble>
+    ensures { IfOk result (λ reply. has_code reply.status (200 ∷ []) ≡ true) }
+{
     let mut reply = empty(alloc, Kind::Page);
     let home = Home {
         shares: total.shares.as_slice(),
@@ -435,7 +447,8 @@ fn show_journal<O: Overview>(
     forms: &Forms<'_>,
     wanted: Wanted,
 ) -> Result<Reply, Trouble>
-    ensures { O.orders overview.new ≡ O.orders overview.old }
+    ensures orders { O.orders overview.new ≡ O.orders overview.old }
+    ensures done { IfOk result (λ reply. has_code reply.status (200 ∷ []) ≡ true) }
 {
     let Wanted {
         instance,
@@ -456,7 +469,8 @@ fn show_home<O: Overview>(
     target: &str,
     moment: u64,
 ) -> Result<Reply, Trouble>
-    ensures { O.orders overview.new ≡ O.orders overview.old }
+    ensures orders { O.orders overview.new ≡ O.orders overview.old }
+    ensures done { IfOk result (λ reply. has_code reply.status (200 ∷ []) ≡ true) }
 {
     let total = known.total();
     let first = match status_in(alloc, query_in(target))? {
@@ -484,7 +498,8 @@ pub(crate) fn tell_home<O: Overview>(
     forms: &Forms<'_>,
     target: &str,
 ) -> Result<Reply, Trouble>
-    ensures { O.orders overview.new ≡ O.orders overview.old }
+    ensures orders { O.orders overview.new ≡ O.orders overview.old }
+    ensures done { IfOk result (λ reply. has_code reply.status (200 ∷ []) ≡ true) }
 {
     let moment = overview.facts().moment;
     let known = Memo::look(memo, alloc, overview, moment)?;
@@ -499,7 +514,9 @@ fn lay_tree(
     row: &Waiting,
     nodes: &[Node],
     lines: &[Line],
-) -> Result<Reply, Trouble> {
+) -> Result<Reply, Trouble>
+    ensures { IfOk result (λ reply. has_code reply.status (200 ∷ []) ≡ true) }
+{
     let mut reply = empty(alloc, Kind::Page);
     put_action_page(&mut reply.text, names, forms, row, nodes, lines)?;
     Ok(reply)
@@ -512,7 +529,8 @@ pub(crate) fn tell_tree<O: Overview>(
     forms: &Forms<'_>,
     target: &str,
 ) -> Result<Reply, Trouble>
-    ensures { O.orders overview.new ≡ O.orders overview.old }
+    ensures orders { O.orders overview.new ≡ O.orders overview.old }
+    ensures done { IfOk result (λ reply. has_code reply.status (200 ∷ []) ≡ true) }
 {
     let id = id_in(after_first_piece(path_in(target)));
     let found = find_named(overview, id).ok_or(Trouble::Refused(Refusal::NoSuchAction))?;
@@ -537,7 +555,8 @@ fn show_tree<O: Overview>(
     row: &Waiting,
     nodes: &[Node],
 ) -> Result<Reply, Trouble>
-    ensures { O.orders overview.new ≡ O.orders overview.old }
+    ensures orders { O.orders overview.new ≡ O.orders overview.old }
+    ensures done { IfOk result (λ reply. has_code reply.status (200 ∷ []) ≡ true) }
 {
     let moment = overview.facts().moment;
     let members = members_in(alloc, nodes)?;
