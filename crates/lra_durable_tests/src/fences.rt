@@ -1,6 +1,6 @@
 //! Tests over the system's files that have the same bytes at each look, others at each look, none, and no end.
 
-use lra_fence::{Fenced, stands};
+use lra_storage::{Fenced, stands};
 use lra_files::SmallFault;
 use std::alloc::Global;
 use std::sync::Arc;

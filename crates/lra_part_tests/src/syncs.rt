@@ -1,6 +1,6 @@
 //! Tests of what is taken down of syncs.
 
-use lra_syncs::{Syncs, Timed, begin, end};
+use lra_storage::{Syncs, Timed, begin, end};
 use std::alloc::Global;
 use std::sync::Arc;
 

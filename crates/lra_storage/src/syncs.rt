@@ -1,4 +1,4 @@
-//! Syncs of a disk.
+//! How long syncs of journals take, and how many writes each keeps.
 
 ghost use Rattle.std.specs.Prelude.{◌≡◌, ◌+◌, ◌-◌, ◌^◌, min, cond, nat_eq};
 
@@ -18,7 +18,10 @@ pub const TIMES: [u64; 12] = [
 /// Those of how many writes one keeps.
 pub const WRITES: [u64; 10] = [1, 2, 5, 10, 20, 50, 100, 200, 500, 1_000];
 
-/// What is known of the syncs of a disk. One goes on at a time.
+/// How many syncs under way are told apart. The threads of a service are fewer.
+const MOST_UNDER_WAY: usize = 64;
+
+/// What is known of the syncs of a service's journals, of which each has one under way at most.
 #[derive(Drop)]
 pub struct Syncs {
     stopwatch: Stopwatch,
@@ -26,12 +29,17 @@ pub struct Syncs {
     times: Histogram,
     /// How many writes each kept.
     writes: Histogram,
-    /// How many writes were kept in all.
-    kept: AtomicU64,
     /// The moment from which `under_way` counts.
     opened: Option<Instant>,
-    /// When the sync that is under way began, in milliseconds since then and one more, or 0 where none is.
-    under_way: AtomicU64,
+    /// When each sync under way began, in milliseconds since then and one more, or 0 in a place that none has.
+    under_way: Vec<AtomicU64>,
+}
+
+/// A sync that is under way: the moment at which it began, and its place, if it has one.
+#[derive(Clone, Copy)]
+pub struct Begun {
+    moment: Option<Instant>,
+    place: Option<usize>,
 }
 
 /// Returns how many milliseconds lie between two moments.
@@ -58,15 +66,18 @@ fn age_at(mark: u64, now: u64) -> u64
 }
 
 impl Syncs {
-    /// None was, and nothing is kept.
+    /// Returns that of journals of which none was synced.
     pub fn new(alloc: Global, stopwatch: Stopwatch) -> Result<Syncs, AllocError> {
+        let mut under_way = Vec::new(alloc);
+        for _place in 0..MOST_UNDER_WAY {
+            under_way.push(AtomicU64::new(0))?;
+        }
         Ok(Syncs {
             stopwatch,
             times: Histogram::new(alloc, &TIMES)?,
             writes: Histogram::new(alloc, &WRITES)?,
-            kept: AtomicU64::new(0),
             opened: stopwatch.now(),
-            under_way: AtomicU64::new(0),
+            under_way,
         })
     }
 
@@ -96,54 +107,71 @@ impl Syncs {
         Some(millis_between(self.opened?, self.stopwatch.now()?))
     }
 
-    /// Returns how many milliseconds the sync that is under way has taken, or 0 where none is.
+    /// Returns how many milliseconds the oldest sync that is under way has taken, or 0 where none is.
     pub fn age(&self) -> u64 {
-        match self.passed() {
-            Some(now) => age_at(self.under_way.load(Ordering::SeqCst), now),
-            None => 0,
+        let Some(now) = self.passed() else {
+            return 0;
+        };
+        let mut oldest = 0;
+        for mark in &self.under_way {
+            oldest = age_at(mark.load(Ordering::SeqCst), now).max(oldest);
+        }
+        oldest
+    }
+
+    /// Takes down that a sync begins, and returns its place, where the clock can be read and a place is free.
+    fn note_begin(&self) -> Option<usize> {
+        let mark = mark_of(self.passed()?);
+        for (place, free) in self.under_way.iter().enumerate() {
+            if free
+                .compare_exchange(0, mark, Ordering::SeqCst, Ordering::SeqCst)
+                .is_ok()
+            {
+                return Some(place);
+            }
+        }
+        None
+    }
+
+    /// Takes down that the sync of a place is under way no more.
+    fn note_end(&self, place: usize) {
+        if let Some(mark) = self.under_way.get(place) {
+            mark.store(0, Ordering::SeqCst);
         }
     }
 
-    /// Takes down that a sync begins.
-    fn note_begin(&self) {
-        if let Some(now) = self.passed() {
-            self.under_way.store(mark_of(now), Ordering::SeqCst);
-        }
-    }
-
-    /// Takes down that none is under way any more.
-    fn note_end(&self) {
-        self.under_way.store(0, Ordering::SeqCst);
-    }
-
-    /// One that began then has ended well, and so many writes are kept in all. Where no more are kept than before nothing is taken down.
+    /// Takes down a sync that began then, has ended well, and kept so many writes, if it kept any.
     fn add(&self, began: Option<Instant>, writes: u64) {
-        let before = self.kept.swap(writes, Ordering::SeqCst);
-        if writes > before {
-            self.writes.add(&WRITES, writes.saturating_sub(before));
+        if writes > 0 {
+            self.writes.add(&WRITES, writes);
             self.add_time(began);
         }
     }
 }
 
-/// Takes down that a sync begins, and returns when, where anyone wants to know of it.
-pub fn begin(syncs: &Option<Arc<Syncs>>) -> Option<Instant> {
+/// Takes down that a sync begins, where anyone wants to know of it.
+pub fn begin(syncs: &Option<Arc<Syncs>>) -> Begun {
     match syncs {
-        Some(syncs) => {
-            syncs.note_begin();
-            syncs.stopwatch.now()
-        }
-        None => None,
+        Some(syncs) => Begun {
+            place: syncs.note_begin(),
+            moment: syncs.stopwatch.now(),
+        },
+        None => Begun {
+            place: None,
+            moment: None,
+        },
     }
 }
 
-/// Takes down that a sync has ended that began then. So many writes are kept in all, where it ended well.
-pub fn end(syncs: &Option<Arc<Syncs>>, began: Option<Instant>, kept: Option<u64>) {
+/// Takes down that a sync has ended. It kept so many writes, where it ended well.
+pub fn end(syncs: &Option<Arc<Syncs>>, begun: Begun, kept: Option<u64>) {
     let Some(syncs) = syncs else {
         return;
     };
-    syncs.note_end();
+    if let Some(place) = begun.place {
+        syncs.note_end(place);
+    }
     if let Some(writes) = kept {
-        syncs.add(began, writes);
+        syncs.add(begun.moment, writes);
     }
 }
