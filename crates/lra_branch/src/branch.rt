@@ -153,7 +153,7 @@ impl<V: Serving, R: Wait> Session for Branch<V, R> {
 }
 
 /// An office's clerk, as those use it who serve several offices, whatever their journals are written to.
-pub trait Clerkship: Counter {
+pub trait Clerkship: Session {
     /// Another clerk of the same office, where one can be enrolled at a moment, in milliseconds.
     fn fork(&mut self, moment: u64) -> Option<Self>;
 

@@ -327,7 +327,9 @@ impl<
         let tallies = tallies_of(self.alloc, self.operators, self.settings.sync_seconds)?;
         // A journal that was written to later, as by a clock that was wrong, is gone on from that moment.
         let moment = now.max(latest);
-        stand_on(self.rt, self.alloc, file, door, polls, tallies, begun, moment)
+        stand_on(
+            self.rt, self.alloc, file, door, polls, tallies, begun, moment,
+        )
     }
 
     /// Where connections come in to the site's socket, and the disk of a journal that was found so.
