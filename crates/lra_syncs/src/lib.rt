@@ -1,4 +1,4 @@
-//! How long syncs of a disk take, and how much each keeps.
+//! How long syncs of journals' files take, and how much each keeps.
 #![tactic(auto)]
 
 mod histogram;
@@ -7,4 +7,4 @@ mod syncs;
 
 pub use histogram::Histogram;
 pub use stopwatch::{Stopwatch, Timed};
-pub use syncs::{Syncs, TIMES, WRITES, begin, end};
+pub use syncs::{Syncs, TIMES, Ticket, WRITES, begin, end};

@@ -18,7 +18,10 @@ pub const TIMES: [u64; 12] = [
 /// Those of how many writes one keeps.
 pub const WRITES: [u64; 10] = [1, 2, 5, 10, 20, 50, 100, 200, 500, 1_000];
 
-/// What is known of the syncs of a disk. One goes on at a time.
+/// How many syncs that are under way at once are looked at: of more the later ones aren't.
+const SEEN: u64 = 64;
+
+/// What is known of the syncs of journals' files, several of which may go on at a time.
 #[derive(Drop)]
 pub struct Syncs {
     stopwatch: Stopwatch,
@@ -26,12 +29,17 @@ pub struct Syncs {
     times: Histogram,
     /// How many writes each kept.
     writes: Histogram,
-    /// How many writes were kept in all.
-    kept: AtomicU64,
     /// The moment from which `under_way` counts.
     opened: Option<Instant>,
-    /// When the sync that is under way began, in milliseconds since then and one more, or 0 where none is.
-    under_way: AtomicU64,
+    /// When each sync that is under way began, in milliseconds since then and one more, or 0 where none is.
+    under_way: Vec<AtomicU64>,
+}
+
+/// When a sync began, and the place where that is noted, if it is.
+#[derive(Clone, Copy, Debug)]
+pub struct Ticket {
+    began: Option<Instant>,
+    place: Option<usize>,
 }
 
 /// Returns how many milliseconds lie between two moments.
@@ -60,13 +68,16 @@ fn age_at(mark: u64, now: u64) -> u64
 impl Syncs {
     /// None was, and nothing is kept.
     pub fn new(alloc: Global, stopwatch: Stopwatch) -> Result<Syncs, AllocError> {
+        let mut under_way = Vec::new(alloc);
+        for _place in 0..SEEN {
+            under_way.push(AtomicU64::new(0))?;
+        }
         Ok(Syncs {
             stopwatch,
             times: Histogram::new(alloc, &TIMES)?,
             writes: Histogram::new(alloc, &WRITES)?,
-            kept: AtomicU64::new(0),
             opened: stopwatch.now(),
-            under_way: AtomicU64::new(0),
+            under_way,
         })
     }
 
@@ -96,54 +107,71 @@ impl Syncs {
         Some(millis_between(self.opened?, self.stopwatch.now()?))
     }
 
-    /// Returns how many milliseconds the sync that is under way has taken, or 0 where none is.
+    /// Returns how many milliseconds the oldest sync that is under way has taken, or 0 where none is.
     pub fn age(&self) -> u64 {
-        match self.passed() {
-            Some(now) => age_at(self.under_way.load(Ordering::SeqCst), now),
-            None => 0,
+        let Some(now) = self.passed() else {
+            return 0;
+        };
+        let mut oldest: u64 = 0;
+        for mark in &self.under_way {
+            oldest = oldest.max(age_at(mark.load(Ordering::SeqCst), now));
+        }
+        oldest
+    }
+
+    /// Takes down that a sync begins, where there is a place for that, and returns which.
+    fn note_begin(&self) -> Option<usize> {
+        let mark = mark_of(self.passed()?);
+        for (place, under_way) in self.under_way.iter().enumerate() {
+            if under_way
+                .compare_exchange(0, mark, Ordering::SeqCst, Ordering::SeqCst)
+                .is_ok()
+            {
+                return Some(place);
+            }
+        }
+        None
+    }
+
+    /// Takes down that the one at a place is under way no more.
+    fn note_end(&self, place: Option<usize>) {
+        if let Some(place) = place
+            && let Some(under_way) = self.under_way.get(place)
+        {
+            under_way.store(0, Ordering::SeqCst);
         }
     }
 
-    /// Takes down that a sync begins.
-    fn note_begin(&self) {
-        if let Some(now) = self.passed() {
-            self.under_way.store(mark_of(now), Ordering::SeqCst);
-        }
-    }
-
-    /// Takes down that none is under way any more.
-    fn note_end(&self) {
-        self.under_way.store(0, Ordering::SeqCst);
-    }
-
-    /// One that began then has ended well, and so many writes are kept in all. Where no more are kept than before nothing is taken down.
+    /// Takes down one that began then, has ended well and kept so many writes. Where it kept none nothing is taken down.
     fn add(&self, began: Option<Instant>, writes: u64) {
-        let before = self.kept.swap(writes, Ordering::SeqCst);
-        if writes > before {
-            self.writes.add(&WRITES, writes.saturating_sub(before));
+        if writes > 0 {
+            self.writes.add(&WRITES, writes);
             self.add_time(began);
         }
     }
 }
 
-/// Takes down that a sync begins, and returns when, where anyone wants to know of it.
-pub fn begin(syncs: &Option<Arc<Syncs>>) -> Option<Instant> {
+/// Takes down that a sync begins, where anyone wants to know of it.
+pub fn begin(syncs: &Option<Arc<Syncs>>) -> Ticket {
     match syncs {
-        Some(syncs) => {
-            syncs.note_begin();
-            syncs.stopwatch.now()
-        }
-        None => None,
+        Some(syncs) => Ticket {
+            place: syncs.note_begin(),
+            began: syncs.stopwatch.now(),
+        },
+        None => Ticket {
+            place: None,
+            began: None,
+        },
     }
 }
 
-/// Takes down that a sync has ended that began then. So many writes are kept in all, where it ended well.
-pub fn end(syncs: &Option<Arc<Syncs>>, began: Option<Instant>, kept: Option<u64>) {
+/// Takes down that a sync has ended. It kept so many writes, where it ended well.
+pub fn end(syncs: &Option<Arc<Syncs>>, ticket: Ticket, kept: Option<u64>) {
     let Some(syncs) = syncs else {
         return;
     };
-    syncs.note_end();
+    syncs.note_end(ticket.place);
     if let Some(writes) = kept {
-        syncs.add(began, writes);
+        syncs.add(ticket.began, writes);
     }
 }
