@@ -1,7 +1,7 @@
 -- Requests answered one after another, of bytes that come in pieces.
 use Rattle.std.proofs.Common.{◌≡◌, ℕ, ◌+◌, ◌-◌, ◌<◌, List, [], ◌∷◌, ◌++◌, map, length, take, drop, get_or, flat_map, Option, Some, None, Result, Ok, Err, inl, inr, refl, sym, ap, ◌∙◌, subst, arith, append_assoc}
 use Rattle.std.specs.declared.alloc.AllocError.{AllocError}
-use Rattle.std.specs.Prelude.{◌⊎◌, IfOk, IfSome, IsTrue, IsFalse}
+use Rattle.std.specs.Prelude.{◌⊎◌, Bool, IfOk, IfSome, IsTrue, IsFalse}
 use Rattle.std.proofs.lemmas.Bool.{both_ways}
 use Rattle.std.proofs.lemmas.List.{take-append-drop, take-take, drop-take, take_more, append-nil}
 use Rattle.std.proofs.lemmas.List.Concat.{flat_map-append}
@@ -19,7 +19,7 @@ use Rattle.lra_steps.specs.declared.responder.Answered.{Answered}
 use Rattle.lra_steps.specs.History.{History, IsServed, IsLasting, IsOpenSo, Replies, EndsAfter, Turn, plain, fault_reply, ordered, took, finished, went}
 use Rattle.lra_steps.specs.Steps.{StepsTo, Tells}
 use Rattle.lra_steps.specs.Pieces.{Answers, AnswersAlone, Chain, Serves, ServesBytes}
-use Rattle.lra_steps.specs.inner.Alone.{setting_stays}
+use Rattle.lra_steps.specs.inner.Alone.{responds_of, setting_stays}
 use Rattle.lra_steps.specs.inner.Feeding.{Follows, IsFresh}
 use Rattle.lra_steps.proofs.TurnLemmas.{AreOf, Spells-more, replies_plain}
 use Rattle.lra_steps.proofs.HistoryLemmas.{all_read, refuses}
@@ -208,26 +208,29 @@ ends_plain c Done turns rest out of r = (r.0 ∙ replies_plain c 999 turns of, r
 ends_plain c (Refused fault) turns rest out of r = (r.0 ∙ ap (λ xs. xs ++ fault_reply c.instance c.base fault) (replies_plain c 999 turns of), r.1, r.2)
 ends_plain c WriteFault turns rest out of r = inl (subst (IsFront out) (replies_plain c 999 turns of) r.0, r.1)
 
-module _ (K : Type 0) (gives : Sight → ℕ → Order → Result Told CounterFault → Sight → Type 0) (tells : K → ℕ → K → Type 0)
+module _ (C K : Type 0) (sight : C → Sight) (covers : C → ℕ → Bool) (gives : Sight → ℕ → Order → Result Told CounterFault → Sight → Type 0)
+    (tells : K → ℕ → K → Type 0)
     (keeps : (before after : Sight) (moment : ℕ) (o : Order) (reply : Result Told CounterFault) → gives before moment o reply after → KeepsHistory before moment o reply after) where
   -- its turns are those of the front, and all of one coordinator
   record Alone (v w : Sight) (k l : K) (turns : List Turn) : Type 0 where
     of : AreOf v.setting.instance turns
     chain : FrontChain gives tells v k (map plain turns) w l
 
-  alone : (v w : Sight) (k l : K) (turns : List Turn) → Chain (AnswersAlone gives) tells v k turns w l → Alone v w k l turns
-  alone v w k l [] c = record { of = tt; chain = c }
+  alone : (v w : C) (k l : K) (turns : List Turn) → Chain (AnswersAlone sight covers gives) tells v k turns w l → Alone (sight v) (sight w) k l turns
+  alone v w k l [] c = record { of = tt; chain = (ap sight c.0, c.1) }
   alone v w k l (turn ∷ turns) c =
-      let same = setting_stays gives keeps v c.0 turn.moment turn.request turn.answered.answer c.3.1 in
+      let given = responds_of gives (sight v) (sight c.0) turn.moment turn.request turn.answered c.3.ordered in
+      let same = setting_stays gives keeps (sight v) (sight c.0) turn.moment turn.request turn.answered.answer given in
       let more = alone c.0 w c.1 l turns c.4 in
       record {
-        of = (c.3.0, subst (λ (z : Setting). AreOf z.instance turns) same more.of);
-        chain = (c.0, c.1, c.2, c.3.1, more.chain);
+        of = (c.3.instance, subst (λ (z : Setting). AreOf z.instance turns) same more.of);
+        chain = (sight c.0, c.1, c.2, given, more.chain);
       }
 
-  -- What bytes come to at such a counter is what a stream of them does.
-  serves_bytes : (bytes old : List ℕ) (v w : Sight) (k l : K) (end : StreamEnd) (new : List ℕ)
-      → Serves (AnswersAlone gives) tells v.setting.instance v.setting.base bytes old v k end new w l → ServesBytes gives tells bytes old v k end new w l
+  -- What bytes come to at such a session is what a stream of them does.
+  serves_bytes : (bytes old : List ℕ) (v w : C) (k l : K) (end : StreamEnd) (new : List ℕ)
+      → Serves (AnswersAlone sight covers gives) tells (sight v).setting.instance (sight v).setting.base bytes old v k end new w l
+      → ServesBytes gives tells bytes old (sight v) k end new (sight w) l
   serves_bytes bytes old v w k l end new s =
       let a = alone v w k l s.turns s.chain in
       record {
@@ -237,11 +240,13 @@ module _ (K : Type 0) (gives : Sight → ℕ → Order → Result Told CounterFa
         spelled = s.spelled;
         chain = a.chain;
         written = ap Some s.written;
-        ends = ends_plain v.setting end s.turns s.rest s.out a.of s.ends;
+        ends = ends_plain (sight v).setting end s.turns s.rest s.out a.of s.ends;
       }
 
-  pub serves_alone : (instance : ℕ) (bytes old : List ℕ) (v w : Sight) (k l : K) (r : Result StreamEnd AllocError) (new : List ℕ) → instance ≡ v.setting.instance
-      → IfOk r (λ end. Serves (AnswersAlone gives) tells instance v.setting.base bytes old v k end new w l) → IfOk r (λ end. ServesBytes gives tells bytes old v k end new w l)
+  pub serves_alone : (instance : ℕ) (bytes old : List ℕ) (v w : C) (k l : K) (r : Result StreamEnd AllocError) (new : List ℕ) → instance ≡ (sight v).setting.instance
+      → IfOk r (λ end. Serves (AnswersAlone sight covers gives) tells instance (sight v).setting.base bytes old v k end new w l)
+      → IfOk r (λ end. ServesBytes gives tells bytes old (sight v) k end new (sight w) l)
   serves_alone instance bytes old v w k l (Ok end) new e s =
-      serves_bytes bytes old v w k l end new (subst (λ (i : ℕ). Serves (AnswersAlone gives) tells i v.setting.base bytes old v k end new w l) e s)
+      serves_bytes bytes old v w k l end new
+      (subst (λ (i : ℕ). Serves (AnswersAlone sight covers gives) tells i (sight v).setting.base bytes old v k end new w l) e s)
   serves_alone instance bytes old v w k l (Err f) new e s = tt
