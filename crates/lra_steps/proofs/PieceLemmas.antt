@@ -106,6 +106,25 @@ module _ (S K : Type 0) (base_of : S → List ℕ) (responds : S → ℕ → Req
       (x, m, subst (λ (j : K). tells j turn.moment m) c.1 t, subst (λ (u : S). responds u turn.moment turn.request turn.answered x) c.0 r, (refl, refl))
   chain-push v w x k l m (first ∷ turns) turn c t r = (c.0, c.1, c.2, c.3, chain-push c.0 w x c.1 l m turns turn c.4 t r)
 
+  -- the request that stands is answered, and replied or not
+  pub answers_standing : (stands : Option Request) (asked : Request) (answered : Answered) (v w : S) (k l : K) (old new : History) (moment : ℕ) (reply : Result (Unit {0}) AllocError)
+      → Some asked ≡ stands → tells k moment l → responds v moment asked answered w
+      → IfSome stands (λ request. Tells reply old new (record { request = request; moment = moment; answered = answered }))
+      → IfSome stands (λ request. Answers responds tells request answered v w k l old new)
+  answers_standing None asked answered v w k l old new moment reply e clocked given told = absurd cc
+  answers_standing (Some request) asked answered v w k l old new moment reply e clocked given told =
+      let same : asked ≡ request = some_same asked request e in
+      record {
+        moment = moment;
+        clocked = clocked;
+        given = subst (λ (r : Request). responds v moment r answered w) same given;
+        reply = reply;
+        told = told;
+      }
+    where
+      some_same : (x y : Request) → Some x ≡ Some y → x ≡ y
+      some_same x y e = cc
+
   module _ (stays : (before after : S) (moment : ℕ) (request : Request) (answered : Answered) → responds before moment request answered after → base_of after ≡ base_of before) where
     -- a request was read and answered, and what stays as it was
     pub record Passes (h new : History) (w x : S) (l m : K) : Type 0 where
@@ -119,14 +138,15 @@ module _ (S K : Type 0) (base_of : S → List ℕ) (responds : S → ℕ → Req
       pub closed : new.closed ≡ h.closed
       pub shorter : length new.kept < length h.kept
 
-    pub passes : (h mid new : History) (w x : S) (l m : K) (result : Result (Unit {0}) AllocError) → StepsTo Stands h mid
-        → IfSome mid.stands (λ request. Answers responds tells request w x l m mid new result) → Passes h new w x l m
-    passes h mid new w x l m result s all =
+    pub passes : (h mid new : History) (w x : S) (l m : K) (answered : Answered) → StepsTo Stands h mid
+        → IfSome mid.stands (λ request. Answers responds tells request answered w x l m mid new) → Passes h new w x l m
+    passes h mid new w x l m answered s all =
         let request : Request = s.0 in
-        let a : Answers responds tells request w x l m (ordered h request s.1) new result = subst (λ (g : History). IfSome g.stands (λ request. Answers responds tells request w x l m g new result)) s.4 all in
-        let turn : Turn = record { request = request; moment = a.moment; answered = a.answered } in
-        let t : Turned (ordered h request s.1) new turn = turned (ordered h request s.1) new turn result a.told in
-        let same = stays w x a.moment request a.answered a.given in
+        let a : Answers responds tells request answered w x l m (ordered h request s.1) new =
+        subst (λ (g : History). IfSome g.stands (λ request. Answers responds tells request answered w x l m g new)) s.4 all in
+        let turn : Turn = record { request = request; moment = a.moment; answered = answered } in
+        let t : Turned (ordered h request s.1) new turn = turned (ordered h request s.1) new turn a.reply a.told in
+        let same = stays w x a.moment request answered a.given in
         record {
           follows = λ v k f. record {
             chain = subst (λ (ts : List Turn). Chain responds tells v k ts x m) (sym t.turns) (chain-push v w x k l m h.turns turn f.chain a.clocked a.given);

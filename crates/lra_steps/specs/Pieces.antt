@@ -29,13 +29,13 @@ module _ {S K : Type 0} (responds : S → ℕ → Request → Answered → S →
   Chain v k (turn ∷ turns) w l =
       (u : S) × (j : K) × tells k turn.moment j × responds v turn.moment turn.request turn.answered u × Chain u j turns w l
 
-  -- a request is answered at a moment that the clock tells
-  pub record Answers (request : Request) (v w : S) (k l : K) (old new : History) (result : Result (Unit {0}) AllocError) : Type 0 where
+  -- a request is answered so at a moment that the clock tells, and replied, unless memory for that is refused
+  pub record Answers (request : Request) (answered : Answered) (v w : S) (k l : K) (old new : History) : Type 0 where
     pub moment : ℕ
-    pub answered : Answered
     pub clocked : tells k moment l
     pub given : responds v moment request answered w
-    pub told : Tells result old new (record { request = request; moment = moment; answered = answered })
+    pub reply : Result (Unit {0}) AllocError
+    pub told : Tells reply old new (record { request = request; moment = moment; answered = answered })
 
   -- What bytes come to: the requests that they spell are answered one after another, and replied in their order, each by whose answer it is. The
   -- instance is that of replies to faults of reading.
