@@ -1,5 +1,5 @@
 -- Whoever answers, asked only what is let in.
-use Rattle.std.specs.Prelude.{◌≡◌, ℕ, is_some, MatchOption}
+use Rattle.std.specs.Prelude.{◌≡◌, ℕ, is_some, None, MatchOption}
 use Rattle.lra_wire.specs.Request.{Request}
 use Rattle.lra_front.specs.declared.denial.Denial.{Denial}
 use Rattle.lra_front.specs.declared.answer.Answer.TheVariants as answer
@@ -11,9 +11,10 @@ pub record Guard (S : Type 0) : Type 0 where
   pub inner : S
   pub rules : Rules
 
--- it is answered why, and nothing was done
+-- it is answered why, and nothing was done, so that the answer waits for nothing
 pub record Denies {S : Type 0} (before : S) (answered : Answered) (after : S) (d : Denial) : Type 0 where
   pub answer : answered.answer ≡ answer.Denied d
+  pub position : answered.position ≡ None
   pub unchanged : after ≡ before
 
 -- What a request at a moment does. First it is looked what is in force from then on; by that it is let in, and does what it does without a guard, or it is denied.

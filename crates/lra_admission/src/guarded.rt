@@ -4,7 +4,7 @@ ghost use Rattle.std.specs.Prelude.{◌≡◌};
 
 use crate::latest::Latest;
 use crate::told::Refused;
-use lra_front::{Answer, Routes};
+use lra_front::Routes;
 use lra_ids::{Base, Instance};
 use lra_steps::{Answered, Responder};
 use lra_wire::RequestRead;
@@ -53,8 +53,6 @@ impl<A: Responder, L: Latest, H: Refused> Responder for Guarded<A, L, H> {
 
     ghost sight = { λ g. record { inner = A.sight g.inner; rules = L.in_force g.latest } };
 
-    ghost covers = { λ g n. A.covers g.inner n };
-
     ghost base_of = { λ s. A.base_of s.inner };
 
     ghost responds = { Responds L.looks A.responds };
@@ -69,10 +67,6 @@ impl<A: Responder, L: Latest, H: Refused> Responder for Guarded<A, L, H> {
         self.inner.instance()
     }
 
-    fn position(&self) -> u64 {
-        self.inner.position()
-    }
-
     fn respond(
         &mut self,
         alloc: Global,
@@ -84,10 +78,7 @@ impl<A: Responder, L: Latest, H: Refused> Responder for Guarded<A, L, H> {
         match self.latest.admission().denial(&request.fields) {
             Some(denial) => {
                 self.herald.denied(denial);
-                Answered {
-                    instance: self.inner.instance(),
-                    answer: Answer::Denied(denial),
-                }
+                Answered::denied(self.inner.instance(), denial)
             }
             None => self.inner.respond(alloc, routes, moment, request),
         }

@@ -11,6 +11,7 @@ ghost use Rattle.lra_office.specs.Windows.{IsOfficeOf};
 ghost use Rattle.lra_courier.specs.Carriages.{AreFree};
 ghost use Rattle.lra_workers.specs.Work.{post, TellsWhy};
 ghost use Rattle.lra_workers.specs.Carrying.{EndsCarrying};
+ghost use Rattle.lra_workers.specs.Handed.{AreHanded};
 
 use lra_commands::{Counter, CounterFault, Known, Order, Query, Refusal, Session, Told};
 use lra_courier::Carriage;
@@ -96,6 +97,7 @@ impl<V: Serving, R: Wait + Clone + Drop> Branch<V, R> {
         ensures number { result.0.number ≡ self.clerk.number }
         ensures work { EndsCarrying V.setting C.gives K.tells (post (clerk_view self.clerk) clock.old) result.1 (post (clerk_view result.0) clock.new) }
         ensures why { TellsWhy (G.is_shut gate.new) (G.holds gate.new) (HasStopped V.origin V.history V.lawful V.has_stopped (clerk_view result.0)) (clerk_view result.0).seen result.1 }
+        ensures held { AreHanded V.covers (clerk_view result.0).seen (C.held carriage.new) }
     {
         let Branch { rt, office, clerk } = self;
         run_carrier(&rt, &office, clerk, carriage, gate, clock)
@@ -153,7 +155,7 @@ impl<V: Serving, R: Wait> Session for Branch<V, R> {
 }
 
 /// An office's clerk, as those use it who serve several offices, whatever their journals are written to.
-pub trait Clerkship: Counter {
+pub trait Clerkship: Session {
     /// Another clerk of the same office, where one can be enrolled at a moment, in milliseconds.
     fn fork(&mut self, moment: u64) -> Option<Self>;
 

@@ -1,11 +1,10 @@
 //! Callbacks to members that answer, and to members that don't.
 
 use crate::members::{listen, serve, serve_all, socket_at};
-use crate::setting::{Held, NoPen, NoSync, Ready, errands};
+use crate::setting::{Held, Ready, errands};
 use lra_callbacks::{Callbacks, Names, Patience, Share, bell};
 use lra_clocks::{SystemClock, milliseconds};
 use lra_courier::Carriage;
-use lra_durable::Progress;
 use lra_model::Outcome;
 use lra_outcomes::{Outcomes, Reply, put_words};
 use lra_rules::Rules;
@@ -74,7 +73,7 @@ fn reply_in<R: Wait>(rt: &R, alloc: Global, outcomes: &Outcomes) -> Option<Reply
 pub fn take_all<C: Carriage>(carriage: &mut C, errands: Vec<Held>) {
     for held in errands {
         if let Some(errand) = held.take() {
-            if let Err(errand) = carriage.take(errand) {
+            if let Err(errand) = carriage.take(errand, 1) {
                 errand.discard();
             }
         }
@@ -140,7 +139,7 @@ fn carry<R: Wait + Net + Clock>(
     let Ok((poll, _bell)) = bell(rt) else {
         return count;
     };
-    let Ok(progress) = Progress::<Ready>::open(&NoPen, NoSync) else {
+    let Some(group) = Ready::up_to(u64::MAX) else {
         return count;
     };
     let (under_way, least_pause) = (AtomicU64::new(0), AtomicU64::new(0));
@@ -151,7 +150,8 @@ fn carry<R: Wait + Net + Clock>(
     let made = Callbacks::new(
         rt,
         alloc,
-        &progress,
+        &group,
+        group.instance,
         names,
         rules,
         poll,
@@ -376,7 +376,7 @@ fn a_member_answers_too_late(rt: HostRuntime) {
 /// How long one rests that has nothing under way, where something is due in so many milliseconds, if anything is.
 fn rested<R: Wait + Net + Clock>(rt: &R, alloc: Global, millis: Option<u64>) -> Option<Duration> {
     let (poll, _bell) = bell(rt).ok()?;
-    let progress = Progress::<Ready>::open(&NoPen, NoSync).ok()?;
+    let group = Ready::up_to(u64::MAX)?;
     let names = Names::new(alloc);
     let rules = Rules::none(alloc);
     let (under_way, least_pause) = (AtomicU64::new(0), AtomicU64::new(0));
@@ -387,7 +387,8 @@ fn rested<R: Wait + Net + Clock>(rt: &R, alloc: Global, millis: Option<u64>) -> 
     let made = Callbacks::new(
         rt,
         alloc,
-        &progress,
+        &group,
+        group.instance,
         &names,
         &rules,
         poll,

@@ -11,3 +11,5 @@ mod ruled;
 mod setting;
 #[cfg(test)]
 mod spared;
+#[cfg(test)]
+mod waiting;

@@ -1,62 +1,71 @@
-//! What callbacks are carried for and to: a disk, errands, and members at ports of this host.
+//! What callbacks are carried for and to: a journal, errands, and members at ports of this host.
 
 ghost use Rattle.std.specs.Prelude.{◌≡◌, IfSome, true};
 ghost use Rattle.lra_ids.specs.Addresses.{is_base};
 
 use lra_core::{Coordinator, Errand, Instance, Limits, Refusal};
-use lra_durable::Disk;
+use lra_durable::{SyncGroup, Unkept};
 use lra_ids::{Address, address};
 use lra_model::Uris;
 use std::alloc::{AllocError, Global};
-use std::io::{self, Write};
+use std::sync::Wait;
+use std::sync::atomic::{AtomicU64, Ordering};
 
-/// A disk that keeps at once what it takes.
-pub struct Ready;
-
-/// What adds nothing to it.
+/// Where one journal is durable so far, and no other is.
 #[derive(Drop)]
-pub struct NoPen;
+pub struct Ready {
+    pub instance: Instance,
+    pub length: AtomicU64,
+}
 
-impl Write for NoPen {
-    fn write(&mut self, _bytes: &[u8]) -> io::Result<usize> {
-        Ok(0)
-    }
-
-    fn flush(&mut self) -> io::Result<()> {
-        Ok(())
+impl Ready {
+    /// One whose journal is durable up to a length.
+    pub fn up_to(length: u64) -> Option<Ready> {
+        Some(Ready {
+            instance: Instance::new(7)?,
+            length: AtomicU64::new(length),
+        })
     }
 }
 
-/// What syncs it.
-#[derive(Drop)]
-pub struct NoSync;
+impl SyncGroup for Ready {
+    ghost use Rattle.std.specs.Prelude.{true, false};
 
-impl Disk for Ready {
-    ghost use Rattle.std.specs.Prelude.{true, false, refl};
+    ghost keeps = { λ _ _. true };
 
-    type Pen = NoPen;
+    ghost failed = { false };
 
-    type Syncer = NoSync;
-
-    ghost shows = { false };
-
-    ghost took = { λ _. true };
-
-    ghost keeps = { λ _. true };
-
-    ghost failed = { true };
-
-    fn seal(_pen: &NoPen, _count: u64) {}
-
-    fn cut(_pen: &mut NoPen, _count: u64) -> io::Result<()> {
-        Ok(())
+    fn kept<R: Wait>(
+        &self,
+        _rt: &R,
+        instance: Instance,
+        length: u64,
+    ) -> Result<Option<u64>, Unkept> {
+        let kept = self.length.load(Ordering::SeqCst);
+        let is_own = instance.number() == self.instance.number();
+        if is_own && kept >= length {
+            Ok(Some(kept))
+        } else {
+            Ok(None)
+        }
     }
 
-    fn sync(syncer: NoSync, _taken: u64) -> io::Result<NoSync> {
-        Ok(syncer)
+    fn keep<R: Wait>(
+        &self,
+        rt: &R,
+        instance: Instance,
+        length: u64,
+    ) -> Result<Option<u64>, Unkept> {
+        self.kept(rt, instance, length)
     }
 
-    ghost known = { λ _. refl };
+    fn has_failed<R: Wait>(&self, _rt: &R) -> bool {
+        false
+    }
+
+    fn appended<R: Wait>(&self, _rt: &R) -> u64 {
+        self.length.load(Ordering::SeqCst)
+    }
 }
 
 /// What URIs begin with.

@@ -2,11 +2,10 @@
 
 use crate::callbacks::{DONE, PATIENCE, carry_within, take_all};
 use crate::members::{listen, serve_all, socket_at};
-use crate::setting::{End, Held, NoPen, NoSync, Ready, errand};
+use crate::setting::{End, Held, Ready, errand};
 use lra_callbacks::{Callbacks, Names, Share, bell};
 use lra_clocks::SystemClock;
 use lra_courier::Carriage;
-use lra_durable::Progress;
 use lra_outcomes::Outcomes;
 use lra_rules::Rules;
 use mio::Waker;
@@ -67,7 +66,7 @@ fn passed_again<R: Clock, C: Carriage>(
 /// The same of callbacks of their own.
 fn asked_twice<R: Wait + Net + Clock>(rt: &R, alloc: Global, twice: Twice) -> Option<Duration> {
     let (poll, _bell) = bell(rt).ok()?;
-    let progress = Progress::<Ready>::open(&NoPen, NoSync).ok()?;
+    let group = Ready::up_to(u64::MAX)?;
     let names = Names::new(alloc);
     let rules = Rules::none(alloc);
     let (under_way, least_pause) = (AtomicU64::new(0), AtomicU64::new(twice.least_pause));
@@ -78,7 +77,8 @@ fn asked_twice<R: Wait + Net + Clock>(rt: &R, alloc: Global, twice: Twice) -> Op
     let made = Callbacks::new(
         rt,
         alloc,
-        &progress,
+        &group,
+        group.instance,
         &names,
         &rules,
         poll,

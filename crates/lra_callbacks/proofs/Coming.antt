@@ -8,37 +8,40 @@ use Rattle.lra_model.specs.declared.asks.Outcome.{Outcome}
 use Rattle.lra_model.specs.declared.asks.Outcome.TheVariants.{Silent}
 use Rattle.lra_model.specs.Words.{outcome_suits}
 use Rattle.lra_commands.specs.Errands.{Asking}
+use Rattle.lra_courier.specs.Carriages.{Handed}
 use Rattle.lra_courier.specs.declared.fault.CallFault.{CallFault}
 use Rattle.lra_courier.specs.Carried.{Carried, IsCarried}
 use Rattle.lra_durable.specs.Leaves.{MayLeave}
 use Rattle.lra_callbacks.specs.Outcomes.{IsFor, MayCome}
 use Rattle.lra_callbacks.specs.inner.Attempts.{IsOfSame}
 
-module _ (took keeps : ℕ → Bool) where
+module _ (keeps : ℕ → Bool) where
   -- of any errand nothing may come
-  pub silence_comes : (errand : Option Asking) → IfSome errand (λ e. MayCome took keeps e.ask e.kind Silent)
+  pub silence_comes : (errand : Option Handed) → IfSome errand (λ h. MayCome keeps h.1 h.0.ask h.0.kind Silent)
   silence_comes None = tt
   silence_comes (Some e) = inr refl
 
   -- what a callback that had leave came to may come of its errand
-  pub outcome_comes : (position kept : ℕ) (c : Carried) (errand : Option Asking) (r : Option Outcome)
-      → IsTrue (took position) → MayLeave keeps position kept → ForSome errand (IsFor c) → IsCarried c
-      → r ≡ option_map (λ (told : Result Outcome CallFault). result_unwrap_or told Silent) c.came → IfSome r (λ o. IsTrue (outcome_suits c.kind o)) → IfSome errand (λ e. MayCome took keeps e.ask e.kind (unwrap_or r Silent))
-  outcome_comes position kept c None r was leave own steps is suits = tt
-  outcome_comes position kept c (Some e) None was leave own steps is suits = inr refl
-  outcome_comes position kept c (Some e) (Some o) was leave own steps is suits = by_told c.came refl
+  pub outcome_comes : (kept : ℕ) (c : Carried) (errand : Option Handed) (r : Option Outcome)
+      → ForSome errand (λ h. MayLeave keeps h.1 kept) → ForSome errand (λ h. IsFor c h.0) → IsCarried c
+      → r ≡ option_map (λ (told : Result Outcome CallFault). result_unwrap_or told Silent) c.came → IfSome r (λ o. IsTrue (outcome_suits c.kind o))
+      → IfSome errand (λ h. MayCome keeps h.1 h.0.ask h.0.kind (unwrap_or r Silent))
+  outcome_comes kept c None r leave own steps is suits = tt
+  outcome_comes kept c (Some e) None leave own steps is suits = inr refl
+  outcome_comes kept c (Some e) (Some o) leave own steps is suits = by_told c.came refl
     where
-      of : IsFor c e
+      of : IsFor c e.0
       of = own e refl
 
-      by_told : (came : Option (Result Outcome CallFault)) → c.came ≡ came → MayCome took keeps e.ask e.kind o
+      by_told : (came : Option (Result Outcome CallFault)) → c.came ≡ came → MayCome keeps e.1 e.0.ask e.0.kind o
       by_told None g = none (is ∙ ap (option_map (λ (told : Result Outcome CallFault). result_unwrap_or told Silent)) g)
         where
-          none : Some o ≡ None → MayCome took keeps e.ask e.kind o
+          none : Some o ≡ None → MayCome keeps e.1 e.0.ask e.0.kind o
           none h = absurd cc
       by_told (Some told) g = inl record {
-        leave = record { position = position; taken = was; kept = kept; leave = leave };
-        errand = e;
+        kept = kept;
+        leave = leave e refl;
+        errand = e.0;
         of_ask = refl;
         of_kind = refl;
         carried = c;
@@ -53,6 +56,13 @@ module _ (took keeps : ℕ → Bool) where
           same : Some o ≡ Some (result_unwrap_or told Silent) → o ≡ result_unwrap_or told Silent
           same h = cc
 
+-- what comes of an errand's own journal comes of some journal
+pub own_comes : (keeps : ℕ → ℕ → Bool) (instance : ℕ) (r : Option (Asking × Outcome)) (errand : Option Handed)
+    → IfSome r (λ came. ForSome errand (λ h. MayCome (keeps instance) h.1 came.0.ask came.0.kind came.1))
+    → IfSome r (λ came. ForSome errand (λ h. (i : ℕ) × MayCome (keeps i) h.1 came.0.ask came.0.kind came.1))
+own_comes keeps instance None errand h = tt
+own_comes keeps instance (Some came) errand h = λ x e. (instance, h x e)
+
 -- moving bytes changes nothing of what is asked
 pub same_of : (c : Carried) → IsOfSame c c
 same_of c = record { kind = refl; direction = refl; request = refl }
@@ -60,7 +70,7 @@ same_of c = record { kind = refl; direction = refl; request = refl }
 pub same_on : (a b c : Carried) → IsOfSame a b → IsOfSame b c → IsOfSame a c
 same_on a b c h k = record { kind = k.kind ∙ h.kind; direction = k.direction ∙ h.direction; request = k.request ∙ h.request }
 
-pub same_for : (old new : Carried) (errand : Option Asking) → IsOfSame old new → ForSome errand (IsFor old) → ForSome errand (IsFor new)
+pub same_for : (old new : Carried) (errand : Option Handed) → IsOfSame old new → ForSome errand (λ h. IsFor old h.0) → ForSome errand (λ h. IsFor new h.0)
 same_for old new errand same own e is = record {
   kind = same.kind ∙ (own e is).kind;
   direction = same.direction ∙ (own e is).direction;

@@ -11,7 +11,7 @@ use Rattle.lra_commands.specs.Errands.{Asking}
 use Rattle.lra_courier.specs.declared.fault.CallFault.{CallFault}
 use Rattle.lra_courier.specs.Callbacks.{calling_of, request_bytes}
 use Rattle.lra_courier.specs.Carried.{Carried, IsCarried}
-use Rattle.lra_durable.specs.Leaves.{HasLeave}
+use Rattle.lra_durable.specs.Leaves.{MayLeave}
 
 -- what was carried is the callback of an errand
 pub record IsFor (carried : Carried) (errand : Asking) : Type 0 where
@@ -19,10 +19,11 @@ pub record IsFor (carried : Carried) (errand : Asking) : Type 0 where
   pub direction : carried.direction ≡ errand.direction
   pub request : carried.request ≡ request_bytes (calling_of errand)
 
--- An outcome came of a callback for an ask of this number and kind: the request was made once the disk was durable up
--- to the position that it had taken when the errand was given, and this is what the callback came to.
-pub record Comes (took keeps : ℕ → Bool) (ask : ℕ) (kind : AskKind) (outcome : Outcome) : Type 0 where
-  pub leave : HasLeave took keeps
+-- An outcome came of a callback for an ask of this number and kind: the request left once the journal was durable up to
+-- the errand's position, and this is what the callback came to.
+pub record Comes (keeps : ℕ → Bool) (position ask : ℕ) (kind : AskKind) (outcome : Outcome) : Type 0 where
+  pub kept : ℕ
+  pub leave : MayLeave keeps position kept
   pub errand : Asking
   pub of_ask : errand.ask ≡ ask
   pub of_kind : errand.kind ≡ kind
@@ -35,8 +36,12 @@ pub record Comes (took keeps : ℕ → Bool) (ask : ℕ) (kind : AskKind) (outco
   pub suits : outcome_suits kind outcome ≡ true
 
 -- it came of such a callback, or it is silence
-abbrev pub MayCome : (ℕ → Bool) → (ℕ → Bool) → ℕ → AskKind → Outcome → Type 0
-MayCome took keeps ask kind outcome = Comes took keeps ask kind outcome ⊎ (outcome ≡ Silent)
+abbrev pub MayCome : (ℕ → Bool) → ℕ → ℕ → AskKind → Outcome → Type 0
+MayCome keeps position ask kind outcome = Comes keeps position ask kind outcome ⊎ (outcome ≡ Silent)
+
+-- the same of some journal of a group, and of some position
+abbrev pub MayComeOf : (ℕ → ℕ → Bool) → ℕ → AskKind → Outcome → Type 0
+MayComeOf keeps ask kind outcome = (instance : ℕ) × (position : ℕ) × MayCome (keeps instance) position ask kind outcome
 
 -- silence suits every kind of ask
 silence_suits : (kind : AskKind) (outcome : Outcome) → outcome ≡ Silent → outcome_suits kind outcome ≡ true
@@ -47,6 +52,9 @@ silence_suits ask.Forget outcome e = ap (λ (o : Outcome). outcome_suits ask.For
 silence_suits ask.After outcome e = ap (λ (o : Outcome). outcome_suits ask.After o) e
 
 -- what may come suits the kind
-pub coming_suits : (took keeps : ℕ → Bool) (ask : ℕ) (kind : AskKind) (outcome : Outcome) → MayCome took keeps ask kind outcome → outcome_suits kind outcome ≡ true
-coming_suits took keeps ask kind outcome (inl came) = came.suits
-coming_suits took keeps ask kind outcome (inr silent) = silence_suits kind outcome silent
+coming_suits : (keeps : ℕ → Bool) (position ask : ℕ) (kind : AskKind) (outcome : Outcome) → MayCome keeps position ask kind outcome → outcome_suits kind outcome ≡ true
+coming_suits keeps position ask kind outcome (inl came) = came.suits
+coming_suits keeps position ask kind outcome (inr silent) = silence_suits kind outcome silent
+
+pub coming_of_suits : (keeps : ℕ → ℕ → Bool) (ask : ℕ) (kind : AskKind) (outcome : Outcome) → MayComeOf keeps ask kind outcome → outcome_suits kind outcome ≡ true
+coming_of_suits keeps ask kind outcome (instance, (position, came)) = coming_suits (keeps instance) position ask kind outcome came

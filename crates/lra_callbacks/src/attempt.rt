@@ -9,36 +9,39 @@ ghost use Rattle.lra_callbacks.specs.Outcomes.{IsFor, MayCome};
 ghost use Rattle.lra_callbacks.specs.inner.Attempts.{outcome_of, Goes};
 ghost use Rattle.lra_callbacks.specs.inner.Ends.{Replies};
 
-use crate::noted::Noted;
 use crate::pumping::{Moved, pump};
 use crate::replies::{End, reply_of};
 use lra_core::Errand;
 use lra_courier::{Callback, Carrying, socket_text};
-use lra_durable::{Disk, Progress};
-use lra_model::{Memory, Outcome};
+use lra_durable::SyncGroup;
+use lra_model::{Instance, Memory, Outcome};
 use lra_outcomes::Reply;
 use std::alloc::Global;
 use std::io::{Read, Write};
-use std::marker::Model;
+use std::marker::{Model, PhantomData};
 use std::sync::Wait;
 
-/// An errand that is held: where it is let go of, it is discarded.
+/// An errand that is held, and its position: where it is let go of, it is discarded.
 pub(crate) struct Held {
     errand: Option<Errand>,
+    position: u64,
 }
 
 impl Model for Held {
-    ghost use Rattle.std.specs.Prelude.{Option};
-    ghost use Rattle.lra_commands.specs.Errands.{Asking};
+    ghost use Rattle.std.specs.Prelude.{Option, option_map};
+    ghost use Rattle.lra_courier.specs.Carriages.{Handed};
 
-    ghost Value = { Option Asking };
+    ghost Value = { Option Handed };
 
-    ghost view = { λ held. held.errand };
+    ghost view = { λ held. option_map (λ errand. (errand, held.position)) held.errand };
 }
 
 impl Drop for Held {
     fn drop(self) {
-        let Held { errand } = self;
+        let Held {
+            errand,
+            position: _,
+        } = self;
         if let Some(errand) = errand {
             errand.discard();
         }
@@ -46,24 +49,36 @@ impl Drop for Held {
 }
 
 impl Held {
-    fn new(errand: Errand) -> Held
-        ensures { result ≡ Some errand }
+    /// Holds an errand, with its position.
+    fn new(errand: Errand, position: u64) -> Held
+        ensures { result ≡ Some (errand, position) }
     {
         Held {
             errand: Some(errand),
+            position,
         }
     }
 
     fn get(&self) -> Option<&Errand>
-        ensures { option_map (λ errand. errand.now) result ≡ self.now }
+        ensures { option_map (λ errand. errand.now) result ≡ option_map (λ handed. handed.0) self.now }
     {
         self.errand.as_ref()
     }
 
-    fn into_errand(self) -> Option<Errand>
-        ensures { result ≡ self }
+    /// Returns its position.
+    fn position(&self) -> u64
+        ensures { ForSome self.now (λ handed. result ≡ handed.1) }
     {
-        let Held { errand } = self;
+        self.position
+    }
+
+    fn into_errand(self) -> Option<Errand>
+        ensures { option_map (λ errand. errand) result ≡ option_map (λ handed. handed.0) self }
+    {
+        let Held {
+            errand,
+            position: _,
+        } = self;
         errand
     }
 }
@@ -73,9 +88,9 @@ impl Held {
 pub(crate) enum Leave {
     /// To this host and port.
     Now(String),
-    /// Once the disk is durable up to the position that was noted with the errand.
+    /// Once its journal is durable up to the errand's position.
     Later,
-    /// The disk has failed, or there is no request.
+    /// A journal has failed, or there is no request.
     Never,
 }
 
@@ -103,46 +118,49 @@ fn callback_of(alloc: Global, errand: &Errand) -> Option<(Carrying, String)>
     }
 }
 
-/// An errand that was taken. Its request is made once the disk is durable up to the position that was noted with the
-/// errand at hand: all that the disk had taken by then.
+/// An errand that was taken. Its request is made once the journal of its instance is durable up to its position.
 #[derive(Drop)]
-pub(crate) struct Attempt<D: Disk> {
+pub(crate) struct Attempt<G: SyncGroup> {
     errand: Held,
-    noted: Noted<D>,
+    /// The journal that its ask stands in.
+    instance: Instance,
     flight: Option<Flight>,
-    ghost of: { ForSome errand (λ e. noted.of.value ≡ e) },
-    ghost leave: { ForSome flight (λ f. MayLeave D.keeps noted.position f.kept) },
-    ghost own: { ForSome flight (λ f. ForSome errand (IsFor f.carrying)) },
+    group: PhantomData<G>,
+    ghost leave: { ForSome flight (λ f. ForSome errand (λ h. MayLeave (G.keeps instance) h.1 f.kept)) },
+    ghost own: { ForSome flight (λ f. ForSome errand (λ h. IsFor f.carrying h.0)) },
 }
 
-impl<D: Disk> Attempt<D> {
-    /// An errand that is taken now.
-    pub(crate) fn new(errand: Errand, noted: Noted<D>) -> Attempt<D>
-        requires { noted.of.value ≡ errand }
-        ensures { result.errand ≡ Some errand }
+impl<G: SyncGroup> Attempt<G> {
+    /// An errand that is taken now, whose ask stands in the journal of that instance.
+    pub(crate) fn new(errand: Errand, instance: Instance, position: u64) -> Attempt<G>
+        ensures errand { result.errand ≡ Some (errand, position) }
+        ensures journal { result.instance ≡ instance }
     {
         Attempt {
-            errand: Held::new(errand),
-            noted,
+            errand: Held::new(errand, position),
+            instance,
             flight: None,
+            group: PhantomData,
         }
     }
 
     /// The errand.
     pub(crate) fn errand(&self) -> Option<&Errand>
-        ensures { option_map (λ errand. errand.now) result ≡ self.now.errand }
+        ensures { option_map (λ errand. errand.now) result ≡ option_map (λ handed. handed.0) self.now.errand }
     {
         self.errand.get()
     }
 
-    /// Returns the position up to which the disk has to be durable before it leaves.
-    pub(crate) fn position(&self) -> u64 {
-        self.noted.position()
+    /// Returns the position up to which its journal has to be durable before it leaves.
+    pub(crate) fn position(&self) -> u64
+        ensures { ForSome self.now.errand (λ handed. result ≡ handed.1) }
+    {
+        self.errand.position()
     }
 
     /// The callback of the errand, and the host and port that are asked. Nothing, where it has no address or memory is refused.
     fn callback(&self, alloc: Global) -> Option<(Carrying, String)>
-        ensures { IfSome result (λ made. ForSome self.now.errand (Goes made.0 made.1)) }
+        ensures { IfSome result (λ made. ForSome self.now.errand (λ h. Goes made.0 made.1 h.0)) }
     {
         match self.errand() {
             Some(errand) => callback_of(alloc, errand),
@@ -151,11 +169,13 @@ impl<D: Disk> Attempt<D> {
     }
 
     /// Makes the callback, where it may leave, and tells the host and port of its errand's address.
-    pub(crate) fn begin<R: Wait>(&mut self, rt: &R, alloc: Global, progress: &Progress<D>) -> Leave
+    pub(crate) fn begin<R: Wait>(&mut self, rt: &R, alloc: Global, group: &G) -> Leave
         ensures errand { self.new.errand ≡ self.old.errand }
-        ensures socket { (socket : String Global) → result ≡ Leave.Now socket → ForSome self.old.errand (λ e. string_bytes socket ≡ socket_text e.address) }
+        ensures journal { self.new.instance ≡ self.old.instance }
+        ensures socket { (socket : String Global) → result ≡ Leave.Now socket
+            → ForSome self.old.errand (λ h. string_bytes socket ≡ socket_text h.0.address) }
     {
-        let Ok(kept) = progress.kept(rt, self.noted.position()) else {
+        let Ok(kept) = group.kept(rt, self.instance, self.position()) else {
             return Leave::Never;
         };
         let Some(kept) = kept else {
@@ -183,7 +203,7 @@ impl<D: Disk> Attempt<D> {
 
     /// What has come of the callback: silence, where nothing has.
     fn outcome(&self) -> Outcome
-        ensures may { IfSome self.now.errand (λ e. MayCome D.took D.keeps e.ask e.kind result) }
+        ensures may { IfSome self.now.errand (λ h. MayCome (G.keeps self.now.instance) h.1 h.0.ask h.0.kind result) }
         ensures told { ForSome self.now.flight (λ f. result ≡ outcome_of f.carrying) }
     {
         let Some(flight) = &self.flight else {
@@ -208,8 +228,11 @@ impl<D: Disk> Attempt<D> {
 
     /// The errand, and what has come of it.
     pub(crate) fn finish(self) -> Option<(Errand, Outcome)>
-        ensures errand { option_map (λ came. came.0) result ≡ self.errand }
-        ensures came { IfSome result (λ came. MayCome D.took D.keeps came.0.ask came.0.kind came.1) }
+        ensures errand { option_map (λ came. came.0) result ≡ option_map (λ handed. handed.0) self.errand }
+        // What isn't silence comes only of a request that left once the errand's own journal was durable up to its own
+        // position.
+        ensures came { IfSome result (λ came. ForSome self.errand
+            (λ h. MayCome (G.keeps self.instance) h.1 came.0.ask came.0.kind came.1)) }
         ensures told { IfSome result (λ came. ForSome self.flight (λ f. came.1 ≡ outcome_of f.carrying)) }
     {
         let outcome = self.outcome();

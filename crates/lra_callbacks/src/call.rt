@@ -13,13 +13,12 @@ ghost use Rattle.lra_callbacks.specs.inner.Ends.{Replies, limit_of};
 
 use crate::attempt::{Attempt, Leave};
 use crate::hosts::Target;
-use crate::noted::Noted;
 use crate::pumping::Moved;
 use crate::replies::{End, end_of};
 use crate::share::Patience;
 use lra_core::Errand;
-use lra_durable::{Disk, Progress};
-use lra_model::{Memory, Outcome};
+use lra_durable::SyncGroup;
+use lra_model::{Instance, Memory, Outcome};
 use lra_outcomes::Reply;
 use lra_rules::Rules;
 use mio::net::TcpStream;
@@ -46,8 +45,8 @@ pub(crate) enum Seen {
 
 /// An errand that was taken, and the socket of its callback, once it has one.
 #[derive(Drop)]
-pub(crate) struct Call<D: Disk> {
-    attempt: Attempt<D>,
+pub(crate) struct Call<G: SyncGroup> {
+    attempt: Attempt<G>,
     stream: Option<TcpStream>,
     is_connected: bool,
     /// The host that it goes to, by its number.
@@ -60,13 +59,14 @@ pub(crate) struct Call<D: Disk> {
     end: End,
 }
 
-impl<D: Disk> Call<D> {
-    pub(crate) fn new(errand: Errand, noted: Noted<D>) -> Call<D>
-        requires { noted.of.value ≡ errand }
-        ensures { result.attempt.errand ≡ Some errand }
+impl<G: SyncGroup> Call<G> {
+    /// An errand that is taken now, whose ask stands in the journal of that instance.
+    pub(crate) fn new(errand: Errand, instance: Instance, position: u64) -> Call<G>
+        ensures errand { result.attempt.errand ≡ Some (errand, position) }
+        ensures journal { result.attempt.instance ≡ instance }
     {
         Call {
-            attempt: Attempt::new(errand, noted),
+            attempt: Attempt::new(errand, instance, position),
             stream: None,
             is_connected: false,
             host: 0,
@@ -77,34 +77,36 @@ impl<D: Disk> Call<D> {
     }
 
     /// Makes the callback, where it may leave, and tells the host and port of its errand's address.
-    pub(crate) fn begin<R: Wait>(&mut self, rt: &R, alloc: Global, progress: &Progress<D>) -> Leave
+    pub(crate) fn begin<R: Wait>(&mut self, rt: &R, alloc: Global, group: &G) -> Leave
         ensures errand { self.new.attempt.errand ≡ self.old.attempt.errand }
-        ensures socket { (socket : String Global) → result ≡ Leave.Now socket → ForSome self.old.attempt.errand (λ e. string_bytes socket ≡ socket_text e.address) }
+        ensures socket { (socket : String Global) → result ≡ Leave.Now socket
+            → ForSome self.old.attempt.errand (λ h. string_bytes socket ≡ socket_text h.0.address) }
     {
-        self.attempt.begin(rt, alloc, progress)
+        self.attempt.begin(rt, alloc, group)
     }
 
     /// The errand.
     pub(crate) fn errand(&self) -> Option<&Errand>
-        ensures { option_map (λ errand. errand.now) result ≡ self.now.attempt.errand }
+        ensures { option_map (λ errand. errand.now) result ≡ option_map (λ handed. handed.0) self.now.attempt.errand }
     {
         self.attempt.errand()
     }
 
-    /// Returns the position up to which the disk has to be durable before it leaves.
+    /// Returns the position up to which its journal has to be durable before it leaves.
     pub(crate) fn position(&self) -> u64 {
         self.attempt.position()
     }
 
-    /// Whether the disk is durable up to that position.
-    pub(crate) fn is_kept<R: Wait>(&self, rt: &R, progress: &Progress<D>) -> bool {
-        matches!(progress.kept(rt, self.position()), Ok(Some(_)))
+    /// Returns whether the journal of an instance is durable up to that position.
+    pub(crate) fn is_kept<R: Wait>(&self, rt: &R, group: &G, instance: Instance) -> bool {
+        matches!(group.kept(rt, instance, self.position()), Ok(Some(_)))
     }
 
     /// The errand, and what came of it.
     pub(crate) fn finish(self) -> Option<(Errand, Outcome)>
-        ensures errand { option_map (λ came. came.0) result ≡ self.attempt.errand }
-        ensures came { IfSome result (λ came. MayCome D.took D.keeps came.0.ask came.0.kind came.1) }
+        ensures errand { option_map (λ came. came.0) result ≡ option_map (λ handed. handed.0) self.attempt.errand }
+        ensures came { IfSome result (λ came. ForSome self.attempt.errand
+            (λ h. MayCome (G.keeps self.attempt.instance) h.1 came.0.ask came.0.kind came.1)) }
         ensures told { IfSome result (λ came. ForSome self.attempt.flight (λ f. came.1 ≡ outcome_of f.carrying)) }
     {
         let Call { attempt, .. } = self;

@@ -1,15 +1,14 @@
 //! All callbacks of one carrier.
 
-ghost use Rattle.std.specs.Prelude.{◌≡◌, [], IfOk, IfSome, IfNone};
+ghost use Rattle.std.specs.Prelude.{◌≡◌, ℕ, [], IfOk, IfSome, IfNone};
 ghost use Rattle.lra_courier.specs.Carriages.{Gains, AreSame};
-ghost use Rattle.lra_callbacks.specs.Outcomes.{MayCome};
+ghost use Rattle.lra_callbacks.specs.Outcomes.{MayCome, MayComeOf};
 ghost use Rattle.lra_callbacks.specs.Held.{errand_at};
 
 use crate::attempt::Leave;
 use crate::call::{Call, Seen};
 use crate::hosts::Next;
 use crate::names::Names;
-use crate::noted::Noted;
 use crate::resting::{SHORT_REST_MS, rest_before, rest_for};
 use crate::share::Share;
 use crate::sparing::Sparing;
@@ -17,8 +16,8 @@ use crate::traffic::{Traffic, ring};
 use lra_clocks::{Clock, SystemClock};
 use lra_core::Errand;
 use lra_courier::Carriage;
-use lra_durable::{Disk, Progress};
-use lra_model::Outcome;
+use lra_durable::SyncGroup;
+use lra_model::{Instance, Outcome};
 use lra_outcomes::{Outcomes, is_telling};
 use lra_rules::Rules;
 use mio::{Poll, Waker};
@@ -33,21 +32,23 @@ use std::time;
 /// How long it leaves its office alone in any case.
 const PAUSE_MS: u64 = 2;
 
-/// Callbacks to members, many at once. The request of each is made once the disk is durable up to the position that
-/// it had taken when the errand was given; it waits while as many go to its host, or in all, as may, and while its
+/// Callbacks to members, many at once, of one journal. The request of each is made once that journal is durable up to the
+/// position that was given with the errand; it waits while as many go to its host, or in all, as may, and while its
 /// member is spared, since it was silent. A contract sees which errand is under way at each place.
 #[derive(Drop)]
-pub struct Callbacks<'a, R, D: Disk> {
+pub struct Callbacks<'a, R, G: SyncGroup> {
     rt: &'a R,
     alloc: Global,
-    progress: &'a Progress<D>,
+    group: &'a G,
+    /// The journal that the asks stand in.
+    instance: Instance,
     names: &'a Names,
     /// Where members may be.
     rules: &'a Rules,
     share: Share,
     /// How many are under way, for others to see.
     under_way: &'a AtomicU64,
-    calls: Slab<Call<D>>,
+    calls: Slab<Call<G>>,
     traffic: Traffic,
     sparing: Sparing<'a>,
     /// When it looked at its office last.
@@ -88,11 +89,11 @@ fn note<R: time::Clock>(
 
 /// Notes what is told of a callback that has ended, for who asks why a member hangs, and forgets a member that got further. Where
 /// memory is refused for that, what was noted before stays.
-fn tell_of<R: Wait + time::Clock, D: Disk>(
+fn tell_of<R: Wait + time::Clock, G: SyncGroup>(
     rt: &R,
     outcomes: &Outcomes,
     clock: &mut SystemClock<'_, R>,
-    call: &Call<D>,
+    call: &Call<G>,
 ) {
     let Some(errand) = call.errand() else {
         return;
@@ -106,17 +107,17 @@ fn tell_of<R: Wait + time::Clock, D: Disk>(
     }
 }
 
-impl<'a, R, D: Disk> Model for Callbacks<'a, R, D> {
+impl<'a, R, G: SyncGroup> Model for Callbacks<'a, R, G> {
     ghost use Rattle.std.specs.Prelude.{List, Option, map};
     ghost use Rattle.std.specs.Option.{option_and_then};
-    ghost use Rattle.lra_commands.specs.Errands.{Asking};
+    ghost use Rattle.lra_courier.specs.Carriages.{Handed};
 
-    ghost Value = { List (Option Asking) };
+    ghost Value = { List (Option Handed) };
 
     ghost view = { λ c. map (λ slot. option_and_then (λ call. call.attempt.errand) slot) c.calls.slots };
 }
 
-impl<'a, R: Wait + Net + time::Clock, D: Disk> Callbacks<'a, R, D> {
+impl<'a, R: Wait + Net + time::Clock, G: SyncGroup> Callbacks<'a, R, G> {
     /// None is under way. What the rules don't let is not connected to, and silent. The poll is one that [`bell`](crate::bell) gave, as the bells of all who carry. How many are is told there whenever one is taken or done.
     /// A member that was silent isn't asked again in the same stage until the least pause has passed, in milliseconds: 0 spares none, and `u64::MAX` never ends. Others may change
     /// it at any time; what came before it was told isn't known. Who waits so isn't counted as under way. The clock is the one by which its office's moments are given:
@@ -125,7 +126,8 @@ impl<'a, R: Wait + Net + time::Clock, D: Disk> Callbacks<'a, R, D> {
     pub fn new(
         rt: &'a R,
         alloc: Global,
-        progress: &'a Progress<D>,
+        group: &'a G,
+        instance: Instance,
         names: &'a Names,
         rules: &'a Rules,
         poll: Poll,
@@ -135,7 +137,7 @@ impl<'a, R: Wait + Net + time::Clock, D: Disk> Callbacks<'a, R, D> {
         clock: SystemClock<'a, R>,
         bells: &'a [Waker],
         outcomes: &'a Outcomes,
-    ) -> Result<Callbacks<'a, R, D>, Poll>
+    ) -> Result<Callbacks<'a, R, G>, Poll>
         ensures { IfOk result (λ made. made ≡ []) }
     {
         let traffic = match Traffic::new(alloc, poll, share) {
@@ -145,7 +147,8 @@ impl<'a, R: Wait + Net + time::Clock, D: Disk> Callbacks<'a, R, D> {
         Ok(Callbacks {
             rt,
             alloc,
-            progress,
+            group,
+            instance,
             names,
             rules,
             share,
@@ -189,7 +192,7 @@ impl<'a, R: Wait + Net + time::Clock, D: Disk> Callbacks<'a, R, D> {
             return false;
         }
         let now = self.traffic.moment(self.rt);
-        let is_held = call.is_kept(self.rt, self.progress)
+        let is_held = call.is_kept(self.rt, self.group, self.instance)
             && if is_given_up {
                 self.sparing.holds_for_good(key)
             } else {
@@ -228,7 +231,7 @@ impl<'a, R: Wait + Net + time::Clock, D: Disk> Callbacks<'a, R, D> {
         let Some(call) = self.calls.get_mut(key) else {
             return true;
         };
-        match call.begin(self.rt, self.alloc, self.progress) {
+        match call.begin(self.rt, self.alloc, self.group) {
             Leave::Later => return false,
             Leave::Never => self.traffic.end(key),
             Leave::Now(socket) => self.traffic.enlist(key, socket),
@@ -244,8 +247,8 @@ impl<'a, R: Wait + Net + time::Clock, D: Disk> Callbacks<'a, R, D> {
             return;
         };
         if let Some(call) = self.calls.get(key) {
-            // Whether the disk is durable up to its position is asked again for each.
-            let _ = self.progress.keep(self.rt, call.position());
+            // Whether the journal is durable up to its position is asked again for each.
+            let _ = self.group.keep(self.rt, self.instance, call.position());
         }
     }
 
@@ -327,7 +330,7 @@ impl<'a, R: Wait + Net + time::Clock, D: Disk> Callbacks<'a, R, D> {
     fn advance(&mut self, key: usize)
         ensures { self.new ≡ self.old }
     {
-        if self.progress.has_failed(self.rt) {
+        if self.group.has_failed(self.rt) {
             return;
         }
         let Some(call) = self.calls.get_mut(key) else {
@@ -372,7 +375,8 @@ impl<'a, R: Wait + Net + time::Clock, D: Disk> Callbacks<'a, R, D> {
 
     /// The errand of one that has ended, and what came of it.
     fn remove(&mut self, key: usize) -> Option<(Errand, Outcome)>
-        ensures some { IfSome result (λ came. Gains (errand_at self.new) (errand_at self.old) came.0 × MayCome D.took D.keeps came.0.ask came.0.kind came.1) }
+        ensures some { IfSome result (λ came. (n : ℕ) × Gains (errand_at self.new) (errand_at self.old) (came.0, n)
+            × ((instance : ℕ) × MayCome (G.keeps instance) n came.0.ask came.0.kind came.1)) }
         ensures none { IfNone result (AreSame (errand_at self.old) (errand_at self.new)) }
     {
         let Some(call) = self.calls.try_remove(key) else {
@@ -485,29 +489,29 @@ impl<'a, R: Wait + Net + time::Clock, D: Disk> Callbacks<'a, R, D> {
     }
 }
 
-impl<R: Wait + Net + time::Clock, D: Disk> Carriage for Callbacks<'_, R, D> {
-    ghost use Rattle.lra_callbacks.specs.Outcomes.{MayCome, coming_suits};
+impl<R: Wait + Net + time::Clock, G: SyncGroup> Carriage for Callbacks<'_, R, G> {
+    ghost use Rattle.lra_callbacks.specs.Outcomes.{MayComeOf, coming_of_suits};
     ghost use Rattle.lra_callbacks.specs.Held.{errand_at};
     ghost use Rattle.std.proofs.Common.{inr, refl};
 
     ghost held = { λ errands place. errand_at errands place };
 
-    ghost gives = { λ ask kind outcome. MayCome D.took D.keeps ask kind outcome };
+    ghost gives = { λ ask kind outcome. MayComeOf G.keeps ask kind outcome };
 
     /// Where there is none, what is due is left to the other carriers.
     fn has_room(&self) -> bool {
         self.is_roomy()
     }
 
-    fn take(&mut self, errand: Errand) -> Result<(), Errand> {
+    fn take(&mut self, errand: Errand, position: u64) -> Result<(), Errand> {
         if self.traffic.make_room(self.calls.len()).is_none() {
             return Err(errand);
         }
         if self.calls.reserve(1).is_err() {
             return Err(errand);
         }
-        let noted = Noted::of(self.rt, self.progress, &errand);
-        let key = self.calls.insert_reserved(Call::new(errand, noted));
+        let call = Call::new(errand, self.instance, position);
+        let key = self.calls.insert_reserved(call);
         let _ = self.traffic.unkept.push_back(key);
         self.tell();
         Ok(())
@@ -535,7 +539,7 @@ impl<R: Wait + Net + time::Clock, D: Disk> Carriage for Callbacks<'_, R, D> {
         }
     }
 
-    ghost suits = { λ ask kind outcome came. coming_suits D.took D.keeps ask kind outcome came };
+    ghost suits = { λ ask kind outcome came. coming_of_suits G.keeps ask kind outcome came };
 
-    ghost silent = { λ ask kind. inr refl };
+    ghost silent = { λ ask kind. (0, (0, inr refl)) };
 }

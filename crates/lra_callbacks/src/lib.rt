@@ -8,7 +8,6 @@ mod call;
 mod callbacks;
 mod hosts;
 mod names;
-mod noted;
 mod pumping;
 mod replies;
 mod resting;

@@ -1,7 +1,7 @@
 //! By which terms is served, as options say.
 
 use lra_admission::{KeyBook, KeyFiles, KeysFault, Name};
-use lra_fence::{Fence, Fenced};
+use lra_storage::{Fence, Fenced};
 use lra_files::SmallFault;
 use lra_ids::Base;
 use lra_options::{Options, OptionsFault, Said, Word};

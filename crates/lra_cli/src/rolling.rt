@@ -9,7 +9,7 @@ use lra_opening::Herald;
 use lra_options::Options;
 use lra_rolling::{Conduct, FolderServed, RollingFault, check_folder, rolling_line, serve_folder};
 use lra_service::{Book, Entry};
-use lra_syncs::Timed;
+use lra_storage::Timed;
 use lra_watchpost::Watchpost;
 use std::env::Env;
 use std::fs::File;

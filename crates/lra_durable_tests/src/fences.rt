@@ -1,7 +1,7 @@
 //! Tests over the system's files that have the same bytes at each look, others at each look, none, and no end.
 
-use lra_fence::{Fenced, stands};
 use lra_files::SmallFault;
+use lra_storage::{Fenced, stands};
 use std::alloc::Global;
 use std::sync::Arc;
 

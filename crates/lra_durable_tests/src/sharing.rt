@@ -1,11 +1,12 @@
 //! Syncs that several wait for.
 
-use crate::platter::{Begun, Pen, Platter, Spinning, begin};
-use lra_durable::{Keeper, Progress};
+use crate::platter::{Begun, Pen, Platter, Spinning, begin, begin_beside};
+use lra_durable::{Journals, Keeper, Progress, SyncGroup, Unkept};
+use lra_model::Instance;
 use std::alloc::Global;
 use std::io::Write;
 use std::marker::Sync;
-use std::sync::Wait;
+use std::sync::{Arc, Wait};
 use std::thread::{Threads, join};
 
 /// How many bytes were kept when each of three could go on, if it could, and how many syncs there were.
@@ -26,11 +27,14 @@ fn wait<R: Wait>(
 fn write_both<R: Wait>(
     rt: &R,
     platter: &Platter,
-    progress: &Progress<Spinning>,
+    progress: &Arc<Progress<Spinning>>,
     pen: Pen,
     is_broken: bool,
 ) -> bool {
-    let mut keeper = Keeper::new(rt, progress, pen, u64::MAX);
+    let Ok(told) = progress.clone() else {
+        return false;
+    };
+    let mut keeper = Keeper::new(rt, told, pen, u64::MAX);
     let first = keeper.write_all(b"ab").is_ok();
     platter.wait_for_syncs(2);
     let second = keeper.write_all(b"cde").is_ok();
@@ -45,7 +49,8 @@ fn share<R: Threads + Wait + Sync>(rt: &R, alloc: Global, is_broken: bool) -> Op
         platter,
         pen,
         progress,
-    } = begin(alloc, 100, false)?;
+        ..
+    } = begin(rt, alloc, 100, false)?;
     platter.set(false, true);
     let (first, went_on) = join(
         rt,
@@ -72,4 +77,103 @@ fn those_who_wait_share_the_next_sync(rt: HostRuntime) {
 #[test]
 fn a_failed_sync_is_known_to_all_who_wait(rt: HostRuntime) {
     assert!(rt; share(&rt, rt.alloc(), true) == Some((None, None, None, 2)));
+}
+
+/// What came of two journals that two threads synced at once: each sync waited until the other had begun.
+fn sync_both<R: Threads + Wait + Sync>(rt: &R, alloc: Global) -> Option<(u64, u64)> {
+    let begun = begin(rt, alloc, 100, false)?;
+    let group = &begun.group;
+    let first = begun.instance;
+    let second = Instance::new(9)?;
+    let (platter, pen, progress) = begin_beside(rt, alloc, group, second)?;
+    let mut one = Keeper::new(rt, begun.progress.clone().ok()?, begun.pen, u64::MAX);
+    let mut other = Keeper::new(rt, progress, pen, u64::MAX);
+    one.write_all(b"ab").ok()?;
+    other.write_all(b"cde").ok()?;
+    begun.platter.set(false, true);
+    platter.set(false, true);
+    let (one_kept, other_kept) = join(
+        rt,
+        || {
+            let kept = group.keep(rt, first, 2).ok().flatten();
+            kept
+        },
+        || {
+            begun.platter.wait_for_syncs(2);
+            platter.set(false, false);
+            let kept = group.keep(rt, second, 3).ok().flatten();
+            begun.platter.set(false, false);
+            kept
+        },
+    );
+    Some((one_kept?, other_kept?))
+}
+
+#[test]
+fn journals_are_synced_side_by_side(rt: HostRuntime) {
+    assert!(rt; sync_both(&rt, rt.alloc()) == Some((2, 3)));
+}
+
+/// What is told of journals: one has two bytes that are kept, one has three that aren't, and one was never there.
+fn tells_each<R: Wait>(rt: &R, alloc: Global) -> Option<bool> {
+    let begun = begin(rt, alloc, 100, false)?;
+    let group = &begun.group;
+    let first = begun.instance;
+    let second = Instance::new(3)?;
+    let (_, pen, progress) = begin_beside(rt, alloc, group, second)?;
+    let mut one = Keeper::new(rt, begun.progress.clone().ok()?, begun.pen, u64::MAX);
+    let mut other = Keeper::new(rt, progress, pen, u64::MAX);
+    one.write_all(b"ab").ok()?;
+    other.write_all(b"cde").ok()?;
+    let own = group.keep(rt, first, 2) == Ok(Some(2));
+    let others = group.kept(rt, second, 3) == Ok(None) && group.kept(rt, second, 0) == Ok(Some(0));
+    let absent = Instance::new(5)?;
+    let none = group.keep(rt, absent, 0) == Ok(None) && group.kept(rt, absent, 0) == Ok(None);
+    Some(own && others && none && group.appended(rt) == 2)
+}
+
+#[test]
+fn each_journal_is_as_durable_as_it_is(rt: HostRuntime) {
+    assert!(rt; tells_each(&rt, rt.alloc()) == Some(true));
+}
+
+/// Whether a journal that was put away counts as durable to its end, and no further.
+fn ends_whole<R: Wait>(rt: &R, alloc: Global) -> Option<bool> {
+    let begun = begin(rt, alloc, 100, false)?;
+    let group: &Journals<Spinning> = &begun.group;
+    let mut keeper = Keeper::new(rt, begun.progress, begun.pen, u64::MAX);
+    keeper.write_all(b"abc").ok()?;
+    drop(keeper);
+    let ended = group.end(rt, begun.instance) == Ok(Some(3));
+    let kept = group.kept(rt, begun.instance, 3) == Ok(Some(3));
+    let past = group.keep(rt, begun.instance, 4) == Ok(None);
+    Some(ended && kept && past && begun.platter.has(3, 3))
+}
+
+#[test]
+fn a_journal_that_ended_is_durable_to_its_end(rt: HostRuntime) {
+    assert!(rt; ends_whole(&rt, rt.alloc()) == Some(true));
+}
+
+/// Whether a failed sync of one journal is known to those who wait for another, and to its writer.
+fn fails_together<R: Wait>(rt: &R, alloc: Global) -> Option<bool> {
+    let begun = begin(rt, alloc, 100, false)?;
+    let group = &begun.group;
+    let second = Instance::new(9)?;
+    let (platter, pen, progress) = begin_beside(rt, alloc, group, second)?;
+    let mut one = Keeper::new(rt, begun.progress.clone().ok()?, begun.pen, u64::MAX);
+    let mut other = Keeper::new(rt, progress.clone().ok()?, pen, u64::MAX);
+    one.write_all(b"ab").ok()?;
+    other.write_all(b"cde").ok()?;
+    begun.platter.set(true, false);
+    let failed = group.keep(rt, begun.instance, 2) == Err(Unkept);
+    let known = group.kept(rt, second, 0) == Err(Unkept)
+        && group.keep(rt, second, 3) == Err(Unkept);
+    let shut = other.write_all(b"f").is_err() && progress.has_failed(rt) && group.has_failed(rt);
+    Some(failed && known && shut && platter.has(3, 0))
+}
+
+#[test]
+fn journals_fail_together(rt: HostRuntime) {
+    assert!(rt; fails_together(&rt, rt.alloc()) == Some(true));
 }

@@ -21,8 +21,9 @@ fn takes_back<R: Wait>(rt: &R, alloc: Global) -> Option<bool> {
         platter,
         pen,
         progress,
-    } = begin(alloc, 6, false)?;
-    let mut keeper = Keeper::new(rt, &progress, pen, u64::MAX);
+        ..
+    } = begin(rt, alloc, 6, false)?;
+    let mut keeper = Keeper::new(rt, progress.clone().ok()?, pen, u64::MAX);
     let whole = outcome(&mut keeper, b"abcd").is_none();
     let cut = outcome(&mut keeper, b"efgh") == Some(ErrorKind::WriteZero);
     let is_back = platter.has(4, 0);
@@ -42,8 +43,9 @@ fn fails<R: Wait>(rt: &R, alloc: Global) -> Option<bool> {
         platter,
         pen,
         progress,
-    } = begin(alloc, 6, false)?;
-    let mut keeper = Keeper::new(rt, &progress, pen, u64::MAX);
+        ..
+    } = begin(rt, alloc, 6, false)?;
+    let mut keeper = Keeper::new(rt, progress.clone().ok()?, pen, u64::MAX);
     let whole = outcome(&mut keeper, b"abcd").is_none();
     platter.make_room(1, true);
     let cut = outcome(&mut keeper, b"efgh") == Some(ErrorKind::WriteZero);
@@ -64,8 +66,9 @@ fn keeps_within<R: Wait>(rt: &R, alloc: Global) -> Option<bool> {
         platter,
         pen,
         progress,
-    } = begin(alloc, 100, false)?;
-    let mut keeper = Keeper::new(rt, &progress, pen, 5);
+        ..
+    } = begin(rt, alloc, 100, false)?;
+    let mut keeper = Keeper::new(rt, progress.clone().ok()?, pen, 5);
     let first = outcome(&mut keeper, b"abc").is_none();
     let past = outcome(&mut keeper, b"def") == Some(ErrorKind::FileTooLarge);
     let is_untouched = platter.has(3, 0);
@@ -85,15 +88,17 @@ fn leaves_late<R: Wait>(rt: &R, alloc: Global) -> Option<bool> {
         platter,
         pen,
         progress,
-    } = begin(alloc, 100, false)?;
-    let mut keeper = Keeper::new(rt, &progress, pen, u64::MAX);
+        group,
+        instance,
+    } = begin(rt, alloc, 100, false)?;
+    let mut keeper = Keeper::new(rt, progress.clone().ok()?, pen, u64::MAX);
     let mut page = Vec::new(alloc);
-    let at_once = release(rt, &progress, 0, &mut page, b"200").ok()?;
+    let at_once = release(rt, &group, instance, 0, &mut page, b"200").ok()?;
     keeper.write_all(b"abcde").ok()?;
-    let early = release(rt, &progress, 5, &mut page, b"201").ok()?;
-    let older = release(rt, &progress, 0, &mut page, b"404").ok()?;
+    let early = release(rt, &group, instance, 5, &mut page, b"201").ok()?;
+    let older = release(rt, &group, instance, 0, &mut page, b"404").ok()?;
     let kept = progress.keep(rt, 5) == Ok(Some(5)) && platter.has(5, 5);
-    let late = release(rt, &progress, 5, &mut page, b"201").ok()?;
+    let late = release(rt, &group, instance, 5, &mut page, b"201").ok()?;
     let is_right = page.as_slice() == b"200404201".as_slice();
     let at_once = at_once == Some((3, 0)) && older == Some((3, 0));
     Some(at_once && early.is_none() && kept && late == Some((3, 5)) && is_right)
@@ -110,8 +115,10 @@ fn leaves_never<R: Wait>(rt: &R, alloc: Global) -> Option<bool> {
         platter,
         pen,
         progress,
-    } = begin(alloc, 100, false)?;
-    let mut keeper = Keeper::new(rt, &progress, pen, u64::MAX);
+        group,
+        instance,
+    } = begin(rt, alloc, 100, false)?;
+    let mut keeper = Keeper::new(rt, progress.clone().ok()?, pen, u64::MAX);
     let written = outcome(&mut keeper, b"ab").is_none();
     platter.set(true, false);
     let failed = progress.keep(rt, 2) == Err(Unkept);
@@ -119,7 +126,7 @@ fn leaves_never<R: Wait>(rt: &R, alloc: Global) -> Option<bool> {
     let again = progress.keep(rt, 2) == Err(Unkept) && progress.kept(rt, 2) == Err(Unkept);
     let shut = outcome(&mut keeper, b"c") == Some(ErrorKind::Other);
     let mut page = Vec::new(alloc);
-    let held = release(rt, &progress, 2, &mut page, b"201").is_err() && page.is_empty();
+    let held = release(rt, &group, instance, 2, &mut page, b"201").is_err() && page.is_empty();
     Some(
         written
             && failed
@@ -138,7 +145,7 @@ fn nothing_leaves_after_a_failed_sync(rt: HostRuntime) {
 
 #[test]
 fn a_disk_that_fails_at_once_is_refused(rt: HostRuntime) -> Result<(), Fail> {
-    assert!(rt; begin(rt.alloc(), 100, true).is_none());
+    assert!(rt; begin(&rt, rt.alloc(), 100, true).is_none());
     let text = format!(in rt.alloc(); "{Unkept}")?;
     assert!(rt; text.as_str() == "the disk does not keep what it took");
     Ok(())

@@ -9,14 +9,14 @@ use Rattle.lra_family.specs.Counted.{name}
 use Rattle.lra_family.specs.Families.{IsFamily, member, newest, put, without, Joins, Leaves}
 use Rattle.lra_family.specs.Runs.{Event, Run}
 use Rattle.lra_family.specs.Runs.Event.{Turn as OneTurn, Join, Leave}
-use Rattle.lra_family_front.specs.Serving.{Turn, names, Does, Lacks, Serves}
+use Rattle.lra_family_front.specs.Serving.{Turn, names, Does, DoesOrdered, Lacks, Serves, ServesOrdered, turn_of}
 use Rattle.lra_family_front.specs.inner.Stays.{responds_stays}
 use Rattle.lra_steps.specs.declared.responder.Answered.{Answered}
 use Rattle.lra_steps.specs.History.{Turn as ConnectionTurn}
 use Rattle.lra_steps.specs.Pieces.{turns_in}
 use Rattle.lra_wire.specs.Request.{Request}
 use Rattle.lra_family_front.specs.Waiting.{IsPutOff, IsRefused}
-use Rattle.lra_family_front.specs.Households.{AreTurns, HaveBase, HouseholdsRest, HouseholdsRun, KeepsBase, Moved, Moves, Outcome, Responds, base_of, turn_of, turns_of}
+use Rattle.lra_family_front.specs.Households.{AreTurns, HaveBase, HouseholdsRest, HouseholdsRun, KeepsBase, Moved, Moves, Outcome, Responds, base_of, turns_of}
 
 -- ---- joins and leaves
 
@@ -162,11 +162,28 @@ module _ (gives : Sight → ℕ → Order → Result Told CounterFault → Sight
         (begin_put base i k.0 before
         (ap (λ (c : Setting). c.base) (responds_stays gives keeps s k.0 turn.moment turn.request turn.answer k.1) ∙ member_base base i before s h is) begun)
 
-  -- they do, too, where it is refused
-  pub outcome_base : (tells : Option ℕ → Bool → Type 0) (base : List ℕ) (before after : List Sight) (moment : ℕ) (request : Request) (answered : Answered) → IsFamily (map name before)
-      → HaveBase base before → Outcome tells gives before moment request answered after → HaveBase base after × (base_of after ≡ base)
-  outcome_base tells base before after moment request answered f h (inl o) = serves_base base before after (record { moment = moment; request = request; answer = answered.answer }) f h o.1
-  outcome_base tells base before after moment request answered f h (inr o) = subst (Begin base) (sym o.1) (begin_family base before f h)
+-- a turn whose answer has its position, without that
+serves_plain : {C : Type 0} (sight : C → Sight) (covers : C → ℕ → Bool) (gives : Sight → ℕ → Order → Result Told CounterFault → Sight → Type 0)
+    (before after : List Sight) (turn : ConnectionTurn) → ServesOrdered sight covers gives before turn after → Serves gives before (turn_of turn) after
+serves_plain sight covers gives before after turn h = by (member name i before) h where
+  i : ℕ
+  i = names (newest name before) (turn_of turn)
+
+  by : (o : Option Sight)
+      → MatchOption o ((Lacks (turn_of turn) × (turn.answered.position ≡ None)) × (after ≡ before)) (λ s. (t : Sight) × DoesOrdered sight covers gives s turn t × (after ≡ put name i t before))
+      → MatchOption o (Lacks (turn_of turn) × (after ≡ before)) (λ s. (t : Sight) × Does gives s (turn_of turn) t × (after ≡ put name i t before))
+  by None k = (k.0.0, k.1)
+  by (Some s) k = let a = k.1.0 in (k.0, (a.0, a.1, a.2), k.2)
+
+-- the URIs go on to begin so, too, where it is refused
+pub outcome_base : {C : Type 0} (sight : C → Sight) (covers : C → ℕ → Bool) (gives : Sight → ℕ → Order → Result Told CounterFault → Sight → Type 0)
+    (keeps : (before after : Sight) (moment : ℕ) (o : Order) (reply : Result Told CounterFault) → gives before moment o reply after → KeepsHistory before moment o reply after)
+    (tells : Option ℕ → Bool → Type 0) (base : List ℕ) (before after : List Sight) (moment : ℕ) (request : Request) (answered : Answered) → IsFamily (map name before)
+    → HaveBase base before → Outcome tells sight covers gives before moment request answered after → HaveBase base after × (base_of after ≡ base)
+outcome_base sight covers gives keeps tells base before after moment request answered f h (inl o) =
+    let turn : ConnectionTurn = record { request = request; moment = moment; answered = answered } in
+    serves_base gives keeps base before after (turn_of turn) f h (serves_plain sight covers gives before after turn o.1)
+outcome_base sight covers gives keeps tells base before after moment request answered f h (inr o) = subst (Begin base) (sym o.1) (begin_family base before f h)
 
 -- ---- a run
 
@@ -182,7 +199,8 @@ refused : (lacks : Option ℕ → Bool → Type 0) (ss : List Sight) (request : 
 refused lacks ss request answered (inl h) = inl h.answer
 refused lacks ss request answered (inr h) = inr h.1
 
-module _ {K : Type 0} (lacks : Option ℕ → Bool → Type 0) (gives : Sight → ℕ → Order → Result Told CounterFault → Sight → Type 0) (tells : K → ℕ → K → Type 0) where
+module _ {K C : Type 0} (lacks : Option ℕ → Bool → Type 0) (sight : C → Sight) (covers : C → ℕ → Bool)
+    (gives : Sight → ℕ → Order → Result Told CounterFault → Sight → Type 0) (tells : K → ℕ → K → Type 0) where
   -- joins and leaves, and what happens then
   moves_then : (ss us ts : List Sight) (xs ys : List (Event Sight Turn)) → Moves ss xs us → Run name names (Does gives) Lacks us ys ts → Run name names (Does gives) Lacks ss (xs ++ ys) ts
   moves_then ss us ts [] ys h r = subst (λ (vs : List Sight). Run name names (Does gives) Lacks vs ys ts) h r
@@ -195,14 +213,14 @@ module _ {K : Type 0} (lacks : Option ℕ → Bool → Type 0) (gives : Sight �
   Happening ss turns ts = (xs : List (Event Sight Turn)) × Run name names (Does gives) Lacks ss xs ts × AreTurns (turns_of xs) turns
 
   -- a response, and what happens then
-  respond_then : (ss us ts : List Sight) (turn : ConnectionTurn) (turns : List ConnectionTurn) → Responds lacks gives ss turn.moment turn.request turn.answered us → Happening us turns ts
+  respond_then : (ss us ts : List Sight) (turn : ConnectionTurn) (turns : List ConnectionTurn) → Responds lacks sight covers gives ss turn.moment turn.request turn.answered us → Happening us turns ts
       → Happening ss (turn ∷ turns) ts
   respond_then ss us ts turn turns r more = by r.serves where
-    by : Outcome lacks gives r.met turn.moment turn.request turn.answered us → Happening ss (turn ∷ turns) ts
+    by : Outcome lacks sight covers gives r.met turn.moment turn.request turn.answered us → Happening ss (turn ∷ turns) ts
     by (inl h) =
         let ys : List (Event Sight Turn) = OneTurn (turn_of turn) ∷ more.0 in (
           r.moved.0 ++ ys,
-          moves_then ss r.met ts r.moved.0 ys r.moved.1 (us, h.1, more.1),
+          moves_then ss r.met ts r.moved.0 ys r.moved.1 (us, serves_plain sight covers gives r.met us turn h.1, more.1),
           subst (λ (es : List Turn). AreTurns es (turn ∷ turns)) (sym (moves_turns ss r.met r.moved.0 ys r.moved.1)) (inl (turns_of more.0, refl, more.2)),
         )
     by (inr h) = (
@@ -211,11 +229,11 @@ module _ {K : Type 0} (lacks : Option ℕ → Bool → Type 0) (gives : Sight �
       subst (λ (es : List Turn). AreTurns es (turn ∷ turns)) (sym (moves_turns ss r.met r.moved.0 more.0 r.moved.1)) (inr (refused lacks r.met turn.request turn.answered h.0, more.2)),
     )
 
-  pub households_run : HouseholdsRun lacks gives tells
+  pub households_run : HouseholdsRun lacks sight covers gives tells
   households_run ss ts k l [] c = ([], c.0, refl)
   households_run ss ts k l (turn ∷ turns) c = respond_then ss c.0 ts turn turns c.3 (households_run c.0 ts c.1 l turns c.4)
 
-  pub households_rest : HouseholdsRest lacks gives tells
+  pub households_rest : HouseholdsRest lacks sight covers gives tells
   households_rest ss ts k l [] c = ([], c.0, refl)
   households_rest ss ts k l (Some turn ∷ xs) c = respond_then ss c.0 ts turn (turns_in xs) c.3 (households_rest c.0 ts c.1 l xs c.4)
   households_rest ss ts k l (None ∷ xs) c =

@@ -1,5 +1,5 @@
 -- Requests that are put off.
-use Rattle.std.specs.Prelude.{◌≡◌, ◌≢◌, ℕ, Bool, Option, unwrap_or}
+use Rattle.std.specs.Prelude.{◌≡◌, ◌≢◌, ℕ, Bool, Option, Some, None, IsSome, unwrap_or}
 use Rattle.std.proofs.Common.{List, inl, inr, sym, subst}
 use Rattle.lra_wire.specs.Request.{Request}
 use Rattle.lra_commands.specs.Counters.{Sight}
@@ -19,6 +19,16 @@ pub put_off_whose : (tells : Option ℕ → Bool → Type 0) (ss : List Sight) (
     → answered.answer ≢ Denied (Refused refusal.Memory) → answered.instance ≡ unwrap_or (instance_of request) (newest name ss)
 put_off_whose tells ss request answered (inl h) other = h.whose
 put_off_whose tells ss request answered (inr h) other = absurd (other h.1)
+
+none_some : (p : Option ℕ) → p ≡ None → IsSome p → ⊥
+none_some None e h = absurd cc
+none_some (Some n) e h = absurd cc
+
+-- it waits for nothing
+pub put_off_journal : (tells : Option ℕ → Bool → Type 0) (ss : List Sight) (request : Request) (answered : Answered) → IsPutOff tells ss request answered
+    → IsSome answered.position → answered.instance ≡ unwrap_or (instance_of request) (newest name ss)
+put_off_journal tells ss request answered (inl h) some = h.whose
+put_off_journal tells ss request answered (inr h) some = absurd (none_some answered.position h.2 some)
 
 -- an answer that refuses bears no number
 pub put_off_bears : (tells : Option ℕ → Bool → Type 0) (ss : List Sight) (request : Request) (answered : Answered) → IsPutOff tells ss request answered → HasIdentifiers answered.answer

@@ -1,5 +1,5 @@
 -- A family whose members join and leave between its turns, as one that answers.
-use Rattle.std.specs.Prelude.{◌≡◌, ◌≢◌, ◌⊎◌, ℕ, Bool, List, [], ◌∷◌, Option, unwrap_or, Result}
+use Rattle.std.specs.Prelude.{◌≡◌, ◌≢◌, ◌⊎◌, ℕ, Bool, List, [], ◌∷◌, Option, IsSome, unwrap_or, Result}
 use Rattle.std.specs.List.{AllByRecursion}
 use Rattle.lra_wire.specs.Request.{Request}
 use Rattle.lra_commands.specs.declared.command.Told.{Told}
@@ -17,7 +17,7 @@ use Rattle.lra_family.specs.Families.{newest, Joins, Leaves}
 use Rattle.lra_family.specs.Runs.{Event, Run}
 use Rattle.lra_family.specs.Runs.Event.{Turn as OneTurn, Join, Leave}
 use Rattle.lra_family_front.specs.Naming.{instance_of}
-use Rattle.lra_family_front.specs.Serving.{Turn, names, Does, Lacks, Serves}
+use Rattle.lra_family_front.specs.Serving.{Turn, names, Does, Lacks, ServesOrdered, turn_of}
 use Rattle.lra_family_front.specs.Waiting.{IsPutOff, IsRefused, IsSure}
 
 -- the URIs of each member begin so
@@ -44,22 +44,26 @@ Moved before after = (xs : List (Event Sight Turn)) × Moves before xs after
 abbrev pub KeepsBase : List Sight → List Sight → Type 0
 KeepsBase before after = (base : List ℕ) → HaveBase base before → HaveBase base after
 
--- a request is answered as in a family that stays, where it is sure who answers; or it is refused, and reaches none
-abbrev pub Outcome : (Option ℕ → Bool → Type 0) → (Sight → ℕ → Order → Result Told CounterFault → Sight → Type 0) → List Sight → ℕ → Request → Answered → List Sight → Type 0
-Outcome tells gives before moment request answered after =
-    (IsSure tells before request × Serves gives before (record { moment = moment; request = request; answer = answered.answer }) after)
-    ⊎ (IsPutOff tells before request answered × (after ≡ before))
+module _ {C : Type 0} (tells : Option ℕ → Bool → Type 0) (sight : C → Sight) (covers : C → ℕ → Bool)
+    (gives : Sight → ℕ → Order → Result Told CounterFault → Sight → Type 0) where
+  -- a request is answered as in a family that stays, where it is sure who answers; or it is refused, and reaches none
+  abbrev pub Outcome : List Sight → ℕ → Request → Answered → List Sight → Type 0
+  Outcome before moment request answered after =
+      (IsSure tells before request × ServesOrdered sight covers gives before (record { request = request; moment = moment; answered = answered }) after)
+      ⊎ (IsPutOff tells before request answered × (after ≡ before))
 
--- what a request at a moment does: members join and leave, and then it is answered at the one that it names, as in a
--- family that stays; or it is refused, and reaches
--- none, where it is told that the one may still be lacked
-pub record Responds (tells : Option ℕ → Bool → Type 0) (gives : Sight → ℕ → Order → Result Told CounterFault → Sight → Type 0) (before : List Sight) (moment : ℕ) (request : Request) (answered : Answered) (after : List Sight) : Type 0 where
-  pub met : List Sight
-  pub moved : Moved before met
-  pub serves : Outcome tells gives met moment request answered after
-  -- it tells whose the answer is, unless memory was refused
-  pub whose : answered.answer ≢ answer.Denied (denial.Refused refusal.Memory) → answered.instance ≡ unwrap_or (instance_of request) (newest name met)
-  pub base : base_of after ≡ base_of before
+  -- what a request at a moment does: members join and leave, and then it is answered at the one that it names, as in a
+  -- family that stays; or it is refused, and reaches
+  -- none, where it is told that the one may still be lacked
+  pub record Responds (before : List Sight) (moment : ℕ) (request : Request) (answered : Answered) (after : List Sight) : Type 0 where
+    pub met : List Sight
+    pub moved : Moved before met
+    pub serves : Outcome met moment request answered after
+    -- it tells whose the answer is, unless memory was refused
+    pub whose : answered.answer ≢ answer.Denied (denial.Refused refusal.Memory) → answered.instance ≡ unwrap_or (instance_of request) (newest name met)
+    -- a position is one of the journal that it names
+    pub journal : IsSome answered.position → answered.instance ≡ unwrap_or (instance_of request) (newest name met)
+    pub base : base_of after ≡ base_of before
 
 -- what a rest does: members join and leave
 pub record Rests (before after : List Sight) : Type 0 where
@@ -73,23 +77,21 @@ turns_of (OneTurn turn ∷ xs) = turn ∷ turns_of xs
 turns_of (Join s ∷ xs) = turns_of xs
 turns_of (Leave s ∷ xs) = turns_of xs
 
--- a turn of a connection, without whose its answer is
-abbrev pub turn_of : ConnectionTurn → Turn
-turn_of turn = record { moment = turn.moment; request = turn.request; answer = turn.answered.answer }
-
 -- turns of a family are those of a connection, in order, but for some that are refused
 abbrev pub AreTurns : List Turn → List ConnectionTurn → Type 0
 AreTurns es [] = es ≡ []
 AreTurns es (turn ∷ turns) = ((fs : List Turn) × (es ≡ turn_of turn ∷ fs) × AreTurns fs turns) ⊎ (IsRefused turn.answered.answer × AreTurns es turns)
 
--- Requests that a household answers one after another are a run of its family: its turns are these, in order, but for
--- those that are refused while a member may be
--- lacked, and members join and leave between them.
-abbrev pub HouseholdsRun : {K : Type 0} → (Option ℕ → Bool → Type 0) → (Sight → ℕ → Order → Result Told CounterFault → Sight → Type 0) → (K → ℕ → K → Type 0) → Type 0
-HouseholdsRun {K} lacks gives tells = (ss ts : List Sight) (k l : K) (turns : List ConnectionTurn) → Chain (Responds lacks gives) tells ss k turns ts l
-    → (xs : List (Event Sight Turn)) × Run name names (Does gives) Lacks ss xs ts × AreTurns (turns_of xs) turns
+module _ {K C : Type 0} (lacks : Option ℕ → Bool → Type 0) (sight : C → Sight) (covers : C → ℕ → Bool)
+    (gives : Sight → ℕ → Order → Result Told CounterFault → Sight → Type 0) (tells : K → ℕ → K → Type 0) where
+  -- Requests that a household answers one after another are a run of its family: its turns are these, in order, but for
+  -- those that are refused while a member may be
+  -- lacked, and members join and leave between them.
+  abbrev pub HouseholdsRun : Type 0
+  HouseholdsRun = (ss ts : List Sight) (k l : K) (turns : List ConnectionTurn) → Chain (Responds lacks sight covers gives) tells ss k turns ts l
+      → (xs : List (Event Sight Turn)) × Run name names (Does gives) Lacks ss xs ts × AreTurns (turns_of xs) turns
 
--- The same with rests between the requests: of these there are joins and leaves alone.
-abbrev pub HouseholdsRest : {K : Type 0} → (Option ℕ → Bool → Type 0) → (Sight → ℕ → Order → Result Told CounterFault → Sight → Type 0) → (K → ℕ → K → Type 0) → Type 0
-HouseholdsRest {K} lacks gives tells = (ss ts : List Sight) (k l : K) (course : List (Option ConnectionTurn)) → Course (Responds lacks gives) Rests tells ss k course ts l
-    → (xs : List (Event Sight Turn)) × Run name names (Does gives) Lacks ss xs ts × AreTurns (turns_of xs) (turns_in course)
+  -- The same with rests between the requests: of these there are joins and leaves alone.
+  abbrev pub HouseholdsRest : Type 0
+  HouseholdsRest = (ss ts : List Sight) (k l : K) (course : List (Option ConnectionTurn)) → Course (Responds lacks sight covers gives) Rests tells ss k course ts l
+      → (xs : List (Event Sight Turn)) × Run name names (Does gives) Lacks ss xs ts × AreTurns (turns_of xs) (turns_in course)

@@ -1,5 +1,5 @@
 -- What one request does at a family: whose it is, and what is answered.
-use Rattle.std.specs.Prelude.{◌≡◌, ◌⊎◌, ℕ, List, MatchOption, unwrap_or, Result}
+use Rattle.std.specs.Prelude.{◌≡◌, ◌⊎◌, ℕ, Bool, List, None, MatchOption, IfSome, IsTrue, unwrap_or, Result}
 use Rattle.std.specs.Result.{MatchResult}
 use Rattle.lra_commands.specs.declared.command.Told.{Told}
 use Rattle.lra_commands.specs.declared.counter.Order.{Order}
@@ -17,6 +17,8 @@ use Rattle.lra_front.specs.Routes.{operation_of}
 use Rattle.lra_front.specs.Bodies.{body_of}
 use Rattle.lra_front.specs.Wishes.{LacksMemory, no_action, no_member}
 use Rattle.lra_front.specs.Serving.{Responds}
+use Rattle.lra_steps.specs.History.{Turn as ConnectionTurn}
+use Rattle.lra_steps.specs.Positions.{AnswersOrdered}
 use Rattle.lra_family.specs.Counted.{name}
 use Rattle.lra_family.specs.Families.{newest, MovesAt}
 use Rattle.lra_family_front.specs.Naming.{instance_of}
@@ -56,3 +58,23 @@ module _ (gives : Sight → ℕ → Order → Result Told CounterFault → Sight
   -- what a turn does in a family
   abbrev pub Serves : List Sight → Turn → List Sight → Type 0
   Serves before turn after = MovesAt name (names (newest name before) turn) before (λ s t. Does s turn t) (Lacks turn) after
+
+-- a turn of a connection, without whose its answer is and what it rests on
+abbrev pub turn_of : ConnectionTurn → Turn
+turn_of turn = record { moment = turn.moment; request = turn.request; answer = turn.answered.answer }
+
+module _ {C : Type 0} (sight : C → Sight) (covers : C → ℕ → Bool) (gives : Sight → ℕ → Order → Result Told CounterFault → Sight → Type 0) where
+  -- so many bytes of its journal tell of all that a session has seen of which that is known
+  abbrev pub IsCoveredAt : Sight → ℕ → Type 0
+  IsCoveredAt known n = (session : C) × (sight session ≡ known) × IsTrue (covers session n)
+
+  -- what a turn does at its member: what the front does there, and where an order was given the answer has a position, which covers all that the
+  -- member has seen by then
+  abbrev pub DoesOrdered : Sight → ConnectionTurn → Sight → Type 0
+  DoesOrdered before turn after =
+      AnswersOrdered gives before turn.moment turn.request turn.answered after × IfSome turn.answered.position (IsCoveredAt after)
+
+  -- what a turn does in a family; where no journal is there that it names, the answer has no position
+  abbrev pub ServesOrdered : List Sight → ConnectionTurn → List Sight → Type 0
+  ServesOrdered before turn after = MovesAt name (names (newest name before) (turn_of turn)) before
+      (λ s t. DoesOrdered s turn t) (Lacks (turn_of turn) × (turn.answered.position ≡ None)) after

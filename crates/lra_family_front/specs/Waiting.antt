@@ -46,11 +46,12 @@ module _ (tells : Option ℕ → Bool → Type 0) where
     pub told : tells (instance_of request) true
     pub whose : answered.instance ≡ unwrap_or (instance_of request) (newest name ss)
     pub answer : answered.answer ≡ Denied (Refused refusal.Stopped)
+    pub position : answered.position ≡ None
 
   -- memory is refused in reading what it names
   abbrev pub IsUnread : Request → Answered → Type 0
-  IsUnread request answered = LacksMemory request × (answered.answer ≡ Denied (Refused refusal.Memory))
+  IsUnread request answered = LacksMemory request × (answered.answer ≡ Denied (Refused refusal.Memory)) × (answered.position ≡ None)
 
-  -- a request is refused, since what answers it may still be lacked, or since that can't be read
+  -- a request is refused, since what answers it may still be lacked, or since that can't be read: it waits for nothing
   abbrev pub IsPutOff : List Sight → Request → Answered → Type 0
   IsPutOff ss request answered = Lacked ss request answered ⊎ IsUnread request answered

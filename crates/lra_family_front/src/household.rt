@@ -1,6 +1,6 @@
 //! A family whose members join and leave, as one that answers.
 
-ghost use Rattle.std.specs.Prelude.{◌≡◌, ◌≢◌, ℕ, true, false, List, map, unwrap_or, IfErr, IfNone, IfSome, OnErr, OnOk, IsFalse, IsTrue};
+ghost use Rattle.std.specs.Prelude.{◌≡◌, ◌≢◌, ℕ, true, false, List, map, unwrap_or, IfErr, IfNone, IfSome, IsSome, OnErr, OnOk, IsFalse, IsTrue};
 ghost use Rattle.std.proofs.Props.{props};
 ghost use Rattle.lra_family.specs.Counted.{name};
 ghost use Rattle.lra_commands.specs.declared.refusal.Refusal.TheVariants as reason;
@@ -16,9 +16,9 @@ ghost use Rattle.lra_family_front.specs.Waiting.{IsAstray, IsPutOff, IsSure, is_
 
 use crate::naming::instance_of;
 use crate::serving;
-use lra_commands::{Counter, Refusal};
+use lra_commands::{Counter, Refusal, Session};
 use lra_family::Family;
-use lra_front::{Answer, Denial, Operation, Routes};
+use lra_front::{Denial, Operation, Routes};
 use lra_ids::Base;
 use lra_model::Instance;
 use lra_steps::{Answered, Responder};
@@ -27,14 +27,11 @@ use std::alloc::Global;
 
 /// Who tells which counters are in a family by now.
 pub trait Kinship<C: Counter + Drop> {
-    ghost use Rattle.std.specs.Prelude.{ℕ, Bool, false, Option, IsFalse, IsTrue};
+    ghost use Rattle.std.specs.Prelude.{ℕ, Bool, false, Option, IsFalse};
     ghost use Rattle.lra_family_front.specs.Households.{KeepsBase, Moved};
 
     // What it may tell of what names an instance, or none.
     ghost tells: { Option ℕ → Bool → Type 0 };
-
-    // Whether the first so many bytes that were appended to the journals tell of all that the family has told.
-    ghost covers: { Self → ℕ → Bool };
 
     /// Has counters join that are newer than all, and others leave. Where memory for one is refused, that one may join at another look.
     fn look(&mut self, family: &mut Family<C>)
@@ -49,11 +46,6 @@ pub trait Kinship<C: Counter + Drop> {
     /// answered yet.
     fn lacks(&self, named: Option<Instance>) -> bool
         ensures { tells named result };
-
-    /// Returns the position of all that the family has told, by the one count of bytes that its journals share. This
-    /// takes no memory.
-    fn position(&self) -> u64
-        ensures { IsTrue (covers self.now result) };
 }
 
 /// The newest counter of a family.
@@ -127,16 +119,6 @@ fn is_lacked<C: Counter + Drop, K: Kinship<C>>(
     }
 }
 
-/// The answer of an instance that refuses a request.
-fn refused(instance: Instance, refusal: Refusal) -> Answered
-    ensures { result ≡ record { instance = instance; answer = answer.Denied (denial.Refused refusal) } }
-{
-    Answered {
-        instance,
-        answer: Answer::Denied(Denial::Refused(refusal)),
-    }
-}
-
 /// What a request is answered that can't be answered yet, where that is the newest: it is refused, and reaches no
 /// member.
 fn put_off<C: Counter + Drop, K: Kinship<C>>(
@@ -155,18 +137,21 @@ fn put_off<C: Counter + Drop, K: Kinship<C>>(
         return None;
     }
     let Ok(named) = instance_of(alloc, routes, request) else {
-        return Some(refused(newest, Refusal::Memory));
+        return Some(Answered::denied(newest, Denial::Refused(Refusal::Memory)));
     };
     if !is_lacked(family, kinship, starts(routes, request), &named) {
         return None;
     }
-    Some(refused(named.unwrap_or(newest), Refusal::Stopped))
+    Some(Answered::denied(
+        named.unwrap_or(newest),
+        Denial::Refused(Refusal::Stopped),
+    ))
 }
 
 /// Answers a request at a moment, as it is answered in a family that stays; or refuses it, and reaches no member, where
 /// the one that would answer may be lacked.
-#[tactic(auto, using(crate::proofs::Waiting::put_off_whose, crate::proofs::Waiting::put_off_bears))]
-fn respond_at<C: Counter + Drop, K: Kinship<C>>(
+#[tactic(auto, using(crate::proofs::Waiting::put_off_whose, crate::proofs::Waiting::put_off_journal, crate::proofs::Waiting::put_off_bears))]
+fn respond_at<C: Session + Drop, K: Kinship<C>>(
     alloc: Global,
     routes: &Routes,
     family: &mut Family<C>,
@@ -174,8 +159,10 @@ fn respond_at<C: Counter + Drop, K: Kinship<C>>(
     moment: u64,
     request: &RequestRead,
 ) -> Answered
-    ensures serves { Outcome K.tells C.gives family.old moment (request_of request.now) result family.new }
+    ensures serves { Outcome K.tells C.sight C.covers C.gives family.old moment (request_of request.now) result family.new }
     ensures instance { result.answer ≢ answer.Denied (denial.Refused reason.Memory)
+        → result.instance ≡ unwrap_or (spec_instance_of (request_of request.now)) (spec.newest name family.old) }
+    ensures journal { IsSome result.position
         → result.instance ≡ unwrap_or (spec_instance_of (request_of request.now)) (spec.newest name family.old) }
     ensures identifiers { HasIdentifiers result.answer }
     ensures family { spec.IsFamily (map name family.old) }
@@ -213,7 +200,7 @@ impl<C: Counter + Drop, K: Kinship<C>> Household<C, K> {
     }
 }
 
-impl<C: Counter + Drop, K: Kinship<C>> Responder for Household<C, K> {
+impl<C: Session + Drop, K: Kinship<C>> Responder for Household<C, K> {
     ghost use Rattle.std.specs.Prelude.{◌≡◌, List};
     ghost use Rattle.lra_commands.specs.Counters.{Sight};
     ghost use Rattle.lra_family_front.specs.Households.{base_of as base_of_family, Responds, Rests};
@@ -222,11 +209,9 @@ impl<C: Counter + Drop, K: Kinship<C>> Responder for Household<C, K> {
 
     ghost sight = { λ h. h.family };
 
-    ghost covers = { λ h n. K.covers h.kinship n };
-
     ghost base_of = { base_of_family };
 
-    ghost responds = { Responds K.tells C.gives };
+    ghost responds = { Responds K.tells C.sight C.covers C.gives };
 
     ghost rests = { Rests };
 
@@ -236,10 +221,6 @@ impl<C: Counter + Drop, K: Kinship<C>> Responder for Household<C, K> {
 
     fn instance(&self) -> Instance {
         self.family.newest()
-    }
-
-    fn position(&self) -> u64 {
-        self.kinship.position()
     }
 
     fn respond(

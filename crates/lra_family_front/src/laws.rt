@@ -7,7 +7,7 @@ ghost use Rattle.lra_family_front.specs.Households.{HouseholdsRest, HouseholdsRu
 ghost use Rattle.lra_family_front.specs.Serving.{names, Does, Lacks};
 
 use crate::household::Kinship;
-use lra_commands::Counter;
+use lra_commands::{Counter, Session};
 use lra_front::Clock;
 
 /// A request names the instance whose identifier stands in its path, and a start that of its parent.
@@ -37,7 +37,7 @@ pub fn each_member_answers_its_own<C: Counter>()
 /// Requests that a household answers one after another are turns of a run of its family, with joins and leaves between them: so what is known of such
 /// runs is known of the members of a household. A request that is refused while a member may be lacked is no turn of
 /// the run. Rests between the requests add joins and leaves alone.
-pub fn households_are_families<C: Counter + Drop, H: Kinship<C>, K: Clock>()
-    ensures runs { HouseholdsRun H.tells C.gives K.tells }
-    ensures rests { HouseholdsRest H.tells C.gives K.tells }
+pub fn households_are_families<C: Session + Drop, H: Kinship<C>, K: Clock>()
+    ensures runs { HouseholdsRun H.tells C.sight C.covers C.gives K.tells }
+    ensures rests { HouseholdsRest H.tells C.sight C.covers C.gives K.tells }
 {}

@@ -1,5 +1,5 @@
 -- What one request does: what is given to the counter, and what is answered.
-use Rattle.std.specs.Prelude.{◌≡◌, ℕ, Result, Ok, Err}
+use Rattle.std.specs.Prelude.{◌≡◌, ℕ, Bool, is_ok, Result, Ok, Err}
 use Rattle.lra_wire.specs.Request.{Request}
 use Rattle.lra_commands.specs.declared.command.Told.{Told}
 use Rattle.lra_commands.specs.declared.command.Told.TheVariants as told
@@ -56,3 +56,8 @@ module _ (gives : Sight → ℕ → Order → Result Told CounterFault → Sight
   abbrev pub Responds : Sight → ℕ → Request → Sight → Answer → Type 0
   Responds before moment request after a =
       (w : Result Wish Denial) × MayAsk before.setting.instance before.setting.base request w × Does before moment w after a
+
+  -- the same, and whether an order was given: it was for what may be asked, and wasn't for what is denied
+  abbrev pub Orders : Sight → ℕ → Request → Sight → Answer → Bool → Type 0
+  Orders before moment request after a is_ordered = (w : Result Wish Denial)
+      × MayAsk before.setting.instance before.setting.base request w × Does before moment w after a × (is_ordered ≡ is_ok w)

@@ -2,7 +2,7 @@
 
 ghost use Rattle.lra_wire.specs.Request.{request_of};
 ghost use Rattle.lra_front.specs.Replies.{HasIdentifiers};
-ghost use Rattle.lra_front.specs.Serving.{Answers, Responds, TellsOf};
+ghost use Rattle.lra_front.specs.Serving.{Answers, Orders, Responds, TellsOf};
 ghost use Rattle.lra_front.specs.inner.Tellable.{IsAnswerable, IsTellable};
 
 use crate::answer::Answer;
@@ -64,12 +64,28 @@ impl Routes {
         // Its numbers are those that identifiers can have.
         ensures identifiers { HasIdentifiers result }
     {
+        let (answer, _) = self.respond_ordered(alloc, counter, moment, request);
+        answer
+    }
+
+    /// Answers a request at a moment as `respond` does, and returns also whether the counter was given an order.
+    pub fn respond_ordered<C: Counter>(
+        &self,
+        alloc: Global,
+        counter: &mut C,
+        moment: u64,
+        request: &RequestRead,
+    ) -> (Answer, bool)
+        ensures orders { Orders C.gives (C.sight counter.old) moment (request_of request.now)
+            (C.sight counter.new) result.0 result.1 }
+        ensures identifiers { HasIdentifiers result.0 }
+    {
         match self.wish(alloc, counter.instance(), counter.base(), request) {
             Ok(wish) => {
                 let reply = counter.give(moment, &wish.order());
-                answer(&wish, reply)
+                (answer(&wish, reply), true)
             }
-            Err(denial) => Answer::Denied(denial),
+            Err(denial) => (Answer::Denied(denial), false),
         }
     }
 }

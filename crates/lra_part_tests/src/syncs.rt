@@ -1,11 +1,11 @@
 //! Tests of what is taken down of syncs.
 
-use lra_syncs::{Syncs, Timed, begin, end};
+use lra_storage::{Syncs, Timed, begin, end};
 use std::alloc::Global;
 use std::sync::Arc;
 
-/// Syncs after which so many writes are kept in all.
-const KEPT: [u64; 6] = [0, 1, 1, 3, 8, 1_009];
+/// Syncs that keep so many writes.
+const KEPT: [u64; 6] = [0, 1, 0, 2, 5, 1_001];
 
 /// The syncs that are taken down, as how many of them kept up to 1, 2, 5, 1,000 and more writes, and how many writes that were.
 fn taken_down<R: Timed>(rt: &R, alloc: Global) -> Option<[u64; 6]> {

@@ -1,5 +1,5 @@
 -- Whoever answers, asked what each request means.
-use Rattle.std.specs.Prelude.{◌≡◌, ◌⊎◌, ℕ, Bool, ◌&&◌, List, IsTrue, IsFalse}
+use Rattle.std.specs.Prelude.{◌≡◌, ◌⊎◌, ℕ, Bool, ◌&&◌, List, None, IsTrue, IsFalse}
 use Rattle.lra_wire.specs.Request.{Request}
 use Rattle.lra_commands.specs.declared.refusal.Refusal.TheVariants as refusal
 use Rattle.lra_front.specs.declared.denial.Denial.TheVariants as denial
@@ -25,6 +25,7 @@ module _ {S : Type 0} (base_of : S → List ℕ) (responds : S → ℕ → Reque
   pub record Refuses (before : Served S) (request : Request) (answered : Answered) (after : S) : Type 0 where
     pub lacks : LacksMemory (base_of before.inner) before.olders request
     pub answer : answered.answer ≡ answer.Denied (denial.Refused refusal.Memory)
+    pub position : answered.position ≡ None
     pub unchanged : after ≡ before.inner
 
   -- a request is kept out: its target isn't behind the path of the base, and requests are let in by that alone
@@ -34,6 +35,7 @@ module _ {S : Type 0} (base_of : S → List ℕ) (responds : S → ℕ → Reque
   -- it is answered as one to a path that there isn't, and nothing was done
   pub record Denies (before : Served S) (answered : Answered) (after : S) : Type 0 where
     pub answer : answered.answer ≡ answer.Denied denial.NoSuchPath
+    pub position : answered.position ≡ None
     pub unchanged : after ≡ before.inner
 
   -- What a request at a moment does: it is kept out; or what the one does that it means, unless memory was refused in making that. The older bases stay.

@@ -5,7 +5,7 @@ ghost use Rattle.std.specs.Prelude.{◌≡◌};
 use crate::paths::is_outside;
 use crate::requests::other_request;
 use lra_commands::Refusal;
-use lra_front::{Answer, Denial, Routes};
+use lra_front::{Denial, Routes};
 use lra_ids::{Base, Instance};
 use lra_steps::{Answered, Responder};
 use lra_wire::RequestRead;
@@ -56,8 +56,6 @@ impl<A: Responder> Responder for Proxied<A> {
 
     ghost sight = { λ p. record { inner = A.sight p.inner; olders = p.olders.items; is_strict = p.is_strict } };
 
-    ghost covers = { λ p n. A.covers p.inner n };
-
     ghost base_of = { λ s. A.base_of s.inner };
 
     ghost responds = { Responds A.base_of A.responds };
@@ -72,10 +70,6 @@ impl<A: Responder> Responder for Proxied<A> {
         self.inner.instance()
     }
 
-    fn position(&self) -> u64 {
-        self.inner.position()
-    }
-
     fn respond(
         &mut self,
         alloc: Global,
@@ -85,10 +79,7 @@ impl<A: Responder> Responder for Proxied<A> {
     ) -> Answered {
         let base = self.inner.base();
         if self.is_strict && is_outside(base.as_str(), request.target.as_str()) {
-            return Answered {
-                instance: self.inner.instance(),
-                answer: Answer::Denied(Denial::NoSuchPath),
-            };
+            return Answered::denied(self.inner.instance(), Denial::NoSuchPath);
         }
         match other_request(alloc, routes, base, self.olders.as_slice(), request) {
             Ok(Some(meant)) => {
@@ -97,10 +88,9 @@ impl<A: Responder> Responder for Proxied<A> {
                 answered
             }
             Ok(None) => self.inner.respond(alloc, routes, moment, request),
-            Err(_) => Answered {
-                instance: self.inner.instance(),
-                answer: Answer::Denied(Denial::Refused(Refusal::Memory)),
-            },
+            Err(_) => {
+                Answered::denied(self.inner.instance(), Denial::Refused(Refusal::Memory))
+            }
         }
     }
 

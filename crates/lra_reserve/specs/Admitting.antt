@@ -53,9 +53,10 @@ module _ (tells : Option ℕ → Option ℕ → Type 0) where
   abbrev pub IsUnread : Request → Answered → Type 0
   IsUnread request answered = LacksMemory request × (answered.answer ≡ Denied (Refused refusal.Memory))
 
-  -- a request that begins something is turned away
+  -- a request that begins something is turned away, and waits for nothing
   abbrev pub IsTurnedAway : Request → Answered → Type 0
-  IsTurnedAway request answered = (begins request ≡ true) × (IsFull request answered ⊎ IsUnread request answered)
+  IsTurnedAway request answered = (begins request ≡ true) × (answered.position ≡ None)
+      × (IsFull request answered ⊎ IsUnread request answered)
 
 module _ {S : Type 0} (responds : S → ℕ → Request → Answered → S → Type 0) (tells : Option ℕ → Option ℕ → Type 0) where
   -- what a request at a moment does: where it is let through what it does without, and else nothing

@@ -8,7 +8,7 @@ ghost use Rattle.lra_reserve.specs.Admitting as spec;
 use crate::reserve::Reserve;
 use lra_commands::{Refusal, Resource};
 use lra_family_front::instance_of;
-use lra_front::{Answer, Denial, Operation, Routes};
+use lra_front::{Denial, Operation, Routes};
 use lra_ids::Base;
 use lra_model::Instance;
 use lra_steps::{Answered, Responder};
@@ -73,10 +73,7 @@ impl<A: Responder, K: Reserve> Reserved<A, K> {
             ),
             Err(_) => (self.inner.instance(), Refusal::Memory),
         };
-        Some(Answered {
-            instance,
-            answer: Answer::Denied(Denial::Refused(refusal)),
-        })
+        Some(Answered::denied(instance, Denial::Refused(refusal)))
     }
 }
 
@@ -87,8 +84,6 @@ impl<A: Responder, K: Reserve> Responder for Reserved<A, K> {
     ghost State = { A.State };
 
     ghost sight = { λ r. A.sight r.inner };
-
-    ghost covers = { λ r n. A.covers r.inner n };
 
     ghost base_of = { A.base_of };
 
@@ -102,10 +97,6 @@ impl<A: Responder, K: Reserve> Responder for Reserved<A, K> {
 
     fn instance(&self) -> Instance {
         self.inner.instance()
-    }
-
-    fn position(&self) -> u64 {
-        self.inner.position()
     }
 
     fn respond(

@@ -1,11 +1,11 @@
 //! How a folder is served, beside its settings.
 
 use lra_branch::Clerkship;
-use lra_fence::Fence;
 use lra_journal_folder::{Contents, Folder, RollingFault};
 use lra_model::Instance;
 use lra_opening::ServeFault;
 use lra_roster::Watch;
+use lra_storage::Fence;
 use std::fs::File;
 use std::rt::Files;
 use std::sync::Arc;

@@ -16,6 +16,7 @@ use lra_admission::KeyFiles;
 use lra_audits::RunFault;
 use lra_branch::Clerkship;
 use lra_clocks::milliseconds;
+use lra_durable::SyncGroup;
 use lra_folders::stray_line;
 use lra_ids::Base;
 use lra_journal_folder::{Contents, Folder, GivenUp, RollingFault, Sound, Unsound, audit_all};
@@ -30,7 +31,7 @@ use lra_service::{
     site_at,
 };
 use lra_settings::{Settings, taken_by_folder};
-use lra_shelf::Shelf;
+use lra_storage::Storage;
 use lra_watchpost::{Tallies, Watchpost};
 use std::alloc::{AllocError, Global};
 use std::fs::File;
@@ -172,7 +173,7 @@ impl<
     /// Who makes the next journals ready.
     fn maker<O: Opener + Drop>(
         &self,
-        shelf: &'a Arc<Shelf>,
+        storage: &'a Storage,
         opener: O,
         contents: &Contents,
         moment: u64,
@@ -184,7 +185,7 @@ impl<
         let maker = Maker {
             rt: self.rt,
             alloc: self.alloc,
-            shelf,
+            storage,
             opener,
             folder: self.folder,
             site: u16::try_from(self.settings.site).unwrap_or(u16::MAX),
@@ -284,7 +285,7 @@ impl<
     /// Says that it serves, and serves until none can come any more.
     fn serve_roster<O: Opener<Branch = B> + Send + Drop, B: Clerkship + Send + Drop, W: Write>(
         &self,
-        shelf: &'a Arc<Shelf>,
+        storage: &'a Storage,
         steward: Steward<'a, R, O, B>,
         roster: &Roster<B>,
         door: Doorway,
@@ -302,7 +303,7 @@ impl<
             self.herald,
             &self.settings,
             self.terms,
-            shelf,
+            storage,
             &ending,
             roster,
             line,
@@ -318,14 +319,15 @@ impl<
             drop(ending);
             return Err(RollingFault::Here(fault));
         }
-        if !shelf.is_own() {
+        let journals = storage.journals();
+        if !storage.is_own() {
             // Whichever thread saw it first, and ended all.
-            shelf.fail(self.rt);
+            journals.fail(self.rt);
             self.herald.tell("lra: the fence is another's now: nothing is written any more\n");
-        } else if shelf.progress().has_failed(self.rt) {
+        } else if journals.has_failed(self.rt) {
             self.herald.note(&Event::SyncFailed);
         }
-        let end = end_of(self.rt, shelf.progress(), &ending);
+        let end = end_of(self.rt, journals, &ending);
         drop(ending);
         match end {
             Ok(_) => Ok(FolderServed::Ended),
@@ -333,7 +335,7 @@ impl<
         }
     }
 
-    /// The same, of journals that were found sound, with those on a shelf.
+    /// The same, of journals that were found sound, in a storage.
     fn serve_on<
         O: Opener<Branch = B> + Send + Drop,
         B: Clerkship + Send + Drop,
@@ -341,7 +343,7 @@ impl<
         W: Write,
     >(
         &self,
-        shelf: &'a Arc<Shelf>,
+        storage: &'a Storage,
         opener: O,
         contents: &Contents,
         sounds: Vec<Sound>,
@@ -354,7 +356,7 @@ impl<
             return Err(RollingFault::Here(ServeFault::Address));
         };
         let moment = now.max(latest(&sounds));
-        let mut maker = self.maker(shelf, opener, contents, now)?;
+        let mut maker = self.maker(storage, opener, contents, now)?;
         let Entry { listener, input } = entry;
         let listener = listener_at(self.rt, self.site.socket.as_str(), listener)?;
         self.folder.clear(contents)?;
@@ -365,7 +367,7 @@ impl<
         let roster = self.roster(&watches)?;
         let door = make_doorway(self.rt, self.alloc, listener, input)?;
         let steward = self.steward(maker, watches);
-        self.serve_roster(shelf, steward, &roster, door, moment, writer)
+        self.serve_roster(storage, steward, &roster, door, moment, writer)
     }
 
     /// Tells that identifiers begin otherwise than they did, if what they began with is a base.
@@ -479,7 +481,7 @@ pub fn serve_folder<
         tallies: Tallies::new(alloc, operators, settings.sync_seconds)?,
         notes: notes_of(&folder, operators.is_some(), given_up.as_slice())?,
     };
-    let Ok(shelf) = Shelf::open(alloc, tower.tallies.syncs(), conduct.fence) else {
+    let Ok(storage) = Storage::new(alloc, tower.tallies.syncs(), conduct.fence) else {
         return Err(RollingFault::Here(ServeFault::Run(RunFault::Memory)));
     };
     let service = Service {
@@ -504,11 +506,11 @@ pub fn serve_folder<
             let opener = Bench {
                 rt,
                 alloc,
-                shelf: &shelf,
+                storage: &storage,
                 base: &site.base,
                 limits: limits_of(&settings),
             };
-            service.serve_on(&shelf, opener, &contents, sounds, entry, writer)
+            service.serve_on(&storage, opener, &contents, sounds, entry, writer)
         }
     }
 }

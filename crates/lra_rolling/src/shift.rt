@@ -8,7 +8,7 @@ use lra_admission::KeyFiles;
 use lra_branch::Clerkship;
 use lra_callbacks::{Callbacks, Names, Share};
 use lra_clocks::{Clock, SystemClock};
-use lra_durable::Progress;
+use lra_durable::{Journals, SyncGroup};
 use lra_family_front::Household;
 use lra_logs::{Event, Journalist};
 use lra_model::Instance;
@@ -21,7 +21,7 @@ use lra_service::{
     lose_callback_worker, lose_worker, receive, share_of, times_of,
 };
 use lra_settings::Settings;
-use lra_shelf::{Shelf, ShelfDisk};
+use lra_storage::{FileDisk, Storage};
 use lra_watchpost::{CountedCarriage, attend};
 use lra_workers::{Gate, Go, WorkerEnd};
 use mio::Poll;
@@ -79,7 +79,7 @@ pub(crate) struct Shift<'s, 'a, R: Wait, H, B> {
     latch: Latch,
     /// Whether the thread that was wanted last couldn't be started.
     is_refused: AtomicBool,
-    pub(crate) shelf: &'a Arc<Shelf>,
+    pub(crate) storage: &'a Storage,
     pub(crate) ending: &'s Arc<Ending>,
     pub(crate) roster: &'s Roster<B>,
     /// By which terms requests are taken.
@@ -106,7 +106,7 @@ pub(crate) struct Shift<'s, 'a, R: Wait, H, B> {
 /// What one who carries for a journal is let do: as at a file's, until the journal is put away.
 #[derive(Drop)]
 struct JournalGate<'a, R: Wait, B, J> {
-    gate: CarrierGate<'a, R, ShelfDisk, J>,
+    gate: CarrierGate<'a, R, Journals<FileDisk>, J>,
     journal: &'a Journal<B>,
 }
 
@@ -138,7 +138,7 @@ impl<'s, 'a: 's, R: Wait + time::Clock, H, B> Shift<'s, 'a, R, H, B> {
         herald: &'s H,
         settings: &Settings,
         terms: Terms<'s>,
-        shelf: &'a Arc<Shelf>,
+        storage: &'a Storage,
         ending: &'s Arc<Ending>,
         roster: &'s Roster<B>,
         line: Line,
@@ -156,7 +156,7 @@ impl<'s, 'a: 's, R: Wait + time::Clock, H, B> Shift<'s, 'a, R, H, B> {
             door: Entrance::new(rt, line, ending, arrivals),
             latch: Latch::new(),
             is_refused: AtomicBool::new(false),
-            shelf,
+            storage,
             ending,
             roster,
             terms,
@@ -184,18 +184,17 @@ impl<'s, 'a: 's, R: Wait + time::Clock, H, B> Shift<'s, 'a, R, H, B> {
 
     /// Whether the disk has failed.
     pub(crate) fn has_failed(&self) -> bool {
-        self.progress().has_failed(self.rt)
+        self.journals().has_failed(self.rt)
     }
 
-    /// Has all that was written synced. Returns whether it is durable.
+    /// Syncs all that was written. Returns whether it is durable.
     pub(crate) fn keep(&self) -> bool {
-        let taken = self.progress().taken(self.rt);
-        matches!(self.progress().keep(self.rt, taken), Ok(Some(_)))
+        matches!(self.journals().keep_all(self.rt), Ok(true))
     }
 
-    /// What the journals' files have taken and keep.
-    pub(crate) fn progress(&self) -> &Progress<ShelfDisk> {
-        self.shelf.progress()
+    /// Returns the journals that are synced as one group.
+    pub(crate) fn journals(&self) -> &Journals<FileDisk> {
+        self.storage.journals()
     }
 
     /// The clock of one of the threads.
@@ -229,7 +228,7 @@ impl<
 
     /// Answers the connections that come in there.
     fn answer_at(&self, arrivals: &Arrivals) {
-        let mut kin = Kin::new(self.rt, self.alloc, self.roster, self.shelf, self.clock());
+        let mut kin = Kin::new(self.rt, self.alloc, self.roster, self.clock());
         let Some(family) = kin.begin(self.alloc) else {
             self.herald.tell("lra: a thread that answered has ended: no clerk could be enrolled\n");
             self.herald.note(&Event::ThreadEnded);
@@ -251,7 +250,7 @@ impl<
         let rounds = Rounds::new(
             self.rt,
             self.alloc,
-            self.progress(),
+            self.journals(),
             arrivals,
             &self.crier.bells,
             self.most,
@@ -288,13 +287,14 @@ impl<
         &'b self,
         journal: &'b Journal<B>,
         poll: Poll,
-    ) -> Result<Callbacks<'b, R, ShelfDisk>, Poll>
+    ) -> Result<Callbacks<'b, R, Journals<FileDisk>>, Poll>
         ensures { IfOk result (λ made. made ≡ []) }
     {
         Callbacks::new(
             self.rt,
             self.alloc,
-            self.progress(),
+            self.journals(),
+            journal.instance,
             &self.names,
             self.terms.rules,
             poll,
@@ -313,7 +313,7 @@ impl<
         journal: &'b Journal<B>,
         poll: Poll,
         gate: &mut JournalGate<'_, R, B, H>,
-    ) -> Option<Callbacks<'b, R, ShelfDisk>>
+    ) -> Option<Callbacks<'b, R, Journals<FileDisk>>>
         ensures { IfSome result (λ made. made ≡ []) }
     {
         let mut poll = poll;
@@ -351,7 +351,7 @@ impl<
             gate: CarrierGate::new(
                 self.rt,
                 self.ending,
-                self.progress(),
+                self.journals(),
                 &journal.stall.under_way,
                 &self.tower.tallies,
                 self.herald,
@@ -396,7 +396,7 @@ impl<
 
     /// Tells why the one who carried for a journal has ended, unless the disk has failed: then the program ends, and says so.
     fn tell_end(&self, end: WorkerEnd, journal: Instance) {
-        if !self.progress().has_failed(self.rt) {
+        if !self.has_failed() {
             let tallies = &self.tower.tallies;
             lose_callback_worker(self.alloc, self.herald, tallies, end, Some(journal));
         }

@@ -6,7 +6,7 @@ use lra_commands::{Known, Query};
 use lra_model::{Instance, Memory};
 use lra_outcomes::Outcomes;
 use lra_service::Stall;
-use lra_shelf::Leaf;
+use lra_storage::JournalFile;
 use mio::Waker;
 use std::alloc::Global;
 use std::net::Net;
@@ -17,7 +17,7 @@ use std::sync::{Arc, Mutex, Wait};
 #[derive(Drop)]
 pub struct Journal<B> {
     pub instance: Instance,
-    pub leaf: Arc<Leaf>,
+    pub file: Arc<JournalFile>,
     /// How many entries it had when it was opened.
     entries: u64,
     /// From this clerk each thread has its own.
@@ -41,26 +41,26 @@ impl<B: Clerkship + Drop> Journal<B> {
     pub fn new<R: Net>(
         rt: &R,
         alloc: Global,
-        leaf: Arc<Leaf>,
+        file: Arc<JournalFile>,
         entries: u64,
         branch: B,
     ) -> Result<Journal<B>, Memory> {
         let instance = branch.instance();
         let Some((stall, bell)) = Stall::new(rt) else {
-            drop(leaf);
+            drop(file);
             drop(branch);
             return Err(Memory);
         };
         let mut bells = Vec::new(alloc);
         if bells.push(bell).is_err() {
-            drop(leaf);
+            drop(file);
             drop(branch);
             drop(stall);
             return Err(Memory);
         }
         Ok(Journal {
             instance,
-            leaf,
+            file,
             entries,
             branch: Mutex::new(Some(branch)),
             stall,
@@ -102,12 +102,12 @@ impl<B: Clerkship + Drop> Journal<B> {
 impl<B: Drop> Journal<B> {
     /// How many bytes it has.
     pub fn bytes(&self) -> u64 {
-        self.leaf.bytes()
+        self.file.bytes()
     }
 
     /// How many entries it has.
     pub fn count_entries(&self) -> u64 {
-        self.entries.saturating_add(self.leaf.entries())
+        self.entries.saturating_add(self.file.entries())
     }
 
     /// Wakes who carries.

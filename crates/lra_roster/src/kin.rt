@@ -10,7 +10,6 @@ use lra_clocks::{Clock, SystemClock};
 use lra_family::Family;
 use lra_family_front::{Kinship, admit, dismiss};
 use lra_model::Instance;
-use lra_shelf::Shelf;
 use std::alloc::Global;
 use std::sync::{Arc, Wait};
 use std::time;
@@ -20,8 +19,6 @@ use std::time;
 pub struct Kin<'s, 'a, R: Wait, B> {
     rt: &'a R,
     roster: &'s Roster<B>,
-    /// The journals' files, whose writes are counted together.
-    shelf: &'s Arc<Shelf>,
     /// Those that are in the family.
     mine: Vec<Instance>,
     /// The roster's version that the family is known to be of.
@@ -37,13 +34,11 @@ impl<'s, 'a, R: Wait, B> Kin<'s, 'a, R, B> {
         rt: &'a R,
         alloc: Global,
         roster: &'s Roster<B>,
-        shelf: &'s Arc<Shelf>,
         clock: SystemClock<'a, R>,
     ) -> Kin<'s, 'a, R, B> {
         Kin {
             rt,
             roster,
-            shelf,
             mine: Vec::new(alloc),
             seen: 0,
             is_behind: false,
@@ -156,13 +151,8 @@ impl<R: Wait + time::Clock, B: Clerkship + Drop> Kin<'_, '_, R, B> {
 }
 
 impl<R: Wait + time::Clock, B: Clerkship + Drop> Kinship<B> for Kin<'_, '_, R, B> {
-    ghost use Rattle.std.specs.Prelude.{true};
-
     // Journals come and go whenever they like: nothing is known of what is told.
     ghost tells = { λ named lacks. Unit {0} };
-
-    // Nothing is known of the system's files.
-    ghost covers = { λ _ _. true };
 
     #[tactic(auto, using(crate::proofs::Grows::moved_none, crate::proofs::Grows::moved_on, crate::proofs::Grows::keeps_none, crate::proofs::Grows::keeps_on))]
     fn look(&mut self, family: &mut Family<B>) {
@@ -183,10 +173,5 @@ impl<R: Wait + time::Clock, B: Clerkship + Drop> Kinship<B> for Kin<'_, '_, R, B
             Some(instance) => self.roster.lacks(instance, self.seen),
             None => self.is_behind,
         }
-    }
-
-    /// Returns how many writes the files have taken, of whichever journal.
-    fn position(&self) -> u64 {
-        self.shelf.progress().taken(self.rt)
     }
 }

@@ -65,7 +65,7 @@ impl<B: Drop> Watch<B> {
     /// Has nothing more written to its journal, where that has as many bytes as it was judged by. Returns whether that
     /// is so.
     pub fn close(&self) -> bool {
-        self.journal.leaf.close_at(self.bytes)
+        self.journal.file.close_at(self.bytes)
     }
 
     /// The journal.

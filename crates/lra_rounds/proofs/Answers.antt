@@ -10,6 +10,9 @@ use Rattle.lra_steps.specs.History.{History, Turn}
 use Rattle.lra_steps.specs.Steps.{StepsTo, Tells}
 use Rattle.lra_steps.specs.Pieces.{Answers, Chain, Course}
 use Rattle.lra_rounds.specs.Answered.{AnsweredWithRests, AnswersOf}
+use Rattle.lra_rounds.specs.declared.positions.Positions.{Positions}
+use Rattle.lra_rounds.specs.inner.Noting.{KeepsNoted, Notes}
+use Rattle.lra_rounds.proofs.Noted.{keeps_on, keeps_one, keeps_same}
 use Rattle.lra_rounds.specs.inner.Stretches.{AnsweredSome, MayRest}
 
 -- what a step, or an answer without its turn, leaves as it was
@@ -93,26 +96,37 @@ module _ {S K : Type 0} (base_of : S → List ℕ) (responds : S → ℕ → Req
     base = s.base;
   }
 
+  -- what is answered, with the positions that are noted of it
+  abbrev pub Noting : History → History → S → K → S → K → Positions → Positions → Type 0
+  Noting old new v k w l before after = AnswersOf base_of responds tells old new v k w l × KeepsNoted old.turns new.turns before after
+
+  pub noting_none : (h : History) (v : S) (k : K) (ps : Positions) → Noting h h v k v k ps ps
+  noting_none h v k ps = (answers_none h v k, keeps_same ps h.turns h.turns refl)
+
+  pub noting_on : (h g f : History) (v w x : S) (k l m : K) (before mid after : Positions) → Noting h g v k w l before mid → Noting g f w l x m mid after → Noting h f v k x m before after
+  noting_on h g f v w x k l m before mid after a b =
+      (answers_on h g f v w x k l m a.0 b.0, keeps_on before mid after h.turns g.turns f.turns a.1 b.1)
+
   -- a step answers none
-  pub answers_step : (step : Step) (old new : History) (v : S) (k : K) → StepsTo step old new → AnswersOf base_of responds tells old new v k v k
-  answers_step step old new v k s = answers_still old new v k (steps_stay step old new s)
+  pub noting_step : (step : Step) (old new : History) (v : S) (k : K) (ps : Positions) → StepsTo step old new → Noting old new v k v k ps ps
+  noting_step step old new v k ps s = let stay = steps_stay step old new s in (answers_still old new v k stay, keeps_same ps old.turns new.turns stay.turns)
 
   -- nor does one for which memory is refused
-  pub answers_same : (old new : History) (v : S) (k : K) → new ≡ old → AnswersOf base_of responds tells old new v k v k
-  answers_same old new v k e = answers_still old new v k (stays_same old new e)
+  pub noting_same : (old new : History) (v : S) (k : K) (ps : Positions) → new ≡ old → Noting old new v k v k ps ps
+  noting_same old new v k ps e = let stay = stays_same old new e in (answers_still old new v k stay, keeps_same ps old.turns new.turns stay.turns)
 
   module _ (stays : (before after : S) (moment : ℕ) (request : Request) (answered : Answered) → responds before moment request answered after → base_of after ≡ base_of before) where
     -- the one that stands is answered
-    pub answers_one : (request : Request) (v w : S) (k l : K) (old new : History) (result : Result (Unit {0}) AllocError)
-        → Answers responds tells request v w k l old new result → AnswersOf base_of responds tells old new v k w l
-    answers_one request v w k l old new result a =
-        let turn : Turn = record { request = request; moment = a.moment; answered = a.answered } in
-        let t = turned old new turn result a.told in
+    answers_one : (request : Request) (answered : Answered) (v w : S) (k l : K) (old new : History)
+        → Answers responds tells request answered v w k l old new → AnswersOf base_of responds tells old new v k w l
+    answers_one request answered v w k l old new a =
+        let turn : Turn = record { request = request; moment = a.moment; answered = answered } in
+        let t = turned old new turn a.reply a.told in
         record {
           turns = turn ∷ [];
           answered = t.turns;
           chain = (w, l, a.clocked, a.given, (refl, refl));
-          same = stays v w a.moment request a.answered a.given;
+          same = stays v w a.moment request answered a.given;
           taken = t.taken;
           sent = t.sent;
           closed = t.closed;
@@ -120,11 +134,16 @@ module _ {S K : Type 0} (base_of : S → List ℕ) (responds : S → ℕ → Req
           base = t.base;
         }
 
-    -- where one stands
-    pub answers_standing : (stands : Option Request) (v w : S) (k l : K) (old new : History) (result : Result (Unit {0}) AllocError) → IsSome stands
-        → IfSome stands (λ (request : Request). Answers responds tells request v w k l old new result) → AnswersOf base_of responds tells old new v k w l
-    answers_standing None v w k l old new result some a = absurd cc
-    answers_standing (Some request) v w k l old new result some a = answers_one request v w k l old new result a
+    -- where one stands; the answer's position is noted
+    pub answers_standing : (stands : Option Request) (answered : Answered) (v w : S) (k l : K) (old new : History) (before after : Positions) → IsSome stands
+        → IfSome stands (λ (request : Request). Answers responds tells request answered v w k l old new) → Notes before after answered
+        → AnswersOf base_of responds tells old new v k w l × KeepsNoted old.turns new.turns before after
+    answers_standing None answered v w k l old new before after some a notes = absurd cc
+    answers_standing (Some request) answered v w k l old new before after some a notes =
+        let turn : Turn = record { request = request; moment = a.moment; answered = answered } in (
+          answers_one request answered v w k l old new a,
+          keeps_one before after old.turns new.turns turn (turned old new turn a.reply a.told).turns notes,
+        )
 
   -- ---- of many connections
 

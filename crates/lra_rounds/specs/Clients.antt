@@ -1,8 +1,8 @@
 -- What a client's stream gives and takes.
-use Rattle.std.specs.Prelude.{◌≡◌, ℕ, ◌≤◌, Bool, List, [], length, take, Option, Some, None, IsTrue}
+use Rattle.std.specs.Prelude.{◌≡◌, ℕ, ◌≤◌, Bool, List, [], length, take, Option, Some, None}
 use Rattle.std.specs.Io.KnownBytes.{Appends, Consumes, IsAtEnd, Keeps}
-use Rattle.lra_durable.specs.Leaves.{MayLeave}
 use Rattle.lra_steps.specs.History.{History, took, finished, went}
+use Rattle.lra_rounds.specs.Waiting.{AllMayGo}
 use Rattle.lra_rounds.specs.declared.client.Reading.{Reading}
 use Rattle.lra_rounds.specs.declared.client.Reading.TheVariants.{Came, Waits as WaitsForBytes, Ended, Full}
 use Rattle.lra_rounds.specs.declared.client.Handing.{Handing}
@@ -15,28 +15,21 @@ Reads before after old new WaitsForBytes = Keeps before after × (new ≡ old)
 Reads before after old new Ended = IsAtEnd after × Keeps before after × (new ≡ finished old)
 Reads before after old new Full = Keeps before after × (new ≡ old)
 
--- A front of the bytes that may be handed out left, while the disk was durable up to a position that covers all that
--- whoever answers had told of when it was noted.
-pub record Leaves {A : Type 0} (covers : A → ℕ → Bool) (keeps : ℕ → Bool) (noted : Option (A × ℕ))
-    (before after : Option (List ℕ)) (old new : History) : Type 0 where
-  pub was : A
-  pub position : ℕ
-  pub is : noted ≡ Some (was, position)
-  pub covered : IsTrue (covers was position)
-  pub kept : ℕ
-  pub leave : MayLeave keeps position kept
+-- A front of the bytes that may be handed out left, while of every turn of the connection the journal of the answer's
+-- instance was durable up to the answer's position.
+pub record Leaves (keeps : ℕ → ℕ → Bool) (before after : Option (List ℕ)) (old new : History) : Type 0 where
+  pub durable : ∥ AllMayGo keeps old.turns ∥₁
   pub count : ℕ
   pub fits : count ≤ length old.out
   pub wrote : Appends before after (take count old.out)
   pub gone : new ≡ went old count
 
 -- some bytes left so; or none, and the stream and the connection are as they were
-abbrev pub HandsOut : {A : Type 0} → (A → ℕ → Bool) → (ℕ → Bool) → Option (A × ℕ)
-    → Option (List ℕ) → Option (List ℕ) → History → History → Handing → Type 0
-HandsOut covers keeps noted before after old new Went = Leaves covers keeps noted before after old new
-HandsOut covers keeps noted before after old new Waits = Keeps before after × (new ≡ old)
-HandsOut covers keeps noted before after old new Unkept = Keeps before after × (new ≡ old)
-HandsOut covers keeps noted before after old new Done = (old.out ≡ []) × Keeps before after × (new ≡ old)
+abbrev pub HandsOut : (ℕ → ℕ → Bool) → Option (List ℕ) → Option (List ℕ) → History → History → Handing → Type 0
+HandsOut keeps before after old new Went = Leaves keeps before after old new
+HandsOut keeps before after old new Waits = Keeps before after × (new ≡ old)
+HandsOut keeps before after old new Unkept = Keeps before after × (new ≡ old)
+HandsOut keeps before after old new Done = (old.out ≡ []) × Keeps before after × (new ≡ old)
 
 -- So many bytes came, and nobody is told of them; at the stream's end there are none.
 abbrev pub ThrowsAway : Option (List ℕ) → Option (List ℕ) → History → History → Option ℕ → Type 0

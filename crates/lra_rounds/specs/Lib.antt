@@ -1,3 +1,4 @@
 pub mod Answered
 pub mod Clients
+pub mod Waiting
 pub mod inner

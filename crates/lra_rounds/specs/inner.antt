@@ -1,2 +1,3 @@
 -- Words that private functions and proofs alone use.
 pub mod Stretches
+pub mod Noting

@@ -1,8 +1,10 @@
 //! The requests of one connection that are whole, answered one after another.
 
-ghost use Rattle.std.specs.Prelude.{◌≡◌, IsSome};
+ghost use Rattle.std.specs.Prelude.{◌≡◌, None, IsSome};
 ghost use Rattle.lra_rounds.specs.Answered.{AnswersOf};
+ghost use Rattle.lra_rounds.specs.inner.Noting.{KeepsNoted};
 
+use crate::positions::Positions;
 use lra_front::{Clock, Routes};
 use lra_model::Memory;
 use lra_steps::{Connection, Responder, Step, answer_request};
@@ -25,45 +27,51 @@ pub enum Stage {
     Ended,
 }
 
-/// Has the request answered that stands.
+/// Has the request answered that stands, and notes the answer's position.
 fn answer_standing<A: Responder, K: Clock>(
     alloc: Global,
     routes: &Routes,
     connection: &mut Connection,
+    positions: &mut Positions,
     responder: &mut A,
     clock: &mut K,
 )
     requires stands { IsSome connection.old.stands }
     requires base { connection.old.base ≡ A.base_of (A.sight responder.old) }
-    ensures { AnswersOf A.base_of A.responds K.tells connection.old connection.new (A.sight responder.old) clock.old (A.sight responder.new) clock.new }
+    requires room { positions.old.other ≡ None }
+    ensures { AnswersOf A.base_of A.responds K.tells connection.old connection.new (A.sight responder.old) clock.old (A.sight responder.new) clock.new
+        × KeepsNoted connection.old.turns connection.new.turns positions.old positions.new }
 {
-    // Where its reply is lost, the connection's next step says so.
-    drop(answer_request(alloc, routes, connection, responder, clock));
+    let answered = answer_request(alloc, routes, connection, responder, clock);
+    *positions = positions.with_answer(answered);
 }
 
-/// Has the next request answered, where it is whole and few replies wait. Tells otherwise where the connection stands.
+/// Has the next request answered, where it is whole and few replies wait, of few journals. Tells otherwise where the
+/// connection stands.
 fn answer_next<A: Responder, K: Clock>(
     alloc: Global,
     routes: &Routes,
     connection: &mut Connection,
+    positions: &mut Positions,
     responder: &mut A,
     clock: &mut K,
 ) -> Result<Option<Stage>, Memory>
     requires { connection.old.base ≡ A.base_of (A.sight responder.old) }
-    ensures { AnswersOf A.base_of A.responds K.tells connection.old connection.new (A.sight responder.old) clock.old (A.sight responder.new) clock.new }
+    ensures { AnswersOf A.base_of A.responds K.tells connection.old connection.new (A.sight responder.old) clock.old (A.sight responder.new) clock.new
+        × KeepsNoted connection.old.turns connection.new.turns positions.old positions.new }
 {
-    if connection.out().len() > MOST_WAITING {
+    if connection.out().len() > MOST_WAITING || positions.are_full() {
         return Ok(Some(Stage::Goes));
     }
     match connection.next(responder.base())? {
         Step::Wants => Ok(Some(Stage::Wants)),
         Step::Ended(_) => Ok(Some(Stage::Ended)),
         Step::Stands => {
-            answer_standing(alloc, routes, connection, responder, clock);
+            answer_standing(alloc, routes, connection, positions, responder, clock);
             Ok(None)
         }
         Step::Waits => {
-            answer_standing(alloc, routes, connection, responder, clock);
+            answer_standing(alloc, routes, connection, positions, responder, clock);
             Ok(None)
         }
     }
@@ -75,14 +83,16 @@ pub(crate) fn answer_some<A: Responder, K: Clock>(
     alloc: Global,
     routes: &Routes,
     connection: &mut Connection,
+    positions: &mut Positions,
     responder: &mut A,
     clock: &mut K,
 ) -> Result<Stage, Memory>
     requires { connection.old.base ≡ A.base_of (A.sight responder.old) }
-    ensures { AnswersOf A.base_of A.responds K.tells connection.old connection.new (A.sight responder.old) clock.old (A.sight responder.new) clock.new }
+    ensures { AnswersOf A.base_of A.responds K.tells connection.old connection.new (A.sight responder.old) clock.old (A.sight responder.new) clock.new
+        × KeepsNoted connection.old.turns connection.new.turns positions.old positions.new }
 {
     for _turn in 0..MOST_REQUESTS {
-        if let Some(stage) = answer_next(alloc, routes, connection, responder, clock)? {
+        if let Some(stage) = answer_next(alloc, routes, connection, positions, responder, clock)? {
             return Ok(stage);
         }
     }

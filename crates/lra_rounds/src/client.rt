@@ -1,15 +1,16 @@
-//! A client: its stream, its connection, and how far the journal has to be durable before a reply leaves.
+//! A client: its stream, its connection, and how far journals have to be durable before its replies leave.
 
-ghost use Rattle.std.specs.Prelude.{◌≡◌, ◌⊎◌, ◌↔◌, ◌≤◌, [], length, None, option_map, IfOk, OnErr, IsSomeAnd, IsTrue};
+ghost use Rattle.std.specs.Prelude.{◌≡◌, ◌↔◌, ◌≤◌, [], length, IfOk, OnErr, IsTrue};
 ghost use Rattle.std.specs.Io.KnownBytes.{Keeps};
 ghost use Rattle.lra_steps.specs.History.{begun, room_of, took};
 ghost use Rattle.lra_rounds.specs.Answered.{AnswersOf};
 ghost use Rattle.lra_rounds.specs.Clients.{Reads, HandsOut, ThrowsAway};
+ghost use Rattle.lra_rounds.specs.Waiting.{AllMayGo, AreNoted};
 
 use crate::answering::{Stage, answer_some};
 use crate::base::WhichBase;
-use crate::noted::Noted;
-use lra_durable::{Disk, Progress, release};
+use crate::positions::Positions;
+use lra_durable::{SyncGroup, Unkept};
 use lra_front::{Clock, Routes};
 use lra_ids::{Base, Instance};
 use lra_model::Memory;
@@ -26,7 +27,7 @@ use std::sync::Wait;
 pub enum ClientFault {
     /// Memory was refused.
     Memory,
-    /// Its stream has failed, or the disk has.
+    /// Its stream has failed, or a journal has.
     Io,
 }
 
@@ -61,36 +62,37 @@ pub enum Handing {
     Went,
     /// None yet.
     Waits,
-    /// It wasn't asked: the disk isn't durable yet up to their position.
+    /// It wasn't asked: a journal isn't durable yet up to the position of an answer.
     Unkept,
     /// It wasn't asked: there are none.
     Done,
 }
 
-/// A client, whose requests a responder answers.
+/// A client, of whose turns each was answered at a journal that is durable up to the answer's position, or is noted up
+/// to there.
 #[derive(Drop)]
-pub struct Client<S, D: Disk, P: WhichBase, A: Responder> {
+pub struct Client<S, G: SyncGroup, P: WhichBase> {
     stream: S,
     connection: Connection,
-    /// The position of all that the responder had told of when it had given all answers: the disk has to be durable
-    /// up to it before a reply leaves.
-    noted: Option<Noted<A>>,
-    of: PhantomData<(P, D)>,
+    /// What has to be durable before a byte leaves of the replies that wait.
+    positions: Positions,
+    of: PhantomData<(P, G)>,
     ghost here: { connection.base ≡ P.base },
+    ghost noted: { ∥ AreNoted G.keeps positions connection.turns ∥₁ },
 }
 
-impl<S, D: Disk, P: WhichBase, A: Responder> Client<S, D, P, A> {
+impl<S, G: SyncGroup, P: WhichBase> Client<S, G, P> {
     /// One that has just come in.
-    pub fn new(alloc: Global, stream: S, instance: Instance, base: &Base) -> Client<S, D, P, A>
+    #[tactic(auto, using(crate::proofs::Noted::noted_begun))]
+    pub fn new(alloc: Global, stream: S, instance: Instance, base: &Base) -> Client<S, G, P>
         requires { base.now ≡ P.base }
         ensures stream { result.stream ≡ stream }
         ensures connection { result.connection ≡ begun instance base.now }
-        ensures due { result.noted ≡ None }
     {
         Client {
             stream,
             connection: Connection::new(alloc, instance, base),
-            noted: None,
+            positions: Positions::none(),
             of: PhantomData,
         }
     }
@@ -102,10 +104,10 @@ impl<S, D: Disk, P: WhichBase, A: Responder> Client<S, D, P, A> {
         self.connection.room()
     }
 
-    /// Has the requests answered that are whole, a few at most and none while many replies wait, and notes the
-    /// position of all that the responder has told of once it has given all answers: the replies wait for it. Where
-    /// memory is refused, those stand answered that were.
-    pub fn answer<K: Clock>(
+    /// Has the requests answered that are whole, a few at most and none while many replies wait, and notes the positions
+    /// of their answers: the replies wait for these. Where memory is refused, those stand answered that were.
+    #[tactic(auto, using(crate::proofs::Noted::noted_answered))]
+    pub fn answer<A: Responder, K: Clock>(
         &mut self,
         alloc: Global,
         routes: &Routes,
@@ -115,15 +117,16 @@ impl<S, D: Disk, P: WhichBase, A: Responder> Client<S, D, P, A> {
         requires { A.base_of (A.sight responder.old) ≡ P.base }
         ensures answered { AnswersOf A.base_of A.responds K.tells self.old.connection self.new.connection
             (A.sight responder.old) clock.old (A.sight responder.new) clock.new }
-        ensures due { (self.new.connection.out ≡ []) ⊎ IsSomeAnd self.new.noted
-            (λ n. IsTrue (A.covers responder.new n.position) × (n.of.value ≡ responder.new)) }
         ensures stream { self.new.stream ≡ self.old.stream }
     {
-        let stage = answer_some(alloc, routes, &mut self.connection, responder, clock);
-        if !self.connection.out().is_empty() {
-            self.noted = Some(Noted::of(responder));
-        }
-        stage
+        answer_some(
+            alloc,
+            routes,
+            &mut self.connection,
+            &mut self.positions,
+            responder,
+            clock,
+        )
     }
 
     /// Whether all that may be handed out has been.
@@ -139,6 +142,7 @@ fn take_in(connection: &mut Connection, bytes: &[u8]) -> Result<Reading, ClientF
     requires { length bytes.now ≤ room_of connection.old }
     ensures taken { IfOk result (λ reading. (reading ≡ Reading.Came) × (connection.new ≡ took connection.old bytes.now)) }
     ensures here { connection.new.base ≡ connection.old.base }
+    ensures turns { connection.new.turns ≡ connection.old.turns }
 {
     if !connection.take(bytes)? {
         unreachable!();
@@ -146,11 +150,11 @@ fn take_in(connection: &mut Connection, bytes: &[u8]) -> Result<Reading, ClientF
     Ok(Reading::Came)
 }
 
-impl<S: Read, D: Disk, P: WhichBase, A: Responder> Client<S, D, P, A> {
+impl<S: Read, G: SyncGroup, P: WhichBase> Client<S, G, P> {
     /// Reads once, what came and there is room for.
+    #[tactic(auto, using(crate::proofs::Noted::noted_still))]
     pub fn read(&mut self, buffer: &mut [u8]) -> Result<Reading, ClientFault>
         ensures read { IfOk result (Reads (S.remaining self.old.stream) (S.remaining self.new.stream) self.old.connection self.new.connection) }
-        ensures due { self.new.noted ≡ self.old.noted }
     {
         let room = self.connection.room().min(buffer.len());
         if room == 0 {
@@ -168,7 +172,7 @@ impl<S: Read, D: Disk, P: WhichBase, A: Responder> Client<S, D, P, A> {
     }
 }
 
-impl<S: Read, D: Disk, P: WhichBase, A: Responder> Client<S, D, P, A> {
+impl<S: Read, G: SyncGroup, P: WhichBase> Client<S, G, P> {
     /// Reads once and throws away what came. Returns how many bytes that were, or nothing where none came yet; 0 at the
     /// stream's end.
     pub fn discard(&mut self, buffer: &mut [u8]) -> Result<Option<usize>, ClientFault>
@@ -182,7 +186,7 @@ impl<S: Read, D: Disk, P: WhichBase, A: Responder> Client<S, D, P, A> {
     }
 }
 
-impl<D: Disk, P: WhichBase, A: Responder> Client<TcpStream, D, P, A> {
+impl<G: SyncGroup, P: WhichBase> Client<TcpStream, G, P> {
     /// Shuts the stream's writing side: its peer reads all that was written, and then the end.
     pub(crate) fn shut(&self) -> Result<(), ClientFault> {
         match self.stream.shutdown(Shutdown::Write) {
@@ -192,36 +196,44 @@ impl<D: Disk, P: WhichBase, A: Responder> Client<TcpStream, D, P, A> {
     }
 }
 
-impl<S: Write, D: Disk, P: WhichBase, A: Responder> Client<S, D, P, A> {
-    /// Hands out once what may be, where the disk is durable up to the position that was noted.
-    pub fn hand_out<R: Wait>(
-        &mut self,
-        rt: &R,
-        progress: &Progress<D>,
-    ) -> Result<Handing, ClientFault>
-        ensures handed { IfOk result
-            (HandsOut A.covers D.keeps (option_map (λ n. (n.of.value, n.position)) self.old.noted)
-            (S.contents self.old.stream) (S.contents self.new.stream) self.old.connection self.new.connection) }
+impl<S, G: SyncGroup, P: WhichBase> Client<S, G, P> {
+    /// Returns whether every turn's answer is durable. Waits for no sync.
+    #[tactic(auto, using(crate::proofs::Noted::noted_moved, crate::proofs::Noted::durable_all))]
+    fn may_leave<R: Wait>(&mut self, rt: &R, group: &G) -> Result<bool, ClientFault>
+        ensures durable { IfOk result (λ may. IsTrue may → ∥ AllMayGo G.keeps self.old.connection.turns ∥₁) }
+        ensures same { (self.new.stream ≡ self.old.stream) × (self.new.connection ≡ self.old.connection) }
+    {
+        match self.positions.settle(rt, group) {
+            Ok(all) => Ok(all),
+            Err(_) => Err(ClientFault::Io),
+        }
+    }
+
+    /// Syncs the journals that its replies wait for, as far as they do.
+    pub fn sync<R: Wait>(&self, rt: &R, group: &G) -> Result<(), Unkept>
+        ensures { OnErr result (IsTrue G.failed) }
+    {
+        self.positions.sync(rt, group)
+    }
+}
+
+impl<S: Write, G: SyncGroup, P: WhichBase> Client<S, G, P> {
+    /// Hands out once what may be, where of every turn so far the journal is durable up to the answer's position.
+    #[tactic(auto, using(crate::proofs::Noted::noted_still))]
+    pub fn hand_out<R: Wait>(&mut self, rt: &R, group: &G) -> Result<Handing, ClientFault>
+        ensures handed { IfOk result (HandsOut G.keeps (S.contents self.old.stream) (S.contents self.new.stream)
+            self.old.connection self.new.connection) }
         ensures failed { OnErr result (Keeps (S.contents self.old.stream) (S.contents self.new.stream)) }
-        ensures due { self.new.noted ≡ self.old.noted }
     {
         if self.connection.out().is_empty() {
             return Ok(Handing::Done);
         }
-        let Some(noted) = &self.noted else {
+        if !self.may_leave(rt, group)? {
             return Ok(Handing::Unkept);
-        };
-        let position = noted.position();
-        match release(
-            rt,
-            progress,
-            position,
-            &mut self.stream,
-            self.connection.out(),
-        ) {
-            Ok(None) => Ok(Handing::Unkept),
-            Ok(Some((0, _))) => Err(ClientFault::Io),
-            Ok(Some((count, _))) => {
+        }
+        match self.stream.write(self.connection.out()) {
+            Ok(0) => Err(ClientFault::Io),
+            Ok(count) => {
                 self.connection.gone(count);
                 Ok(Handing::Went)
             }

@@ -8,7 +8,7 @@ use crate::client::Client;
 use crate::means::Means;
 use crate::seat::{Need, Seat, Turn};
 use crate::times::Times;
-use lra_durable::{Disk, Progress};
+use lra_durable::SyncGroup;
 use lra_front::Clock;
 use lra_ids::{Base, Instance};
 use lra_steps::Responder;
@@ -26,10 +26,10 @@ const MOST_AGAIN: u64 = 16;
 
 /// The clients of a thread, each under a key, and what is to be done for whom.
 #[derive(Drop)]
-pub(crate) struct Clients<D: Disk, P: WhichBase, A: Responder> {
+pub(crate) struct Clients<G: SyncGroup, P: WhichBase> {
     alloc: Global,
     times: Times,
-    seats: Slab<Seat<D, P, A>>,
+    seats: Slab<Seat<G, P>>,
     /// Until when those that are idle have to begin a request, or to close their streams, as limits; and the others to
     /// go on with theirs, or with a reply, as retries. What stands here may come too soon: then it is put right (see
     /// `settle`).
@@ -42,9 +42,9 @@ pub(crate) struct Clients<D: Disk, P: WhichBase, A: Responder> {
     waiting: Vec<usize>,
 }
 
-impl<D: Disk, P: WhichBase, A: Responder> Clients<D, P, A> {
+impl<G: SyncGroup, P: WhichBase> Clients<G, P> {
     /// None yet, each of whom will have these times.
-    pub(crate) fn new(alloc: Global, times: Times) -> Clients<D, P, A> {
+    pub(crate) fn new(alloc: Global, times: Times) -> Clients<G, P> {
         Clients {
             alloc,
             times,
@@ -203,7 +203,7 @@ impl<D: Disk, P: WhichBase, A: Responder> Clients<D, P, A> {
     }
 
     /// Reads what came of one client, and has its requests answered that are whole.
-    fn serve_one<K: Clock>(
+    fn serve_one<A: Responder, K: Clock>(
         &mut self,
         means: &Means,
         buffer: &mut [u8],
@@ -226,7 +226,7 @@ impl<D: Disk, P: WhichBase, A: Responder> Clients<D, P, A> {
 
     /// Reads what came of those whose streams may be ready, and of some of those to visit again, and has their requests answered that are whole, a few of each.
     /// So one whose request has just come waits for few of those that have more to do.
-    pub(crate) fn serve<K: Clock>(
+    pub(crate) fn serve<A: Responder, K: Clock>(
         &mut self,
         means: &Means,
         buffer: &mut [u8],
@@ -282,14 +282,23 @@ impl<D: Disk, P: WhichBase, A: Responder> Clients<D, P, A> {
         }
     }
 
+    /// Syncs the journals that replies wait for. One that another client's replies wait for too is synced once.
+    pub(crate) fn sync<R: Wait>(&self, rt: &R, group: &G) {
+        for key in &self.waiting {
+            if let Some(seat) = self.seats.get(*key) {
+                seat.sync(rt, group);
+            }
+        }
+    }
+
     /// Hands out what may leave, to those whose replies wait.
-    pub(crate) fn hand_out<R: Wait>(&mut self, rt: &R, progress: &Progress<D>, now: u64) {
+    pub(crate) fn hand_out<R: Wait>(&mut self, rt: &R, group: &G, now: u64) {
         let keys = mem::replace(&mut self.waiting, Vec::new(self.alloc));
         for key in keys {
             let Some(seat) = self.seats.get_mut(key) else {
                 continue;
             };
-            match seat.hand_out(rt, progress) {
+            match seat.hand_out(rt, group) {
                 Ok(()) => self.place(key, now),
                 Err(_) => self.end(key),
             }

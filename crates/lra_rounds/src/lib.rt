@@ -1,5 +1,5 @@
 //! A thread that answers any number of connections, by readiness: what came is read, the requests that are whole are
-//! answered, and the replies leave once the disk is durable up to their position.
+//! answered, and the replies leave once the journals are durable up to the positions of the answers.
 #![tactic(auto)]
 
 mod answering;
@@ -9,7 +9,7 @@ mod client;
 mod clients;
 mod means;
 mod moments;
-mod noted;
+mod positions;
 mod rounds;
 mod seat;
 mod times;
@@ -18,6 +18,6 @@ pub use answering::Stage;
 pub use arrivals::Arrivals;
 pub use base::WhichBase;
 pub use client::{Client, ClientFault, Handing, Reading};
-pub use noted::Noted;
+pub use positions::{Position, Positions};
 pub use rounds::{Rounds, RoundsEnd};
 pub use times::Times;

@@ -10,7 +10,7 @@ use crate::clients::Clients;
 use crate::means::Means;
 use crate::moments::Moments;
 use crate::times::Times;
-use lra_durable::{Disk, Progress};
+use lra_durable::SyncGroup;
 use lra_front::{Clock, Routes};
 use lra_ids::{Base, Instance};
 use lra_model::Memory;
@@ -28,7 +28,7 @@ const MOST_EVENTS: usize = 1_024;
 /// How many bytes are read of a client at once.
 const PIECE: usize = 16_384;
 
-/// How many milliseconds a thread that has nothing to do waits before it looks whether the disk has failed, and has whoever answers rest. So much lies
+/// How many milliseconds a thread that has nothing to do waits before it looks whether a journal has failed, and has whoever answers rest. So much lies
 /// between two rests too.
 const LOOK: u64 = 250;
 
@@ -41,7 +41,7 @@ const PARTING: u64 = 10_000;
 /// Why a thread has ended.
 #[derive(Clone, Copy, Debug, PartialEq, Eq)]
 pub enum RoundsEnd {
-    /// The disk has failed.
+    /// A journal has failed.
     Unkept,
     /// No more connections come, and no replies wait that could still leave.
     Closed,
@@ -53,12 +53,12 @@ pub enum RoundsEnd {
 
 /// What a thread works with.
 #[derive(Drop)]
-pub struct Rounds<'a, R, D: Disk> {
+pub struct Rounds<'a, R, G: SyncGroup> {
     rt: &'a R,
     alloc: Global,
-    progress: &'a Progress<D>,
+    group: &'a G,
     arrivals: &'a Arrivals,
-    /// Those of whom one is woken once the disk has taken something.
+    /// Those of whom one is woken once a journal has taken something.
     bells: &'a [Waker],
     /// How many clients there are at most.
     most: usize,
@@ -99,22 +99,22 @@ fn next_turn(turn: usize, count: usize) -> usize {
     if next < count { next } else { 0 }
 }
 
-impl<'a, R: Wait + time::Clock, D: Disk> Rounds<'a, R, D> {
+impl<'a, R: Wait + time::Clock, G: SyncGroup> Rounds<'a, R, G> {
     pub fn new(
         rt: &'a R,
         alloc: Global,
-        progress: &'a Progress<D>,
+        group: &'a G,
         arrivals: &'a Arrivals,
         bells: &'a [Waker],
         most: usize,
         times: Times,
-    ) -> Rounds<'a, R, D>
-        ensures { (result.progress ≡ progress.entry) × (result.arrivals ≡ arrivals.entry) × (result.most ≡ most) × (result.times ≡ times) }
+    ) -> Rounds<'a, R, G>
+        ensures { (result.group ≡ group.entry) × (result.arrivals ≡ arrivals.entry) × (result.most ≡ most) × (result.times ≡ times) }
     {
         Rounds {
             rt,
             alloc,
-            progress,
+            group,
             arrivals,
             bells,
             most,
@@ -138,12 +138,12 @@ impl<'a, R: Wait + time::Clock, D: Disk> Rounds<'a, R, D> {
         })
     }
 
-    /// Wakes one of the others, each in its turn, where the disk has taken something since then.
+    /// Wakes one of the others, each in its turn, where a journal has taken something since then.
     fn ring(&self, before: u64, turn: &mut usize) {
         let Some(bell) = self.bells.get(*turn) else {
             return;
         };
-        if self.progress.taken(self.rt) > before {
+        if self.group.appended(self.rt) > before {
             // Where it can't be woken, it looks by itself.
             let _ = bell.wake();
             *turn = next_turn(*turn, self.bells.len());
@@ -151,7 +151,7 @@ impl<'a, R: Wait + time::Clock, D: Disk> Rounds<'a, R, D> {
     }
 
     /// How long the next wait for streams may last.
-    fn wait<P: WhichBase, A: Responder>(&self, clients: &Clients<D, P, A>, now: u64) -> Duration {
+    fn wait<P: WhichBase>(&self, clients: &Clients<G, P>, now: u64) -> Duration {
         if clients.has_ready() || clients.has_waiting() {
             return Duration::ZERO;
         }
@@ -163,10 +163,10 @@ impl<'a, R: Wait + time::Clock, D: Disk> Rounds<'a, R, D> {
     }
 
     /// Notes whose streams may be ready, ends one that is idle where that is asked, and takes in those who have come.
-    fn take_in<P: WhichBase, A: Responder>(
+    fn take_in<P: WhichBase>(
         &self,
         watch: &Watch<'a, R>,
-        clients: &mut Clients<D, P, A>,
+        clients: &mut Clients<G, P>,
         instance: Instance,
         base: &Base,
         now: u64,
@@ -189,16 +189,16 @@ impl<'a, R: Wait + time::Clock, D: Disk> Rounds<'a, R, D> {
         self.arrivals.tell(clients.len());
     }
 
-    /// Hands out what may leave. Once nothing else is to be done, or replies have waited for some rounds, all that
-    /// the disk took is synced first.
-    fn hand_out<P: WhichBase, A: Responder>(
+    /// Hands out what may leave. Once nothing else is to be done, or replies have waited for some rounds, the journals
+    /// that they wait for are synced, and what may leave then does.
+    fn hand_out<P: WhichBase>(
         &self,
         rounds: &mut u32,
-        clients: &mut Clients<D, P, A>,
+        clients: &mut Clients<G, P>,
         is_quiet: bool,
         now: u64,
     ) {
-        clients.hand_out(self.rt, self.progress, now);
+        clients.hand_out(self.rt, self.group, now);
         if !clients.has_waiting() {
             *rounds = 0;
             return;
@@ -206,17 +206,16 @@ impl<'a, R: Wait + time::Clock, D: Disk> Rounds<'a, R, D> {
         *rounds = rounds.saturating_add(1);
         if is_quiet || clients.all_wait() || *rounds >= MOST_ROUNDS {
             *rounds = 0;
-            // Where it fails, the next round ends.
-            let _ = self.progress.keep(self.rt, self.progress.taken(self.rt));
-            clients.hand_out(self.rt, self.progress, now);
+            clients.sync(self.rt, self.group);
+            clients.hand_out(self.rt, self.group, now);
         }
     }
 
     /// A round in which nothing is read any more: replies that wait leave. Tells whether there need be no other.
-    fn part<P: WhichBase, A: Responder>(
+    fn part<P: WhichBase>(
         &self,
         watch: &mut Watch<'a, R>,
-        clients: &mut Clients<D, P, A>,
+        clients: &mut Clients<G, P>,
         now: u64,
     ) -> bool {
         for event in watch.events.iter() {
@@ -235,7 +234,7 @@ impl<'a, R: Wait + time::Clock, D: Disk> Rounds<'a, R, D> {
         &self,
         means: &Means,
         watch: &mut Watch<'a, R>,
-        clients: &mut Clients<D, P, A>,
+        clients: &mut Clients<G, P>,
         responder: &mut A,
         clock: &mut K,
         now: u64,
@@ -245,7 +244,7 @@ impl<'a, R: Wait + time::Clock, D: Disk> Rounds<'a, R, D> {
     {
         self.take_in(watch, clients, responder.instance(), responder.base(), now);
         let is_quiet = watch.events.is_empty() && !clients.has_ready();
-        let before = self.progress.taken(self.rt);
+        let before = self.group.appended(self.rt);
         clients.serve(means, watch.buffer.as_mut_slice(), responder, clock, now);
         self.ring(before, &mut watch.turn);
         self.hand_out(&mut watch.rounds, clients, is_quiet, now);
@@ -258,19 +257,19 @@ impl<'a, R: Wait + time::Clock, D: Disk> Rounds<'a, R, D> {
         &self,
         means: &Means,
         watch: &mut Watch<'a, R>,
-        clients: &mut Clients<D, P, A>,
+        clients: &mut Clients<G, P>,
         responder: &mut A,
         clock: &mut K,
     ) -> Option<RoundsEnd>
         requires { A.base_of (A.sight responder.old) ≡ P.base }
         ensures answered { AnsweredWithRests A.base_of A.responds A.rests K.tells (A.sight responder.old) clock.old (A.sight responder.new) clock.new }
-        ensures failed { result ≡ Some RoundsEnd.Unkept → IsTrue D.failed }
+        ensures failed { result ≡ Some RoundsEnd.Unkept → IsTrue G.failed }
     {
         let wait = self.wait(clients, watch.moments.now());
         if watch.poll.poll(&mut watch.events, Some(wait)).is_err() {
             return Some(RoundsEnd::Io);
         }
-        if self.progress.has_failed(self.rt) {
+        if self.group.has_failed(self.rt) {
             return Some(RoundsEnd::Unkept);
         }
         let now = watch.moments.now();
@@ -291,13 +290,13 @@ impl<'a, R: Wait + time::Clock, D: Disk> Rounds<'a, R, D> {
         &self,
         means: &Means,
         watch: &mut Watch<'a, R>,
-        clients: &mut Clients<D, P, A>,
+        clients: &mut Clients<G, P>,
         responder: &mut A,
         clock: &mut K,
     ) -> RoundsEnd
         requires { A.base_of (A.sight responder.old) ≡ P.base }
         ensures answered { AnsweredWithRests A.base_of A.responds A.rests K.tells (A.sight responder.old) clock.old (A.sight responder.new) clock.new }
-        ensures failed { result ≡ RoundsEnd.Unkept → IsTrue D.failed }
+        ensures failed { result ≡ RoundsEnd.Unkept → IsTrue G.failed }
     {
         for _round in self.rt.forever() {
             if let Some(end) = self.go_round(means, watch, clients, responder, clock) {
@@ -315,7 +314,7 @@ impl<'a, R: Wait + time::Clock, D: Disk> Rounds<'a, R, D> {
     ) -> RoundsEnd
         requires { A.base_of (A.sight responder.old) ≡ P.base }
         ensures answered { AnsweredWithRests A.base_of A.responds A.rests K.tells (A.sight responder.old) clock.old (A.sight responder.new) clock.new }
-        ensures failed { result ≡ RoundsEnd.Unkept → IsTrue D.failed }
+        ensures failed { result ≡ RoundsEnd.Unkept → IsTrue G.failed }
     {
         let Some(poll) = self.arrivals.take_poll(self.rt) else {
             return RoundsEnd::Refused;
@@ -331,7 +330,7 @@ impl<'a, R: Wait + time::Clock, D: Disk> Rounds<'a, R, D> {
             alloc: self.alloc,
             routes,
         };
-        let mut clients: Clients<D, P, A> = Clients::new(self.alloc, self.times);
+        let mut clients: Clients<G, P> = Clients::new(self.alloc, self.times);
         let end = self.go_on(&means, &mut watch, &mut clients, responder, clock);
         drop(clients);
         drop(watch);
@@ -339,11 +338,11 @@ impl<'a, R: Wait + time::Clock, D: Disk> Rounds<'a, R, D> {
         end
     }
 
-    /// Answers the connections that come in, by one responder and one clock, until the disk has failed or no more connections come. Whatever
+    /// Answers the connections that come in, by one responder and one clock, until a journal has failed or no more connections come. Whatever
     /// happens to one connection, the others are answered. After a round in which nothing came whoever answers rests, four times a second at most.
     pub fn run<A: Responder, K: Clock>(&self, responder: &mut A, clock: &mut K) -> RoundsEnd
         ensures answered { AnsweredWithRests A.base_of A.responds A.rests K.tells (A.sight responder.old) clock.old (A.sight responder.new) clock.new }
-        ensures failed { result ≡ RoundsEnd.Unkept → IsTrue D.failed }
+        ensures failed { result ≡ RoundsEnd.Unkept → IsTrue G.failed }
     {
         self.run_at::<A, K, Brand>(responder, clock)
     }

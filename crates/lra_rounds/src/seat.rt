@@ -9,7 +9,7 @@ use crate::base::WhichBase;
 use crate::client::{Client, ClientFault, Handing, Reading};
 use crate::means::Means;
 use crate::times::Times;
-use lra_durable::{Disk, Progress};
+use lra_durable::SyncGroup;
 use lra_front::Clock;
 use lra_steps::Responder;
 use mio::net::TcpStream;
@@ -38,7 +38,7 @@ pub(crate) enum Turn {
     /// The client's, to close its stream: what still comes is thrown away. A stream that is closed with bytes unread
     /// loses replies on their way.
     Closes(u64),
-    /// The disk's, to be durable up to the position of its replies.
+    /// The journals', to be durable up to the positions of its answers.
     Waits,
 }
 
@@ -57,8 +57,8 @@ pub(crate) enum Need {
 
 /// A client, and what is known of its stream and of its time.
 #[derive(Drop)]
-pub(crate) struct Seat<D: Disk, P: WhichBase, A: Responder> {
-    client: Client<TcpStream, D, P, A>,
+pub(crate) struct Seat<G: SyncGroup, P: WhichBase> {
+    client: Client<TcpStream, G, P>,
     turn: Turn,
     /// The turn whose end is noted, which may have passed into others that last longer; none is, where it says that the disk's is.
     noted: Turn,
@@ -84,9 +84,9 @@ pub(crate) struct Seat<D: Disk, P: WhichBase, A: Responder> {
     is_waiting: bool,
 }
 
-impl<D: Disk, P: WhichBase, A: Responder> Seat<D, P, A> {
+impl<G: SyncGroup, P: WhichBase> Seat<G, P> {
     /// One that has just come in.
-    pub(crate) fn new(client: Client<TcpStream, D, P, A>) -> Seat<D, P, A> {
+    pub(crate) fn new(client: Client<TcpStream, G, P>) -> Seat<G, P> {
         let whole = client.room();
         Seat {
             client,
@@ -197,7 +197,7 @@ impl<D: Disk, P: WhichBase, A: Responder> Seat<D, P, A> {
     }
 
     /// Reads what came, once all requests before are answered, and has those answered that are whole; but not while replies wait to leave.
-    pub(crate) fn serve<K: Clock>(
+    pub(crate) fn serve<A: Responder, K: Clock>(
         &mut self,
         means: &Means,
         buffer: &mut [u8],
@@ -229,11 +229,11 @@ impl<D: Disk, P: WhichBase, A: Responder> Seat<D, P, A> {
     pub(crate) fn hand_out<R: Wait>(
         &mut self,
         rt: &R,
-        progress: &Progress<D>,
+        group: &G,
     ) -> Result<(), ClientFault> {
         self.is_waiting = false;
         for _call in 0..MOST_CALLS {
-            match self.client.hand_out(rt, progress)? {
+            match self.client.hand_out(rt, group)? {
                 Handing::Went => {}
                 Handing::Unkept | Handing::Done => return Ok(()),
                 Handing::Waits => {
@@ -243,6 +243,12 @@ impl<D: Disk, P: WhichBase, A: Responder> Seat<D, P, A> {
             }
         }
         Ok(())
+    }
+
+    /// Syncs the journals that its replies wait for.
+    pub(crate) fn sync<R: Wait>(&self, rt: &R, group: &G) {
+        // Where it fails, the next round ends.
+        let _ = self.client.sync(rt, group);
     }
 
     /// Whether replies of it wait to leave, or may be on their way.
@@ -281,8 +287,8 @@ fn need_of(is_more: bool) -> Need
     if is_more { Need::Visit } else { Need::Rest }
 }
 
-/// The turn of a client whose replies wait to leave, where its stream takes nothing, or the disk isn't durable yet up
-/// to their position.
+/// The turn of a client whose replies wait to leave, where its stream takes nothing, or a journal isn't durable yet up to
+/// the position of an answer.
 fn reply_turn(turn: Turn, is_blocked: bool, end: u64) -> Turn {
     match turn {
         Turn::Takes(until) => Turn::Takes(until),

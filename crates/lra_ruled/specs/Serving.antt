@@ -1,5 +1,5 @@
 -- Whoever answers, asked what isn't a join outside the rules.
-use Rattle.std.specs.Prelude.{◌≡◌, ◌⊎◌, ℕ, false, List}
+use Rattle.std.specs.Prelude.{◌≡◌, ◌⊎◌, ℕ, false, List, None}
 use Rattle.lra_wire.specs.Request.{Request}
 use Rattle.lra_commands.specs.declared.refusal.Refusal.{Refusal}
 use Rattle.lra_front.specs.declared.denial.Denial.TheVariants as denial
@@ -22,6 +22,7 @@ module _ {S : Type 0} (responds : S → ℕ → Request → Answered → S → T
     pub refusal : Refusal
     pub why : IsRefusedBy before.rules request refusal
     pub answer : answered.answer ≡ answer.Denied (denial.Refused refusal)
+    pub position : answered.position ≡ None
     pub unchanged : after ≡ before.inner
 
   -- What a request at a moment does. The rules stay.

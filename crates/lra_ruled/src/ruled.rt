@@ -6,7 +6,7 @@ ghost use Rattle.lra_ruled.specs.Ruling as spec;
 
 use crate::bodies::is_outside;
 use lra_commands::Refusal;
-use lra_front::{Answer, Denial, Operation, Routes};
+use lra_front::{Denial, Operation, Routes};
 use lra_ids::Base;
 use lra_model::Instance;
 use lra_rules::Rules;
@@ -77,8 +77,6 @@ impl<A: Responder> Responder for Ruled<'_, A> {
 
     ghost sight = { λ r. record { inner = A.sight r.inner; rules = r.rules.now } };
 
-    ghost covers = { λ r n. A.covers r.inner n };
-
     ghost base_of = { λ s. A.base_of s.inner };
 
     ghost responds = { Responds A.responds };
@@ -93,10 +91,6 @@ impl<A: Responder> Responder for Ruled<'_, A> {
         self.inner.instance()
     }
 
-    fn position(&self) -> u64 {
-        self.inner.position()
-    }
-
     fn respond(
         &mut self,
         alloc: Global,
@@ -105,10 +99,9 @@ impl<A: Responder> Responder for Ruled<'_, A> {
         request: &RequestRead,
     ) -> Answered {
         match refusal_of(alloc, routes, self.rules, request) {
-            Some(refusal) => Answered {
-                instance: self.inner.instance(),
-                answer: Answer::Denied(Denial::Refused(refusal)),
-            },
+            Some(refusal) => {
+                Answered::denied(self.inner.instance(), Denial::Refused(refusal))
+            }
             None => self.inner.respond(alloc, routes, moment, request),
         }
     }

@@ -7,7 +7,7 @@ ghost use Rattle.lra_opening.specs.Faults.{IsOfNoScript};
 
 use crate::running::Served;
 use lra_audits::RunFault;
-use lra_durable::{Disk, Progress};
+use lra_durable::{Disk, Journals, SyncGroup};
 use lra_opening::ServeFault;
 use lra_watchpost::Ends;
 use mio::Waker;
@@ -128,20 +128,20 @@ pub fn say<W: Write>(alloc: Global, address: &str, writer: &mut W) -> Result<(),
 /// the disk hasn't failed.
 pub fn end_of<R: Wait, D: Disk>(
     rt: &R,
-    progress: &Progress<D>,
+    journals: &Journals<D>,
     ending: &Arc<Ending>,
 ) -> Result<Served, ServeFault>
     ensures ended { IfOk result (λ served. served ≡ Served.Ended) }
     ensures fault { IfErr result (λ fault. (fault ≡ ServeFault.File) ⊎ (fault ≡ ServeFault.Address)) }
 {
-    if progress.has_failed(rt) {
+    if journals.has_failed(rt) {
         return Err(ServeFault::File);
     }
     if !ending.is_asked() {
         return Err(ServeFault::Address);
     }
-    match progress.keep(rt, progress.taken(rt)) {
-        Ok(Some(_)) => Ok(Served::Ended),
-        Ok(None) | Err(_) => Err(ServeFault::File),
+    match journals.keep_all(rt) {
+        Ok(true) => Ok(Served::Ended),
+        Ok(false) | Err(_) => Err(ServeFault::File),
     }
 }

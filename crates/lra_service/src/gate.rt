@@ -3,7 +3,7 @@
 use crate::ending::Ending;
 use crate::stamina::{is_longest, pause_after};
 use lra_clocks::{seconds_on, time_until};
-use lra_durable::{Disk, Progress};
+use lra_durable::SyncGroup;
 use lra_ids::Instance;
 use lra_logs::{Event, Journalist};
 use lra_watchpost::Tallies;
@@ -20,10 +20,11 @@ const PARTING: u64 = 10;
 /// until nothing is under way, 10 s after at most, unless the disk has failed. Where memory is refused it pauses, for longer each time in a row; once the pause is
 /// the longest, the journal's callbacks are noted to stand still, until a turn goes well.
 #[derive(Drop)]
-pub struct CarrierGate<'a, R, D: Disk, J> {
+pub struct CarrierGate<'a, R, G: SyncGroup, J> {
     rt: &'a R,
     ending: &'a Arc<Ending>,
-    progress: &'a Progress<D>,
+    /// The journals that are synced with its own.
+    group: &'a G,
     /// How many errands are under way.
     under_way: &'a AtomicU64,
     tallies: &'a Tallies,
@@ -39,21 +40,21 @@ pub struct CarrierGate<'a, R, D: Disk, J> {
     stands: bool,
 }
 
-impl<'a, R, D: Disk, J> CarrierGate<'a, R, D, J> {
+impl<'a, R, G: SyncGroup, J> CarrierGate<'a, R, G, J> {
     /// One of a carrier that tells there how many errands it has under way, of a journal.
     pub fn new(
         rt: &'a R,
         ending: &'a Arc<Ending>,
-        progress: &'a Progress<D>,
+        group: &'a G,
         under_way: &'a AtomicU64,
         tallies: &'a Tallies,
         journalist: &'a J,
         journal: Instance,
-    ) -> CarrierGate<'a, R, D, J> {
+    ) -> CarrierGate<'a, R, G, J> {
         CarrierGate {
             rt,
             ending,
-            progress,
+            group,
             under_way,
             tallies,
             journalist,
@@ -80,7 +81,7 @@ impl<'a, R, D: Disk, J> CarrierGate<'a, R, D, J> {
     }
 }
 
-impl<R, D: Disk, J: Journalist> CarrierGate<'_, R, D, J> {
+impl<R, G: SyncGroup, J: Journalist> CarrierGate<'_, R, G, J> {
     /// Notes that the callbacks stand still, where that wasn't noted.
     fn stand(&mut self) {
         if !self.stands {
@@ -93,7 +94,7 @@ impl<R, D: Disk, J: Journalist> CarrierGate<'_, R, D, J> {
     }
 }
 
-impl<R: Wait + Clock, D: Disk, J> CarrierGate<'_, R, D, J> {
+impl<R: Wait + Clock, G: SyncGroup, J> CarrierGate<'_, R, G, J> {
     /// Whether what is under way has some time left. Where the clock can't be read it has none.
     fn has_time(&mut self) -> bool {
         if self.until.is_none() {
@@ -106,14 +107,14 @@ impl<R: Wait + Clock, D: Disk, J> CarrierGate<'_, R, D, J> {
     }
 }
 
-impl<R: Wait + Clock, D: Disk, J: Journalist> Gate for CarrierGate<'_, R, D, J> {
+impl<R: Wait + Clock, G: SyncGroup, J: Journalist> Gate for CarrierGate<'_, R, G, J> {
     fn more(&mut self) -> bool {
         self.turn();
         if !self.ending.is_asked() {
             return !self.ending.is_over();
         }
         self.under_way.load(Ordering::SeqCst) > 0
-            && !self.progress.has_failed(self.rt)
+            && !self.group.has_failed(self.rt)
             && self.has_time()
     }
 

@@ -1,11 +1,11 @@
 //! What is told operators of a service beside its history.
 
-use crate::grown::Grown;
 use lra_audits::LONGEST;
 use lra_commands::Limits;
 use lra_core::Opening;
 use lra_opening::is_new;
 use lra_overview::Facts;
+use lra_storage::JournalFile;
 use lra_watchpost::{Tallies, Vitals};
 use std::sync::Arc;
 
@@ -30,7 +30,7 @@ pub(crate) fn begun_from(opening: &Opening, limits: Limits) -> Begun {
 /// What is tallied of a service, and how much its journal has.
 #[derive(Drop)]
 pub(crate) struct Measure {
-    pub(crate) grown: Arc<Grown>,
+    pub(crate) file: Arc<JournalFile>,
     pub(crate) begun: Begun,
     pub(crate) tallies: Tallies,
 }
@@ -50,7 +50,7 @@ impl Measure {
     /// How many entries the journal has.
     fn count(&self) -> u64 {
         let first = u64::from(self.begun.is_new);
-        let lines = self.grown.lines().saturating_sub(first);
+        let lines = self.file.entries().saturating_sub(first);
         self.begun.entries.saturating_add(lines)
     }
 
@@ -63,7 +63,7 @@ impl Measure {
             has_failed: now.has_failed,
             is_ending: now.is_ending,
             journals: 1,
-            bytes: self.grown.bytes(),
+            bytes: self.file.bytes(),
             most_bytes: LONGEST as u64,
             entries: self.count(),
             most_entries: limits.entries,

@@ -13,10 +13,8 @@ ghost use Rattle.lra_service.specs.Limited.{limits_of};
 ghost use Rattle.lra_service.specs.inner.Opened.{IsOpenAt};
 
 use crate::base::{Site, site_at};
-use crate::disk::{FilePen, JournalFile};
 use crate::doorway::{Doorway, make_doorway};
 use crate::ending::end_of;
-use crate::grown::Grown;
 use crate::herald::Quiet;
 use crate::measure::{Begun, Measure, begun_from};
 use crate::polls::{Polls, polls_of};
@@ -27,10 +25,10 @@ use crate::spot::{Entry, listener_at};
 use crate::starting::work;
 use crate::terms::Terms;
 use lra_admission::KeyFiles;
-use lra_audits::RunFault;
+use lra_audits::{LONGEST, RunFault};
 use lra_clocks::milliseconds;
 use lra_core::Opening;
-use lra_durable::{Keeper, Progress};
+use lra_durable::{Keeper, Progress, SyncGroup};
 use lra_ids::Base;
 use lra_logs::{Event, Journalist};
 use lra_office::{Clerk, Desk, Office};
@@ -39,7 +37,7 @@ use lra_opening::{
 };
 use lra_rules::Rules;
 use lra_settings::Settings;
-use lra_syncs::Syncs;
+use lra_storage::{FileDisk, OpenFile, Storage};
 use lra_watchpost::{Tallies, Watchpost};
 use std::alloc::Global;
 use std::fs::File;
@@ -78,11 +76,12 @@ struct Service<'a, R, P, H> {
     operators: Option<&'a Watchpost>,
 }
 
-/// A journal's file as a disk, what adds to it, what the threads wait with, and the moment from which their clocks go on.
+/// A journal's file that is open, what the threads wait with, and the moment from which their clocks go on.
 #[derive(Drop)]
-struct Stand {
-    progress: Progress<JournalFile>,
-    pen: FilePen,
+struct Stand<'a, R> {
+    storage: Storage,
+    progress: Arc<Progress<FileDisk>>,
+    keeper: Keeper<&'a R, FileDisk>,
     end: FileEnd,
     door: Doorway,
     polls: Polls,
@@ -90,12 +89,11 @@ struct Stand {
     measure: Measure,
 }
 
-/// A journal's file as a disk, and how much was added to it.
+/// A journal's file that is open, in a storage of its own, and once more, to be read.
 #[derive(Drop)]
-struct OpenDisk {
-    progress: Progress<JournalFile>,
-    pen: FilePen,
-    grown: Arc<Grown>,
+struct OpenDisk<'a, R> {
+    storage: Storage,
+    opened: OpenFile<&'a R>,
     end: FileEnd,
 }
 
@@ -106,20 +104,23 @@ pub(crate) struct FileEnd {
     pub(crate) at: u64,
 }
 
-/// A journal's file as a disk, where it can be had.
-fn disk_of(alloc: Global, file: File, syncs: Option<Arc<Syncs>>) -> Option<OpenDisk> {
+/// Opens a journal's file, where it can be had, whose syncs are taken down with what is tallied.
+fn open_disk<'a, R: Wait>(
+    rt: &'a R,
+    alloc: Global,
+    file: File,
+    tallies: &Tallies,
+) -> Option<OpenDisk<'a, R>> {
     let at = file.metadata().ok()?.len();
     let end = FileEnd {
         file: file.try_clone().ok()?,
         at,
     };
-    let (pen, syncer) = JournalFile::parts(alloc, file, syncs).ok()?;
-    let grown = pen.grown()?;
-    let progress = Progress::<JournalFile>::open(&pen, syncer).ok()?;
+    let storage = Storage::new(alloc, tallies.syncs(), None).ok()?;
+    let opened = storage.open(rt, file, LONGEST as u64).ok()?;
     Some(OpenDisk {
-        progress,
-        pen,
-        grown,
+        storage,
+        opened,
         end,
     })
 }
@@ -138,8 +139,9 @@ fn tallies_of(
     }
 }
 
-/// A journal's file as a disk, all of whose bytes are kept.
-fn stand_on(
+/// Opens a journal's file, all of whose bytes are durable from then on.
+fn stand_on<'a, R: Wait>(
+    rt: &'a R,
     alloc: Global,
     file: File,
     door: Doorway,
@@ -147,30 +149,35 @@ fn stand_on(
     tallies: Tallies,
     begun: Begun,
     moment: u64,
-) -> Result<Stand, ServeFault>
+) -> Result<Stand<'a, R>, ServeFault>
     ensures { IfErr result (λ fault. fault ≡ ServeFault.File) }
 {
-    let Some(disk) = disk_of(alloc, file, tallies.syncs()) else {
+    let Some(disk) = open_disk(rt, alloc, file, &tallies) else {
         drop(door);
         drop(polls);
         drop(tallies);
         return Err(ServeFault::File);
     };
     let OpenDisk {
-        progress,
-        pen,
-        grown,
+        storage,
+        opened,
         end,
     } = disk;
-    Ok(Stand {
+    let OpenFile {
+        file,
         progress,
-        pen,
+        writer,
+    } = opened;
+    Ok(Stand {
+        storage,
+        progress,
+        keeper: writer,
         end,
         door,
         polls,
         moment,
         measure: Measure {
-            grown,
+            file,
             begun,
             tallies,
         },
@@ -232,6 +239,7 @@ impl<
         shift: &Shift<'_, R, H>,
         opening: Opening,
         keeper: K,
+        progress: Arc<Progress<FileDisk>>,
         writer: &mut W,
     ) -> Result<(), ServeFault>
         requires journal { IsRead (P.had self.now.place.now) opening }
@@ -239,6 +247,11 @@ impl<
         ensures fault { IfErr result (IsSaid self.now.address.now (W.contents writer.old) (W.contents writer.new)) }
     {
         let (office, clerk) = self.open(opening, keeper, shift.moment)?;
+        if shift.add(office.instance(), progress).is_err() {
+            drop(clerk);
+            drop(office);
+            return Err(ServeFault::Run(RunFault::Memory));
+        }
         let served = self.serve_office(shift, &office, clerk, writer);
         drop(office);
         served
@@ -247,7 +260,7 @@ impl<
     /// The same, on a disk, at a listener.
     fn serve_at<W: Write>(
         &self,
-        stand: Stand,
+        stand: Stand<'_, R>,
         opening: Opening,
         writer: &mut W,
     ) -> Result<Served, ServeFault>
@@ -256,8 +269,9 @@ impl<
         ensures fault { IfErr result (IsSaid self.now.address.now (W.contents writer.old) (W.contents writer.new)) }
     {
         let Stand {
+            storage,
             progress,
-            pen,
+            keeper,
             end: file_end,
             door,
             polls,
@@ -265,15 +279,14 @@ impl<
             measure,
         } = stand;
         let Doorway { line, ending } = door;
-        let room = pen.room();
-        let keeper = Keeper::new(self.rt, &progress, pen, room);
+        let journals = storage.journals();
         let shift = Shift::new(
             self.rt,
             self.alloc,
             self.herald,
             &self.settings,
             self.terms,
-            &progress,
+            journals,
             &ending,
             line,
             polls,
@@ -282,13 +295,13 @@ impl<
             measure,
             file_end,
         );
-        let served = self.serve_journal(&shift, opening, keeper, writer);
+        let served = self.serve_journal(&shift, opening, keeper, progress, writer);
         drop(shift);
-        if progress.has_failed(self.rt) {
+        if journals.has_failed(self.rt) {
             self.herald.note(&Event::SyncFailed);
         }
-        let end = end_of(self.rt, &progress, &ending);
-        drop(progress);
+        let end = end_of(self.rt, journals, &ending);
+        drop(storage);
         drop(ending);
         match served {
             Ok(()) => end,
@@ -303,7 +316,7 @@ impl<
         door: Doorway,
         begun: Begun,
         latest: u64,
-    ) -> Result<Stand, ServeFault>
+    ) -> Result<Stand<'_, R>, ServeFault>
         requires { P.contents file ≡ option_map whole_lines (P.had self.now.place.now) }
         ensures { IfErr result IsOfNoScript }
     {
@@ -314,7 +327,9 @@ impl<
         let tallies = tallies_of(self.alloc, self.operators, self.settings.sync_seconds)?;
         // A journal that was written to later, as by a clock that was wrong, is gone on from that moment.
         let moment = now.max(latest);
-        stand_on(self.alloc, file, door, polls, tallies, begun, moment)
+        stand_on(
+            self.rt, self.alloc, file, door, polls, tallies, begun, moment,
+        )
     }
 
     /// Where connections come in to the site's socket, and the disk of a journal that was found so.
@@ -323,7 +338,7 @@ impl<
         found: Found<File>,
         opening: &Opening,
         entry: Entry<I>,
-    ) -> Result<Stand, ServeFault>
+    ) -> Result<Stand<'_, R>, ServeFault>
         requires found { IsFound P.contents (P.had self.now.place.now) found }
         requires journal { IsRead (P.had self.now.place.now) opening.now }
         ensures { IfErr result IsOfNoScript }

@@ -4,7 +4,6 @@ ghost use Rattle.std.specs.Prelude.{◌≡◌, [], IfOk, IfSome};
 ghost use Rattle.lra_ticket.specs.Locks.{lock_id};
 ghost use Rattle.lra_service.specs.inner.Opened.{IsAt};
 
-use crate::disk::JournalFile;
 use crate::ending::Ending;
 use crate::entrance::{Entrance, Line};
 use crate::gate::CarrierGate;
@@ -20,7 +19,7 @@ use crate::terms::{Doorman, Terms, dismiss, receive};
 use lra_admission::KeyFiles;
 use lra_callbacks::{Callbacks, Names, Share, ring};
 use lra_clocks::SystemClock;
-use lra_durable::Progress;
+use lra_durable::{Journals, Progress, SyncGroup};
 use lra_ids::Instance;
 use lra_logs::{Event, Journalist, Tail};
 use lra_office::{Clerk, OfficeOf, Serving, WhichLock, Window};
@@ -29,10 +28,11 @@ use lra_outcomes::Outcomes;
 use lra_overview::Facts;
 use lra_rounds::{Arrivals, Rounds, RoundsEnd, Times};
 use lra_settings::Settings;
+use lra_storage::FileDisk;
 use lra_watchpost::{CountedCarriage, Vitals, Watchpost, attend};
 use lra_workers::{Gate, WorkerEnd, run_carrier};
 use mio::{Poll, Waker};
-use std::alloc::Global;
+use std::alloc::{AllocError, Global};
 use std::marker::Brand;
 use std::net::{Net, TcpListener, TcpStream};
 use std::sync::atomic::{AtomicU64, Ordering};
@@ -52,7 +52,8 @@ pub(crate) struct Shift<'a, R, H> {
     door: Entrance<'a, R>,
     /// Where the threads wait until all of them stand.
     latch: Latch,
-    progress: &'a Progress<JournalFile>,
+    /// The one journal, as a group that is synced.
+    journals: &'a Journals<FileDisk>,
     ending: &'a Arc<Ending>,
     /// By which terms requests are taken.
     terms: Terms<'a>,
@@ -96,7 +97,7 @@ impl<'a, R: Wait + Clock, H> Shift<'a, R, H> {
         herald: &'a H,
         settings: &Settings,
         terms: Terms<'a>,
-        progress: &'a Progress<JournalFile>,
+        journals: &'a Journals<FileDisk>,
         ending: &'a Arc<Ending>,
         line: Line,
         polls: Polls,
@@ -120,7 +121,7 @@ impl<'a, R: Wait + Clock, H> Shift<'a, R, H> {
             herald,
             door: Entrance::new(rt, line, ending, arrivals),
             latch: Latch::new(),
-            progress,
+            journals,
             ending,
             terms,
             moment,
@@ -155,11 +156,19 @@ impl<'a, R: Wait + Clock, H> Shift<'a, R, H> {
         all
     }
 
-    /// Has those who carry look at what was ordered, and all that was written synced. Returns whether it is durable.
+    /// Has the group find the journal by its instance from now on.
+    pub(crate) fn add(
+        &self,
+        instance: Instance,
+        progress: Arc<Progress<FileDisk>>,
+    ) -> Result<(), AllocError> {
+        self.journals.add(self.rt, instance, progress)
+    }
+
+    /// Wakes the callback workers, and syncs all that was written. Returns whether it is durable.
     pub(crate) fn keep(&self) -> bool {
         ring(&self.bells);
-        let taken = self.progress.taken(self.rt);
-        matches!(self.progress.keep(self.rt, taken), Ok(Some(_)))
+        matches!(self.journals.keep_all(self.rt), Ok(true))
     }
 }
 
@@ -174,7 +183,7 @@ impl<R: Wait + Clock, H> Shift<'_, R, H> {
 
     /// What is known of the service at a moment.
     pub(crate) fn facts(&self, instance: Instance, moment: u64) -> Facts {
-        let has_failed = self.progress.has_failed(self.rt);
+        let has_failed = self.journals.has_failed(self.rt);
         let now = Now {
             moment,
             began: self.moment,
@@ -268,7 +277,7 @@ impl<
         let rounds = Rounds::new(
             self.rt,
             self.alloc,
-            self.progress,
+            self.journals,
             arrivals,
             &self.bells,
             self.most,
@@ -303,14 +312,16 @@ impl<
     fn try_callbacks<'b>(
         &'b self,
         stall: &'b Stall,
+        journal: Instance,
         poll: Poll,
-    ) -> Result<Callbacks<'b, R, JournalFile>, Poll>
+    ) -> Result<Callbacks<'b, R, Journals<FileDisk>>, Poll>
         ensures { IfOk result (λ made. made ≡ []) }
     {
         Callbacks::new(
             self.rt,
             self.alloc,
-            self.progress,
+            self.journals,
+            journal,
             &self.names,
             self.terms.rules,
             poll,
@@ -327,14 +338,15 @@ impl<
     fn callbacks<'b>(
         &'b self,
         stall: &'b Stall,
+        journal: Instance,
         poll: Poll,
-        gate: &mut CarrierGate<'_, R, JournalFile, H>,
-    ) -> Option<Callbacks<'b, R, JournalFile>>
+        gate: &mut CarrierGate<'_, R, Journals<FileDisk>, H>,
+    ) -> Option<Callbacks<'b, R, Journals<FileDisk>>>
         ensures { IfSome result (λ made. made ≡ []) }
     {
         let mut poll = poll;
         for _ in self.rt.forever() {
-            match self.try_callbacks(stall, poll) {
+            match self.try_callbacks(stall, journal, poll) {
                 Ok(made) => return Some(made),
                 Err(back) => poll = back,
             }
@@ -352,11 +364,11 @@ impl<
         &'b self,
         stall: &'b Stall,
         journal: Instance,
-    ) -> CarrierGate<'b, R, JournalFile, H> {
+    ) -> CarrierGate<'b, R, Journals<FileDisk>, H> {
         CarrierGate::new(
             self.rt,
             self.ending,
-            self.progress,
+            self.journals,
             &stall.under_way,
             &self.measure.tallies,
             self.herald,
@@ -398,7 +410,7 @@ impl<
     {
         let journal = office.instance();
         let mut gate = self.gate(stall, journal);
-        let Some(callbacks) = self.callbacks(stall, poll, &mut gate) else {
+        let Some(callbacks) = self.callbacks(stall, journal, poll, &mut gate) else {
             drop(clerk);
             return;
         };
@@ -441,7 +453,7 @@ impl<
     /// the journal's callbacks stand still.
     fn tell_end(&self, end: WorkerEnd, journal: Instance) {
         let is_last = self.carrying.fetch_sub(1, Ordering::SeqCst) <= 1;
-        if !self.progress.has_failed(self.rt) {
+        if !self.journals.has_failed(self.rt) {
             let last_of = is_last.then_some(journal);
             lose_callback_worker(self.alloc, self.herald, &self.measure.tallies, end, last_of);
         }

@@ -1,7 +1,7 @@
 -- Requests answered one after another, of bytes that come in pieces.
 use Rattle.std.proofs.Common.{◌≡◌, ℕ, ◌+◌, ◌-◌, ◌<◌, List, [], ◌∷◌, ◌++◌, map, length, take, drop, get_or, flat_map, Option, Some, None, Result, Ok, Err, inl, inr, refl, sym, ap, ◌∙◌, subst, arith, append_assoc}
 use Rattle.std.specs.declared.alloc.AllocError.{AllocError}
-use Rattle.std.specs.Prelude.{◌⊎◌, IfOk, IfSome, IsTrue, IsFalse}
+use Rattle.std.specs.Prelude.{◌⊎◌, Bool, IfOk, IfSome, IsTrue, IsFalse}
 use Rattle.std.proofs.lemmas.Bool.{both_ways}
 use Rattle.std.proofs.lemmas.List.{take-append-drop, take-take, drop-take, take_more, append-nil}
 use Rattle.std.proofs.lemmas.List.Concat.{flat_map-append}
@@ -19,7 +19,7 @@ use Rattle.lra_steps.specs.declared.responder.Answered.{Answered}
 use Rattle.lra_steps.specs.History.{History, IsServed, IsLasting, IsOpenSo, Replies, EndsAfter, Turn, plain, fault_reply, ordered, took, finished, went}
 use Rattle.lra_steps.specs.Steps.{StepsTo, Tells}
 use Rattle.lra_steps.specs.Pieces.{Answers, AnswersAlone, Chain, Serves, ServesBytes}
-use Rattle.lra_steps.specs.inner.Alone.{setting_stays}
+use Rattle.lra_steps.specs.inner.Alone.{responds_of, setting_stays}
 use Rattle.lra_steps.specs.inner.Feeding.{Follows, IsFresh}
 use Rattle.lra_steps.proofs.TurnLemmas.{AreOf, Spells-more, replies_plain}
 use Rattle.lra_steps.proofs.HistoryLemmas.{all_read, refuses}
@@ -106,6 +106,25 @@ module _ (S K : Type 0) (base_of : S → List ℕ) (responds : S → ℕ → Req
       (x, m, subst (λ (j : K). tells j turn.moment m) c.1 t, subst (λ (u : S). responds u turn.moment turn.request turn.answered x) c.0 r, (refl, refl))
   chain-push v w x k l m (first ∷ turns) turn c t r = (c.0, c.1, c.2, c.3, chain-push c.0 w x c.1 l m turns turn c.4 t r)
 
+  -- the request that stands is answered, and replied or not
+  pub answers_standing : (stands : Option Request) (asked : Request) (answered : Answered) (v w : S) (k l : K) (old new : History) (moment : ℕ) (reply : Result (Unit {0}) AllocError)
+      → Some asked ≡ stands → tells k moment l → responds v moment asked answered w
+      → IfSome stands (λ request. Tells reply old new (record { request = request; moment = moment; answered = answered }))
+      → IfSome stands (λ request. Answers responds tells request answered v w k l old new)
+  answers_standing None asked answered v w k l old new moment reply e clocked given told = absurd cc
+  answers_standing (Some request) asked answered v w k l old new moment reply e clocked given told =
+      let same : asked ≡ request = some_same asked request e in
+      record {
+        moment = moment;
+        clocked = clocked;
+        given = subst (λ (r : Request). responds v moment r answered w) same given;
+        reply = reply;
+        told = told;
+      }
+    where
+      some_same : (x y : Request) → Some x ≡ Some y → x ≡ y
+      some_same x y e = cc
+
   module _ (stays : (before after : S) (moment : ℕ) (request : Request) (answered : Answered) → responds before moment request answered after → base_of after ≡ base_of before) where
     -- a request was read and answered, and what stays as it was
     pub record Passes (h new : History) (w x : S) (l m : K) : Type 0 where
@@ -119,14 +138,15 @@ module _ (S K : Type 0) (base_of : S → List ℕ) (responds : S → ℕ → Req
       pub closed : new.closed ≡ h.closed
       pub shorter : length new.kept < length h.kept
 
-    pub passes : (h mid new : History) (w x : S) (l m : K) (result : Result (Unit {0}) AllocError) → StepsTo Stands h mid
-        → IfSome mid.stands (λ request. Answers responds tells request w x l m mid new result) → Passes h new w x l m
-    passes h mid new w x l m result s all =
+    pub passes : (h mid new : History) (w x : S) (l m : K) (answered : Answered) → StepsTo Stands h mid
+        → IfSome mid.stands (λ request. Answers responds tells request answered w x l m mid new) → Passes h new w x l m
+    passes h mid new w x l m answered s all =
         let request : Request = s.0 in
-        let a : Answers responds tells request w x l m (ordered h request s.1) new result = subst (λ (g : History). IfSome g.stands (λ request. Answers responds tells request w x l m g new result)) s.4 all in
-        let turn : Turn = record { request = request; moment = a.moment; answered = a.answered } in
-        let t : Turned (ordered h request s.1) new turn = turned (ordered h request s.1) new turn result a.told in
-        let same = stays w x a.moment request a.answered a.given in
+        let a : Answers responds tells request answered w x l m (ordered h request s.1) new =
+        subst (λ (g : History). IfSome g.stands (λ request. Answers responds tells request answered w x l m g new)) s.4 all in
+        let turn : Turn = record { request = request; moment = a.moment; answered = answered } in
+        let t : Turned (ordered h request s.1) new turn = turned (ordered h request s.1) new turn a.reply a.told in
+        let same = stays w x a.moment request answered a.given in
         record {
           follows = λ v k f. record {
             chain = subst (λ (ts : List Turn). Chain responds tells v k ts x m) (sym t.turns) (chain-push v w x k l m h.turns turn f.chain a.clocked a.given);
@@ -208,26 +228,29 @@ ends_plain c Done turns rest out of r = (r.0 ∙ replies_plain c 999 turns of, r
 ends_plain c (Refused fault) turns rest out of r = (r.0 ∙ ap (λ xs. xs ++ fault_reply c.instance c.base fault) (replies_plain c 999 turns of), r.1, r.2)
 ends_plain c WriteFault turns rest out of r = inl (subst (IsFront out) (replies_plain c 999 turns of) r.0, r.1)
 
-module _ (K : Type 0) (gives : Sight → ℕ → Order → Result Told CounterFault → Sight → Type 0) (tells : K → ℕ → K → Type 0)
+module _ (C K : Type 0) (sight : C → Sight) (covers : C → ℕ → Bool) (gives : Sight → ℕ → Order → Result Told CounterFault → Sight → Type 0)
+    (tells : K → ℕ → K → Type 0)
     (keeps : (before after : Sight) (moment : ℕ) (o : Order) (reply : Result Told CounterFault) → gives before moment o reply after → KeepsHistory before moment o reply after) where
   -- its turns are those of the front, and all of one coordinator
   record Alone (v w : Sight) (k l : K) (turns : List Turn) : Type 0 where
     of : AreOf v.setting.instance turns
     chain : FrontChain gives tells v k (map plain turns) w l
 
-  alone : (v w : Sight) (k l : K) (turns : List Turn) → Chain (AnswersAlone gives) tells v k turns w l → Alone v w k l turns
-  alone v w k l [] c = record { of = tt; chain = c }
+  alone : (v w : C) (k l : K) (turns : List Turn) → Chain (AnswersAlone sight covers gives) tells v k turns w l → Alone (sight v) (sight w) k l turns
+  alone v w k l [] c = record { of = tt; chain = (ap sight c.0, c.1) }
   alone v w k l (turn ∷ turns) c =
-      let same = setting_stays gives keeps v c.0 turn.moment turn.request turn.answered.answer c.3.1 in
+      let given = responds_of gives (sight v) (sight c.0) turn.moment turn.request turn.answered c.3.ordered in
+      let same = setting_stays gives keeps (sight v) (sight c.0) turn.moment turn.request turn.answered.answer given in
       let more = alone c.0 w c.1 l turns c.4 in
       record {
-        of = (c.3.0, subst (λ (z : Setting). AreOf z.instance turns) same more.of);
-        chain = (c.0, c.1, c.2, c.3.1, more.chain);
+        of = (c.3.instance, subst (λ (z : Setting). AreOf z.instance turns) same more.of);
+        chain = (sight c.0, c.1, c.2, given, more.chain);
       }
 
-  -- What bytes come to at such a counter is what a stream of them does.
-  serves_bytes : (bytes old : List ℕ) (v w : Sight) (k l : K) (end : StreamEnd) (new : List ℕ)
-      → Serves (AnswersAlone gives) tells v.setting.instance v.setting.base bytes old v k end new w l → ServesBytes gives tells bytes old v k end new w l
+  -- What bytes come to at such a session is what a stream of them does.
+  serves_bytes : (bytes old : List ℕ) (v w : C) (k l : K) (end : StreamEnd) (new : List ℕ)
+      → Serves (AnswersAlone sight covers gives) tells (sight v).setting.instance (sight v).setting.base bytes old v k end new w l
+      → ServesBytes gives tells bytes old (sight v) k end new (sight w) l
   serves_bytes bytes old v w k l end new s =
       let a = alone v w k l s.turns s.chain in
       record {
@@ -237,11 +260,13 @@ module _ (K : Type 0) (gives : Sight → ℕ → Order → Result Told CounterFa
         spelled = s.spelled;
         chain = a.chain;
         written = ap Some s.written;
-        ends = ends_plain v.setting end s.turns s.rest s.out a.of s.ends;
+        ends = ends_plain (sight v).setting end s.turns s.rest s.out a.of s.ends;
       }
 
-  pub serves_alone : (instance : ℕ) (bytes old : List ℕ) (v w : Sight) (k l : K) (r : Result StreamEnd AllocError) (new : List ℕ) → instance ≡ v.setting.instance
-      → IfOk r (λ end. Serves (AnswersAlone gives) tells instance v.setting.base bytes old v k end new w l) → IfOk r (λ end. ServesBytes gives tells bytes old v k end new w l)
+  pub serves_alone : (instance : ℕ) (bytes old : List ℕ) (v w : C) (k l : K) (r : Result StreamEnd AllocError) (new : List ℕ) → instance ≡ (sight v).setting.instance
+      → IfOk r (λ end. Serves (AnswersAlone sight covers gives) tells instance (sight v).setting.base bytes old v k end new w l)
+      → IfOk r (λ end. ServesBytes gives tells bytes old (sight v) k end new (sight w) l)
   serves_alone instance bytes old v w k l (Ok end) new e s =
-      serves_bytes bytes old v w k l end new (subst (λ (i : ℕ). Serves (AnswersAlone gives) tells i v.setting.base bytes old v k end new w l) e s)
+      serves_bytes bytes old v w k l end new
+      (subst (λ (i : ℕ). Serves (AnswersAlone sight covers gives) tells i (sight v).setting.base bytes old v k end new w l) e s)
   serves_alone instance bytes old v w k l (Err f) new e s = tt

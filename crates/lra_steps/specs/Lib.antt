@@ -1,4 +1,5 @@
 pub mod History
 pub mod Steps
+pub mod Positions
 pub mod Pieces
 pub mod inner

@@ -1,5 +1,5 @@
 -- Connections whose requests are answered by whoever answers, and streams that come in pieces to a counter.
-use Rattle.std.specs.Prelude.{◌≡◌, ℕ, List, [], ◌∷◌, ◌++◌, map, Option, Some, None, Result}
+use Rattle.std.specs.Prelude.{◌≡◌, ℕ, Bool, List, [], ◌∷◌, ◌++◌, map, Option, Some, None, Result}
 use Rattle.std.specs.declared.alloc.AllocError.{AllocError}
 use Rattle.lra_wire.specs.Request.{Request}
 use Rattle.lra_commands.specs.declared.command.Told.{Told}
@@ -7,16 +7,20 @@ use Rattle.lra_commands.specs.declared.counter.Order.{Order}
 use Rattle.lra_commands.specs.declared.counter.CounterFault.{CounterFault}
 use Rattle.lra_commands.specs.Counters.{Sight}
 use Rattle.lra_front.specs.declared.stream.StreamEnd.{StreamEnd}
-use Rattle.lra_front.specs.Serving.{Responds}
 use Rattle.lra_front.specs.Streams.{standing}
 use Rattle.lra_front.specs.Transcripts.{Spells, Transcript}
 use Rattle.lra_steps.specs.declared.responder.Answered.{Answered}
+use Rattle.lra_steps.specs.Positions.{AnswersOrdered, IsCovered}
 use Rattle.lra_steps.specs.History.{History, Turn, EndsAfter, plain}
 use Rattle.lra_steps.specs.Steps.{Tells}
 
--- a counter that answers by itself: what the front does over it, and the answer names its identifiers
-abbrev pub AnswersAlone : (Sight → ℕ → Order → Result Told CounterFault → Sight → Type 0) → Sight → ℕ → Request → Answered → Sight → Type 0
-AnswersAlone gives before moment request answered after = (answered.instance ≡ before.setting.instance) × Responds gives before moment request after answered.answer
+-- A session that answers by itself: what the front does over it. The answer names its identifiers, and where it has a position, that covers all that
+-- the session has seen by then.
+pub record AnswersAlone {C : Type 0} (sight : C → Sight) (covers : C → ℕ → Bool) (gives : Sight → ℕ → Order → Result Told CounterFault → Sight → Type 0)
+    (before : C) (moment : ℕ) (request : Request) (answered : Answered) (after : C) : Type 0 where
+  pub instance : answered.instance ≡ (sight before).setting.instance
+  pub ordered : AnswersOrdered gives (sight before) moment request answered (sight after)
+  pub covered : IsCovered covers after answered
 
 module _ {S K : Type 0} (responds : S → ℕ → Request → Answered → S → Type 0) (tells : K → ℕ → K → Type 0) where
   -- one turn after another: the clock tells its moment, and its request is answered at that moment
@@ -25,13 +29,13 @@ module _ {S K : Type 0} (responds : S → ℕ → Request → Answered → S →
   Chain v k (turn ∷ turns) w l =
       (u : S) × (j : K) × tells k turn.moment j × responds v turn.moment turn.request turn.answered u × Chain u j turns w l
 
-  -- a request is answered at a moment that the clock tells
-  pub record Answers (request : Request) (v w : S) (k l : K) (old new : History) (result : Result (Unit {0}) AllocError) : Type 0 where
+  -- a request is answered so at a moment that the clock tells, and replied, unless memory for that is refused
+  pub record Answers (request : Request) (answered : Answered) (v w : S) (k l : K) (old new : History) : Type 0 where
     pub moment : ℕ
-    pub answered : Answered
     pub clocked : tells k moment l
     pub given : responds v moment request answered w
-    pub told : Tells result old new (record { request = request; moment = moment; answered = answered })
+    pub reply : Result (Unit {0}) AllocError
+    pub told : Tells reply old new (record { request = request; moment = moment; answered = answered })
 
   -- What bytes come to: the requests that they spell are answered one after another, and replied in their order, each by whose answer it is. The
   -- instance is that of replies to faults of reading.

@@ -1,29 +1,46 @@
 //! Who answers requests.
 
-ghost use Rattle.std.specs.Prelude.{◌≡◌, IsTrue};
+ghost use Rattle.std.specs.Prelude.{◌≡◌};
 ghost use Rattle.lra_wire.specs.Request.{request_of};
 ghost use Rattle.lra_front.specs.Replies.{HasIdentifiers};
+ghost use Rattle.lra_steps.specs.Positions.{denied};
 
 use lra_commands::{Counter, Session};
-use lra_front::{Answer, Routes};
+use lra_front::{Answer, Denial, Routes};
 use lra_ids::{Base, Instance};
 use lra_wire::RequestRead;
 use std::alloc::Global;
 
-/// What a request is answered, and the instance whose identifiers the answer names.
+/// What a request is answered, and what of a journal the answer rests on.
 #[derive(Clone, Copy, Debug, PartialEq, Eq)]
 pub struct Answered {
+    /// The instance whose identifiers the answer names.
     pub instance: Instance,
     pub answer: Answer,
+    /// The answer's position: how many bytes that were appended to the instance's journal, since it was opened, tell of
+    /// all that the answer rests on. It has none where no coordinator was asked: it waits for nothing.
+    pub position: Option<u64>,
+}
+
+impl Answered {
+    /// Returns a denial that no coordinator was asked for.
+    pub fn denied(instance: Instance, denial: Denial) -> Answered
+        ensures { result ≡ denied instance denial }
+    {
+        Answered {
+            instance,
+            answer: Answer::Denied(denial),
+            position: None,
+        }
+    }
 }
 
 /// Who answers requests: a counter, or several of which each request names one.
 ///
 /// Callers know of it what all its URIs begin with. What an answer does, and what a rest does, are relations that are
-/// fixed by the type; whatever these are, it is a law that those URIs go on to begin so. It says how much of a journal
-/// what it has told rests on, so that a reply can be held back until that much is durable.
+/// fixed by the type; whatever these are, it is a law that those URIs go on to begin so.
 pub trait Responder {
-    ghost use Rattle.std.specs.Prelude.{◌≡◌, ℕ, Bool, List, IsTrue};
+    ghost use Rattle.std.specs.Prelude.{◌≡◌, ℕ, List};
     ghost use Rattle.lra_wire.specs.Request.{Request};
     ghost use Rattle.lra_steps.specs.declared.responder.Answered.{Answered};
 
@@ -32,9 +49,6 @@ pub trait Responder {
 
     // What callers know of it.
     ghost sight: { Self → State };
-
-    // Whether the first so many bytes that were appended tell of all that it has told.
-    ghost covers: { Self → ℕ → Bool };
 
     // What its URIs begin with, where that is known.
     ghost base_of: { State → List ℕ };
@@ -51,10 +65,6 @@ pub trait Responder {
 
     /// Whose identifiers a reply may name that answers no request: one to a fault of reading. This takes no memory.
     fn instance(&self) -> Instance;
-
-    /// Returns the position of all that it has told, refusals included. This takes no memory.
-    fn position(&self) -> u64
-        ensures { IsTrue (covers self.now result) };
 
     /// Answers a request at a moment, in milliseconds.
     fn respond(
@@ -80,23 +90,20 @@ pub trait Responder {
     ghost rest_stays: { (before after : State) → rests before after → base_of after ≡ base_of before };
 }
 
-/// A counter answers all requests by itself, as the front does over it, and a rest does nothing.
+/// A session answers all requests by itself, as the front does over it, and a rest does nothing. An answer for which an
+/// order was given has the session's position after the order.
 impl<C: Session> Responder for C {
     ghost use Rattle.std.specs.Prelude.{◌≡◌};
-    ghost use Rattle.std.proofs.Common.{ap};
-    ghost use Rattle.lra_commands.specs.Counters.{Sight};
     ghost use Rattle.lra_steps.specs.Pieces.{AnswersAlone};
-    ghost use Rattle.lra_steps.specs.inner.Alone.{base_stays};
+    ghost use Rattle.lra_steps.specs.inner.Alone.{base_of_session, rested_base, session_stays};
 
-    ghost State = { Sight };
+    ghost State = { C };
 
-    ghost sight = { C.sight };
+    ghost sight = { λ c. c };
 
-    ghost covers = { C.covers };
+    ghost base_of = { base_of_session C.sight };
 
-    ghost base_of = { λ s. s.setting.base };
-
-    ghost responds = { AnswersAlone C.gives };
+    ghost responds = { AnswersAlone C.sight C.covers C.gives };
 
     ghost rests = { λ before after. after ≡ before };
 
@@ -108,10 +115,6 @@ impl<C: Session> Responder for C {
         Counter::instance(self)
     }
 
-    fn position(&self) -> u64 {
-        Session::position(self)
-    }
-
     fn respond(
         &mut self,
         alloc: Global,
@@ -120,13 +123,22 @@ impl<C: Session> Responder for C {
         request: &RequestRead,
     ) -> Answered {
         let instance = Counter::instance(self);
-        let answer = routes.respond(alloc, self, moment, request);
-        Answered { instance, answer }
+        let (answer, is_ordered) = routes.respond_ordered(alloc, self, moment, request);
+        let position = if is_ordered {
+            Some(Session::position(self))
+        } else {
+            None
+        };
+        Answered {
+            instance,
+            answer,
+            position,
+        }
     }
 
     fn rest(&mut self) {}
 
-    ghost stays = { λ before after moment request answered h. base_stays C.gives C.keeps before after moment request answered h };
+    ghost stays = { λ before after moment request answered h. session_stays C.sight C.covers C.gives C.keeps before after moment request answered h };
 
-    ghost rest_stays = { λ before after h. ap (λ (s : Sight). s.setting.base) h };
+    ghost rest_stays = { λ before after h. rested_base C.sight before after h };
 }

@@ -5,33 +5,36 @@ ghost use Rattle.lra_steps.specs.Pieces.{Answers, Serves, ServesBytes};
 ghost use Rattle.lra_steps.specs.inner.Feeding.{Follows, Fed, IsFresh};
 
 use crate::connection::{Connection, Step};
-use crate::responder::Responder;
+use crate::responder::{Answered, Responder};
 use lra_commands::Session;
 use lra_front::{Clock, Routes, StreamEnd};
 use lra_ids::Instance;
 use lra_model::Memory;
 use std::alloc::Global;
 
-/// Has the request that stands answered, at the moment that the clock tells. Where memory for the reply is refused, what was asked for
-/// stands all the same, and the connection ends.
+/// Has the request that stands answered, at the moment that the clock tells, and returns the answer. Where memory for the
+/// reply is refused, what was asked for stands all the same, and the connection ends.
 pub fn answer_request<A: Responder, K: Clock>(
     alloc: Global,
     routes: &Routes,
     connection: &mut Connection,
     responder: &mut A,
     clock: &mut K,
-) -> Result<(), Memory>
+) -> Answered
     requires stands { IsSome connection.old.stands }
     requires base { connection.old.base ≡ A.base_of (A.sight responder.old) }
-    ensures { IfSome connection.old.stands (λ request. Answers A.responds K.tells request
-        (A.sight responder.old) (A.sight responder.new) clock.old clock.new connection.old connection.new result) }
+    ensures { IfSome connection.old.stands (λ request. Answers A.responds K.tells request result
+        (A.sight responder.old) (A.sight responder.new) clock.old clock.new connection.old connection.new) }
 {
     let moment = clock.now();
     let Some(request) = connection.request() else {
         unreachable!();
     };
     let answered = responder.respond(alloc, routes, moment, request);
-    connection.told(responder.base(), moment, answered)
+    // Where its reply is lost, the connection's next step says so.
+    let reply = answered;
+    let _ = connection.told(responder.base(), moment, reply);
+    answered
 }
 
 /// Takes a piece of any length, and has all requests answered that are whole. Tells how the connection ended, if it did.
@@ -51,8 +54,9 @@ fn feed<A: Responder, K: Clock>(
     let mut at = 0;
     loop {
         match connection.next(responder.base())? {
-            // Where its reply is lost, the next step says so.
-            Step::Stands => drop(answer_request(alloc, routes, connection, responder, clock)),
+            Step::Stands => {
+                let _ = answer_request(alloc, routes, connection, responder, clock);
+            }
             Step::Waits => unreachable!(),
             Step::Ended(end) => return Ok(Some(end)),
             Step::Wants => {

@@ -76,9 +76,9 @@ impl<C: Carriage, R: Clock> Carriage for CountedCarriage<'_, C, R> {
         self.inner.has_room()
     }
 
-    fn take(&mut self, errand: Errand) -> Result<(), Errand> {
+    fn take(&mut self, errand: Errand, position: u64) -> Result<(), Errand> {
         let ask = errand.ask();
-        match self.inner.take(errand) {
+        match self.inner.take(errand, position) {
             Ok(()) => {
                 self.begin(ask);
                 Ok(())

@@ -50,8 +50,6 @@ impl<A: Responder, R: Clock> Responder for CountedResponder<'_, A, R> {
 
     ghost sight = { λ c. A.sight c.inner };
 
-    ghost covers = { λ c n. A.covers c.inner n };
-
     ghost base_of = { A.base_of };
 
     ghost responds = { A.responds };
@@ -64,10 +62,6 @@ impl<A: Responder, R: Clock> Responder for CountedResponder<'_, A, R> {
 
     fn instance(&self) -> Instance {
         self.inner.instance()
-    }
-
-    fn position(&self) -> u64 {
-        self.inner.position()
     }
 
     fn respond(

@@ -2,7 +2,7 @@
 
 use lra_model::Memory;
 use lra_overview::{Kind, describe, put, put_number, put_parts};
-use lra_syncs::Histogram;
+use lra_storage::Histogram;
 
 /// What a histogram measures. Its name and what it is need no escapes.
 #[derive(Clone, Copy)]

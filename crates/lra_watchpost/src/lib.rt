@@ -23,7 +23,7 @@ pub use counted::CountedResponder;
 pub use fault::{PortFault, port_line};
 pub use given::{Given, operators_order};
 pub use key::read_key;
-pub use lra_syncs::Timed;
+pub use lra_storage::Timed;
 pub use post::Watchpost;
 pub use tallies::Tallies;
 pub use vitals::Vitals;

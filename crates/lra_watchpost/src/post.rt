@@ -7,7 +7,7 @@ use crate::fault::PortFault;
 use crate::token::token;
 use crate::vitals::{Gauges, Vitals};
 use lra_operators::Access;
-use lra_syncs::{Stopwatch, Timed};
+use lra_storage::{Stopwatch, Timed};
 use std::alloc::Global;
 use std::fs::File;
 use std::net::{Net, TcpListener, TcpStream};

@@ -8,7 +8,7 @@ use http::StatusCode;
 use lra_front::{Denial, Operation};
 use lra_ids::Instance;
 use lra_model::{AskKind, Memory, Outcome};
-use lra_syncs::{Histogram, Stopwatch, Syncs, TIMES, WRITES};
+use lra_storage::{Histogram, Stopwatch, Syncs, TIMES, WRITES};
 use std::alloc::{AllocError, Global};
 use std::sync::Arc;
 use std::sync::atomic::{AtomicU64, Ordering};

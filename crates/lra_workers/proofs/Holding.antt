@@ -20,7 +20,7 @@ use Rattle.lra_commands.specs.Errands.{Asking}
 use Rattle.lra_commands.specs.Given.{ask_carried, IsOfAsk}
 use Rattle.lra_commands.specs.Calls.{Call}
 use Rattle.lra_commands.specs.declared.refusal.Refusal.TheVariants.{NotAsked}
-use Rattle.lra_courier.specs.Carriages.{Places, AreSame, AreFree, Gains}
+use Rattle.lra_courier.specs.Carriages.{Handed, Places, AreSame, AreFree, Gains}
 use Rattle.lra_office.specs.declared.fault.OfficeRefusal.TheVariants as office
 use Rattle.lra_office.specs.declared.fault.OfficeRefusal.{OfficeRefusal}
 use Rattle.lra_office.specs.Orders.{IsNotGiven, IsLookedAhead}
@@ -28,7 +28,7 @@ use Rattle.lra_workers.specs.declared.worker.WorkerEnd.{WorkerEnd}
 use Rattle.lra_workers.specs.declared.worker.WorkerEnd.TheVariants.{Ended, Held, Refused}
 use Rattle.lra_workers.specs.Work.{Post, Does, Fails, WorksIn, Works, WorksUpTo}
 use Rattle.lra_workers.specs.Carrying.{GoesOn, CarriesIn, Carries, EndsCarrying}
-use Rattle.lra_workers.specs.inner.Held.{AreOfAsks}
+use Rattle.lra_workers.specs.Handed.{IsHanded, AreHanded}
 use Rattle.lra_workers.proofs.Working.{works_none}
 use Rattle.lra_workers.proofs.CarryingOn.{foretold_seen, carries_none}
 
@@ -44,39 +44,40 @@ asked_on (e ∷ es) J n x h = subst (λ (K : History). ask_of K n ≡ Some x) (a
 pub of_ask_on : (J K : History) (e : Asking) → IsPrefix J K → IsOfAsk J e → IsOfAsk K e
 of_ask_on J K e p h = subst (λ (M : History). IsOfAsk M e) p.1 (asked_on p.0 J e.ask (ask_carried e) h)
 
-pub asks_stay : (J K : History) (places : Places) → IsPrefix J K → AreOfAsks J places → AreOfAsks K places
-asks_stay J K places p h place e here = of_ask_on J K e p (h place e here)
+module _ {O : Type 0} (covers : O → History → ℕ → Bool) where
+  pub asks_stay : (J K : History) (places : Places) → IsPrefix J K → AreHanded covers J places → AreHanded covers K places
+  asks_stay J K places p h place e here = let x = h place e here in record { of_ask = of_ask_on J K e.0 p x.of_ask; told = x.told }
 
--- ---- errands come and go
+  -- ---- errands come and go
 
-pub same_asks : (J : History) (old new : Places) → AreSame old new → AreOfAsks J old → AreOfAsks J new
-same_asks J old new same h place e here = h place e (sym (same place) ∙ here)
+  pub same_asks : (J : History) (old new : Places) → AreSame old new → AreHanded covers J old → AreHanded covers J new
+  same_asks J old new same h place e here = h place e (sym (same place) ∙ here)
 
-pub no_asks : (J : History) (places : Places) → AreFree places → AreOfAsks J places
-no_asks J places free place e here = absurd (none (sym (free place) ∙ here))
-  where
-    none : None ≡ Some e → ⊥
-    none h = absurd cc
+  pub no_asks : (J : History) (places : Places) → AreFree places → AreHanded covers J places
+  no_asks J places free place e here = absurd (none (sym (free place) ∙ here))
+    where
+      none : None ≡ Some e → ⊥
+      none h = absurd cc
 
-pub gained_asks : (J : History) (old new : Places) (e : Asking) → Gains old new e → IsOfAsk J e → AreOfAsks J old → AreOfAsks J new
-gained_asks J old new e g is h place x here = at (place == g.place) refl
-  where
-    at : (b : Bool) → (place == g.place) ≡ b → IsOfAsk J x
-    at true same = subst (IsOfAsk J) (same_Some e x (sym g.here ∙ (ap new (sym (eqb-true place g.place same)) ∙ here))) is
-    at false other = h place x (sym (g.others place (eqb-false place g.place other)) ∙ here)
+  pub gained_asks : (J : History) (old new : Places) (e : Handed) → Gains old new e → IsHanded covers J e → AreHanded covers J old → AreHanded covers J new
+  gained_asks J old new e g is h place x here = at (place == g.place) refl
+    where
+      at : (b : Bool) → (place == g.place) ≡ b → IsHanded covers J x
+      at true same = subst (IsHanded covers J) (same_Some e x (sym g.here ∙ (ap new (sym (eqb-true place g.place same)) ∙ here))) is
+      at false other = h place x (sym (g.others place (eqb-false place g.place other)) ∙ here)
 
-pub lost_ask : (J : History) (old new : Places) (e : Asking) → Gains new old e → AreOfAsks J old → IsOfAsk J e
-lost_ask J old new e g h = h g.place e g.here
+  pub lost_ask : (J : History) (old new : Places) (e : Handed) → Gains new old e → AreHanded covers J old → IsOfAsk J e.0
+  lost_ask J old new e g h = (h g.place e g.here).of_ask
 
-pub lost_asks : (J : History) (old new : Places) (e : Asking) → Gains new old e → AreOfAsks J old → AreOfAsks J new
-lost_asks J old new e g h place x here = at (place == g.place) refl
-  where
-    none : None ≡ Some x → IsOfAsk J x
-    none c = absurd cc
+  pub lost_asks : (J : History) (old new : Places) (e : Handed) → Gains new old e → AreHanded covers J old → AreHanded covers J new
+  lost_asks J old new e g h place x here = at (place == g.place) refl
+    where
+      none : None ≡ Some x → IsHanded covers J x
+      none c = absurd cc
 
-    at : (b : Bool) → (place == g.place) ≡ b → IsOfAsk J x
-    at true same = none (sym g.free ∙ (ap new (sym (eqb-true place g.place same)) ∙ here))
-    at false other = h place x (g.others place (eqb-false place g.place other) ∙ here)
+      at : (b : Bool) → (place == g.place) ≡ b → IsHanded covers J x
+      at true same = none (sym g.free ∙ (ap new (sym (eqb-true place g.place same)) ∙ here))
+      at false other = h place x (g.others place (eqb-false place g.place other) ∙ here)
 
 -- ---- calls show all that was seen
 

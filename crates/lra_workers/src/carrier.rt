@@ -9,7 +9,7 @@ ghost use Rattle.lra_courier.specs.Carriages.{AreFree};
 ghost use Rattle.lra_office.specs.Stops.{HasStopped};
 ghost use Rattle.lra_workers.specs.Work.{Post, post, TellsWhy};
 ghost use Rattle.lra_workers.specs.Carrying.{Carries, EndsCarrying, is_for_memory};
-ghost use Rattle.lra_workers.specs.inner.Held.{AreOfAsks};
+ghost use Rattle.lra_workers.specs.Handed.{AreHanded};
 
 use crate::gate::Gate;
 use crate::worker::{WorkerEnd, after_refusal, fire, next_errand};
@@ -92,7 +92,8 @@ fn note<V: Serving, R: Wait, C: Carriage, G: Gate, K: Clock>(
     unreachable!()
 }
 
-/// Hands an errand over to be carried. Where memory is refused it is recorded that nothing came of it, so that its member is asked again.
+/// Hands an errand over to be carried, once the journal is durable up to the clerk's position, which covers its ask.
+/// Where memory is refused it is recorded that nothing came of it, so that its member is asked again.
 fn hand_over<V: Serving, R: Wait, C: Carriage, G: Gate, K: Clock>(
     rt: &R,
     office: &OfficeOf<V>,
@@ -103,16 +104,16 @@ fn hand_over<V: Serving, R: Wait, C: Carriage, G: Gate, K: Clock>(
     errand: Errand,
 ) -> Result<(), WorkerEnd>
     requires clerk { IsClerkOf office.now.lock V.covers clerk.old }
-    requires held { AreOfAsks (clerk_view clerk.old).seen (C.held carriage.old) }
+    requires held { AreHanded V.covers (clerk_view clerk.old).seen (C.held carriage.old) }
     requires of_ask { IsOfAsk (clerk_view clerk.old).seen errand }
     ensures clerk { IsClerkOf office.now.lock V.covers clerk.new }
     ensures number { clerk.new.number ≡ clerk.old.number }
-    ensures held { AreOfAsks (clerk_view clerk.new).seen (C.held carriage.new) }
+    ensures held { AreHanded V.covers (clerk_view clerk.new).seen (C.held carriage.new) }
     ensures work { (s : Post V.Origin K) → Carries V.setting C.gives K.tells s (post (clerk_view clerk.old) clock.old)
         → MatchResult result (λ _. Carries V.setting C.gives K.tells s (post (clerk_view clerk.new) clock.new)) (λ end. EndsCarrying V.setting C.gives K.tells s end (post (clerk_view clerk.new) clock.new)) }
     ensures why { IfErr result (TellsWhy (G.is_shut gate.new) (G.holds gate.new) (HasStopped V.origin V.history V.lawful V.has_stopped (clerk_view clerk.new)) (clerk_view clerk.new).seen) }
 {
-    match carriage.take(errand) {
+    match carriage.take(errand, clerk.position()) {
         Ok(()) => Ok(()),
         Err(errand) => note::<V, R, C, G, K>(
             rt,
@@ -136,10 +137,10 @@ fn take_one<V: Serving, R: Wait, C: Carriage, G: Gate, K: Clock>(
     clock: &mut K,
 ) -> Result<bool, WorkerEnd>
     requires clerk { IsClerkOf office.now.lock V.covers clerk.old }
-    requires held { AreOfAsks (clerk_view clerk.old).seen (C.held carriage.old) }
+    requires held { AreHanded V.covers (clerk_view clerk.old).seen (C.held carriage.old) }
     ensures clerk { IsClerkOf office.now.lock V.covers clerk.new }
     ensures number { clerk.new.number ≡ clerk.old.number }
-    ensures held { AreOfAsks (clerk_view clerk.new).seen (C.held carriage.new) }
+    ensures held { AreHanded V.covers (clerk_view clerk.new).seen (C.held carriage.new) }
     ensures work { (s : Post V.Origin K) → Carries V.setting C.gives K.tells s (post (clerk_view clerk.old) clock.old)
         → MatchResult result (λ _. Carries V.setting C.gives K.tells s (post (clerk_view clerk.new) clock.new)) (λ end. EndsCarrying V.setting C.gives K.tells s end (post (clerk_view clerk.new) clock.new)) }
     ensures why { IfErr result (TellsWhy (G.is_shut gate.new) (G.holds gate.new) (HasStopped V.origin V.history V.lawful V.has_stopped (clerk_view clerk.new)) (clerk_view clerk.new).seen) }
@@ -164,10 +165,10 @@ fn take_due<V: Serving, R: Wait, C: Carriage, G: Gate, K: Clock>(
     clock: &mut K,
 ) -> Result<(), WorkerEnd>
     requires clerk { IsClerkOf office.now.lock V.covers clerk.old }
-    requires held { AreOfAsks (clerk_view clerk.old).seen (C.held carriage.old) }
+    requires held { AreHanded V.covers (clerk_view clerk.old).seen (C.held carriage.old) }
     ensures clerk { IsClerkOf office.now.lock V.covers clerk.new }
     ensures number { clerk.new.number ≡ clerk.old.number }
-    ensures held { AreOfAsks (clerk_view clerk.new).seen (C.held carriage.new) }
+    ensures held { AreHanded V.covers (clerk_view clerk.new).seen (C.held carriage.new) }
     ensures work { (s : Post V.Origin K) → Carries V.setting C.gives K.tells s (post (clerk_view clerk.old) clock.old)
         → MatchResult result (λ _. Carries V.setting C.gives K.tells s (post (clerk_view clerk.new) clock.new)) (λ end. EndsCarrying V.setting C.gives K.tells s end (post (clerk_view clerk.new) clock.new)) }
     ensures why { IfErr result (TellsWhy (G.is_shut gate.new) (G.holds gate.new) (HasStopped V.origin V.history V.lawful V.has_stopped (clerk_view clerk.new)) (clerk_view clerk.new).seen) }
@@ -195,10 +196,10 @@ fn record_one<V: Serving, R: Wait, C: Carriage, G: Gate, K: Clock>(
     clock: &mut K,
 ) -> Result<bool, WorkerEnd>
     requires clerk { IsClerkOf office.now.lock V.covers clerk.old }
-    requires held { AreOfAsks (clerk_view clerk.old).seen (C.held carriage.old) }
+    requires held { AreHanded V.covers (clerk_view clerk.old).seen (C.held carriage.old) }
     ensures clerk { IsClerkOf office.now.lock V.covers clerk.new }
     ensures number { clerk.new.number ≡ clerk.old.number }
-    ensures held { AreOfAsks (clerk_view clerk.new).seen (C.held carriage.new) }
+    ensures held { AreHanded V.covers (clerk_view clerk.new).seen (C.held carriage.new) }
     ensures work { (s : Post V.Origin K) → Carries V.setting C.gives K.tells s (post (clerk_view clerk.old) clock.old)
         → MatchResult result (λ _. Carries V.setting C.gives K.tells s (post (clerk_view clerk.new) clock.new)) (λ end. EndsCarrying V.setting C.gives K.tells s end (post (clerk_view clerk.new) clock.new)) }
     ensures why { IfErr result (TellsWhy (G.is_shut gate.new) (G.holds gate.new) (HasStopped V.origin V.history V.lawful V.has_stopped (clerk_view clerk.new)) (clerk_view clerk.new).seen) }
@@ -222,10 +223,10 @@ fn record_done<V: Serving, R: Wait, C: Carriage, G: Gate, K: Clock>(
     clock: &mut K,
 ) -> Result<(), WorkerEnd>
     requires clerk { IsClerkOf office.now.lock V.covers clerk.old }
-    requires held { AreOfAsks (clerk_view clerk.old).seen (C.held carriage.old) }
+    requires held { AreHanded V.covers (clerk_view clerk.old).seen (C.held carriage.old) }
     ensures clerk { IsClerkOf office.now.lock V.covers clerk.new }
     ensures number { clerk.new.number ≡ clerk.old.number }
-    ensures held { AreOfAsks (clerk_view clerk.new).seen (C.held carriage.new) }
+    ensures held { AreHanded V.covers (clerk_view clerk.new).seen (C.held carriage.new) }
     ensures work { (s : Post V.Origin K) → Carries V.setting C.gives K.tells s (post (clerk_view clerk.old) clock.old)
         → MatchResult result (λ _. Carries V.setting C.gives K.tells s (post (clerk_view clerk.new) clock.new)) (λ end. EndsCarrying V.setting C.gives K.tells s end (post (clerk_view clerk.new) clock.new)) }
     ensures why { IfErr result (TellsWhy (G.is_shut gate.new) (G.holds gate.new) (HasStopped V.origin V.history V.lawful V.has_stopped (clerk_view clerk.new)) (clerk_view clerk.new).seen) }
@@ -250,10 +251,10 @@ fn begin<V: Serving, R: Wait, C: Carriage, G: Gate, K: Clock>(
     clock: &mut K,
 ) -> Result<(), WorkerEnd>
     requires clerk { IsClerkOf office.now.lock V.covers clerk.old }
-    requires held { AreOfAsks (clerk_view clerk.old).seen (C.held carriage.old) }
+    requires held { AreHanded V.covers (clerk_view clerk.old).seen (C.held carriage.old) }
     ensures clerk { IsClerkOf office.now.lock V.covers clerk.new }
     ensures number { clerk.new.number ≡ clerk.old.number }
-    ensures held { AreOfAsks (clerk_view clerk.new).seen (C.held carriage.new) }
+    ensures held { AreHanded V.covers (clerk_view clerk.new).seen (C.held carriage.new) }
     ensures work { (s : Post V.Origin K) → Carries V.setting C.gives K.tells s (post (clerk_view clerk.old) clock.old)
         → MatchResult result (λ _. Carries V.setting C.gives K.tells s (post (clerk_view clerk.new) clock.new)) (λ end. EndsCarrying V.setting C.gives K.tells s end (post (clerk_view clerk.new) clock.new)) }
     ensures why { IfErr result (TellsWhy (G.is_shut gate.new) (G.holds gate.new) (HasStopped V.origin V.history V.lawful V.has_stopped (clerk_view clerk.new)) (clerk_view clerk.new).seen) }
@@ -274,10 +275,10 @@ fn begin_next<V: Serving, R: Wait, C: Carriage, G: Gate, K: Clock>(
     clock: &mut K,
 ) -> Result<Option<u64>, WorkerEnd>
     requires clerk { IsClerkOf office.now.lock V.covers clerk.old }
-    requires held { AreOfAsks (clerk_view clerk.old).seen (C.held carriage.old) }
+    requires held { AreHanded V.covers (clerk_view clerk.old).seen (C.held carriage.old) }
     ensures clerk { IsClerkOf office.now.lock V.covers clerk.new }
     ensures number { clerk.new.number ≡ clerk.old.number }
-    ensures held { AreOfAsks (clerk_view clerk.new).seen (C.held carriage.new) }
+    ensures held { AreHanded V.covers (clerk_view clerk.new).seen (C.held carriage.new) }
     ensures next { IfOk result (λ next. G.is_closing gate.new ⊎ IsFirstMoment (V.setting (clerk_view clerk.new).origin).limits (clerk_view clerk.new).seen next) }
     ensures work { (s : Post V.Origin K) → Carries V.setting C.gives K.tells s (post (clerk_view clerk.old) clock.old)
         → MatchResult result (λ _. Carries V.setting C.gives K.tells s (post (clerk_view clerk.new) clock.new)) (λ end. EndsCarrying V.setting C.gives K.tells s end (post (clerk_view clerk.new) clock.new)) }
@@ -306,10 +307,10 @@ fn carry_on<V: Serving, R: Wait, C: Carriage, G: Gate, K: Clock>(
     next: Option<u64>,
 ) -> Result<(), WorkerEnd>
     requires clerk { IsClerkOf office.now.lock V.covers clerk.old }
-    requires held { AreOfAsks (clerk_view clerk.old).seen (C.held carriage.old) }
+    requires held { AreHanded V.covers (clerk_view clerk.old).seen (C.held carriage.old) }
     ensures clerk { IsClerkOf office.now.lock V.covers clerk.new }
     ensures number { clerk.new.number ≡ clerk.old.number }
-    ensures held { AreOfAsks (clerk_view clerk.new).seen (C.held carriage.new) }
+    ensures held { AreHanded V.covers (clerk_view clerk.new).seen (C.held carriage.new) }
     ensures work { (s : Post V.Origin K) → Carries V.setting C.gives K.tells s (post (clerk_view clerk.old) clock.old)
         → MatchResult result (λ _. Carries V.setting C.gives K.tells s (post (clerk_view clerk.new) clock.new)) (λ end. EndsCarrying V.setting C.gives K.tells s end (post (clerk_view clerk.new) clock.new)) }
     ensures why { IfErr result (TellsWhy (G.is_shut gate.new) (G.holds gate.new) (HasStopped V.origin V.history V.lawful V.has_stopped (clerk_view clerk.new)) (clerk_view clerk.new).seen) }
@@ -328,10 +329,10 @@ fn take_turn<V: Serving, R: Wait, C: Carriage, G: Gate, K: Clock>(
     clock: &mut K,
 ) -> Result<(), WorkerEnd>
     requires clerk { IsClerkOf office.now.lock V.covers clerk.old }
-    requires held { AreOfAsks (clerk_view clerk.old).seen (C.held carriage.old) }
+    requires held { AreHanded V.covers (clerk_view clerk.old).seen (C.held carriage.old) }
     ensures clerk { IsClerkOf office.now.lock V.covers clerk.new }
     ensures number { clerk.new.number ≡ clerk.old.number }
-    ensures held { AreOfAsks (clerk_view clerk.new).seen (C.held carriage.new) }
+    ensures held { AreHanded V.covers (clerk_view clerk.new).seen (C.held carriage.new) }
     ensures work { (s : Post V.Origin K) → Carries V.setting C.gives K.tells s (post (clerk_view clerk.old) clock.old)
         → MatchResult result (λ _. Carries V.setting C.gives K.tells s (post (clerk_view clerk.new) clock.new)) (λ end. EndsCarrying V.setting C.gives K.tells s end (post (clerk_view clerk.new) clock.new)) }
     ensures why { IfErr result (TellsWhy (G.is_shut gate.new) (G.holds gate.new) (HasStopped V.origin V.history V.lawful V.has_stopped (clerk_view clerk.new)) (clerk_view clerk.new).seen) }
@@ -362,6 +363,8 @@ pub fn run_carrier<V: Serving, R: Wait, C: Carriage, G: Gate, K: Clock>(
     ensures work { EndsCarrying V.setting C.gives K.tells (post (clerk_view clerk) clock.old) result.1 (post (clerk_view result.0) clock.new) }
     ensures why { TellsWhy (G.is_shut gate.new) (G.holds gate.new) (HasStopped V.origin V.history V.lawful V.has_stopped (clerk_view result.0)) (clerk_view result.0).seen result.1 }
     ensures memory { is_for_memory result.1 ≡ false }
+    // The position of each errand that is still under way covers a history in which its ask stands.
+    ensures held { AreHanded V.covers (clerk_view result.0).seen (C.held carriage.new) }
 {
     let mut clerk = clerk;
     for _ in rt.forever() {

@@ -1,6 +1,6 @@
--- What one visit does, and that it leaves what a counter was made with as it was.
-use Rattle.std.specs.Prelude.{◌≡◌, ℕ, List, Option, None, IsSomeAnd, Result, Ok, Err}
-use Rattle.std.proofs.Common.{ap}
+-- What one visit does, and that it leaves what a session was made with as it was.
+use Rattle.std.specs.Prelude.{◌≡◌, ℕ, Bool, List, Option, Some, None, IfSome, IsSomeAnd, IsTrue, Result, Ok, Err}
+use Rattle.std.proofs.Common.{ap, refl}
 use Rattle.lra_wire.specs.Request.{Request}
 use Rattle.lra_commands.specs.declared.command.Told.{Told}
 use Rattle.lra_commands.specs.declared.counter.Order.{Order}
@@ -9,16 +9,11 @@ use Rattle.lra_commands.specs.Counters.{Sight, KeepsHistory}
 use Rattle.lra_front.specs.declared.answer.Answer.{Answer}
 use Rattle.lra_front.specs.Replies.{HasIdentifiers}
 use Rattle.lra_front.specs.Serving.{Responds}
+use Rattle.lra_steps.specs.declared.responder.Answered.{Answered}
+use Rattle.lra_steps.specs.Positions.{AnswersOrdered, IsCovered}
 use Rattle.lra_family.specs.Counted.{name}
 use Rattle.lra_family.specs.Families.{MovesAt}
-
--- what the front does over one counter
-abbrev pub Answers : (Sight → ℕ → Order → Result Told CounterFault → Sight → Type 0) → Sight → ℕ → Request → Answer → Sight → Type 0
-Answers gives before moment request answer after = Responds gives before moment request after answer × HasIdentifiers answer
-
--- the counter of an instance answers and every other stays, or there is none
-abbrev pub Visits : (Sight → ℕ → Order → Result Told CounterFault → Sight → Type 0) → ℕ → ℕ → Request → Option Answer → List Sight → List Sight → Type 0
-Visits gives i moment request r before after = MovesAt name i before (λ s t. IsSomeAnd r (λ a. Answers gives s moment request a t)) (r ≡ None) after
+use Rattle.lra_family_front.specs.Serving.{DoesOrdered, IsCoveredAt}
 
 pub responds_stays : (gives : Sight → ℕ → Order → Result Told CounterFault → Sight → Type 0)
     (keeps : (before after : Sight) (moment : ℕ) (o : Order) (reply : Result Told CounterFault) → gives before moment o reply after → KeepsHistory before moment o reply after)
@@ -26,7 +21,22 @@ pub responds_stays : (gives : Sight → ℕ → Order → Result Told CounterFau
 responds_stays gives keeps before after moment request answer (Ok w, asks, h) = (keeps before after moment h.order h.reply h.given).same.setting
 responds_stays gives keeps before after moment request answer (Err d, asks, h) = ap (λ s. s.setting) h.1
 
-pub answers_stay : (gives : Sight → ℕ → Order → Result Told CounterFault → Sight → Type 0)
-    (keeps : (before after : Sight) (moment : ℕ) (o : Order) (reply : Result Told CounterFault) → gives before moment o reply after → KeepsHistory before moment o reply after)
-    (before after : Sight) (moment : ℕ) (request : Request) (answer : Answer) → Answers gives before moment request answer after → after.setting ≡ before.setting
-answers_stay gives keeps before after moment request answer h = responds_stays gives keeps before after moment request answer h.0
+module _ {C : Type 0} (sight : C → Sight) (covers : C → ℕ → Bool) (gives : Sight → ℕ → Order → Result Told CounterFault → Sight → Type 0) where
+  -- what the front does over one session
+  abbrev pub Answers : Sight → ℕ → Request → Answered → Sight → Type 0
+  Answers before moment request answered after =
+      DoesOrdered sight covers gives before (record { request = request; moment = moment; answered = answered }) after × HasIdentifiers answered.answer
+
+  -- the session of an instance answers and every other stays, or there is none
+  abbrev pub Visits : ℕ → ℕ → Request → Option Answered → List Sight → List Sight → Type 0
+  Visits i moment request r before after = MovesAt name i before (λ s t. IsSomeAnd r (λ a. Answers s moment request a t)) (r ≡ None) after
+
+  -- what a session covers is covered at what is known of it
+  pub covered_at : (session : C) (position : Option ℕ) → IfSome position (λ n. IsTrue (covers session n)) → IfSome position (IsCoveredAt sight covers gives (sight session))
+  covered_at session None h = tt
+  covered_at session (Some n) h = (session, refl, h)
+
+  pub answers_stay : (keeps : (before after : Sight) (moment : ℕ) (o : Order) (reply : Result Told CounterFault) → gives before moment o reply after → KeepsHistory before moment o reply after)
+      (before after : Sight) (moment : ℕ) (request : Request) (answered : Answered) → Answers before moment request answered after → after.setting ≡ before.setting
+  answers_stay keeps before after moment request answered h =
+      let a = h.0.0 in responds_stays gives keeps before after moment request answered.answer (a.0, a.1, a.2)

@@ -6,7 +6,7 @@ use Rattle.lra_workers.proofs.carrier.begin.Goals as goal
 
 pub take_due-requires-clause-held : goal.take_due-requires-clause-held
 take_due-requires-clause-held g c =
-    asks_stay _ _ (g.C.Carriage.held c.args.carriage.now)
+    asks_stay g.V.Serving.covers _ _ (g.C.Carriage.held c.args.carriage.now)
     (worked_up_to g.V.Serving.setting g.C.Carriage.gives g.K.Clock.tells (post (clerk_view c.args.clerk.now) c.args.clock.now) (post (clerk_view c.fire.new.clerk) c.fire.new.clock) c.fire.result c.fire.ensures.work) c.requires.held
 
 pub returns-clause-work : goal.returns-clause-work
@@ -14,7 +14,7 @@ returns-clause-work g c = λ s before. c.take_due.ensures.work s (carries_on g.V
 
 pub returns-in-Err-clause-held : goal.returns-in-Err-clause-held
 returns-in-Err-clause-held g c =
-    asks_stay _ _ (g.C.Carriage.held c.args.carriage.now)
+    asks_stay g.V.Serving.covers _ _ (g.C.Carriage.held c.args.carriage.now)
     (worked_up_to g.V.Serving.setting g.C.Carriage.gives g.K.Clock.tells (post (clerk_view c.args.clerk.now) c.args.clock.now) (post (clerk_view c.fire.new.clerk) c.fire.new.clock) c.fire.result c.fire.ensures.work) c.requires.held
 
 pub returns-in-Err-clause-work : goal.returns-in-Err-clause-work

@@ -5,12 +5,12 @@ use Rattle.lra_workers.proofs.carrier.record_one.Goals as goal
 
 pub returns-in-Ok-clause-held : goal.returns-in-Ok-clause-held
 returns-in-Ok-clause-held g c =
-    asks_stay _ _ (g.C.Carriage.held c.done.new.self)
+    asks_stay g.V.Serving.covers _ _ (g.C.Carriage.held c.done.new.self)
     (carried g.V.Serving.setting g.C.Carriage.gives g.K.Clock.tells (post (clerk_view c.args.clerk.now) c.args.clock.now) (post (clerk_view c.note.new.clerk) c.note.new.clock) c.note.result c.note.ensures.work)
-    (lost_asks _ (g.C.Carriage.held c.args.carriage.now) (g.C.Carriage.held c.done.new.self) _ c.in-Some.ensures.some.0 c.requires.held)
+    (lost_asks g.V.Serving.covers _ (g.C.Carriage.held c.args.carriage.now) (g.C.Carriage.held c.done.new.self) _ c.in-Some.ensures.some.1 c.requires.held)
 
 pub returns-in-Err-clause-held : goal.returns-in-Err-clause-held
 returns-in-Err-clause-held g c =
-    asks_stay _ _ (g.C.Carriage.held c.done.new.self)
+    asks_stay g.V.Serving.covers _ _ (g.C.Carriage.held c.done.new.self)
     (carried g.V.Serving.setting g.C.Carriage.gives g.K.Clock.tells (post (clerk_view c.args.clerk.now) c.args.clock.now) (post (clerk_view c.note.new.clerk) c.note.new.clock) c.note.result c.note.ensures.work)
-    (lost_asks _ (g.C.Carriage.held c.args.carriage.now) (g.C.Carriage.held c.done.new.self) _ c.in-Some.ensures.some.0 c.requires.held)
+    (lost_asks g.V.Serving.covers _ (g.C.Carriage.held c.args.carriage.now) (g.C.Carriage.held c.done.new.self) _ c.in-Some.ensures.some.1 c.requires.held)

@@ -9,7 +9,7 @@ pub loop-init : goal.loop-init
 loop-init g c = record {
   clerk = c.requires.clerk;
   number = refl;
-  held = no_asks _ (g.C.Carriage.held c.args.carriage.now) c.requires.none;
+  held = no_asks g.V.Serving.covers _ (g.C.Carriage.held c.args.carriage.now) c.requires.none;
   work = carries_none g.V.Serving.setting g.C.Carriage.gives g.K.Clock.tells (post (clerk_view c.args.clerk) c.args.clock.now);
 }
 

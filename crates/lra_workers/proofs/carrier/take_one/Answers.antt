@@ -6,7 +6,7 @@ use Rattle.lra_workers.proofs.carrier.take_one.Goals as goal
 
 pub hand_over-requires-clause-held : goal.hand_over-requires-clause-held
 hand_over-requires-clause-held g c =
-    asks_stay _ _ (g.C.Carriage.held c.args.carriage.now)
+    asks_stay g.V.Serving.covers _ _ (g.C.Carriage.held c.args.carriage.now)
     (worked_up_to g.V.Serving.setting g.C.Carriage.gives g.K.Clock.tells (post (clerk_view c.args.clerk.now) c.args.clock.now) (post (clerk_view c.next_errand.new.clerk) c.next_errand.new.clock) c.next_errand.result c.next_errand.ensures.work) c.requires.held
 
 pub returns-in-Ok-clause-work : goal.returns-in-Ok-clause-work
@@ -19,7 +19,7 @@ returns-in-Err-hand_over-clause-work g c = λ s before.
 
 pub returns-in-Ok-None-clause-held : goal.returns-in-Ok-None-clause-held
 returns-in-Ok-None-clause-held g c =
-    asks_stay _ _ (g.C.Carriage.held c.args.carriage.now)
+    asks_stay g.V.Serving.covers _ _ (g.C.Carriage.held c.args.carriage.now)
     (worked_up_to g.V.Serving.setting g.C.Carriage.gives g.K.Clock.tells (post (clerk_view c.args.clerk.now) c.args.clock.now) (post (clerk_view c.next_errand.new.clerk) c.next_errand.new.clock) c.next_errand.result c.next_errand.ensures.work) c.requires.held
 
 pub returns-in-Ok-None-clause-work : goal.returns-in-Ok-None-clause-work
@@ -27,7 +27,7 @@ returns-in-Ok-None-clause-work g c = λ s before. carries_on g.V.Serving.setting
 
 pub returns-in-Err-clause-held : goal.returns-in-Err-clause-held
 returns-in-Err-clause-held g c =
-    asks_stay _ _ (g.C.Carriage.held c.args.carriage.now)
+    asks_stay g.V.Serving.covers _ _ (g.C.Carriage.held c.args.carriage.now)
     (worked_up_to g.V.Serving.setting g.C.Carriage.gives g.K.Clock.tells (post (clerk_view c.args.clerk.now) c.args.clock.now) (post (clerk_view c.next_errand.new.clerk) c.next_errand.new.clock) c.next_errand.result c.next_errand.ensures.work) c.requires.held
 
 pub returns-in-Err-clause-work : goal.returns-in-Err-clause-work

@@ -9,12 +9,9 @@ use Rattle.lra_callbacks.proofs.attempt.Attempt.begin.Goals as goal
 
 pub invariant_of-self : goal.invariant_of-self
 invariant_of-self g c =
-    let keeps = g.D.Disk.keeps in
-    let position = c.args.self.now.noted.position in
-    let told = subst (λ (n : ℕ). IfSome c.in-Ok.kept (MayLeave keeps n)) c.position.ensures c.in-Ok.ensures.kept in
-    let kept = subst (λ (o : Option ℕ). IfSome o (MayLeave keeps position)) c.in-Some.is told in
+    let keeps = g.G.SyncGroup.keeps c.args.self.now.instance in
+    let told = subst (λ (o : Option ℕ). IfSome o (MayLeave keeps c.position.result)) c.in-Some.is c.in-Ok.ensures.kept in
     record {
-      of = c.args.self.now.of;
-      leave = λ x e. subst (λ (f : Flight). MayLeave keeps position f.kept) (same_Some _ x e) kept;
-      own = λ x e. subst (λ (f : Flight). ForSome c.args.self.now.errand (IsFor f.carrying)) (same_Some _ x e) (λ y h. (c.in-Some-callback.ensures y h).own);
+      leave = λ x e y h. subst (λ (f : Flight). MayLeave keeps y.1 f.kept) (same_Some _ x e) (subst (λ (n : ℕ). MayLeave keeps n c.in-Some.kept) (c.position.ensures y h) told);
+      own = λ x e. subst (λ (f : Flight). ForSome c.args.self.now.errand (λ y. IsFor f.carrying y.0)) (same_Some _ x e) (λ y h. (c.in-Some-callback.ensures y h).own);
     }

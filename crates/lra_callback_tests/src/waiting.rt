@@ -1,0 +1,92 @@
+//! A callback that waits for its own journal.
+
+use crate::callbacks::{PATIENCE, carry_within};
+use crate::members::{listen, socket_at};
+use crate::setting::{End, Ready, errand};
+use lra_callbacks::{Callbacks, Names, Share, bell};
+use lra_clocks::SystemClock;
+use lra_courier::Carriage;
+use lra_ids::Instance;
+use lra_outcomes::Outcomes;
+use lra_rules::Rules;
+use mio::Waker;
+use std::alloc::Global;
+use std::net::{Net, TcpListener, TcpStream};
+use std::sync::Wait;
+use std::sync::atomic::{AtomicU64, Ordering};
+use std::time::{Clock, Duration};
+
+/// The position of each errand.
+const POSITION: u64 = 5;
+
+/// How many errands something comes of while the journal is a byte too short, and once it is long enough.
+fn come_of<R: Clock, C: Carriage>(rt: &R, carriage: &mut C, length: &AtomicU64) -> (u64, u64) {
+    length.store(POSITION - 1, Ordering::SeqCst);
+    let early = carry_within(rt, carriage, 1, Duration::from_millis(300));
+    length.store(POSITION, Ordering::SeqCst);
+    let late = carry_within(rt, carriage, 1, Duration::from_millis(900));
+    (early.all(), late.all())
+}
+
+/// Takes the errand of a member at a port.
+fn take<C: Carriage>(alloc: Global, carriage: &mut C, port: u16) -> Option<()> {
+    let socket = socket_at(alloc, "127.0.0.1", port);
+    let held = errand(alloc, socket.as_str(), End::Close);
+    drop(socket);
+    if let Err(errand) = carriage.take(held?.take()?, POSITION) {
+        errand.discard();
+        return None;
+    }
+    Some(())
+}
+
+/// How many errands something comes of, early and late, of callbacks of the journal of an instance, where only that of
+/// the seventh is durable.
+fn waited<R>(rt: &R, alloc: Global, number: u64) -> Option<(u64, u64)>
+where
+    R: Wait + Clock + Net<Listener = TcpListener, Stream = TcpStream>,
+{
+    let (listener, port) = listen(rt).ok()?;
+    drop(listener);
+    let (poll, _bell) = bell(rt).ok()?;
+    let group = Ready::up_to(0)?;
+    let names = Names::new(alloc);
+    let rules = Rules::none(alloc);
+    let (under_way, least_pause) = (AtomicU64::new(0), AtomicU64::new(0));
+    let bells: [Waker; 0] = [];
+    let outcomes = Outcomes::new(alloc);
+    let made = Callbacks::new(
+        rt,
+        alloc,
+        &group,
+        Instance::new(number)?,
+        &names,
+        &rules,
+        poll,
+        Share::of(1, 1_024, 64, PATIENCE),
+        &under_way,
+        &least_pause,
+        SystemClock::new(rt, 0),
+        &bells,
+        &outcomes,
+    );
+    let Ok(mut callbacks) = made else {
+        return None;
+    };
+    let came = match take(alloc, &mut callbacks, port) {
+        Some(()) => Some(come_of(rt, &mut callbacks, &group.length)),
+        None => None,
+    };
+    drop(callbacks);
+    came
+}
+
+#[test]
+fn a_callback_waits_until_its_journal_is_long_enough(rt: HostRuntime) {
+    assert!(rt; waited(&rt, rt.alloc(), 7) == Some((0, 1)));
+}
+
+#[test]
+fn a_callback_leaves_by_no_other_journal(rt: HostRuntime) {
+    assert!(rt; waited(&rt, rt.alloc(), 8) == Some((0, 0)));
+}

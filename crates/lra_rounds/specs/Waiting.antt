@@ -1,0 +1,35 @@
+-- How much of journals has to be durable before replies leave.
+use Rattle.std.specs.Prelude.{◌≡◌, ◌⊎◌, ◌≤◌, ℕ, Bool, List, Option, IfSome, IsSomeAnd}
+use Rattle.std.specs.List.{AllByRecursion}
+use Rattle.lra_durable.specs.Leaves.{MayLeave}
+use Rattle.lra_steps.specs.declared.responder.Answered.{Answered}
+use Rattle.lra_steps.specs.History.{Turn}
+use Rattle.lra_rounds.specs.declared.positions.Position.{Position}
+use Rattle.lra_rounds.specs.declared.positions.Positions.{Positions}
+
+-- so many bytes of the journal of an instance were durable
+abbrev pub IsDurable : (ℕ → ℕ → Bool) → ℕ → ℕ → Type 0
+IsDurable keeps instance n = (kept : ℕ) × MayLeave (keeps instance) n kept
+
+-- a position reaches to so many bytes of the journal of an instance
+abbrev pub Reaches : Option Position → ℕ → ℕ → Type 0
+Reaches place instance n = IsSomeAnd place (λ p. (p.instance ≡ instance) × (n ≤ p.length))
+
+-- one of the positions does
+abbrev pub WaitFor : Positions → ℕ → ℕ → Type 0
+WaitFor ps instance n = Reaches ps.first instance n ⊎ Reaches ps.other instance n
+
+-- The journal of its instance was durable up to an answer's position; an answer without one waits for nothing.
+abbrev pub MayGo : (ℕ → ℕ → Bool) → Answered → Type 0
+MayGo keeps answered = IfSome answered.position (IsDurable keeps answered.instance)
+
+-- or the positions reach to it
+abbrev pub IsNoted : (ℕ → ℕ → Bool) → Positions → Answered → Type 0
+IsNoted keeps ps answered = IfSome answered.position (λ n. IsDurable keeps answered.instance n ⊎ WaitFor ps answered.instance n)
+
+-- the same of each turn of a connection
+abbrev pub AllMayGo : (ℕ → ℕ → Bool) → List Turn → Type 0
+AllMayGo keeps turns = AllByRecursion (λ turn. MayGo keeps turn.answered) turns
+
+abbrev pub AreNoted : (ℕ → ℕ → Bool) → Positions → List Turn → Type 0
+AreNoted keeps ps turns = AllByRecursion (λ turn. IsNoted keeps ps turn.answered) turns

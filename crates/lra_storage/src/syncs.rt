@@ -1,0 +1,177 @@
+//! How long syncs of journals take, and how many writes each keeps.
+
+ghost use Rattle.std.specs.Prelude.{◌≡◌, ◌+◌, ◌-◌, ◌^◌, min, cond, nat_eq};
+
+use crate::histogram::Histogram;
+use crate::stopwatch::Stopwatch;
+use std::alloc::{AllocError, Global};
+use std::sync::Arc;
+use std::sync::atomic::{AtomicU64, Ordering};
+use std::time::Instant;
+
+/// The ends of the classes of how long a sync takes, in microseconds.
+pub const TIMES: [u64; 12] = [
+    100, 500, 1_000, 5_000, 10_000, 50_000, 100_000, 500_000, 1_000_000, 5_000_000, 10_000_000,
+    30_000_000,
+];
+
+/// Those of how many writes one keeps.
+pub const WRITES: [u64; 10] = [1, 2, 5, 10, 20, 50, 100, 200, 500, 1_000];
+
+/// How many syncs under way are told apart. The threads of a service are fewer.
+const MOST_UNDER_WAY: usize = 64;
+
+/// What is known of the syncs of a service's journals, of which each has one under way at most.
+#[derive(Drop)]
+pub struct Syncs {
+    stopwatch: Stopwatch,
+    /// How long each took, in microseconds.
+    times: Histogram,
+    /// How many writes each kept.
+    writes: Histogram,
+    /// The moment from which `under_way` counts.
+    opened: Option<Instant>,
+    /// When each sync under way began, in milliseconds since then and one more, or 0 in a place that none has.
+    under_way: Vec<AtomicU64>,
+}
+
+/// A sync that is under way: the moment at which it began, and its place, if it has one.
+#[derive(Clone, Copy)]
+pub struct Begun {
+    moment: Option<Instant>,
+    place: Option<usize>,
+}
+
+/// Returns how many milliseconds lie between two moments.
+fn millis_between(from: Instant, to: Instant) -> u64 {
+    u64::try_from(to.saturating_duration_since(from).as_millis()).unwrap_or(u64::MAX)
+}
+
+/// Returns the mark of a sync that began so many milliseconds after the first moment: 0 is the mark of none.
+fn mark_of(began: u64) -> u64
+    ensures { result ≡ min (2 ^ 64 - 1) (began + 1) }
+{
+    began.saturating_add(1)
+}
+
+/// Returns how long a sync of that mark has been under way, at so many milliseconds after the first moment.
+fn age_at(mark: u64, now: u64) -> u64
+    ensures { result ≡ cond (nat_eq mark 0) 0 (now - (mark - 1)) }
+{
+    if mark == 0 {
+        0
+    } else {
+        now.saturating_sub(mark - 1)
+    }
+}
+
+impl Syncs {
+    /// Returns that of journals of which none was synced.
+    pub fn new(alloc: Global, stopwatch: Stopwatch) -> Result<Syncs, AllocError> {
+        let mut under_way = Vec::new(alloc);
+        for _place in 0..MOST_UNDER_WAY {
+            under_way.push(AtomicU64::new(0))?;
+        }
+        Ok(Syncs {
+            stopwatch,
+            times: Histogram::new(alloc, &TIMES)?,
+            writes: Histogram::new(alloc, &WRITES)?,
+            opened: stopwatch.now(),
+            under_way,
+        })
+    }
+
+    /// How long each took that kept something, in microseconds.
+    pub fn times(&self) -> &Histogram {
+        &self.times
+    }
+
+    /// How many writes each of them kept.
+    pub fn writes(&self) -> &Histogram {
+        &self.writes
+    }
+
+    /// Takes down how long it is since a moment, where that can be told.
+    fn add_time(&self, began: Option<Instant>) {
+        let (Some(began), Some(now)) = (began, self.stopwatch.now()) else {
+            return;
+        };
+        let passed = now.saturating_duration_since(began).as_micros();
+        if let Ok(micros) = u64::try_from(passed) {
+            self.times.add(&TIMES, micros);
+        }
+    }
+
+    /// Returns how many milliseconds after the first moment it is now, where the clock can be read.
+    fn passed(&self) -> Option<u64> {
+        Some(millis_between(self.opened?, self.stopwatch.now()?))
+    }
+
+    /// Returns how many milliseconds the oldest sync that is under way has taken, or 0 where none is.
+    pub fn age(&self) -> u64 {
+        let Some(now) = self.passed() else {
+            return 0;
+        };
+        let mut oldest = 0;
+        for mark in &self.under_way {
+            oldest = age_at(mark.load(Ordering::SeqCst), now).max(oldest);
+        }
+        oldest
+    }
+
+    /// Takes down that a sync begins, and returns its place, where the clock can be read and a place is free.
+    fn note_begin(&self) -> Option<usize> {
+        let mark = mark_of(self.passed()?);
+        for (place, free) in self.under_way.iter().enumerate() {
+            if free
+                .compare_exchange(0, mark, Ordering::SeqCst, Ordering::SeqCst)
+                .is_ok()
+            {
+                return Some(place);
+            }
+        }
+        None
+    }
+
+    /// Takes down that the sync of a place is under way no more.
+    fn note_end(&self, place: usize) {
+        if let Some(mark) = self.under_way.get(place) {
+            mark.store(0, Ordering::SeqCst);
+        }
+    }
+
+    /// Takes down a sync that began then, has ended well, and kept so many writes, if it kept any.
+    fn add(&self, began: Option<Instant>, writes: u64) {
+        if writes > 0 {
+            self.writes.add(&WRITES, writes);
+            self.add_time(began);
+        }
+    }
+}
+
+/// Takes down that a sync begins, where anyone wants to know of it.
+pub fn begin(syncs: &Option<Arc<Syncs>>) -> Begun {
+    match syncs {
+        Some(syncs) => Begun {
+            place: syncs.note_begin(),
+            moment: syncs.stopwatch.now(),
+        },
+        None => Begun {
+            place: None,
+            moment: None,
+        },
+    }
+}
+
+/// Takes down that a sync has ended. It kept so many writes, where it ended well.
+pub fn end(syncs: &Option<Arc<Syncs>>, begun: Begun, kept: Option<u64>) {
+    let Some(syncs) = syncs else {
+        return;
+    };
+    if let Some(place) = begun.place {
+        syncs.note_end(place);
+    }
+    if let Some(writes) = kept {
+        syncs.add(begun.moment, writes);
+    }
+}

@@ -1,2 +1,0 @@
--- Words that private functions and proofs alone use.
-pub mod Held
