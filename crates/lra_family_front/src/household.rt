@@ -142,10 +142,7 @@ fn put_off<C: Counter + Drop, K: Kinship<C>>(
     if !is_lacked(family, kinship, starts(routes, request), &named) {
         return None;
     }
-    Some(Answered::denied(
-        named.unwrap_or(newest),
-        Denial::Refused(Refusal::Stopped),
-    ))
+    Some(Answered::denied(named.unwrap_or(newest), Denial::Refused(Refusal::Stopped)))
 }
 
 /// Answers a request at a moment, as it is answered in a family that stays; or refuses it, and reaches no member, where

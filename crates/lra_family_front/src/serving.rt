@@ -70,7 +70,10 @@ fn answer<C: Session + Drop>(
     requires family { IsFamily (map name family.old) }
     requires instance { instance ≡ unwrap_or (instance_of (request_of responding.now.request.now)) newest }
     ensures serves { ServesOrdered C.sight C.covers C.gives family.old (record {
-        request = request_of responding.now.request.now; moment = responding.now.moment; answered = result }) family.new }
+      request = request_of responding.now.request.now;
+      moment = responding.now.moment;
+      answered = result;
+    }) family.new }
     ensures identifiers { HasIdentifiers result.answer }
 {
     match visit(family, instance, responding) {

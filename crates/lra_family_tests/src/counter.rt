@@ -3,7 +3,7 @@ ghost use Rattle.std.specs.Prelude.{◌≡◌, true, IfSome};
 ghost use Rattle.lra_ids.specs.Addresses.{is_base};
 ghost use Rattle.lra_family_front.specs.Households.{HaveBase, base_of as base_of_family};
 
-use lra_commands::{Counter, CounterFault, Order, Told};
+use lra_commands::{Counter, CounterFault, Order, Session, Told};
 use lra_family::Family;
 use lra_ids::{Address, Base, Instance, base_of};
 use std::alloc::Global;
@@ -77,6 +77,18 @@ impl Counter for Counting {
           same = record { setting = ap (λ w. w.setting) h.1; number = ap (λ w. w.number) h.1 };
           seen = ap (λ w. w.seen) h.1;
         }) };
+}
+
+impl Session for Counting {
+    ghost use Rattle.std.specs.Prelude.{true};
+
+    // It has no journal.
+    ghost covers = { λ _ _. true };
+
+    /// Returns how many orders it was given.
+    fn position(&self) -> u64 {
+        self.orders
+    }
 }
 
 /// How many orders the member of an instance was given.

@@ -4,6 +4,7 @@ use crate::counter::{Counting, NEWER, OLDER, family, orders_of};
 use lra_family::Family;
 use lra_family_front::respond;
 use lra_front::{Answer, Routes};
+use lra_steps::Answered;
 use lra_wire::{RequestFields, RequestRead};
 use std::alloc::Global;
 
@@ -86,14 +87,14 @@ fn word(answer: Answer) -> &'static str {
     }
 }
 
-/// The word of what a request is answered.
+/// Returns what a request is answered.
 fn answered(
     alloc: Global,
     routes: &Routes,
     family: &mut Family<Counting>,
     request: &RequestRead,
-) -> &'static str {
-    word(respond(alloc, routes, family, 5, request).answer)
+) -> Answered {
+    respond(alloc, routes, family, 5, request)
 }
 
 /// Whether the members were given as many orders as two digits say.
@@ -108,6 +109,15 @@ fn were_given(family: &Family<Counting>, digits: &str) -> bool {
     }
 }
 
+/// Returns whether an answer has a position just where one of the members was given an order: its own.
+fn has_position(told: Answered, digits: &str) -> bool {
+    match digits {
+        "0 0" => told.position.is_none(),
+        "1 0" => told.position == Some(1) && told.instance.number() == OLDER,
+        _ => told.position == Some(1) && told.instance.number() == NEWER,
+    }
+}
+
 /// Whether a request is answered by a word, at a family of both.
 fn comes_to(alloc: Global, head: &str, body: &str, wanted: &str, digits: &str) -> Option<bool> {
     let routes = Routes::new(alloc).ok()?;
@@ -115,7 +125,7 @@ fn comes_to(alloc: Global, head: &str, body: &str, wanted: &str, digits: &str) -
     let mut family = family(alloc)?;
     let told = answered(alloc, &routes, &mut family, &request);
     let given = were_given(&family, digits);
-    Some(told == wanted && given)
+    Some(word(told.answer) == wanted && given && has_position(told, digits))
 }
 
 fn row_is_answered(alloc: Global, row: &str) -> bool {
@@ -142,11 +152,11 @@ fn is_given_once(alloc: Global) -> Option<bool> {
     let request = request(alloc, "POST /lra-coordinator", NESTED)?;
     let mut family = family(alloc)?;
     let mut told = answered(alloc, &routes, &mut family, &request);
-    if told == "Memory" && were_given(&family, "0 0") {
+    if word(told.answer) == "Memory" && were_given(&family, "0 0") {
         told = answered(alloc, &routes, &mut family, &request);
     }
     let given = were_given(&family, "1 0");
-    Some(told == "Worn" && given)
+    Some(word(told.answer) == "Worn" && given && has_position(told, "1 0"))
 }
 
 #[test]

@@ -31,12 +31,7 @@ fn join(family: &mut Family<Counting>, newer: &mut Option<Counting>)
 }
 
 impl Kinship<Counting> for Late {
-    ghost use Rattle.std.specs.Prelude.{true};
-
     ghost tells = { λ named lacks. Unit {0} };
-
-    // Its members have no journal.
-    ghost covers = { λ _ _. true };
 
     fn look(&mut self, family: &mut Family<Counting>) {
         self.looks = self.looks.saturating_add(1);
@@ -52,10 +47,6 @@ impl Kinship<Counting> for Late {
 
     fn lacks(&self, _named: Option<Instance>) -> bool {
         self.lacks
-    }
-
-    fn position(&self) -> u64 {
-        0
     }
 }
 

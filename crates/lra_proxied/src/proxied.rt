@@ -88,9 +88,7 @@ impl<A: Responder> Responder for Proxied<A> {
                 answered
             }
             Ok(None) => self.inner.respond(alloc, routes, moment, request),
-            Err(_) => {
-                Answered::denied(self.inner.instance(), Denial::Refused(Refusal::Memory))
-            }
+            Err(_) => { Answered::denied(self.inner.instance(), Denial::Refused(Refusal::Memory)) }
         }
     }
 

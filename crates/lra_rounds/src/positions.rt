@@ -142,11 +142,7 @@ fn forget_durable<R: Wait, G: SyncGroup>(
 }
 
 /// Syncs a journal up to a position, if there is one.
-fn sync_one<R: Wait, G: SyncGroup>(
-    place: Option<Position>,
-    rt: &R,
-    group: &G,
-) -> Result<(), Unkept>
+fn sync_one<R: Wait, G: SyncGroup>(place: Option<Position>, rt: &R, group: &G) -> Result<(), Unkept>
     ensures { OnErr result (IsTrue G.failed) }
 {
     if let Some(position) = place {

@@ -226,11 +226,7 @@ impl<G: SyncGroup, P: WhichBase> Seat<G, P> {
     }
 
     /// Hands out what may leave, as often as it may in a round.
-    pub(crate) fn hand_out<R: Wait>(
-        &mut self,
-        rt: &R,
-        group: &G,
-    ) -> Result<(), ClientFault> {
+    pub(crate) fn hand_out<R: Wait>(&mut self, rt: &R, group: &G) -> Result<(), ClientFault> {
         self.is_waiting = false;
         for _call in 0..MOST_CALLS {
             match self.client.hand_out(rt, group)? {

@@ -99,9 +99,7 @@ impl<A: Responder> Responder for Ruled<'_, A> {
         request: &RequestRead,
     ) -> Answered {
         match refusal_of(alloc, routes, self.rules, request) {
-            Some(refusal) => {
-                Answered::denied(self.inner.instance(), Denial::Refused(refusal))
-            }
+            Some(refusal) => { Answered::denied(self.inner.instance(), Denial::Refused(refusal)) }
             None => self.inner.respond(alloc, routes, moment, request),
         }
     }
