@@ -5,16 +5,16 @@ use std::fs::File;
 use std::rt::LibcRuntime;
 use std::sync::Arc;
 
-/// How many bytes the file has at most.
+/// The most bytes that the file may have.
 const LONGEST: u32 = 4_096;
 
-/// A file that says whose a journal is: for as long as it has the bytes that it had at first. It is found by its name at each look, so that another that took
-/// its place is seen. Who is handed no runtime can look.
+/// A file that says whose a journal is, for as long as it has the bytes that it had at first. Each look opens it by its
+/// name, so that another file in its place is seen. A look needs no runtime.
 #[derive(Drop)]
 pub struct Fence {
     rt: LibcRuntime,
     path: String,
-    /// What it had at first.
+    /// The bytes that it had at first.
     text: Vec<u8>,
 }
 
@@ -24,7 +24,7 @@ pub trait Fenced {
     fn fence(&self, path: &str) -> Result<Fence, SmallFault>;
 }
 
-/// What the file of a name has.
+/// Reads the file of a name.
 fn text_at(rt: LibcRuntime, path: &str) -> Result<Vec<u8>, SmallFault> {
     match File::open(&rt, path) {
         Ok(file) => read_whole(rt.alloc(), file, LONGEST),
@@ -47,7 +47,8 @@ impl Fenced for LibcRuntime {
 }
 
 impl Fence {
-    /// Whether its file has the bytes that it had at first. One that can't be read, and one for which memory is refused, hasn't.
+    /// Returns whether its file has the bytes that it had at first. One that can't be read, and one for which memory is
+    /// refused, hasn't.
     pub fn stands(&self) -> bool {
         match text_at(self.rt, self.path.as_str()) {
             Ok(text) => text.as_slice() == self.text.as_slice(),
@@ -56,7 +57,7 @@ impl Fence {
     }
 }
 
-/// Whether a fence stands, where there is one.
+/// Returns whether a fence stands, or there is none.
 pub fn stands(fence: &Option<Arc<Fence>>) -> bool {
     match fence {
         Some(fence) => fence.stands(),

@@ -1,10 +1,10 @@
-//! How often something was how much.
+//! A histogram.
 
 use std::alloc::{AllocError, Global};
 use std::sync::atomic::{AtomicU64, Ordering};
 
-/// How often something was how much: a count for each class, and the sum of all. A class has the amounts up to its end that those before it don't have, and the last one has no
-/// end. The ends are given at each call, and are the same ones.
+/// A histogram of amounts: a count for each class, and the sum of all. A class has the amounts up to its end that those
+/// before it don't have, and the last one has no end. The ends are given at each call, and are the same ones.
 #[derive(Drop)]
 pub struct Histogram {
     classes: Vec<AtomicU64>,
@@ -42,7 +42,7 @@ impl Histogram {
         self.sum.fetch_add(amount, Ordering::SeqCst);
     }
 
-    /// How often it was as much as a class has.
+    /// Returns how many amounts a class has.
     pub fn count(&self, class: usize) -> u64 {
         match self.classes.get(class) {
             Some(class) => class.load(Ordering::SeqCst),
@@ -50,7 +50,7 @@ impl Histogram {
         }
     }
 
-    /// How much it was in all.
+    /// Returns the sum of all amounts.
     pub fn sum(&self) -> u64 {
         self.sum.load(Ordering::SeqCst)
     }

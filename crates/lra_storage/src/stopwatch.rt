@@ -1,9 +1,9 @@
-//! What tells how long something took.
+//! A stopwatch.
 
 use std::rt::LibcRuntime;
 use std::time::Instant;
 
-/// What tells the time, and nothing else: who is handed no runtime can have it.
+/// A clock that tells the time and nothing else: code that is handed no runtime can have it.
 #[derive(Clone, Copy)]
 pub struct Stopwatch {
     rt: LibcRuntime,
@@ -22,7 +22,7 @@ impl Timed for LibcRuntime {
 }
 
 impl Stopwatch {
-    /// What it shows, where the clock can be read.
+    /// Returns the time, where the clock can be read.
     pub fn now(&self) -> Option<Instant> {
         Instant::now(&self.rt).ok()
     }

@@ -1,4 +1,4 @@
-//! How long syncs of journals take, and how many writes each keeps.
+//! Syncs of journals: the time that each takes, and the writes that it keeps.
 
 ghost use Rattle.std.specs.Prelude.{◌≡◌, ◌+◌, ◌-◌, ◌^◌, min, cond, nat_eq};
 
@@ -18,16 +18,16 @@ pub const TIMES: [u64; 12] = [
 /// Those of how many writes one keeps.
 pub const WRITES: [u64; 10] = [1, 2, 5, 10, 20, 50, 100, 200, 500, 1_000];
 
-/// How many syncs under way are told apart. The threads of a service are fewer.
+/// The most syncs under way that are told apart. The threads of a service are fewer.
 const MOST_UNDER_WAY: usize = 64;
 
-/// What is known of the syncs of a service's journals, of which each has one under way at most.
+/// Figures of the syncs of a service's journals, of which each has one under way at most.
 #[derive(Drop)]
 pub struct Syncs {
     stopwatch: Stopwatch,
-    /// How long each took, in microseconds.
+    /// Microseconds that each took.
     times: Histogram,
-    /// How many writes each kept.
+    /// Writes that each kept.
     writes: Histogram,
     /// The moment from which `under_way` counts.
     opened: Option<Instant>,
@@ -81,12 +81,12 @@ impl Syncs {
         })
     }
 
-    /// How long each took that kept something, in microseconds.
+    /// Returns the microseconds that each took which kept something.
     pub fn times(&self) -> &Histogram {
         &self.times
     }
 
-    /// How many writes each of them kept.
+    /// Returns the writes that each of them kept.
     pub fn writes(&self) -> &Histogram {
         &self.writes
     }
