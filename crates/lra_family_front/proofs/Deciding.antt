@@ -26,7 +26,8 @@ use Rattle.lra_family_front.specs.Naming.{instance_of}
 use Rattle.lra_family_front.specs.Serving.{Turn, names, Lacks, Does, DoesOrdered, IsCoveredAt, ServesOrdered, turn_of}
 use Rattle.lra_family_front.proofs.Strangers.{strangers_deny}
 
-module _ {C : Type 0} (sight : C → Sight) (covers : C → ℕ → Bool) (gives : Sight → ℕ → Order → Result Told CounterFault → Sight → Type 0) where
+module _ {C : Type 0} (sight : C → Sight) (covers : C → ℕ → Bool) (gives : Sight → ℕ → Order → Result Told
+    CounterFault → Sight → Type 0) where
   -- ---- what a visit tells
 
   record Missed (i : ℕ) (ss ts : List Sight) : Type 0 where
@@ -44,15 +45,18 @@ module _ {C : Type 0} (sight : C → Sight) (covers : C → ℕ → Bool) (gives
   abbrev Done : ℕ → Request → Option Answered → Sight → Sight → Type 0
   Done moment request r s t = IsSomeAnd r (λ a. Answers sight covers gives s moment request a t)
 
-  missed : (i moment : ℕ) (request : Request) (r : Option Answered) (ss ts : List Sight) → r ≡ None → Visits sight covers gives i moment request r ss ts → Missed i ss ts
+  missed : (i moment : ℕ) (request : Request) (r : Option Answered) (ss ts : List Sight) → r ≡ None → Visits sight
+      covers gives i moment request r ss ts → Missed i ss ts
   missed i moment request r ss ts none h = by (member name i ss) refl h where
     by : (o : Option Sight) → member name i ss ≡ o → MatchOption o ((r ≡ None) × (ts ≡ ss)) (λ s. (t : Sight) × Done moment request r s t × (ts ≡ put name i t ss)) → Missed i ss ts
     by None is k = record { there = is; same = k.1 }
     by (Some s) is k = absurd (subst (λ q. Done moment request q s k.0) none k.1)
 
-  hit : (i : ℕ) (turn : ConnectionTurn) (r : Option Answered) (ss ts : List Sight) → r ≡ Some turn.answered → Visits sight covers gives i turn.moment turn.request r ss ts → Hit i turn ss ts
+  hit : (i : ℕ) (turn : ConnectionTurn) (r : Option Answered) (ss ts : List Sight) → r ≡ Some turn.answered → Visits
+      sight covers gives i turn.moment turn.request r ss ts → Hit i turn ss ts
   hit i turn r ss ts some h = by (member name i ss) refl h where
-    by : (o : Option Sight) → member name i ss ≡ o → MatchOption o ((r ≡ None) × (ts ≡ ss)) (λ s. (t : Sight) × Done turn.moment turn.request r s t × (ts ≡ put name i t ss)) → Hit i turn ss ts
+    by : (o : Option Sight) → member name i ss ≡ o → MatchOption o ((r ≡ None) × (ts ≡ ss)) (λ s. (t : Sight) × Done
+        turn.moment turn.request r s t × (ts ≡ put name i t ss)) → Hit i turn ss ts
     by None is k = absurd (let never : Some turn.answered ≡ None = sym some ∙ k.0 in cc)
     by (Some s) is k = record { old = s; new = k.0; there = is; done = subst (λ q. Done turn.moment turn.request q s k.0) some k.1; after = k.2 }
 
@@ -62,15 +66,19 @@ module _ {C : Type 0} (sight : C → Sight) (covers : C → ℕ → Bool) (gives
   abbrev LacksOrdered : ConnectionTurn → Type 0
   LacksOrdered turn = Lacks (turn_of turn) × (turn.answered.position ≡ None)
 
-  pub hit_serves : (i : ℕ) (turn : ConnectionTurn) (r : Option Answered) (ss ts : List Sight) → i ≡ names (newest name ss) (turn_of turn) → r ≡ Some turn.answered
+  pub hit_serves : (i : ℕ) (turn : ConnectionTurn) (r : Option Answered) (ss ts : List Sight) → i ≡ names (newest name
+      ss) (turn_of turn) → r ≡ Some turn.answered
       → Visits sight covers gives i turn.moment turn.request r ss ts → ServesOrdered sight covers gives ss turn ts
   hit_serves i turn r ss ts is some h =
       let k = hit i turn r ss ts some h in
-      let Q : Option Sight → Type 0 = λ o. MatchOption o (LacksOrdered turn × (ts ≡ ss)) (λ s. (t : Sight) × DoesOrdered sight covers gives s turn t × (ts ≡ put name i t ss)) in
-      let P : ℕ → Type 0 = λ j. MovesAt name j ss (λ s t. DoesOrdered sight covers gives s turn t) (LacksOrdered turn) ts in
+      let Q : Option Sight → Type 0 = λ o. MatchOption o (LacksOrdered turn × (ts ≡ ss)) (λ s. (t : Sight) ×
+          DoesOrdered sight covers gives s turn t × (ts ≡ put name i t ss)) in
+      let P : ℕ → Type 0 = λ j. MovesAt name j ss (λ s t. DoesOrdered sight covers gives s turn t) (LacksOrdered turn)
+          ts in
       subst P is (subst Q (sym k.there) (k.new, k.done.0, k.after))
 
-  pub hit_identified : (i : ℕ) (turn : ConnectionTurn) (r : Option Answered) (ss ts : List Sight) → r ≡ Some turn.answered
+  pub hit_identified : (i : ℕ) (turn : ConnectionTurn) (r : Option Answered) (ss ts : List Sight) → r ≡ Some
+      turn.answered
       → Visits sight covers gives i turn.moment turn.request r ss ts → HasIdentifiers turn.answered.answer
   hit_identified i turn r ss ts some h = (hit i turn r ss ts some h).done.1
 
@@ -84,7 +92,8 @@ module _ {C : Type 0} (sight : C → Sight) (covers : C → ℕ → Bool) (gives
   none_of None e = refl
   none_of (Some n) e = absurd (true≢false e)
 
-  stranger : (ss ts : List Sight) (turn : ConnectionTurn) (i j n : ℕ) → n < 2 ^ 60 → instance_of turn.request ≡ Some j → i ≡ j → member name i ss ≡ None → Hit n turn ss ts
+  stranger : (ss ts : List Sight) (turn : ConnectionTurn) (i j n : ℕ) → n < 2 ^ 60 → instance_of turn.request ≡ Some j
+      → i ≡ j → member name i ss ≡ None → Hit n turn ss ts
       → LacksOrdered turn × (ts ≡ ss)
   stranger ss ts turn i j n small named is none k =
       let own : name k.old ≡ n = there_named name n ss k.old k.there in
@@ -98,33 +107,43 @@ module _ {C : Type 0} (sight : C → Sight) (covers : C → ℕ → Bool) (gives
       let denied = strangers_deny (name k.old) j k.old.setting.base turn.request asked.0 below named other asked.1 in
       let ends = denied_is k.old k.new turn.moment asked.0 denied.0 turn.answered.answer denied.2 asked.2 in
       let unplaced = none_of turn.answered.position (asked.3 ∙ ap is_ok denied.2) in
-      (((denied.0, denied.1, ends.0), unplaced), k.after ∙ ap (λ s. put name n s ss) ends.1 ∙ put_same name n ss k.old k.there)
+      (((denied.0, denied.1, ends.0), unplaced), k.after ∙ ap (λ s. put name n s ss) ends.1 ∙ put_same name n ss k.old
+          k.there)
 
-  unnamed : (ss ts : List Sight) (turn : ConnectionTurn) (i n : ℕ) → i ≡ n → member name i ss ≡ None → Hit n turn ss ts → ⊥
+  unnamed : (ss ts : List Sight) (turn : ConnectionTurn) (i n : ℕ) → i ≡ n → member name i ss ≡ None → Hit n turn ss
+      ts → ⊥
   unnamed ss ts turn i n is none k = let both : Some k.old ≡ None = sym k.there ∙ ap (λ m. member name m ss) (sym is) ∙ none in cc
 
-  by_newest : (ss ts : List Sight) (turn : ConnectionTurn) (i n : ℕ) → n < 2 ^ 60 → i ≡ unwrap_or (instance_of turn.request) n → member name i ss ≡ None → Hit n turn ss ts
+  by_newest : (ss ts : List Sight) (turn : ConnectionTurn) (i n : ℕ) → n < 2 ^ 60 → i ≡ unwrap_or (instance_of
+      turn.request) n → member name i ss ≡ None → Hit n turn ss ts
       → LacksOrdered turn × (ts ≡ ss)
   by_newest ss ts turn i n small is none k = by (instance_of turn.request) refl is where
     by : (o : Option ℕ) → instance_of turn.request ≡ o → i ≡ unwrap_or o n → LacksOrdered turn × (ts ≡ ss)
     by None named e = absurd (unnamed ss ts turn i n e none k)
     by (Some j) named e = stranger ss ts turn i j n small named e none k
 
-  pub newest_serves : (ss us ts : List Sight) (turn : ConnectionTurn) (i n : ℕ) (r q : Option Answered) → n ≡ newest name ss → n < 2 ^ 60 → i ≡ unwrap_or (instance_of turn.request) n
-      → r ≡ None → Visits sight covers gives i turn.moment turn.request r ss us → q ≡ Some turn.answered → Visits sight covers gives n turn.moment turn.request q us ts
+  pub newest_serves : (ss us ts : List Sight) (turn : ConnectionTurn) (i n : ℕ) (r q : Option Answered) → n ≡ newest
+      name ss → n < 2 ^ 60 → i ≡ unwrap_or (instance_of turn.request) n
+      → r ≡ None → Visits sight covers gives i turn.moment turn.request r ss us → q ≡ Some turn.answered → Visits
+          sight covers gives n turn.moment turn.request q us ts
       → ServesOrdered sight covers gives ss turn ts
   newest_serves ss us ts turn i n r q is small named none first some second =
       let m = missed i turn.moment turn.request r ss us none first in
-      let k = hit n turn q ss ts some (subst (λ v. Visits sight covers gives n turn.moment turn.request q v ts) m.same second) in
+      let k = hit n turn q ss ts some (subst (λ v. Visits sight covers gives n turn.moment turn.request q v ts) m.same
+          second) in
       let lacks = by_newest ss ts turn i n small named m.there k in
       let place : i ≡ names (newest name ss) (turn_of turn) = named ∙ ap (unwrap_or (instance_of turn.request)) is in
-      let Q : Option Sight → Type 0 = λ o. MatchOption o (LacksOrdered turn × (ts ≡ ss)) (λ s. (t : Sight) × DoesOrdered sight covers gives s turn t × (ts ≡ put name i t ss)) in
-      let P : ℕ → Type 0 = λ j. MovesAt name j ss (λ s t. DoesOrdered sight covers gives s turn t) (LacksOrdered turn) ts in
+      let Q : Option Sight → Type 0 = λ o. MatchOption o (LacksOrdered turn × (ts ≡ ss)) (λ s. (t : Sight) ×
+          DoesOrdered sight covers gives s turn t × (ts ≡ put name i t ss)) in
+      let P : ℕ → Type 0 = λ j. MovesAt name j ss (λ s t. DoesOrdered sight covers gives s turn t) (LacksOrdered turn)
+          ts in
       subst P place (subst Q (sym m.there) lacks)
 
   -- the newest is there
-  pub newest_answers : (ss us ts : List Sight) (moment : ℕ) (request : Request) (i n : ℕ) (r q : Option Answered) → IsFamily (map name ss) → n ≡ newest name ss
-      → r ≡ None → Visits sight covers gives i moment request r ss us → q ≡ None → Visits sight covers gives n moment request q us ts → ⊥
+  pub newest_answers : (ss us ts : List Sight) (moment : ℕ) (request : Request) (i n : ℕ) (r q : Option Answered) →
+      IsFamily (map name ss) → n ≡ newest name ss
+      → r ≡ None → Visits sight covers gives i moment request r ss us → q ≡ None → Visits sight covers gives n moment
+          request q us ts → ⊥
   newest_answers ss us ts moment request i n r q family is none first nothing second =
       let m = missed i moment request r ss us none first in
       let k = missed n moment request q us ts nothing second in
@@ -132,14 +151,16 @@ module _ {C : Type 0} (sight : C → Sight) (covers : C → ℕ → Bool) (gives
 
   -- ---- memory is refused in reading whose it is
 
-  pub memory_serves : (ss : List Sight) (turn : ConnectionTurn) → turn.answered.answer ≡ Denied (Refused refusal.Memory) → turn.answered.position ≡ None → LacksMemory turn.request
+  pub memory_serves : (ss : List Sight) (turn : ConnectionTurn) → turn.answered.answer ≡ Denied (Refused
+      refusal.Memory) → turn.answered.position ≡ None → LacksMemory turn.request
       → ServesOrdered sight covers gives ss turn ss
   memory_serves ss turn e none lacks = by (member name (names (newest name ss) (turn_of turn)) ss) refl where
     covered : (s : Sight) → IfSome turn.answered.position (IsCoveredAt sight covers gives s)
     covered s = subst (λ (p : Option ℕ). IfSome p (IsCoveredAt sight covers gives s)) (sym none) tt
 
     by : (o : Option Sight) → member name (names (newest name ss) (turn_of turn)) ss ≡ o
-        → MatchOption o (LacksOrdered turn × (ss ≡ ss)) (λ s. (t : Sight) × DoesOrdered sight covers gives s turn t × (ss ≡ put name (names (newest name ss) (turn_of turn)) t ss))
+        → MatchOption o (LacksOrdered turn × (ss ≡ ss)) (λ s. (t : Sight) × DoesOrdered sight covers gives s turn t ×
+            (ss ≡ put name (names (newest name ss) (turn_of turn)) t ss))
     by None is = (((Refused refusal.Memory, inl (refl, lacks), e), none), refl)
     by (Some s) is = (
       s,

@@ -163,27 +163,36 @@ module _ (gives : Sight → ℕ → Order → Result Told CounterFault → Sight
         (ap (λ (c : Setting). c.base) (responds_stays gives keeps s k.0 turn.moment turn.request turn.answer k.1) ∙ member_base base i before s h is) begun)
 
 -- a turn whose answer has its position, without that
-serves_plain : {C : Type 0} (sight : C → Sight) (covers : C → ℕ → Bool) (gives : Sight → ℕ → Order → Result Told CounterFault → Sight → Type 0)
-    (before after : List Sight) (turn : ConnectionTurn) → ServesOrdered sight covers gives before turn after → Serves gives before (turn_of turn) after
+serves_plain : {C : Type 0} (sight : C → Sight) (covers : C → ℕ → Bool) (gives : Sight → ℕ → Order → Result Told
+    CounterFault → Sight → Type 0)
+    (before after : List Sight) (turn : ConnectionTurn) → ServesOrdered sight covers gives before turn after → Serves
+        gives before (turn_of turn) after
 serves_plain sight covers gives before after turn h = by (member name i before) h where
   i : ℕ
   i = names (newest name before) (turn_of turn)
 
   by : (o : Option Sight)
-      → MatchOption o ((Lacks (turn_of turn) × (turn.answered.position ≡ None)) × (after ≡ before)) (λ s. (t : Sight) × DoesOrdered sight covers gives s turn t × (after ≡ put name i t before))
-      → MatchOption o (Lacks (turn_of turn) × (after ≡ before)) (λ s. (t : Sight) × Does gives s (turn_of turn) t × (after ≡ put name i t before))
+      → MatchOption o ((Lacks (turn_of turn) × (turn.answered.position ≡ None)) × (after ≡ before)) (λ s. (t : Sight)
+          × DoesOrdered sight covers gives s turn t × (after ≡ put name i t before))
+      → MatchOption o (Lacks (turn_of turn) × (after ≡ before)) (λ s. (t : Sight) × Does gives s (turn_of turn) t ×
+          (after ≡ put name i t before))
   by None k = (k.0.0, k.1)
   by (Some s) k = let a = k.1.0 in (k.0, (a.0, a.1, a.2), k.2)
 
 -- the URIs go on to begin so, too, where it is refused
-pub outcome_base : {C : Type 0} (sight : C → Sight) (covers : C → ℕ → Bool) (gives : Sight → ℕ → Order → Result Told CounterFault → Sight → Type 0)
-    (keeps : (before after : Sight) (moment : ℕ) (o : Order) (reply : Result Told CounterFault) → gives before moment o reply after → KeepsHistory before moment o reply after)
-    (tells : Option ℕ → Bool → Type 0) (base : List ℕ) (before after : List Sight) (moment : ℕ) (request : Request) (answered : Answered) → IsFamily (map name before)
-    → HaveBase base before → Outcome tells sight covers gives before moment request answered after → HaveBase base after × (base_of after ≡ base)
+pub outcome_base : {C : Type 0} (sight : C → Sight) (covers : C → ℕ → Bool) (gives : Sight → ℕ → Order → Result Told
+    CounterFault → Sight → Type 0)
+    (keeps : (before after : Sight) (moment : ℕ) (o : Order) (reply : Result Told CounterFault) → gives before moment
+        o reply after → KeepsHistory before moment o reply after)
+    (tells : Option ℕ → Bool → Type 0) (base : List ℕ) (before after : List Sight) (moment : ℕ) (request : Request)
+        (answered : Answered) → IsFamily (map name before)
+    → HaveBase base before → Outcome tells sight covers gives before moment request answered after → HaveBase base
+        after × (base_of after ≡ base)
 outcome_base sight covers gives keeps tells base before after moment request answered f h (inl o) =
     let turn : ConnectionTurn = record { request = request; moment = moment; answered = answered } in
     serves_base gives keeps base before after (turn_of turn) f h (serves_plain sight covers gives before after turn o.1)
-outcome_base sight covers gives keeps tells base before after moment request answered f h (inr o) = subst (Begin base) (sym o.1) (begin_family base before f h)
+outcome_base sight covers gives keeps tells base before after moment request answered f h (inr o) = subst (Begin base)
+    (sym o.1) (begin_family base before f h)
 
 -- ---- a run
 
@@ -213,10 +222,12 @@ module _ {K C : Type 0} (lacks : Option ℕ → Bool → Type 0) (sight : C → 
   Happening ss turns ts = (xs : List (Event Sight Turn)) × Run name names (Does gives) Lacks ss xs ts × AreTurns (turns_of xs) turns
 
   -- a response, and what happens then
-  respond_then : (ss us ts : List Sight) (turn : ConnectionTurn) (turns : List ConnectionTurn) → Responds lacks sight covers gives ss turn.moment turn.request turn.answered us → Happening us turns ts
+  respond_then : (ss us ts : List Sight) (turn : ConnectionTurn) (turns : List ConnectionTurn) → Responds lacks sight
+      covers gives ss turn.moment turn.request turn.answered us → Happening us turns ts
       → Happening ss (turn ∷ turns) ts
   respond_then ss us ts turn turns r more = by r.serves where
-    by : Outcome lacks sight covers gives r.met turn.moment turn.request turn.answered us → Happening ss (turn ∷ turns) ts
+    by : Outcome lacks sight covers gives r.met turn.moment turn.request turn.answered us → Happening ss (turn ∷
+        turns) ts
     by (inl h) =
         let ys : List (Event Sight Turn) = OneTurn (turn_of turn) ∷ more.0 in (
           r.moved.0 ++ ys,

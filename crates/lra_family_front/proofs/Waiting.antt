@@ -25,7 +25,8 @@ none_some None e h = absurd cc
 none_some (Some n) e h = absurd cc
 
 -- it waits for nothing
-pub put_off_journal : (tells : Option ℕ → Bool → Type 0) (ss : List Sight) (request : Request) (answered : Answered) → IsPutOff tells ss request answered
+pub put_off_journal : (tells : Option ℕ → Bool → Type 0) (ss : List Sight) (request : Request) (answered : Answered) →
+    IsPutOff tells ss request answered
     → IsSome answered.position → answered.instance ≡ unwrap_or (instance_of request) (newest name ss)
 put_off_journal tells ss request answered (inl h) some = h.whose
 put_off_journal tells ss request answered (inr h) some = absurd (none_some answered.position h.2 some)

@@ -49,18 +49,21 @@ module _ {C : Type 0} (tells : Option ℕ → Bool → Type 0) (sight : C → Si
   -- a request is answered as in a family that stays, where it is sure who answers; or it is refused, and reaches none
   abbrev pub Outcome : List Sight → ℕ → Request → Answered → List Sight → Type 0
   Outcome before moment request answered after =
-      (IsSure tells before request × ServesOrdered sight covers gives before (record { request = request; moment = moment; answered = answered }) after)
+      (IsSure tells before request × ServesOrdered sight covers gives before (record { request = request; moment =
+          moment; answered = answered }) after)
       ⊎ (IsPutOff tells before request answered × (after ≡ before))
 
   -- what a request at a moment does: members join and leave, and then it is answered at the one that it names, as in a
   -- family that stays; or it is refused, and reaches
   -- none, where it is told that the one may still be lacked
-  pub record Responds (before : List Sight) (moment : ℕ) (request : Request) (answered : Answered) (after : List Sight) : Type 0 where
+  pub record Responds (before : List Sight) (moment : ℕ) (request : Request) (answered : Answered) (after : List
+      Sight) : Type 0 where
     pub met : List Sight
     pub moved : Moved before met
     pub serves : Outcome met moment request answered after
     -- it tells whose the answer is, unless memory was refused
-    pub whose : answered.answer ≢ answer.Denied (denial.Refused refusal.Memory) → answered.instance ≡ unwrap_or (instance_of request) (newest name met)
+    pub whose : answered.answer ≢ answer.Denied (denial.Refused refusal.Memory) → answered.instance ≡ unwrap_or
+        (instance_of request) (newest name met)
     -- a position is one of the journal that it names
     pub journal : IsSome answered.position → answered.instance ≡ unwrap_or (instance_of request) (newest name met)
     pub base : base_of after ≡ base_of before
@@ -88,10 +91,13 @@ module _ {K C : Type 0} (lacks : Option ℕ → Bool → Type 0) (sight : C → 
   -- those that are refused while a member may be
   -- lacked, and members join and leave between them.
   abbrev pub HouseholdsRun : Type 0
-  HouseholdsRun = (ss ts : List Sight) (k l : K) (turns : List ConnectionTurn) → Chain (Responds lacks sight covers gives) tells ss k turns ts l
+  HouseholdsRun = (ss ts : List Sight) (k l : K) (turns : List ConnectionTurn) → Chain (Responds lacks sight covers
+      gives) tells ss k turns ts l
       → (xs : List (Event Sight Turn)) × Run name names (Does gives) Lacks ss xs ts × AreTurns (turns_of xs) turns
 
   -- The same with rests between the requests: of these there are joins and leaves alone.
   abbrev pub HouseholdsRest : Type 0
-  HouseholdsRest = (ss ts : List Sight) (k l : K) (course : List (Option ConnectionTurn)) → Course (Responds lacks sight covers gives) Rests tells ss k course ts l
-      → (xs : List (Event Sight Turn)) × Run name names (Does gives) Lacks ss xs ts × AreTurns (turns_of xs) (turns_in course)
+  HouseholdsRest = (ss ts : List Sight) (k l : K) (course : List (Option ConnectionTurn)) → Course (Responds lacks
+      sight covers gives) Rests tells ss k course ts l
+      → (xs : List (Event Sight Turn)) × Run name names (Does gives) Lacks ss xs ts × AreTurns (turns_of xs) (turns_in
+          course)

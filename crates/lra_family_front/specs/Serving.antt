@@ -63,16 +63,19 @@ module _ (gives : Sight → ℕ → Order → Result Told CounterFault → Sight
 abbrev pub turn_of : ConnectionTurn → Turn
 turn_of turn = record { moment = turn.moment; request = turn.request; answer = turn.answered.answer }
 
-module _ {C : Type 0} (sight : C → Sight) (covers : C → ℕ → Bool) (gives : Sight → ℕ → Order → Result Told CounterFault → Sight → Type 0) where
+module _ {C : Type 0} (sight : C → Sight) (covers : C → ℕ → Bool) (gives : Sight → ℕ → Order → Result Told
+    CounterFault → Sight → Type 0) where
   -- so many bytes of its journal tell of all that a session has seen of which that is known
   abbrev pub IsCoveredAt : Sight → ℕ → Type 0
   IsCoveredAt known n = (session : C) × (sight session ≡ known) × IsTrue (covers session n)
 
-  -- what a turn does at its member: what the front does there, and where an order was given the answer has a position, which covers all that the
+  -- what a turn does at its member: what the front does there, and where an order was given the answer has a
+  -- position, which covers all that the
   -- member has seen by then
   abbrev pub DoesOrdered : Sight → ConnectionTurn → Sight → Type 0
   DoesOrdered before turn after =
-      AnswersOrdered gives before turn.moment turn.request turn.answered after × IfSome turn.answered.position (IsCoveredAt after)
+      AnswersOrdered gives before turn.moment turn.request turn.answered after × IfSome turn.answered.position
+          (IsCoveredAt after)
 
   -- what a turn does in a family; where no journal is there that it names, the answer has no position
   abbrev pub ServesOrdered : List Sight → ConnectionTurn → List Sight → Type 0

@@ -50,7 +50,8 @@ module _ (tells : Option ℕ → Bool → Type 0) where
 
   -- memory is refused in reading what it names
   abbrev pub IsUnread : Request → Answered → Type 0
-  IsUnread request answered = LacksMemory request × (answered.answer ≡ Denied (Refused refusal.Memory)) × (answered.position ≡ None)
+  IsUnread request answered = LacksMemory request × (answered.answer ≡ Denied (Refused refusal.Memory)) ×
+      (answered.position ≡ None)
 
   -- a request is refused, since what answers it may still be lacked, or since that can't be read: it waits for nothing
   abbrev pub IsPutOff : List Sight → Request → Answered → Type 0

@@ -156,7 +156,8 @@ fn respond_at<C: Session + Drop, K: Kinship<C>>(
     moment: u64,
     request: &RequestRead,
 ) -> Answered
-    ensures serves { Outcome K.tells C.sight C.covers C.gives family.old moment (request_of request.now) result family.new }
+    ensures serves { Outcome K.tells C.sight C.covers C.gives family.old moment (request_of request.now) result
+        family.new }
     ensures instance { result.answer ≢ answer.Denied (denial.Refused reason.Memory)
         → result.instance ≡ unwrap_or (spec_instance_of (request_of request.now)) (spec.newest name family.old) }
     ensures journal { IsSome result.position

@@ -54,7 +54,8 @@ fn visit<C: Session + Drop>(
     instance: Instance,
     responding: &Responding<'_>,
 ) -> Option<Answered>
-    ensures { Visits C.sight C.covers C.gives instance responding.now.moment (request_of responding.now.request.now) result family.old family.new }
+    ensures { Visits C.sight C.covers C.gives instance responding.now.moment (request_of responding.now.request.now)
+        result family.old family.new }
 {
     family.visit(instance, responding)
 }
@@ -86,7 +87,8 @@ fn answer<C: Session + Drop>(
 }
 
 /// Answers a request at a moment: it does at the journal that it names what the front does over that one alone, and every other stays. Where
-/// no such journal is there, the newest denies it, which doesn't know the identifier either: no order is given then, and the answer has no position.
+/// no such journal is there, the newest denies it, which doesn't know the identifier either: no order is given then,
+/// and the answer has no position.
 pub fn respond<C: Session + Drop>(
     alloc: Global,
     routes: &Routes,

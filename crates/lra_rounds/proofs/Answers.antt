@@ -98,22 +98,27 @@ module _ {S K : Type 0} (base_of : S → List ℕ) (responds : S → ℕ → Req
 
   -- what is answered, with the positions that are noted of it
   abbrev pub Noting : History → History → S → K → S → K → Positions → Positions → Type 0
-  Noting old new v k w l before after = AnswersOf base_of responds tells old new v k w l × KeepsNoted old.turns new.turns before after
+  Noting old new v k w l before after = AnswersOf base_of responds tells old new v k w l × KeepsNoted old.turns
+      new.turns before after
 
   pub noting_none : (h : History) (v : S) (k : K) (ps : Positions) → Noting h h v k v k ps ps
   noting_none h v k ps = (answers_none h v k, keeps_same ps h.turns h.turns refl)
 
-  pub noting_on : (h g f : History) (v w x : S) (k l m : K) (before mid after : Positions) → Noting h g v k w l before mid → Noting g f w l x m mid after → Noting h f v k x m before after
+  pub noting_on : (h g f : History) (v w x : S) (k l m : K) (before mid after : Positions) → Noting h g v k w l before
+      mid → Noting g f w l x m mid after → Noting h f v k x m before after
   noting_on h g f v w x k l m before mid after a b =
       (answers_on h g f v w x k l m a.0 b.0, keeps_on before mid after h.turns g.turns f.turns a.1 b.1)
 
   -- a step answers none
-  pub noting_step : (step : Step) (old new : History) (v : S) (k : K) (ps : Positions) → StepsTo step old new → Noting old new v k v k ps ps
-  noting_step step old new v k ps s = let stay = steps_stay step old new s in (answers_still old new v k stay, keeps_same ps old.turns new.turns stay.turns)
+  pub noting_step : (step : Step) (old new : History) (v : S) (k : K) (ps : Positions) → StepsTo step old new → Noting
+      old new v k v k ps ps
+  noting_step step old new v k ps s = let stay = steps_stay step old new s in (answers_still old new v k stay,
+      keeps_same ps old.turns new.turns stay.turns)
 
   -- nor does one for which memory is refused
   pub noting_same : (old new : History) (v : S) (k : K) (ps : Positions) → new ≡ old → Noting old new v k v k ps ps
-  noting_same old new v k ps e = let stay = stays_same old new e in (answers_still old new v k stay, keeps_same ps old.turns new.turns stay.turns)
+  noting_same old new v k ps e = let stay = stays_same old new e in (answers_still old new v k stay, keeps_same ps
+      old.turns new.turns stay.turns)
 
   module _ (stays : (before after : S) (moment : ℕ) (request : Request) (answered : Answered) → responds before moment request answered after → base_of after ≡ base_of before) where
     -- the one that stands is answered
@@ -135,8 +140,10 @@ module _ {S K : Type 0} (base_of : S → List ℕ) (responds : S → ℕ → Req
         }
 
     -- where one stands; the answer's position is noted
-    pub answers_standing : (stands : Option Request) (answered : Answered) (v w : S) (k l : K) (old new : History) (before after : Positions) → IsSome stands
-        → IfSome stands (λ (request : Request). Answers responds tells request answered v w k l old new) → Notes before after answered
+    pub answers_standing : (stands : Option Request) (answered : Answered) (v w : S) (k l : K) (old new : History)
+        (before after : Positions) → IsSome stands
+        → IfSome stands (λ (request : Request). Answers responds tells request answered v w k l old new) → Notes
+            before after answered
         → AnswersOf base_of responds tells old new v k w l × KeepsNoted old.turns new.turns before after
     answers_standing None answered v w k l old new before after some a notes = absurd cc
     answers_standing (Some request) answered v w k l old new before after some a notes =

@@ -25,7 +25,8 @@ MayGo keeps answered = IfSome answered.position (IsDurable keeps answered.instan
 
 -- or the positions reach to it
 abbrev pub IsNoted : (ℕ → ℕ → Bool) → Positions → Answered → Type 0
-IsNoted keeps ps answered = IfSome answered.position (λ n. IsDurable keeps answered.instance n ⊎ WaitFor ps answered.instance n)
+IsNoted keeps ps answered = IfSome answered.position (λ n. IsDurable keeps answered.instance n ⊎ WaitFor ps
+    answered.instance n)
 
 -- the same of each turn of a connection
 abbrev pub AllMayGo : (ℕ → ℕ → Bool) → List Turn → Type 0

@@ -39,7 +39,8 @@ fn answer_standing<A: Responder, K: Clock>(
     requires stands { IsSome connection.old.stands }
     requires base { connection.old.base ≡ A.base_of (A.sight responder.old) }
     requires room { positions.old.other ≡ None }
-    ensures { AnswersOf A.base_of A.responds K.tells connection.old connection.new (A.sight responder.old) clock.old (A.sight responder.new) clock.new
+    ensures { AnswersOf A.base_of A.responds K.tells connection.old connection.new (A.sight responder.old) clock.old
+        (A.sight responder.new) clock.new
         × KeepsNoted connection.old.turns connection.new.turns positions.old positions.new }
 {
     let answered = answer_request(alloc, routes, connection, responder, clock);
@@ -57,7 +58,8 @@ fn answer_next<A: Responder, K: Clock>(
     clock: &mut K,
 ) -> Result<Option<Stage>, Memory>
     requires { connection.old.base ≡ A.base_of (A.sight responder.old) }
-    ensures { AnswersOf A.base_of A.responds K.tells connection.old connection.new (A.sight responder.old) clock.old (A.sight responder.new) clock.new
+    ensures { AnswersOf A.base_of A.responds K.tells connection.old connection.new (A.sight responder.old) clock.old
+        (A.sight responder.new) clock.new
         × KeepsNoted connection.old.turns connection.new.turns positions.old positions.new }
 {
     if connection.out().len() > MOST_WAITING || positions.are_full() {
@@ -88,7 +90,8 @@ pub(crate) fn answer_some<A: Responder, K: Clock>(
     clock: &mut K,
 ) -> Result<Stage, Memory>
     requires { connection.old.base ≡ A.base_of (A.sight responder.old) }
-    ensures { AnswersOf A.base_of A.responds K.tells connection.old connection.new (A.sight responder.old) clock.old (A.sight responder.new) clock.new
+    ensures { AnswersOf A.base_of A.responds K.tells connection.old connection.new (A.sight responder.old) clock.old
+        (A.sight responder.new) clock.new
         × KeepsNoted connection.old.turns connection.new.turns positions.old positions.new }
 {
     for _turn in 0..MOST_REQUESTS {

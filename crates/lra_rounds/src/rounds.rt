@@ -28,7 +28,8 @@ const MOST_EVENTS: usize = 1_024;
 /// How many bytes are read of a client at once.
 const PIECE: usize = 16_384;
 
-/// How many milliseconds a thread that has nothing to do waits before it looks whether a journal has failed, and has whoever answers rest. So much lies
+/// How many milliseconds a thread that has nothing to do waits before it looks whether a journal has failed, and has
+/// whoever answers rest. So much lies
 /// between two rests too.
 const LOOK: u64 = 250;
 
@@ -109,7 +110,8 @@ impl<'a, R: Wait + time::Clock, G: SyncGroup> Rounds<'a, R, G> {
         most: usize,
         times: Times,
     ) -> Rounds<'a, R, G>
-        ensures { (result.group ≡ group.entry) × (result.arrivals ≡ arrivals.entry) × (result.most ≡ most) × (result.times ≡ times) }
+        ensures { (result.group ≡ group.entry) × (result.arrivals ≡ arrivals.entry) × (result.most ≡ most) ×
+            (result.times ≡ times) }
     {
         Rounds {
             rt,
@@ -338,7 +340,8 @@ impl<'a, R: Wait + time::Clock, G: SyncGroup> Rounds<'a, R, G> {
         end
     }
 
-    /// Answers the connections that come in, by one responder and one clock, until a journal has failed or no more connections come. Whatever
+    /// Answers the connections that come in, by one responder and one clock, until a journal has failed or no more
+    /// connections come. Whatever
     /// happens to one connection, the others are answered. After a round in which nothing came whoever answers rests, four times a second at most.
     pub fn run<A: Responder, K: Clock>(&self, responder: &mut A, clock: &mut K) -> RoundsEnd
         ensures answered { AnsweredWithRests A.base_of A.responds A.rests K.tells (A.sight responder.old) clock.old (A.sight responder.new) clock.new }

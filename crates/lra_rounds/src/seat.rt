@@ -283,7 +283,8 @@ fn need_of(is_more: bool) -> Need
     if is_more { Need::Visit } else { Need::Rest }
 }
 
-/// The turn of a client whose replies wait to leave, where its stream takes nothing, or a journal isn't durable yet up to
+/// The turn of a client whose replies wait to leave, where its stream takes nothing, or a journal isn't durable yet
+/// up to
 /// the position of an answer.
 fn reply_turn(turn: Turn, is_blocked: bool, end: u64) -> Turn {
     match turn {

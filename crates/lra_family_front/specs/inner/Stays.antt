@@ -21,22 +21,28 @@ pub responds_stays : (gives : Sight → ℕ → Order → Result Told CounterFau
 responds_stays gives keeps before after moment request answer (Ok w, asks, h) = (keeps before after moment h.order h.reply h.given).same.setting
 responds_stays gives keeps before after moment request answer (Err d, asks, h) = ap (λ s. s.setting) h.1
 
-module _ {C : Type 0} (sight : C → Sight) (covers : C → ℕ → Bool) (gives : Sight → ℕ → Order → Result Told CounterFault → Sight → Type 0) where
+module _ {C : Type 0} (sight : C → Sight) (covers : C → ℕ → Bool) (gives : Sight → ℕ → Order → Result Told
+    CounterFault → Sight → Type 0) where
   -- what the front does over one session
   abbrev pub Answers : Sight → ℕ → Request → Answered → Sight → Type 0
   Answers before moment request answered after =
-      DoesOrdered sight covers gives before (record { request = request; moment = moment; answered = answered }) after × HasIdentifiers answered.answer
+      DoesOrdered sight covers gives before (record { request = request; moment = moment; answered = answered }) after
+          × HasIdentifiers answered.answer
 
   -- the session of an instance answers and every other stays, or there is none
   abbrev pub Visits : ℕ → ℕ → Request → Option Answered → List Sight → List Sight → Type 0
-  Visits i moment request r before after = MovesAt name i before (λ s t. IsSomeAnd r (λ a. Answers s moment request a t)) (r ≡ None) after
+  Visits i moment request r before after = MovesAt name i before (λ s t. IsSomeAnd r (λ a. Answers s moment request a
+      t)) (r ≡ None) after
 
   -- what a session covers is covered at what is known of it
-  pub covered_at : (session : C) (position : Option ℕ) → IfSome position (λ n. IsTrue (covers session n)) → IfSome position (IsCoveredAt sight covers gives (sight session))
+  pub covered_at : (session : C) (position : Option ℕ) → IfSome position (λ n. IsTrue (covers session n)) → IfSome
+      position (IsCoveredAt sight covers gives (sight session))
   covered_at session None h = tt
   covered_at session (Some n) h = (session, refl, h)
 
-  pub answers_stay : (keeps : (before after : Sight) (moment : ℕ) (o : Order) (reply : Result Told CounterFault) → gives before moment o reply after → KeepsHistory before moment o reply after)
-      (before after : Sight) (moment : ℕ) (request : Request) (answered : Answered) → Answers before moment request answered after → after.setting ≡ before.setting
+  pub answers_stay : (keeps : (before after : Sight) (moment : ℕ) (o : Order) (reply : Result Told CounterFault) →
+      gives before moment o reply after → KeepsHistory before moment o reply after)
+      (before after : Sight) (moment : ℕ) (request : Request) (answered : Answered) → Answers before moment request
+          answered after → after.setting ≡ before.setting
   answers_stay keeps before after moment request answered h =
       let a = h.0.0 in responds_stays gives keeps before after moment request answered.answer (a.0, a.1, a.2)

@@ -14,8 +14,10 @@ returns-in-Stands g c =
     let k = c.args.clock.now in
     let ps = c.args.positions.now in
     let step = subst (λ (step : Step). StepsTo step c.args.connection.now c.next.new.self) c.in-Stands.is c.in_ok-next.ensures in
-    noting_on base_of responds tells c.args.connection.now c.next.new.self c.answer_standing.new.connection v v (g.A.Responder.sight c.answer_standing.new.responder) k k c.answer_standing.new.clock
-    ps ps c.answer_standing.new.positions (noting_step base_of responds tells Stands c.args.connection.now c.next.new.self v k ps step) c.answer_standing.ensures
+    noting_on base_of responds tells c.args.connection.now c.next.new.self c.answer_standing.new.connection v v
+        (g.A.Responder.sight c.answer_standing.new.responder) k k c.answer_standing.new.clock
+    ps ps c.answer_standing.new.positions (noting_step base_of responds tells Stands c.args.connection.now
+        c.next.new.self v k ps step) c.answer_standing.ensures
 
 pub returns-in-Waits : goal.returns-in-Waits
 returns-in-Waits g c =
@@ -25,7 +27,10 @@ returns-in-Waits g c =
     let v = g.A.Responder.sight c.args.responder.now in
     let k = c.args.clock.now in
     let ps = c.args.positions.now in
-    let step = subst (λ (step : Step). StepsTo step c.args.connection.now c.next.new.self) c.in-Waits.is c.in_ok-next.ensures in
-    noting_on base_of responds tells c.args.connection.now c.next.new.self c.answer_standing-in-Waits.new.connection v v (g.A.Responder.sight c.answer_standing-in-Waits.new.responder)
+    let step = subst (λ (step : Step). StepsTo step c.args.connection.now c.next.new.self) c.in-Waits.is
+        c.in_ok-next.ensures in
+    noting_on base_of responds tells c.args.connection.now c.next.new.self c.answer_standing-in-Waits.new.connection v
+        v (g.A.Responder.sight c.answer_standing-in-Waits.new.responder)
     k k c.answer_standing-in-Waits.new.clock ps ps c.answer_standing-in-Waits.new.positions
-    (noting_step base_of responds tells Waits c.args.connection.now c.next.new.self v k ps step) c.answer_standing-in-Waits.ensures
+    (noting_step base_of responds tells Waits c.args.connection.now c.next.new.self v k ps step)
+        c.answer_standing-in-Waits.ensures
