@@ -6,8 +6,8 @@ use Rattle.lra_operators.specs.declared.operation.Operation.TheVariants as opera
 -- the operations, in the order in which they are listed
 abbrev pub operations : List Operation
 operations =
-    operation.Health ∷ operation.Live ∷ operation.Ready ∷ operation.Started ∷ operation.Metrics ∷ operation.Actions ∷ operation.Action
-    ∷ operation.Close ∷ operation.Cancel ∷ operation.GiveUp ∷ operation.Home ∷ operation.Tree ∷ []
+    operation.Health ∷ operation.Live ∷ operation.Ready ∷ operation.Started ∷ operation.Metrics ∷ operation.Actions
+    ∷ operation.Action ∷ operation.Close ∷ operation.Cancel ∷ operation.GiveUp ∷ operation.Home ∷ operation.Tree ∷ []
 
 -- an operation's path; `{id}` is a piece between slashes that isn't empty
 abbrev pub path : Operation → List ℕ
@@ -61,7 +61,8 @@ summary operation.GiveUp = codes "Makes a member's report that it has failed, on
 summary operation.Home = codes "Shows counts, and what hasn't ended or has a status"
 summary operation.Tree = codes "Shows an action"
 
--- the codes of an operation's replies where it is done: of health 503 too, where it is down, and of an order 303, where a form gave it
+-- the codes of an operation's replies where it is done: of health 503 too, where it is down, and of an order 303, where a
+-- form gave it
 abbrev pub success : Operation → List ℕ
 success operation.Health = 200 ∷ 503 ∷ []
 success operation.Live = 200 ∷ 503 ∷ []

@@ -12,7 +12,8 @@ use Rattle.lra_operators.specs.declared.operation.Operation.TheVariants as opera
 use Rattle.lra_operators.specs.Routes.{path_in, id_in, operation_of}
 use Rattle.lra_operators.specs.Access.{seen, admission_of}
 
--- the order of an operation for a number: a close or a cancel of an action, or that a member failed, as it would tell itself; others give none
+-- the order of an operation for a number: a close or a cancel of an action, or that a member failed, as it would tell
+-- itself; others give none
 abbrev pub IsOrderAt : Operation → ℕ → Order → Type 0
 IsOrderAt operation.Close n o = o ≡ order.Close n
 IsOrderAt operation.Cancel n o = o ≡ order.Cancel n
@@ -25,7 +26,8 @@ pub record IsAsked (target : List ℕ) (p : Operation) (i : ℕ) (o : Order) : T
   pub names : IsSpelling (id_text i) (id_in (path_in target)) number
   pub orders : IsOrderAt p number o
 
--- a request gives an order: its path and method ask for an operation that gives one, it may be made, and it is the one that it asks for
+-- a request gives an order: its path and method ask for an operation that gives one, it may be made, and the order is the
+-- one that it asks for
 pub record GivesOrder (access : Access) (request : Request) (i : ℕ) (o : Order) : Type 0 where
   pub at : Operation
   pub routed : operation_of request.method request.target ≡ Ok at

@@ -32,7 +32,8 @@ operation_at target = served_at path operations (path_in target)
 
 -- ---- methods
 
--- what a method asks for at the path of an operation, if it is taken there; methods are told apart by their case (RFC 9110, section 9.1)
+-- what a method asks for at the path of an operation, if it is taken there; methods are told apart by their case (RFC
+-- 9110, section 9.1)
 abbrev pub asked_at : List ℕ → Operation → Result Operation Unserved
 asked_at m o = if bytes_eq m (method o) then Ok o else Err (BadMethod o)
 

@@ -119,8 +119,8 @@ impl Operation {
         }
     }
 
-    /// Returns the status codes of its replies where it is done: of health 503 too, where it is down, and of an order 303,
-    /// where a form gave it.
+    /// Returns the status codes of its replies where it is done: of health 503 too, where it is down, and of an order
+    /// 303, where a form gave it.
     pub fn success(self) -> &'static [u16]
         ensures { result.now ≡ spec.success self }
     {
