@@ -1,5 +1,5 @@
 -- What comes of an errand's callback.
-use Rattle.std.proofs.Common.{◌≡◌, ℕ, Bool, true, Option, Some, None, inl, inr, refl, ap, ◌∙◌, subst}
+use Rattle.std.proofs.Common.{◌≡◌, ℕ, Bool, true, List, Option, Some, None, inl, inr, refl, ap, ◌∙◌, subst}
 use Rattle.std.specs.Prelude.{Result, option_map, unwrap_or, IfSome, IsTrue}
 use Rattle.std.specs.Option.{ForSome}
 use Rattle.std.specs.Result.{result_unwrap_or}
@@ -8,11 +8,12 @@ use Rattle.lra_model.specs.declared.asks.Outcome.{Outcome}
 use Rattle.lra_model.specs.declared.asks.Outcome.TheVariants.{Silent}
 use Rattle.lra_model.specs.Words.{outcome_suits}
 use Rattle.lra_commands.specs.Errands.{Asking}
-use Rattle.lra_courier.specs.Carriages.{Handed}
+use Rattle.lra_courier.specs.Carriages.{Handed, Gains}
 use Rattle.lra_courier.specs.declared.fault.CallFault.{CallFault}
 use Rattle.lra_courier.specs.Carried.{Carried, IsCarried}
 use Rattle.lra_durable.specs.Leaves.{MayLeave}
-use Rattle.lra_callbacks.specs.Outcomes.{IsFor, MayCome}
+use Rattle.lra_callbacks.specs.Outcomes.{IsFor, MayCome, OfGroup, MayComeOf}
+use Rattle.lra_callbacks.specs.Held.{errand_at}
 use Rattle.lra_callbacks.specs.inner.Attempts.{IsOfSame}
 
 module _ (keeps : ℕ → Bool) where
@@ -59,9 +60,17 @@ module _ (keeps : ℕ → Bool) where
 -- what comes of an errand's own journal comes of some journal
 pub own_comes : (keeps : ℕ → ℕ → Bool) (instance : ℕ) (r : Option (Asking × Outcome)) (errand : Option Handed)
     → IfSome r (λ came. ForSome errand (λ h. MayCome (keeps instance) h.1 came.0.ask came.0.kind came.1))
-    → IfSome r (λ came. ForSome errand (λ h. (i : ℕ) × MayCome (keeps i) h.1 came.0.ask came.0.kind came.1))
+    → IfSome r (λ came. ForSome errand (λ h. OfGroup keeps h.1 came.0.ask came.0.kind came.1))
 own_comes keeps instance None errand h = tt
-own_comes keeps instance (Some came) errand h = λ x e. (instance, h x e)
+own_comes keeps instance (Some came) errand h = λ x e. record { instance = instance; came = h x e }
+
+-- and so of some position
+pub comes_of : (keeps : ℕ → ℕ → Bool) (old mid new : List (Option Handed)) (r : Option (Asking × Outcome)) → mid ≡ old
+    → IfSome r (λ came. (n : ℕ) × Gains (errand_at new) (errand_at mid) (came.0, n) × OfGroup keeps n came.0.ask came.0.kind came.1)
+    → IfSome r (λ came. (n : ℕ) × Gains (errand_at new) (errand_at old) (came.0, n) × MayComeOf keeps came.0.ask came.0.kind came.1)
+comes_of keeps old mid new None e h = tt
+comes_of keeps old mid new (Some came) e (n, gains, of) =
+    (n, subst (λ (errands : List (Option Handed)). Gains (errand_at new) (errand_at errands) (came.0, n)) e gains, record { position = n; of = of })
 
 -- moving bytes changes nothing of what is asked
 pub same_of : (c : Carried) → IsOfSame c c

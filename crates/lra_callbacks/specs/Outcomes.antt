@@ -39,9 +39,15 @@ pub record Comes (keeps : ℕ → Bool) (position ask : ℕ) (kind : AskKind) (o
 abbrev pub MayCome : (ℕ → Bool) → ℕ → ℕ → AskKind → Outcome → Type 0
 MayCome keeps position ask kind outcome = Comes keeps position ask kind outcome ⊎ (outcome ≡ Silent)
 
--- the same of some journal of a group, and of some position
-abbrev pub MayComeOf : (ℕ → ℕ → Bool) → ℕ → AskKind → Outcome → Type 0
-MayComeOf keeps ask kind outcome = (instance : ℕ) × (position : ℕ) × MayCome (keeps instance) position ask kind outcome
+-- the same of some journal of a group
+pub record OfGroup (keeps : ℕ → ℕ → Bool) (position ask : ℕ) (kind : AskKind) (outcome : Outcome) : Type 0 where
+  pub instance : ℕ
+  pub came : MayCome (keeps instance) position ask kind outcome
+
+-- and of some position
+pub record MayComeOf (keeps : ℕ → ℕ → Bool) (ask : ℕ) (kind : AskKind) (outcome : Outcome) : Type 0 where
+  pub position : ℕ
+  pub of : OfGroup keeps position ask kind outcome
 
 -- silence suits every kind of ask
 silence_suits : (kind : AskKind) (outcome : Outcome) → outcome ≡ Silent → outcome_suits kind outcome ≡ true
@@ -56,5 +62,10 @@ coming_suits : (keeps : ℕ → Bool) (position ask : ℕ) (kind : AskKind) (out
 coming_suits keeps position ask kind outcome (inl came) = came.suits
 coming_suits keeps position ask kind outcome (inr silent) = silence_suits kind outcome silent
 
-pub coming_of_suits : (keeps : ℕ → ℕ → Bool) (ask : ℕ) (kind : AskKind) (outcome : Outcome) → MayComeOf keeps ask kind outcome → outcome_suits kind outcome ≡ true
-coming_of_suits keeps ask kind outcome (instance, (position, came)) = coming_suits (keeps instance) position ask kind outcome came
+pub coming_of_suits : (keeps : ℕ → ℕ → Bool) (ask : ℕ) (kind : AskKind) (outcome : Outcome)
+    → MayComeOf keeps ask kind outcome → outcome_suits kind outcome ≡ true
+coming_of_suits keeps ask kind outcome c = coming_suits (keeps c.of.instance) c.position ask kind outcome c.of.came
+
+-- of each ask nothing may come
+pub silence_comes_of : (keeps : ℕ → ℕ → Bool) (ask : ℕ) (kind : AskKind) → MayComeOf keeps ask kind Silent
+silence_comes_of keeps ask kind = record { position = 0; of = record { instance = 0; came = inr refl } }

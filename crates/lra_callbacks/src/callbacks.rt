@@ -2,7 +2,7 @@
 
 ghost use Rattle.std.specs.Prelude.{◌≡◌, ℕ, [], IfOk, IfSome, IfNone};
 ghost use Rattle.lra_courier.specs.Carriages.{Gains, AreSame};
-ghost use Rattle.lra_callbacks.specs.Outcomes.{MayCome, MayComeOf};
+ghost use Rattle.lra_callbacks.specs.Outcomes.{OfGroup};
 ghost use Rattle.lra_callbacks.specs.Held.{errand_at};
 
 use crate::attempt::Leave;
@@ -376,7 +376,7 @@ impl<'a, R: Wait + Net + time::Clock, G: SyncGroup> Callbacks<'a, R, G> {
     /// The errand of one that has ended, and what came of it.
     fn remove(&mut self, key: usize) -> Option<(Errand, Outcome)>
         ensures some { IfSome result (λ came. (n : ℕ) × Gains (errand_at self.new) (errand_at self.old) (came.0, n)
-            × ((instance : ℕ) × MayCome (G.keeps instance) n came.0.ask came.0.kind came.1)) }
+            × OfGroup G.keeps n came.0.ask came.0.kind came.1) }
         ensures none { IfNone result (AreSame (errand_at self.old) (errand_at self.new)) }
     {
         let Some(call) = self.calls.try_remove(key) else {
@@ -490,9 +490,8 @@ impl<'a, R: Wait + Net + time::Clock, G: SyncGroup> Callbacks<'a, R, G> {
 }
 
 impl<R: Wait + Net + time::Clock, G: SyncGroup> Carriage for Callbacks<'_, R, G> {
-    ghost use Rattle.lra_callbacks.specs.Outcomes.{MayComeOf, coming_of_suits};
+    ghost use Rattle.lra_callbacks.specs.Outcomes.{MayComeOf, coming_of_suits, silence_comes_of};
     ghost use Rattle.lra_callbacks.specs.Held.{errand_at};
-    ghost use Rattle.std.proofs.Common.{inr, refl};
 
     ghost held = { λ errands place. errand_at errands place };
 
@@ -541,5 +540,5 @@ impl<R: Wait + Net + time::Clock, G: SyncGroup> Carriage for Callbacks<'_, R, G>
 
     ghost suits = { λ ask kind outcome came. coming_of_suits G.keeps ask kind outcome came };
 
-    ghost silent = { λ ask kind. (0, (0, inr refl)) };
+    ghost silent = { λ ask kind. silence_comes_of G.keeps ask kind };
 }
