@@ -62,6 +62,7 @@ coming_suits : (keeps : ℕ → Bool) (position ask : ℕ) (kind : AskKind) (out
 coming_suits keeps position ask kind outcome (inl came) = came.suits
 coming_suits keeps position ask kind outcome (inr silent) = silence_suits kind outcome silent
 
+-- what may come of an ask suits its kind
 pub coming_of_suits : (keeps : ℕ → ℕ → Bool) (ask : ℕ) (kind : AskKind) (outcome : Outcome)
     → MayComeOf keeps ask kind outcome → outcome_suits kind outcome ≡ true
 coming_of_suits keeps ask kind outcome c = coming_suits (keeps c.of.instance) c.position ask kind outcome c.of.came

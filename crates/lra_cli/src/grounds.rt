@@ -1,12 +1,12 @@
 //! By which terms is served, as options say.
 
 use lra_admission::{KeyBook, KeyFiles, KeysFault, Name};
-use lra_storage::{Fence, Fenced};
 use lra_files::SmallFault;
 use lra_ids::Base;
 use lra_options::{Options, OptionsFault, Said, Word};
 use lra_rules::{Rule, RuleFault, Rules};
 use lra_service::{Terms, keys_trouble};
+use lra_storage::{Fence, Fenced};
 use lra_watchpost::{PortFault, read_key};
 use std::alloc::{AllocError, Global};
 use std::fs::File;

@@ -6,7 +6,6 @@ use crate::reasons::{FaultLog, Unlogged, fail, log_unsound, tell_misuse};
 use crate::rolling::{check_rolling, serve_rolling};
 use lra_admission::KeyFiles;
 use lra_audits::{RunFault, error_line, put, settle};
-use lra_storage::Fenced;
 use lra_folders::is_folder;
 use lra_ids::Base;
 use lra_logs::{Format, LevelFilter, Logbook, has_priorities, level_named};
@@ -18,7 +17,7 @@ use lra_service::{
     fit_descriptors, put_text, serve_with, spot_at,
 };
 use lra_settings::{Settings, taken_by_file};
-use lra_storage::Timed;
+use lra_storage::{Fenced, Timed};
 use lra_watchpost::{PortFault, Watchpost, port_line, read_key};
 use std::alloc::Global;
 use std::env::Env;

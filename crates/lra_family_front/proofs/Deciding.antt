@@ -72,9 +72,9 @@ module _ {C : Type 0} (sight : C → Sight) (covers : C → ℕ → Bool) (gives
   hit_serves i turn r ss ts is some h =
       let k = hit i turn r ss ts some h in
       let Q : Option Sight → Type 0 = λ o. MatchOption o (LacksOrdered turn × (ts ≡ ss)) (λ s. (t : Sight) ×
-          DoesOrdered sight covers gives s turn t × (ts ≡ put name i t ss)) in
+      DoesOrdered sight covers gives s turn t × (ts ≡ put name i t ss)) in
       let P : ℕ → Type 0 = λ j. MovesAt name j ss (λ s t. DoesOrdered sight covers gives s turn t) (LacksOrdered turn)
-          ts in
+      ts in
       subst P is (subst Q (sym k.there) (k.new, k.done.0, k.after))
 
   pub hit_identified : (i : ℕ) (turn : ConnectionTurn) (r : Option Answered) (ss ts : List Sight) → r ≡ Some
@@ -106,9 +106,11 @@ module _ {C : Type 0} (sight : C → Sight) (covers : C → ℕ → Bool) (gives
       let below : name k.old < 2 ^ 60 = omega (arith, own, small) in
       let denied = strangers_deny (name k.old) j k.old.setting.base turn.request asked.0 below named other asked.1 in
       let ends = denied_is k.old k.new turn.moment asked.0 denied.0 turn.answered.answer denied.2 asked.2 in
-      let unplaced = none_of turn.answered.position (asked.3 ∙ ap is_ok denied.2) in
-      (((denied.0, denied.1, ends.0), unplaced), k.after ∙ ap (λ s. put name n s ss) ends.1 ∙ put_same name n ss k.old
-          k.there)
+      let unplaced = none_of turn.answered.position (asked.3 ∙ ap is_ok denied.2) in (
+        ((denied.0, denied.1, ends.0), unplaced),
+        k.after ∙ ap (λ s. put name n s ss) ends.1 ∙ put_same name n ss k.old
+            k.there,
+      )
 
   unnamed : (ss ts : List Sight) (turn : ConnectionTurn) (i n : ℕ) → i ≡ n → member name i ss ≡ None → Hit n turn ss
       ts → ⊥
@@ -125,25 +127,25 @@ module _ {C : Type 0} (sight : C → Sight) (covers : C → ℕ → Bool) (gives
   pub newest_serves : (ss us ts : List Sight) (turn : ConnectionTurn) (i n : ℕ) (r q : Option Answered) → n ≡ newest
       name ss → n < 2 ^ 60 → i ≡ unwrap_or (instance_of turn.request) n
       → r ≡ None → Visits sight covers gives i turn.moment turn.request r ss us → q ≡ Some turn.answered → Visits
-          sight covers gives n turn.moment turn.request q us ts
+      sight covers gives n turn.moment turn.request q us ts
       → ServesOrdered sight covers gives ss turn ts
   newest_serves ss us ts turn i n r q is small named none first some second =
       let m = missed i turn.moment turn.request r ss us none first in
       let k = hit n turn q ss ts some (subst (λ v. Visits sight covers gives n turn.moment turn.request q v ts) m.same
-          second) in
+      second) in
       let lacks = by_newest ss ts turn i n small named m.there k in
       let place : i ≡ names (newest name ss) (turn_of turn) = named ∙ ap (unwrap_or (instance_of turn.request)) is in
       let Q : Option Sight → Type 0 = λ o. MatchOption o (LacksOrdered turn × (ts ≡ ss)) (λ s. (t : Sight) ×
-          DoesOrdered sight covers gives s turn t × (ts ≡ put name i t ss)) in
+      DoesOrdered sight covers gives s turn t × (ts ≡ put name i t ss)) in
       let P : ℕ → Type 0 = λ j. MovesAt name j ss (λ s t. DoesOrdered sight covers gives s turn t) (LacksOrdered turn)
-          ts in
+      ts in
       subst P place (subst Q (sym m.there) lacks)
 
   -- the newest is there
   pub newest_answers : (ss us ts : List Sight) (moment : ℕ) (request : Request) (i n : ℕ) (r q : Option Answered) →
       IsFamily (map name ss) → n ≡ newest name ss
       → r ≡ None → Visits sight covers gives i moment request r ss us → q ≡ None → Visits sight covers gives n moment
-          request q us ts → ⊥
+      request q us ts → ⊥
   newest_answers ss us ts moment request i n r q family is none first nothing second =
       let m = missed i moment request r ss us none first in
       let k = missed n moment request q us ts nothing second in
@@ -160,7 +162,7 @@ module _ {C : Type 0} (sight : C → Sight) (covers : C → ℕ → Bool) (gives
 
     by : (o : Option Sight) → member name (names (newest name ss) (turn_of turn)) ss ≡ o
         → MatchOption o (LacksOrdered turn × (ss ≡ ss)) (λ s. (t : Sight) × DoesOrdered sight covers gives s turn t ×
-            (ss ≡ put name (names (newest name ss) (turn_of turn)) t ss))
+        (ss ≡ put name (names (newest name ss) (turn_of turn)) t ss))
     by None is = (((Refused refusal.Memory, inl (refl, lacks), e), none), refl)
     by (Some s) is = (
       s,

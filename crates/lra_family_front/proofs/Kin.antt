@@ -166,16 +166,16 @@ module _ (gives : Sight → ℕ → Order → Result Told CounterFault → Sight
 serves_plain : {C : Type 0} (sight : C → Sight) (covers : C → ℕ → Bool) (gives : Sight → ℕ → Order → Result Told
     CounterFault → Sight → Type 0)
     (before after : List Sight) (turn : ConnectionTurn) → ServesOrdered sight covers gives before turn after → Serves
-        gives before (turn_of turn) after
+    gives before (turn_of turn) after
 serves_plain sight covers gives before after turn h = by (member name i before) h where
   i : ℕ
   i = names (newest name before) (turn_of turn)
 
   by : (o : Option Sight)
       → MatchOption o ((Lacks (turn_of turn) × (turn.answered.position ≡ None)) × (after ≡ before)) (λ s. (t : Sight)
-          × DoesOrdered sight covers gives s turn t × (after ≡ put name i t before))
+      × DoesOrdered sight covers gives s turn t × (after ≡ put name i t before))
       → MatchOption o (Lacks (turn_of turn) × (after ≡ before)) (λ s. (t : Sight) × Does gives s (turn_of turn) t ×
-          (after ≡ put name i t before))
+      (after ≡ put name i t before))
   by None k = (k.0.0, k.1)
   by (Some s) k = let a = k.1.0 in (k.0, (a.0, a.1, a.2), k.2)
 
@@ -183,11 +183,11 @@ serves_plain sight covers gives before after turn h = by (member name i before) 
 pub outcome_base : {C : Type 0} (sight : C → Sight) (covers : C → ℕ → Bool) (gives : Sight → ℕ → Order → Result Told
     CounterFault → Sight → Type 0)
     (keeps : (before after : Sight) (moment : ℕ) (o : Order) (reply : Result Told CounterFault) → gives before moment
-        o reply after → KeepsHistory before moment o reply after)
+    o reply after → KeepsHistory before moment o reply after)
     (tells : Option ℕ → Bool → Type 0) (base : List ℕ) (before after : List Sight) (moment : ℕ) (request : Request)
-        (answered : Answered) → IsFamily (map name before)
+    (answered : Answered) → IsFamily (map name before)
     → HaveBase base before → Outcome tells sight covers gives before moment request answered after → HaveBase base
-        after × (base_of after ≡ base)
+    after × (base_of after ≡ base)
 outcome_base sight covers gives keeps tells base before after moment request answered f h (inl o) =
     let turn : ConnectionTurn = record { request = request; moment = moment; answered = answered } in
     serves_base gives keeps base before after (turn_of turn) f h (serves_plain sight covers gives before after turn o.1)

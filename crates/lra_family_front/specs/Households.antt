@@ -49,8 +49,12 @@ module _ {C : Type 0} (tells : Option ℕ → Bool → Type 0) (sight : C → Si
   -- a request is answered as in a family that stays, where it is sure who answers; or it is refused, and reaches none
   abbrev pub Outcome : List Sight → ℕ → Request → Answered → List Sight → Type 0
   Outcome before moment request answered after =
-      (IsSure tells before request × ServesOrdered sight covers gives before (record { request = request; moment =
-          moment; answered = answered }) after)
+      (IsSure tells before request × ServesOrdered sight covers gives before (record {
+        request = request;
+        moment =
+            moment;
+        answered = answered;
+      }) after)
       ⊎ (IsPutOff tells before request answered × (after ≡ before))
 
   -- what a request at a moment does: members join and leave, and then it is answered at the one that it names, as in a
@@ -100,4 +104,4 @@ module _ {K C : Type 0} (lacks : Option ℕ → Bool → Type 0) (sight : C → 
   HouseholdsRest = (ss ts : List Sight) (k l : K) (course : List (Option ConnectionTurn)) → Course (Responds lacks
       sight covers gives) Rests tells ss k course ts l
       → (xs : List (Event Sight Turn)) × Run name names (Does gives) Lacks ss xs ts × AreTurns (turns_of xs) (turns_in
-          course)
+      course)

@@ -75,7 +75,7 @@ module _ {C : Type 0} (sight : C → Sight) (covers : C → ℕ → Bool) (gives
   abbrev pub DoesOrdered : Sight → ConnectionTurn → Sight → Type 0
   DoesOrdered before turn after =
       AnswersOrdered gives before turn.moment turn.request turn.answered after × IfSome turn.answered.position
-          (IsCoveredAt after)
+      (IsCoveredAt after)
 
   -- what a turn does in a family; where no journal is there that it names, the answer has no position
   abbrev pub ServesOrdered : List Sight → ConnectionTurn → List Sight → Type 0

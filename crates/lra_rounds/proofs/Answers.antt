@@ -112,13 +112,18 @@ module _ {S K : Type 0} (base_of : S → List ℕ) (responds : S → ℕ → Req
   -- a step answers none
   pub noting_step : (step : Step) (old new : History) (v : S) (k : K) (ps : Positions) → StepsTo step old new → Noting
       old new v k v k ps ps
-  noting_step step old new v k ps s = let stay = steps_stay step old new s in (answers_still old new v k stay,
-      keeps_same ps old.turns new.turns stay.turns)
+  noting_step step old new v k ps s = let stay = steps_stay step old new s in (
+    answers_still old new v k stay,
+    keeps_same ps old.turns new.turns stay.turns,
+  )
 
   -- nor does one for which memory is refused
   pub noting_same : (old new : History) (v : S) (k : K) (ps : Positions) → new ≡ old → Noting old new v k v k ps ps
-  noting_same old new v k ps e = let stay = stays_same old new e in (answers_still old new v k stay, keeps_same ps
-      old.turns new.turns stay.turns)
+  noting_same old new v k ps e = let stay = stays_same old new e in (
+    answers_still old new v k stay,
+    keeps_same ps
+        old.turns new.turns stay.turns,
+  )
 
   module _ (stays : (before after : S) (moment : ℕ) (request : Request) (answered : Answered) → responds before moment request answered after → base_of after ≡ base_of before) where
     -- the one that stands is answered
@@ -143,7 +148,7 @@ module _ {S K : Type 0} (base_of : S → List ℕ) (responds : S → ℕ → Req
     pub answers_standing : (stands : Option Request) (answered : Answered) (v w : S) (k l : K) (old new : History)
         (before after : Positions) → IsSome stands
         → IfSome stands (λ (request : Request). Answers responds tells request answered v w k l old new) → Notes
-            before after answered
+        before after answered
         → AnswersOf base_of responds tells old new v k w l × KeepsNoted old.turns new.turns before after
     answers_standing None answered v w k l old new before after some a notes = absurd cc
     answers_standing (Some request) answered v w k l old new before after some a notes =

@@ -23,8 +23,11 @@ waits_none ps instance n first other (inr h) = absurd (reaches_none ps.other ins
 -- ---- one more
 
 -- the first
-pub adds_first : (old : Positions) (p : Position) → old.first ≡ None → old.other ≡ None → Adds old (record { first =
-    Some p; other = None }) p
+pub adds_first : (old : Positions) (p : Position) → old.first ≡ None → old.other ≡ None → Adds old (record {
+  first =
+      Some p;
+  other = None;
+}) p
 adds_first old p first other = record {
   goes = λ instance n h. absurd (waits_none old instance n first other h);
   added = inl (refl, omega arith);
@@ -42,8 +45,11 @@ adds_same old p q r first other same kept more least = record { goes = goes; add
       inl (kept ∙ k.0, omega (arith, k.1, more))
 
 -- of another
-pub adds_other : (old : Positions) (p q : Position) → old.first ≡ Some q → old.other ≡ None → Adds old (record { first
-    = Some q; other = Some p }) p
+pub adds_other : (old : Positions) (p q : Position) → old.first ≡ Some q → old.other ≡ None → Adds old (record {
+  first
+      = Some q;
+  other = Some p;
+}) p
 adds_other old p q first other = record { goes = goes; added = inr (refl, omega arith) } where
   goes : Goes old (record { first = Some q; other = Some p })
   goes instance n (inr h) = absurd (reaches_none old.other instance n other h)
@@ -75,7 +81,7 @@ durable_below keeps p kept instance n leave h =
 pub settles_both : (keeps : ℕ → ℕ → Bool) (old new : Positions) → ((instance n : ℕ) → Reaches old.first instance n →
     IsDurable keeps instance n ⊎ Reaches new.first instance n)
     → ((instance n : ℕ) → Reaches old.other instance n → IsDurable keeps instance n ⊎ Reaches new.other instance n) →
-        Settles keeps old new
+    Settles keeps old new
 settles_both keeps old new first other instance n (inl h) = by (first instance n h) where
   by : IsDurable keeps instance n ⊎ Reaches new.first instance n → IsDurable keeps instance n ⊎ WaitFor new instance n
   by (inl d) = inl d
@@ -90,7 +96,7 @@ settles_both keeps old new first other instance n (inr h) = by (other instance n
 some_moves : (keeps : ℕ → ℕ → Bool) (old new : Positions) (instance : ℕ) (position : Option ℕ)
     → Settles keeps old new
     → IfSome position (λ n. IsDurable keeps instance n ⊎ WaitFor old instance n) → IfSome position (λ n. IsDurable
-        keeps instance n ⊎ WaitFor new instance n)
+    keeps instance n ⊎ WaitFor new instance n)
 some_moves keeps old new instance None moves h = tt
 some_moves keeps old new instance (Some n) moves (inl d) = inl d
 some_moves keeps old new instance (Some n) moves (inr w) = moves instance n w
@@ -99,14 +105,16 @@ some_moves keeps old new instance (Some n) moves (inr w) = moves instance n w
 pub noted_settled : (keeps : ℕ → ℕ → Bool) (old new : Positions) (turns : List Turn) → Settles keeps old new →
     AreNoted keeps old turns → AreNoted keeps new turns
 noted_settled keeps old new [] moves h = tt
-noted_settled keeps old new (turn ∷ turns) moves h =
-    (some_moves keeps old new turn.answered.instance turn.answered.position moves h.0, noted_settled keeps old new
-        turns moves h.1)
+noted_settled keeps old new (turn ∷ turns) moves h = (
+  some_moves keeps old new turn.answered.instance turn.answered.position moves h.0,
+  noted_settled keeps old new
+      turns moves h.1,
+)
 
 some_durable : (keeps : ℕ → ℕ → Bool) (ps : Positions) (instance : ℕ) (position : Option ℕ) → ps.first ≡ None →
     ps.other ≡ None
     → IfSome position (λ n. IsDurable keeps instance n ⊎ WaitFor ps instance n) → IfSome position (IsDurable keeps
-        instance)
+    instance)
 some_durable keeps ps instance None first other h = tt
 some_durable keeps ps instance (Some n) first other (inl d) = d
 some_durable keeps ps instance (Some n) first other (inr w) = absurd (waits_none ps instance n first other w)
@@ -115,9 +123,11 @@ some_durable keeps ps instance (Some n) first other (inr w) = absurd (waits_none
 pub all_durable : (keeps : ℕ → ℕ → Bool) (ps : Positions) (turns : List Turn) → ps.first ≡ None → ps.other ≡ None →
     AreNoted keeps ps turns → AllMayGo keeps turns
 all_durable keeps ps [] first other h = tt
-all_durable keeps ps (turn ∷ turns) first other h =
-    (some_durable keeps ps turn.answered.instance turn.answered.position first other h.0, all_durable keeps ps turns
-        first other h.1)
+all_durable keeps ps (turn ∷ turns) first other h = (
+  some_durable keeps ps turn.answered.instance turn.answered.position first other h.0,
+  all_durable keeps ps turns
+      first other h.1,
+)
 
 noted_goes : (keeps : ℕ → ℕ → Bool) (old new : Positions) (turns : List Turn) → Goes old new → AreNoted keeps old
     turns → AreNoted keeps new turns
@@ -140,7 +150,7 @@ pub keeps_one : (old new : Positions) (turns more : List Turn) (turn : Turn) →
 keeps_one old new turns more turn e notes keeps h =
     subst (AreNoted keeps new) (sym e)
     (noted_append keeps new turns turn (noted_goes keeps old new turns notes.goes h) (noted_waits keeps new
-        turn.answered.instance turn.answered.position notes.noted))
+    turn.answered.instance turn.answered.position notes.noted))
 
 -- no turn
 pub keeps_same : (ps : Positions) (turns more : List Turn) → more ≡ turns → KeepsNoted turns more ps ps

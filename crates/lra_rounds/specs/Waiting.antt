@@ -32,5 +32,6 @@ IsNoted keeps ps answered = IfSome answered.position (λ n. IsDurable keeps answ
 abbrev pub AllMayGo : (ℕ → ℕ → Bool) → List Turn → Type 0
 AllMayGo keeps turns = AllByRecursion (λ turn. MayGo keeps turn.answered) turns
 
+-- what each of these turns rests on is durable, or noted
 abbrev pub AreNoted : (ℕ → ℕ → Bool) → Positions → List Turn → Type 0
 AreNoted keeps ps turns = AllByRecursion (λ turn. IsNoted keeps ps turn.answered) turns

@@ -27,7 +27,7 @@ module _ {C : Type 0} (sight : C → Sight) (covers : C → ℕ → Bool) (gives
   abbrev pub Answers : Sight → ℕ → Request → Answered → Sight → Type 0
   Answers before moment request answered after =
       DoesOrdered sight covers gives before (record { request = request; moment = moment; answered = answered }) after
-          × HasIdentifiers answered.answer
+      × HasIdentifiers answered.answer
 
   -- the session of an instance answers and every other stays, or there is none
   abbrev pub Visits : ℕ → ℕ → Request → Option Answered → List Sight → List Sight → Type 0
@@ -43,6 +43,6 @@ module _ {C : Type 0} (sight : C → Sight) (covers : C → ℕ → Bool) (gives
   pub answers_stay : (keeps : (before after : Sight) (moment : ℕ) (o : Order) (reply : Result Told CounterFault) →
       gives before moment o reply after → KeepsHistory before moment o reply after)
       (before after : Sight) (moment : ℕ) (request : Request) (answered : Answered) → Answers before moment request
-          answered after → after.setting ≡ before.setting
+      answered after → after.setting ≡ before.setting
   answers_stay keeps before after moment request answered h =
       let a = h.0.0 in responds_stays gives keeps before after moment request answered.answer (a.0, a.1, a.2)

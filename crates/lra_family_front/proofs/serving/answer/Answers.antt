@@ -6,7 +6,7 @@ use Rattle.lra_family_front.proofs.serving.answer.Goals as goal
 pub unreachable-requires : goal.unreachable-requires
 unreachable-requires g c =
     newest_answers g.C.Counter.sight g.C.Session.covers g.C.Counter.gives c.args.family.now c.visit.new.family
-        c.visit-in-None.new.family
+    c.visit-in-None.new.family
     c.args.responding.now.moment (request_of c.args.responding.now.request.now)
     c.args.instance c.args.newest c.visit.result c.visit-in-None.result c.requires.family c.requires.newest
     c.in-None.is c.visit.ensures c.in-None-visit.is c.visit-in-None.ensures
@@ -14,8 +14,12 @@ unreachable-requires g c =
 pub returns-in-Some-visit-clause-serves : goal.returns-in-Some-visit-clause-serves
 returns-in-Some-visit-clause-serves g c =
     newest_serves g.C.Counter.sight g.C.Session.covers g.C.Counter.gives c.args.family.now c.visit.new.family
-        c.visit-in-None.new.family
-    (record { request = request_of c.args.responding.now.request.now; moment = c.args.responding.now.moment; answered
-        = c.in-Some-visit.answered })
+    c.visit-in-None.new.family
+    (record {
+      request = request_of c.args.responding.now.request.now;
+      moment = c.args.responding.now.moment;
+      answered
+          = c.in-Some-visit.answered;
+    })
     c.args.instance c.args.newest c.visit.result c.visit-in-None.result c.requires.newest (search rules) c.requires.instance
     c.in-None.is c.visit.ensures c.in-Some-visit.is c.visit-in-None.ensures

@@ -7,4 +7,4 @@ pub returns-in_default-clause-serves : goal.returns-in_default-clause-serves
 returns-in_default-clause-serves g c = memory_serves g.C.Counter.sight g.C.Session.covers g.C.Counter.gives
     c.args.family.now
     (record { request = request_of c.args.request.now; moment = c.args.moment; answered = c.denied.result }) (ap (λ a.
-        a.answer) c.denied.ensures) (ap (λ a. a.position) c.denied.ensures) (search rules)
+    a.answer) c.denied.ensures) (ap (λ a. a.position) c.denied.ensures) (search rules)

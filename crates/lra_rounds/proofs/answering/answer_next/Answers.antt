@@ -15,9 +15,9 @@ returns-in-Stands g c =
     let ps = c.args.positions.now in
     let step = subst (λ (step : Step). StepsTo step c.args.connection.now c.next.new.self) c.in-Stands.is c.in_ok-next.ensures in
     noting_on base_of responds tells c.args.connection.now c.next.new.self c.answer_standing.new.connection v v
-        (g.A.Responder.sight c.answer_standing.new.responder) k k c.answer_standing.new.clock
+    (g.A.Responder.sight c.answer_standing.new.responder) k k c.answer_standing.new.clock
     ps ps c.answer_standing.new.positions (noting_step base_of responds tells Stands c.args.connection.now
-        c.next.new.self v k ps step) c.answer_standing.ensures
+    c.next.new.self v k ps step) c.answer_standing.ensures
 
 pub returns-in-Waits : goal.returns-in-Waits
 returns-in-Waits g c =
@@ -28,9 +28,9 @@ returns-in-Waits g c =
     let k = c.args.clock.now in
     let ps = c.args.positions.now in
     let step = subst (λ (step : Step). StepsTo step c.args.connection.now c.next.new.self) c.in-Waits.is
-        c.in_ok-next.ensures in
+    c.in_ok-next.ensures in
     noting_on base_of responds tells c.args.connection.now c.next.new.self c.answer_standing-in-Waits.new.connection v
-        v (g.A.Responder.sight c.answer_standing-in-Waits.new.responder)
+    v (g.A.Responder.sight c.answer_standing-in-Waits.new.responder)
     k k c.answer_standing-in-Waits.new.clock ps ps c.answer_standing-in-Waits.new.positions
     (noting_step base_of responds tells Waits c.args.connection.now c.next.new.self v k ps step)
-        c.answer_standing-in-Waits.ensures
+    c.answer_standing-in-Waits.ensures

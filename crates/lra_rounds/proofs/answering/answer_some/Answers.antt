@@ -14,26 +14,26 @@ answer_next-requires g c =
 pub returns-in_err-stage : goal.returns-in_err-stage
 returns-in_err-stage g c =
     noting_on g.A.Responder.base_of g.A.Responder.responds g.K.Clock.tells c.args.connection.now
-        c.loop-turn.connection c.answer_next.new.connection (g.A.Responder.sight c.args.responder.now)
-        (g.A.Responder.sight c.loop-turn.responder)
+    c.loop-turn.connection c.answer_next.new.connection (g.A.Responder.sight c.args.responder.now)
+    (g.A.Responder.sight c.loop-turn.responder)
     (g.A.Responder.sight c.answer_next.new.responder) c.args.clock.now c.loop-turn.clock c.answer_next.new.clock
-        c.args.positions.now c.loop-turn.positions c.answer_next.new.positions
+    c.args.positions.now c.loop-turn.positions c.answer_next.new.positions
     c.loop-turn.invariant c.answer_next.ensures
 
 pub returns-in-Some : goal.returns-in-Some
 returns-in-Some g c =
     noting_on g.A.Responder.base_of g.A.Responder.responds g.K.Clock.tells c.args.connection.now
-        c.loop-turn.connection c.answer_next.new.connection (g.A.Responder.sight c.args.responder.now)
-        (g.A.Responder.sight c.loop-turn.responder)
+    c.loop-turn.connection c.answer_next.new.connection (g.A.Responder.sight c.args.responder.now)
+    (g.A.Responder.sight c.loop-turn.responder)
     (g.A.Responder.sight c.answer_next.new.responder) c.args.clock.now c.loop-turn.clock c.answer_next.new.clock
-        c.args.positions.now c.loop-turn.positions c.answer_next.new.positions
+    c.args.positions.now c.loop-turn.positions c.answer_next.new.positions
     c.loop-turn.invariant c.answer_next.ensures
 
 pub loop-turn-preserved : goal.loop-turn-preserved
 loop-turn-preserved g c =
     noting_on g.A.Responder.base_of g.A.Responder.responds g.K.Clock.tells c.args.connection.now
-        c.loop-turn.connection c.answer_next.new.connection (g.A.Responder.sight c.args.responder.now)
-        (g.A.Responder.sight c.loop-turn.responder)
+    c.loop-turn.connection c.answer_next.new.connection (g.A.Responder.sight c.args.responder.now)
+    (g.A.Responder.sight c.loop-turn.responder)
     (g.A.Responder.sight c.answer_next.new.responder) c.args.clock.now c.loop-turn.clock c.answer_next.new.clock
-        c.args.positions.now c.loop-turn.positions c.answer_next.new.positions
+    c.args.positions.now c.loop-turn.positions c.answer_next.new.positions
     c.loop-turn.invariant c.answer_next.ensures

@@ -10,7 +10,7 @@ invariant_of-self g c =
     let after = c.respond_at.new.family in
     let k =
     outcome_base g.C.Counter.sight g.C.Session.covers g.C.Counter.gives g.met.C.Counter.keeps g.K.Kinship.tells base
-        c.look.new.family after c.args.moment (request_of c.args.request.now) c.respond_at.result
+    c.look.new.family after c.args.moment (request_of c.args.request.now) c.respond_at.result
     c.respond_at.ensures.family (c.look.ensures.base base c.args.self.now.kin) c.respond_at.ensures.serves in
     record { kin = subst (λ (own : List ℕ). HaveBase own after) (sym k.1) k.0 }
 
@@ -25,6 +25,6 @@ returns-clause-responds g c =
       journal = c.respond_at.ensures.journal;
       base =
           (outcome_base g.C.Counter.sight g.C.Session.covers g.C.Counter.gives g.met.C.Counter.keeps g.K.Kinship.tells
-              base c.look.new.family c.respond_at.new.family c.args.moment (request_of c.args.request.now)
+          base c.look.new.family c.respond_at.new.family c.args.moment (request_of c.args.request.now)
           c.respond_at.result c.respond_at.ensures.family (c.look.ensures.base base c.args.self.now.kin) c.respond_at.ensures.serves).1;
     }
