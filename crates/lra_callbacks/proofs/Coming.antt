@@ -25,7 +25,8 @@ module _ (keeps : ℕ → Bool) where
   -- what a callback that had leave came to may come of its errand
   pub outcome_comes : (kept : ℕ) (c : Carried) (errand : Option Handed) (r : Option Outcome)
       → ForSome errand (λ h. MayLeave keeps h.1 kept) → ForSome errand (λ h. IsFor c h.0) → IsCarried c
-      → r ≡ option_map (λ (told : Result Outcome CallFault). result_unwrap_or told Silent) c.came → IfSome r (λ o. IsTrue (outcome_suits c.kind o))
+      → r ≡ option_map (λ (told : Result Outcome CallFault). result_unwrap_or told Silent) c.came
+      → IfSome r (λ o. IsTrue (outcome_suits c.kind o))
       → IfSome errand (λ h. MayCome keeps h.1 h.0.ask h.0.kind (unwrap_or r Silent))
   outcome_comes kept c None r leave own steps is suits = tt
   outcome_comes kept c (Some e) None leave own steps is suits = inr refl
@@ -79,7 +80,8 @@ same_of c = record { kind = refl; direction = refl; request = refl }
 pub same_on : (a b c : Carried) → IsOfSame a b → IsOfSame b c → IsOfSame a c
 same_on a b c h k = record { kind = k.kind ∙ h.kind; direction = k.direction ∙ h.direction; request = k.request ∙ h.request }
 
-pub same_for : (old new : Carried) (errand : Option Handed) → IsOfSame old new → ForSome errand (λ h. IsFor old h.0) → ForSome errand (λ h. IsFor new h.0)
+pub same_for : (old new : Carried) (errand : Option Handed) → IsOfSame old new → ForSome errand (λ h. IsFor old h.0)
+    → ForSome errand (λ h. IsFor new h.0)
 same_for old new errand same own e is = record {
   kind = same.kind ∙ (own e is).kind;
   direction = same.direction ∙ (own e is).direction;

@@ -11,20 +11,24 @@ use Rattle.lra_commands.specs.Errands.{Asking}
 
 module _ {X : Type 0} (of : Option X → Option Handed) where
   -- a place is changed, and its errand stays
-  pub same_errands : (slots : List (Option X)) (key : ℕ) (slot : Option X) → of slot ≡ of (slice_index_or slots key None) → map of (slice_set slots key slot) ≡ map of slots
+  pub same_errands : (slots : List (Option X)) (key : ℕ) (slot : Option X)
+      → of slot ≡ of (slice_index_or slots key None) → map of (slice_set slots key slot) ≡ map of slots
   same_errands [] key slot h = refl
   same_errands (x ∷ xs) zero slot h = ap (λ (o : Option Handed). o ∷ map of xs) h
   same_errands (x ∷ xs) (suc key) slot h = ap (λ (os : List (Option Handed)). of x ∷ os) (same_errands xs key slot h)
 
   -- the errand at a place
-  pub at : of None ≡ None → (slots : List (Option X)) (key : ℕ) → slice_index_or (map of slots) key None ≡ of (slice_index_or slots key None)
+  pub at : of None ≡ None → (slots : List (Option X)) (key : ℕ)
+      → slice_index_or (map of slots) key None ≡ of (slice_index_or slots key None)
   at none [] key = sym none
   at none (x ∷ xs) zero = refl
   at none (x ∷ xs) (suc key) = at none xs key
 
   -- a place that was free has an errand, and the others are as they were
-  pub errand_gained : of None ≡ None → (old new : List (Option X)) (key : ℕ) (slot : Option X) (e : Handed) → slice_index_or old key None ≡ None → slice_index_or new key None ≡ slot → of slot ≡ Some e
-      → ((other : ℕ) → other ≢ key → slice_index_or new other None ≡ slice_index_or old other None) → Gains (errand_at (map of old)) (errand_at (map of new)) e
+  pub errand_gained : of None ≡ None → (old new : List (Option X)) (key : ℕ) (slot : Option X) (e : Handed)
+      → slice_index_or old key None ≡ None → slice_index_or new key None ≡ slot → of slot ≡ Some e
+      → ((other : ℕ) → other ≢ key → slice_index_or new other None ≡ slice_index_or old other None)
+      → Gains (errand_at (map of old)) (errand_at (map of new)) e
   errand_gained none old new key slot e free here is others = record {
     place = key;
     free = at none old key ∙ (ap of free ∙ none);
@@ -33,8 +37,10 @@ module _ {X : Type 0} (of : Option X → Option Handed) where
   }
 
   -- a place is given up at which no errand is
-  pub none_lost : of None ≡ None → (old new : List (Option X)) (key : ℕ) (slot : Option X) → slice_index_or old key None ≡ slot → of slot ≡ None → slice_index_or new key None ≡ None
-      → ((other : ℕ) → other ≢ key → slice_index_or new other None ≡ slice_index_or old other None) → AreSame (errand_at (map of old)) (errand_at (map of new))
+  pub none_lost : of None ≡ None → (old new : List (Option X)) (key : ℕ) (slot : Option X)
+      → slice_index_or old key None ≡ slot → of slot ≡ None → slice_index_or new key None ≡ None
+      → ((other : ℕ) → other ≢ key → slice_index_or new other None ≡ slice_index_or old other None)
+      → AreSame (errand_at (map of old)) (errand_at (map of new))
   none_lost none old new key slot there is free others place = by (place == key) refl
     where
       by : (b : Bool) → (place == key) ≡ b → errand_at (map of new) place ≡ errand_at (map of old) place
@@ -46,13 +52,15 @@ module _ {X : Type 0} (of : Option X → Option Handed) where
 
 module _ {X : Type 0} where
   -- a call is changed, and its errand stays
-  pub kept_errands : (slots : List (Option X)) (key : ℕ) (old new : X) (f : X → Option Handed) → Some old ≡ slice_index_or slots key None → f new ≡ f old
+  pub kept_errands : (slots : List (Option X)) (key : ℕ) (old new : X) (f : X → Option Handed)
+      → Some old ≡ slice_index_or slots key None → f new ≡ f old
       → map (λ (slot : Option X). option_and_then f slot) (slice_set slots key (Some new)) ≡ map (λ (slot : Option X). option_and_then f slot) slots
   kept_errands slots key old new f there same = same_errands (λ (slot : Option X). option_and_then f slot) slots key (Some new) (same ∙ ap (λ (slot : Option X). option_and_then f slot) there)
 
   -- a call is taken in
   pub taken_in : (old mid new : List (Option X)) (key : ℕ) (call : X) (e : Handed) (f : X → Option Handed) (now : List (Option Handed)) → map (λ (slot : Option X). option_and_then f slot) old ≡ now → mid ≡ old
-      → slice_index_or mid key None ≡ None → slice_index_or new key None ≡ Some call → ((other : ℕ) → other ≢ key → slice_index_or new other None ≡ slice_index_or mid other None) → f call ≡ Some e
+      → slice_index_or mid key None ≡ None → slice_index_or new key None ≡ Some call
+      → ((other : ℕ) → other ≢ key → slice_index_or new other None ≡ slice_index_or mid other None) → f call ≡ Some e
       → Gains (errand_at now) (errand_at (map (λ (slot : Option X). option_and_then f slot) new)) e
   taken_in old mid new key call e f now view same free here others is =
       subst (λ (errands : List (Option Handed)). Gains (errand_at errands) (errand_at (map (λ (slot : Option X). option_and_then f slot) new)) e) view
@@ -61,16 +69,21 @@ module _ {X : Type 0} where
 
   -- a call is given back, with what came of it
   pub given_back : (old new : List (Option X)) (key : ℕ) (call : X) (f : X → Option Handed) (now : List (Option Handed)) (r : Option (Asking × Outcome)) (Q : ℕ → Asking × Outcome → Type 0)
-      → map (λ (slot : Option X). option_and_then f slot) old ≡ now → Some call ≡ slice_index_or old key None → slice_index_or new key None ≡ None → ((other : ℕ) → other ≢ key → slice_index_or new other None ≡ slice_index_or old other None)
-      → option_map (λ (came : Asking × Outcome). came.0) r ≡ option_map (λ (h : Handed). h.0) (f call) → IfSome r (λ came. ForSome (f call) (λ h. Q h.1 came))
+      → map (λ (slot : Option X). option_and_then f slot) old ≡ now → Some call ≡ slice_index_or old key None
+      → slice_index_or new key None ≡ None
+      → ((other : ℕ) → other ≢ key → slice_index_or new other None ≡ slice_index_or old other None)
+      → option_map (λ (came : Asking × Outcome). came.0) r ≡ option_map (λ (h : Handed). h.0) (f call)
+      → IfSome r (λ came. ForSome (f call) (λ h. Q h.1 came))
       → IfSome r (λ came. (n : ℕ) × Gains (errand_at (map (λ (slot : Option X). option_and_then f slot) new)) (errand_at now) (came.0, n) × Q n came)
   given_back old new key call f now None Q view there free others is q = tt
   given_back old new key call f now (Some came) Q view there free others is q = by (f call) refl
     where
-      none : Some came.0 ≡ None → (n : ℕ) × Gains (errand_at (map (λ (slot : Option X). option_and_then f slot) new)) (errand_at now) (came.0, n) × Q n came
+      none : Some came.0 ≡ None
+          → (n : ℕ) × Gains (errand_at (map (λ (slot : Option X). option_and_then f slot) new)) (errand_at now) (came.0, n) × Q n came
       none h = absurd cc
 
-      by : (o : Option Handed) → f call ≡ o → (n : ℕ) × Gains (errand_at (map (λ (slot : Option X). option_and_then f slot) new)) (errand_at now) (came.0, n) × Q n came
+      by : (o : Option Handed) → f call ≡ o
+          → (n : ℕ) × Gains (errand_at (map (λ (slot : Option X). option_and_then f slot) new)) (errand_at now) (came.0, n) × Q n came
       by None g = none (is ∙ ap (option_map (λ (h : Handed). h.0)) g)
       by (Some (a, n)) g =
           let same : came.0 ≡ a = same_Some came.0 a (is ∙ ap (option_map (λ (h : Handed). h.0)) g) in (
@@ -82,8 +95,11 @@ module _ {X : Type 0} where
 
   -- a call without an errand is let go of
   pub let_go : (old new : List (Option X)) (key : ℕ) (call : X) (f : X → Option Handed) (now : List (Option Handed)) (r : Option (Asking × Outcome))
-      → map (λ (slot : Option X). option_and_then f slot) old ≡ now → Some call ≡ slice_index_or old key None → slice_index_or new key None ≡ None → ((other : ℕ) → other ≢ key → slice_index_or new other None ≡ slice_index_or old other None)
-      → option_map (λ (came : Asking × Outcome). came.0) r ≡ option_map (λ (h : Handed). h.0) (f call) → IfNone r (AreSame (errand_at now) (errand_at (map (λ (slot : Option X). option_and_then f slot) new)))
+      → map (λ (slot : Option X). option_and_then f slot) old ≡ now → Some call ≡ slice_index_or old key None
+      → slice_index_or new key None ≡ None
+      → ((other : ℕ) → other ≢ key → slice_index_or new other None ≡ slice_index_or old other None)
+      → option_map (λ (came : Asking × Outcome). came.0) r ≡ option_map (λ (h : Handed). h.0) (f call)
+      → IfNone r (AreSame (errand_at now) (errand_at (map (λ (slot : Option X). option_and_then f slot) new)))
   let_go old new key call f now (Some came) view there free others is = tt
   let_go old new key call f now None view there free others is =
       subst (λ (errands : List (Option Handed)). AreSame (errand_at errands) (errand_at (map (λ (slot : Option X). option_and_then f slot) new))) view

@@ -58,7 +58,8 @@ silence_suits ask.Forget outcome e = ap (λ (o : Outcome). outcome_suits ask.For
 silence_suits ask.After outcome e = ap (λ (o : Outcome). outcome_suits ask.After o) e
 
 -- what may come suits the kind
-coming_suits : (keeps : ℕ → Bool) (position ask : ℕ) (kind : AskKind) (outcome : Outcome) → MayCome keeps position ask kind outcome → outcome_suits kind outcome ≡ true
+coming_suits : (keeps : ℕ → Bool) (position ask : ℕ) (kind : AskKind) (outcome : Outcome)
+    → MayCome keeps position ask kind outcome → outcome_suits kind outcome ≡ true
 coming_suits keeps position ask kind outcome (inl came) = came.suits
 coming_suits keeps position ask kind outcome (inr silent) = silence_suits kind outcome silent
 

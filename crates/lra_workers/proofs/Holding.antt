@@ -45,7 +45,8 @@ pub of_ask_on : (J K : History) (e : Asking) → IsPrefix J K → IsOfAsk J e �
 of_ask_on J K e p h = subst (λ (M : History). IsOfAsk M e) p.1 (asked_on p.0 J e.ask (ask_carried e) h)
 
 module _ {O : Type 0} (covers : O → History → ℕ → Bool) where
-  pub asks_stay : (J K : History) (places : Places) → IsPrefix J K → AreHanded covers J places → AreHanded covers K places
+  pub asks_stay : (J K : History) (places : Places) → IsPrefix J K → AreHanded covers J places
+      → AreHanded covers K places
   asks_stay J K places p h place e here = let x = h place e here in record { of_ask = of_ask_on J K e.0 p x.of_ask; told = x.told }
 
   -- ---- errands come and go
@@ -59,17 +60,20 @@ module _ {O : Type 0} (covers : O → History → ℕ → Bool) where
       none : None ≡ Some e → ⊥
       none h = absurd cc
 
-  pub gained_asks : (J : History) (old new : Places) (e : Handed) → Gains old new e → IsHanded covers J e → AreHanded covers J old → AreHanded covers J new
+  pub gained_asks : (J : History) (old new : Places) (e : Handed) → Gains old new e → IsHanded covers J e
+      → AreHanded covers J old → AreHanded covers J new
   gained_asks J old new e g is h place x here = at (place == g.place) refl
     where
       at : (b : Bool) → (place == g.place) ≡ b → IsHanded covers J x
       at true same = subst (IsHanded covers J) (same_Some e x (sym g.here ∙ (ap new (sym (eqb-true place g.place same)) ∙ here))) is
       at false other = h place x (sym (g.others place (eqb-false place g.place other)) ∙ here)
 
-  pub lost_ask : (J : History) (old new : Places) (e : Handed) → Gains new old e → AreHanded covers J old → IsOfAsk J e.0
+  pub lost_ask : (J : History) (old new : Places) (e : Handed) → Gains new old e → AreHanded covers J old
+      → IsOfAsk J e.0
   lost_ask J old new e g h = (h g.place e g.here).of_ask
 
-  pub lost_asks : (J : History) (old new : Places) (e : Handed) → Gains new old e → AreHanded covers J old → AreHanded covers J new
+  pub lost_asks : (J : History) (old new : Places) (e : Handed) → Gains new old e → AreHanded covers J old
+      → AreHanded covers J new
   lost_asks J old new e g h place x here = at (place == g.place) refl
     where
       none : None ≡ Some x → IsHanded covers J x
@@ -88,7 +92,8 @@ module _ {O K : Type 0} (setting : O → Setting) (gives : ℕ → AskKind → O
       let more = growth (terms_of (setting s.view.origin)) J d.call in
       subst (λ (w : View O). IsPrefix s.view.seen w.seen) (sym d.given.after) (prefix_trans s.view.seen J (J ++ more) d.given.met.begins (more, refl))
 
-  refused_seen : (v w : View O) (c : Call) → IsNotGiven (setting v.origin) v c (office.Refused NotAsked) w → IsPrefix v.seen w.seen
+  refused_seen : (v w : View O) (c : Call) → IsNotGiven (setting v.origin) v c (office.Refused NotAsked) w
+      → IsPrefix v.seen w.seen
   refused_seen v w c (J, met, back, after) = subst (λ (x : View O). IsPrefix v.seen x.seen) (sym after) met.begins
 
   worked_in : (n : ℕ) (s t : Post O K) → WorksIn setting gives tells n s t → IsPrefix s.view.seen t.view.seen
@@ -98,21 +103,25 @@ module _ {O K : Type 0} (setting : O → Setting) (gives : ℕ → AskKind → O
   worked_in (suc n) s t (u, before, inr f) = prefix_trans s.view.seen u.view.seen t.view.seen (worked_in n s u before) (refused_seen u.view t.view f.call f.given)
 
   -- whoever works has seen all that it had
-  pub worked : (s t : Post O K) → ((r : Post O K) → Works setting gives tells r s → Works setting gives tells r t) → IsPrefix s.view.seen t.view.seen
+  pub worked : (s t : Post O K) → ((r : Post O K) → Works setting gives tells r s → Works setting gives tells r t)
+      → IsPrefix s.view.seen t.view.seen
   worked s t h = let w = h s (works_none setting gives tells s) in worked_in w.0 s t w.1
 
   -- nor does a refusal take anything away of it
-  not_given : (g : Setting) (v w : View O) (c : Call) (r : OfficeRefusal) → IsNotGiven g v c r w → IsPrefix v.seen w.seen
+  not_given : (g : Setting) (v w : View O) (c : Call) (r : OfficeRefusal) → IsNotGiven g v c r w
+      → IsPrefix v.seen w.seen
   not_given g v w c office.Worn h = subst (λ (x : View O). IsPrefix v.seen x.seen) (sym h) (prefix_refl v.seen)
   not_given g v w c (office.Refused r) (J, met, back, after) = subst (λ (x : View O). IsPrefix v.seen x.seen) (sym after) met.begins
 
   pub works_seen : (s t : Post O K) → Works setting gives tells s t → IsPrefix s.view.seen t.view.seen
   works_seen s t w = worked_in w.0 s t w.1
 
-  pub fails_seen : (s t : Post O K) (r : OfficeRefusal) → Fails setting gives tells s r t → IsPrefix s.view.seen t.view.seen
+  pub fails_seen : (s t : Post O K) (r : OfficeRefusal) → Fails setting gives tells s r t
+      → IsPrefix s.view.seen t.view.seen
   fails_seen s t r f = not_given (setting s.view.origin) s.view t.view f.call r f.given
 
-  pub foreseen : (g : Setting) (v w : View O) (r : Result (Option ℕ) OfficeRefusal) → IsLookedAhead g v r w → IsPrefix v.seen w.seen
+  pub foreseen : (g : Setting) (v w : View O) (r : Result (Option ℕ) OfficeRefusal) → IsLookedAhead g v r w
+      → IsPrefix v.seen w.seen
   foreseen g v w (Ok next) h = foretold_seen g v w next h
   foreseen g v w (Err office.Worn) h = subst (λ (x : View O). IsPrefix v.seen x.seen) (sym h) (prefix_refl v.seen)
   foreseen g v w (Err (office.Refused r)) h = absurd h
@@ -130,7 +139,8 @@ module _ {O K : Type 0} (setting : O → Setting) (gives : ℕ → AskKind → O
   pub carries_seen : (s t : Post O K) → Carries setting gives tells s t → IsPrefix s.view.seen t.view.seen
   carries_seen s t h = carried_in h.0 s t h.1
 
-  ended_seen : (s t : Post O K) (end : WorkerEnd) → EndsCarrying setting gives tells s end t → IsPrefix s.view.seen t.view.seen
+  ended_seen : (s t : Post O K) (end : WorkerEnd) → EndsCarrying setting gives tells s end t
+      → IsPrefix s.view.seen t.view.seen
   ended_seen s t Ended h = carries_seen s t h
   ended_seen s t Held h = carries_seen s t h
   ended_seen s t (Refused r) (u, before, inl f, ends) = prefix_trans s.view.seen u.view.seen t.view.seen (carries_seen s u before) (fails_seen u t r f)

@@ -1,6 +1,6 @@
 use Rattle.lra_office.specs.Clerks.{clerk_view}
 use Rattle.lra_workers.specs.Work.{post}
-use Rattle.lra_workers.proofs.Holding.{asks_stay, lost_ask, lost_asks, carried}
+use Rattle.lra_workers.proofs.Holding.{asks_stay, same_asks, lost_ask, lost_asks, carried}
 use Rattle.lra_workers.proofs.carrier.record_one.Goals as goal
 
 pub returns-in-Ok-clause-held : goal.returns-in-Ok-clause-held
@@ -18,3 +18,7 @@ returns-in-Err-clause-held g c =
 pub note-requires-clause-of_ask : goal.note-requires-clause-of_ask
 note-requires-clause-of_ask g c =
     lost_ask g.V.Serving.covers _ (g.C.Carriage.held c.args.carriage.now) (g.C.Carriage.held c.done.new.self) _ c.in-Some.ensures.some.1 c.requires.held
+
+pub returns-in_default-clause-held : goal.returns-in_default-clause-held
+returns-in_default-clause-held g c =
+    same_asks g.V.Serving.covers _ (g.C.Carriage.held c.args.carriage.now) (g.C.Carriage.held c.done.new.self) c.in_default.ensures.none c.requires.held
