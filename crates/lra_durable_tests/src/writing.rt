@@ -1,7 +1,7 @@
 //! Writes that are whole, or are taken back, and what leaves when.
 
 use crate::platter::{Begun, begin};
-use lra_durable::{Keeper, Unkept, release};
+use lra_durable::{Keeper, SyncGroup, Unkept};
 use std::alloc::Global;
 use std::io::{ErrorKind, Write};
 use std::sync::Wait;
@@ -82,7 +82,7 @@ fn a_write_past_the_room_is_refused_whole(rt: HostRuntime) {
     assert!(rt; keeps_within(&rt, rt.alloc()) == Some(true));
 }
 
-/// Whether bytes leave once the disk is durable up to their position, and not before.
+/// Returns whether bytes may leave once the disk is durable up to their position, and not before.
 fn leaves_late<R: Wait>(rt: &R, alloc: Global) -> Option<bool> {
     let Begun {
         platter,
@@ -92,16 +92,13 @@ fn leaves_late<R: Wait>(rt: &R, alloc: Global) -> Option<bool> {
         instance,
     } = begin(rt, alloc, 100, false)?;
     let mut keeper = Keeper::new(rt, progress.clone().ok()?, pen, u64::MAX);
-    let mut page = Vec::new(alloc);
-    let at_once = release(rt, &group, instance, 0, &mut page, b"200").ok()?;
+    let at_once = group.kept(rt, instance, 0) == Ok(Some(0));
     keeper.write_all(b"abcde").ok()?;
-    let early = release(rt, &group, instance, 5, &mut page, b"201").ok()?;
-    let older = release(rt, &group, instance, 0, &mut page, b"404").ok()?;
+    let early = group.kept(rt, instance, 5) == Ok(None);
+    let older = group.kept(rt, instance, 0) == Ok(Some(0));
     let kept = progress.keep(rt, 5) == Ok(Some(5)) && platter.has(5, 5);
-    let late = release(rt, &group, instance, 5, &mut page, b"201").ok()?;
-    let is_right = page.as_slice() == b"200404201".as_slice();
-    let at_once = at_once == Some((3, 0)) && older == Some((3, 0));
-    Some(at_once && early.is_none() && kept && late == Some((3, 5)) && is_right)
+    let late = group.kept(rt, instance, 5) == Ok(Some(5));
+    Some(at_once && early && older && kept && late)
 }
 
 #[test]
@@ -109,7 +106,7 @@ fn bytes_leave_once_their_position_is_durable(rt: HostRuntime) {
     assert!(rt; leaves_late(&rt, rt.alloc()) == Some(true));
 }
 
-/// Whether after a failed sync nothing is kept, written or handed out any more.
+/// Returns whether after a failed sync nothing is durable, written or let go any more.
 fn leaves_never<R: Wait>(rt: &R, alloc: Global) -> Option<bool> {
     let Begun {
         platter,
@@ -125,8 +122,7 @@ fn leaves_never<R: Wait>(rt: &R, alloc: Global) -> Option<bool> {
     platter.set(false, false);
     let again = progress.keep(rt, 2) == Err(Unkept) && progress.kept(rt, 2) == Err(Unkept);
     let shut = outcome(&mut keeper, b"c") == Some(ErrorKind::Other);
-    let mut page = Vec::new(alloc);
-    let held = release(rt, &group, instance, 2, &mut page, b"201").is_err() && page.is_empty();
+    let held = group.kept(rt, instance, 2) == Err(Unkept);
     Some(
         written
             && failed
