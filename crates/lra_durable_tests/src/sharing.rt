@@ -79,30 +79,57 @@ fn a_failed_sync_is_known_to_all_who_wait(rt: HostRuntime) {
     assert!(rt; share(&rt, rt.alloc(), true) == Some((None, None, None, 2)));
 }
 
-/// What came of two journals that two threads synced at once: each sync waited until the other had begun.
-fn sync_both<R: Threads + Wait + Sync>(rt: &R, alloc: Global) -> Option<(u64, u64)> {
-    let begun = begin(rt, alloc, 100, false)?;
-    let group = &begun.group;
-    let first = begun.instance;
-    let second = Instance::new(9)?;
-    let (platter, pen, progress) = begin_beside(rt, alloc, group, second)?;
-    let mut one = Keeper::new(rt, begun.progress.clone().ok()?, begun.pen, u64::MAX);
-    let mut other = Keeper::new(rt, progress, pen, u64::MAX);
+/// A group of two journals: one has taken two bytes, the other three.
+#[derive(Drop)]
+struct Two {
+    group: Journals<Spinning>,
+    first: Instance,
+    second: Instance,
+    platter: Arc<Platter>,
+    other_platter: Arc<Platter>,
+    other_progress: Arc<Progress<Spinning>>,
+}
+
+/// Returns a group of two journals, neither of which was synced, the other one's with that number, and its writer.
+fn begin_two<R: Wait>(rt: &R, alloc: Global, number: u64) -> Option<(Two, Keeper<&R, Spinning>)> {
+    let Begun {
+        platter,
+        pen,
+        progress,
+        group,
+        instance,
+    } = begin(rt, alloc, 100, false)?;
+    let second = Instance::new(number)?;
+    let (other_platter, other_pen, other_progress) = begin_beside(rt, alloc, &group, second)?;
+    let mut one = Keeper::new(rt, progress, pen, u64::MAX);
+    let mut other = Keeper::new(rt, other_progress.clone().ok()?, other_pen, u64::MAX);
     one.write_all(b"ab").ok()?;
     other.write_all(b"cde").ok()?;
-    begun.platter.set(false, true);
-    platter.set(false, true);
+    let two = Two {
+        group,
+        first: instance,
+        second,
+        platter,
+        other_platter,
+        other_progress,
+    };
+    Some((two, other))
+}
+
+/// Returns what came of two journals that two threads synced at once: each sync waited until the other had begun.
+fn sync_both<R: Threads + Wait + Sync>(rt: &R, alloc: Global) -> Option<(u64, u64)> {
+    let (two, _other) = begin_two(rt, alloc, 9)?;
+    two.platter.set(false, true);
+    two.other_platter.set(false, true);
+    let two = &two;
     let (one_kept, other_kept) = join(
         rt,
+        || two.group.keep(rt, two.first, 2).ok().flatten(),
         || {
-            let kept = group.keep(rt, first, 2).ok().flatten();
-            kept
-        },
-        || {
-            begun.platter.wait_for_syncs(2);
-            platter.set(false, false);
-            let kept = group.keep(rt, second, 3).ok().flatten();
-            begun.platter.set(false, false);
+            two.platter.wait_for_syncs(2);
+            two.other_platter.set(false, false);
+            let kept = two.group.keep(rt, two.second, 3).ok().flatten();
+            two.platter.set(false, false);
             kept
         },
     );
@@ -114,19 +141,14 @@ fn journals_are_synced_side_by_side(rt: HostRuntime) {
     assert!(rt; sync_both(&rt, rt.alloc()) == Some((2, 3)));
 }
 
-/// What is told of journals: one has two bytes that are kept, one has three that aren't, and one was never there.
+/// Returns whether all is told right of journals: one has two bytes that are durable, one has three that aren't, and one
+/// was never there.
 fn tells_each<R: Wait>(rt: &R, alloc: Global) -> Option<bool> {
-    let begun = begin(rt, alloc, 100, false)?;
-    let group = &begun.group;
-    let first = begun.instance;
-    let second = Instance::new(3)?;
-    let (_, pen, progress) = begin_beside(rt, alloc, group, second)?;
-    let mut one = Keeper::new(rt, begun.progress.clone().ok()?, begun.pen, u64::MAX);
-    let mut other = Keeper::new(rt, progress, pen, u64::MAX);
-    one.write_all(b"ab").ok()?;
-    other.write_all(b"cde").ok()?;
-    let own = group.keep(rt, first, 2) == Ok(Some(2));
-    let others = group.kept(rt, second, 3) == Ok(None) && group.kept(rt, second, 0) == Ok(Some(0));
+    let (two, _other) = begin_two(rt, alloc, 3)?;
+    let group = &two.group;
+    let own = group.keep(rt, two.first, 2) == Ok(Some(2));
+    let others = group.kept(rt, two.second, 3) == Ok(None)
+        && group.kept(rt, two.second, 0) == Ok(Some(0));
     let absent = Instance::new(5)?;
     let none = group.keep(rt, absent, 0) == Ok(None) && group.kept(rt, absent, 0) == Ok(None);
     Some(own && others && none && group.appended(rt) == 2)
@@ -137,17 +159,22 @@ fn each_journal_is_as_durable_as_it_is(rt: HostRuntime) {
     assert!(rt; tells_each(&rt, rt.alloc()) == Some(true));
 }
 
-/// Whether a journal that was put away counts as durable to its end, and no further.
+/// Returns whether a journal that was archived counts as durable to its end, and no further.
 fn ends_whole<R: Wait>(rt: &R, alloc: Global) -> Option<bool> {
-    let begun = begin(rt, alloc, 100, false)?;
-    let group: &Journals<Spinning> = &begun.group;
-    let mut keeper = Keeper::new(rt, begun.progress, begun.pen, u64::MAX);
+    let Begun {
+        platter,
+        pen,
+        progress,
+        group,
+        instance,
+    } = begin(rt, alloc, 100, false)?;
+    let mut keeper = Keeper::new(rt, progress, pen, u64::MAX);
     keeper.write_all(b"abc").ok()?;
     drop(keeper);
-    let ended = group.end(rt, begun.instance) == Ok(Some(3));
-    let kept = group.kept(rt, begun.instance, 3) == Ok(Some(3));
-    let past = group.keep(rt, begun.instance, 4) == Ok(None);
-    Some(ended && kept && past && begun.platter.has(3, 3))
+    let ended = group.end(rt, instance) == Ok(Some(3));
+    let kept = group.kept(rt, instance, 3) == Ok(Some(3));
+    let past = group.keep(rt, instance, 4) == Ok(None);
+    Some(ended && kept && past && platter.has(3, 3))
 }
 
 #[test]
@@ -155,22 +182,18 @@ fn a_journal_that_ended_is_durable_to_its_end(rt: HostRuntime) {
     assert!(rt; ends_whole(&rt, rt.alloc()) == Some(true));
 }
 
-/// Whether a failed sync of one journal is known to those who wait for another, and to its writer.
+/// Returns whether a failed sync of one journal is known to those who wait for another, and to its writer.
 fn fails_together<R: Wait>(rt: &R, alloc: Global) -> Option<bool> {
-    let begun = begin(rt, alloc, 100, false)?;
-    let group = &begun.group;
-    let second = Instance::new(9)?;
-    let (platter, pen, progress) = begin_beside(rt, alloc, group, second)?;
-    let mut one = Keeper::new(rt, begun.progress.clone().ok()?, begun.pen, u64::MAX);
-    let mut other = Keeper::new(rt, progress.clone().ok()?, pen, u64::MAX);
-    one.write_all(b"ab").ok()?;
-    other.write_all(b"cde").ok()?;
-    begun.platter.set(true, false);
-    let failed = group.keep(rt, begun.instance, 2) == Err(Unkept);
-    let known = group.kept(rt, second, 0) == Err(Unkept)
-        && group.keep(rt, second, 3) == Err(Unkept);
-    let shut = other.write_all(b"f").is_err() && progress.has_failed(rt) && group.has_failed(rt);
-    Some(failed && known && shut && platter.has(3, 0))
+    let (two, mut other) = begin_two(rt, alloc, 9)?;
+    let group = &two.group;
+    two.platter.set(true, false);
+    let failed = group.keep(rt, two.first, 2) == Err(Unkept);
+    let known = group.kept(rt, two.second, 0) == Err(Unkept)
+        && group.keep(rt, two.second, 3) == Err(Unkept);
+    let shut = other.write_all(b"f").is_err()
+        && two.other_progress.has_failed(rt)
+        && group.has_failed(rt);
+    Some(failed && known && shut && two.other_platter.has(3, 0))
 }
 
 #[test]
