@@ -141,8 +141,8 @@ fn journals_are_synced_side_by_side(rt: HostRuntime) {
     assert!(rt; sync_both(&rt, rt.alloc()) == Some((2, 3)));
 }
 
-/// Returns whether all is told right of journals: one has two bytes that are durable, one has three that aren't, one was
-/// never there.
+/// Returns whether all is told right of journals: one has two bytes that are durable, one has three that aren't, and
+/// one was never there.
 fn tells_each<R: Wait>(rt: &R, alloc: Global) -> Option<bool> {
     let (two, _other) = begin_two(rt, alloc, 3)?;
     let group = &two.group;
