@@ -3,6 +3,7 @@ import ctypes
 import os
 import signal
 import subprocess
+import sys
 
 # Of ptrace: requests, what is watched, and the stop at a call of the system.
 TRACEME, POKE_USER, SYSCALL, SETOPTIONS, GET_SYSCALL_INFO = 0, 6, 24, 0x4200, 0x420E
@@ -12,6 +13,8 @@ ENTRY, EXIT = 1, 2
 WALL = 0x40000000
 # Where the registers stand of a call's result, its third argument and its number.
 RESULT, THIRD, NUMBER = 10 * 8, 12 * 8, 15 * 8
+
+REFUSED = "the system lets no program be watched"
 
 libc = ctypes.CDLL(None, use_errno=True)
 libc.ptrace.argtypes = [ctypes.c_long, ctypes.c_long, ctypes.c_void_p, ctypes.c_void_p]
@@ -43,6 +46,15 @@ def begin(words, **streams):
         process.kill()
         raise Refused
     return process
+
+
+def begin_or_end(words):
+    """Starts a program so. Where none may be watched, it says so on standard output, and ends with status 2."""
+    try:
+        return begin(words)
+    except Refused:
+        print(REFUSED, flush=True)
+        sys.exit(2)
 
 
 def follow(process, enters, leaves):

@@ -18,7 +18,6 @@ import ptrace
 # The calls that wait for events, and how long a thread that answers connections waits where it has nothing to do: no
 # other thread waits so long.
 WAITS, IDLE = (232, 281), 250
-REFUSED = "blind: the system lets no program be watched"
 
 
 def waits_for(thread):
@@ -43,12 +42,7 @@ def main(path, *words):
             withheld.remove(thread)
             ptrace.answer(thread, -errno.EBADF)
 
-    try:
-        process = ptrace.begin(words)
-    except ptrace.Refused:
-        print(REFUSED)
-        return 2
-    return ptrace.follow(process, enters, leaves)
+    return ptrace.follow(ptrace.begin_or_end(words), enters, leaves)
 
 
 if __name__ == "__main__":

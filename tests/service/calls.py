@@ -11,7 +11,8 @@ import held
 import journal
 from files import SOUND, UNSOUND, VERDICT, hint
 from options import WORDS
-from service import HOST, PATIENCE, LeftOut, check, equal, free_port
+from service import HOST, PATIENCE, check, equal, free_port
+from watching import watched
 
 
 def told(setting, line, *words):
@@ -126,9 +127,7 @@ def test_a_terminal_shows_how_far_a_long_run_is(setting):
     for words in (("audit", setting.journal), ("show", setting.journal), ("upgrade", setting.journal), ("audit", folder)):
         usual = setting.run(*words)
         status, output, shown = on_terminal(sys.executable, held.__file__, "1.2", "65536", setting.program, *words)
-        if output.startswith(held.REFUSED):
-            raise LeftOut(held.REFUSED)
-        equal(f"what {words} prints", (status, output), (usual.status, usual.output))
+        equal(f"what {words} prints", (status, watched(output)), (usual.status, usual.output))
         equal(f"what the terminal shows of {words}", shown, line + cleared)
 
 

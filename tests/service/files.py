@@ -9,7 +9,8 @@ from subprocess import Popen
 import grown
 import journal
 from participant import wait_until
-from service import HOST, Client, LeftOut, Service, check, equal, free_port, id_of, run, started
+from service import HOST, Client, Service, check, equal, free_port, id_of, run, started
+from watching import watched
 
 SOUND = b"lra-journal 2 7\n1 0 enrol\n1 5 start 1 * 0\n1 6 start 2 1 0\n1 7 close 2 client\n1 7 end 2 Closed\n"
 # Its first action, and the one that is started next.
@@ -178,13 +179,6 @@ class Grown(Service):
 
     def first_line(self):
         return watched(super().first_line())
-
-
-def watched(told):
-    """What such a service says, where the system lets it be watched."""
-    if told.startswith(grown.REFUSED):
-        raise LeftOut(grown.REFUSED)
-    return told
 
 
 def added(setting):

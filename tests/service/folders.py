@@ -177,13 +177,15 @@ def test_a_journal_that_has_ended_is_put_away_and_the_newest_never_is(setting):
     with Participant() as member, Folder(setting, *SOON) as folder, folder.client() as client:
         actions = folder.first(3)
         recovery = client.join(actions[0], **member.addresses("complete", "compensate"))
+        status = f"/lra-recovery/{id_of(recovery)}"
+        equal("the member before", client.call("GET", status).code, 200)
         for action in actions:
             client.end(action, "close")
         first = instance_of(actions[0])
         wait_until("it is put away", lambda: folder.ended() == [first])
         for action in actions:
             check("it is found", folder.missing(action))
-        equal("the member", client.call("GET", f"/lra-coordinator/recovery/{id_of(actions[0])}/{id_of(recovery)}").code, 404)
+        equal("the member", client.call("GET", status).code, 404)
         newest = client.start()
         client.end(newest, "close")
         time.sleep(3)

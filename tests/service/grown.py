@@ -14,7 +14,6 @@ sys.path.append(f"{ROOT}/tools")
 import ptrace
 
 BIND = 49
-REFUSED = "grown: the system lets no program be watched"
 
 
 def main(length, file, *words):
@@ -22,11 +21,7 @@ def main(length, file, *words):
         if number == BIND:
             os.truncate(file, int(length))
 
-    try:
-        process = ptrace.begin(words)
-    except ptrace.Refused:
-        print(REFUSED)
-        return 2
+    process = ptrace.begin_or_end(words)
     # (Popen.kill looks first whether the process has ended, and so may take a stop that `follow` waits for)
     signal.signal(signal.SIGTERM, lambda *_: os.kill(process.pid, signal.SIGKILL))
     return ptrace.follow(process, enters, lambda *_: None)

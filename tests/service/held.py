@@ -13,7 +13,6 @@ sys.path.append(f"{ROOT}/tools")
 import ptrace
 
 READ = 0
-REFUSED = "held: the system lets no program be watched"
 
 
 def main(seconds, length, *words):
@@ -23,12 +22,7 @@ def main(seconds, length, *words):
         if number == READ and third == int(length) and left:
             time.sleep(left.pop())
 
-    try:
-        process = ptrace.begin(words)
-    except ptrace.Refused:
-        print(REFUSED)
-        return 2
-    return ptrace.follow(process, enters, lambda *_: None)
+    return ptrace.follow(ptrace.begin_or_end(words), enters, lambda *_: None)
 
 
 if __name__ == "__main__":

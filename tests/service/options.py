@@ -12,7 +12,8 @@ from asks import recorded
 from files import SOUND, UNSOUND, VERDICT, hint
 from participant import Participant, wait_until
 from patience import REQUESTS, narrow
-from service import HOST, LATE, PATIENCE, LeftOut, Service, check, equal, free_port, id_of, is_ready, number_of, received
+from service import HOST, LATE, PATIENCE, Service, check, equal, free_port, id_of, is_ready, number_of, received
+from watching import watched
 
 # Each setting's word, what it is where nothing is said, the least and the most that it may be.
 NUMBERS = (
@@ -225,9 +226,7 @@ def held_check(setting, told):
     """What a check says that is held at its first reading of the journal for longer than a second, with `told` as standard error."""
     words = [sys.executable, held.__file__, "1.2", "65536", setting.program, "serve", "--check", f"{HOST}:1", setting.journal, "1"]
     done = subprocess.run(words, stdin=subprocess.DEVNULL, stdout=subprocess.PIPE, stderr=told, timeout=PATIENCE, check=False)
-    output = done.stdout.decode()
-    if output.startswith(held.REFUSED):
-        raise LeftOut(held.REFUSED)
+    output = watched(done.stdout.decode())
     equal("the status", done.returncode, 0)
     return output
 

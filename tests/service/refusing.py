@@ -18,7 +18,6 @@ MMAP, MPROTECT, BRK, MREMAP = 9, 10, 12, 25
 MEMORY = {MMAP, MPROTECT, BRK, MREMAP}
 # How the C library takes its memory: one heap, which grows and shrinks by what is wanted, and pieces of their own.
 TUNABLES = "glibc.malloc.arena_max=1:glibc.malloc.top_pad=0:glibc.malloc.trim_threshold=4096:glibc.malloc.mmap_threshold=32768"
-REFUSED = "refusing: the system lets no program be watched"
 
 
 def wants_memory(call, first):
@@ -73,12 +72,7 @@ class Refusing:
 def run(watcher, words):
     """Runs a program that takes its memory so, watched, and answers its status."""
     os.environ["GLIBC_TUNABLES"] = TUNABLES
-    try:
-        process = ptrace.begin(words)
-    except ptrace.Refused:
-        print(REFUSED, flush=True)
-        return 2
-    return ptrace.follow(process, watcher.enters, watcher.leaves)
+    return ptrace.follow(ptrace.begin_or_end(words), watcher.enters, watcher.leaves)
 
 
 if __name__ == "__main__":

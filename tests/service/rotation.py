@@ -14,6 +14,7 @@ import journal
 import starving
 from participant import Participant, wait_until
 from service import Client, LeftOut, check, equal, id_of, number_of
+from watching import watched
 
 # How many connections there are, so that each worker has some.
 CONNECTIONS = 8
@@ -42,14 +43,10 @@ class Failing(folders.Folder):
         self.switch = f"{setting.folder}/{place}/switch"
         super().__init__(Placed(setting, place), "--roll-after", "3", "--remember", "1", workers=workers)
         self.plain = list(self.words)
-        self.refused = way.REFUSED
         self.words[:0] = [sys.executable, way.__file__, self.folder, str(number), self.switch]
 
     def first_line(self):
-        line = super().first_line()
-        if line.startswith(self.refused):
-            raise LeftOut(self.refused)
-        return line
+        return watched(super().first_line())
 
     def switch_on(self):
         with open(self.switch, "w", encoding="ascii"):

@@ -17,6 +17,7 @@ from folders import IN_USE, Folder, instance_of, put
 from files import SOUND
 from participant import Participant, wait_until
 from service import HOST, LATE, PATIENCE, LeftOut, Service, Telling, check, equal, free_port, id_of, is_ready, received
+from watching import watched
 
 # A user of no other process, and how many threads a service of two workers has at most.
 USER, THREADS = 61_234, 24
@@ -156,10 +157,7 @@ class Blinded(operators.WatchedFolder):
         self.words[:0] = (sys.executable, blind.__file__, self.mark)
 
     def first_line(self):
-        line = super().first_line()
-        if line.startswith(blind.REFUSED):
-            raise LeftOut(blind.REFUSED)
-        return line
+        return watched(super().first_line())
 
     def end_one(self):
         """Has the next thread that answers and waits for events end."""
@@ -191,10 +189,7 @@ class Refusing(operators.WatchedFolder):
         self.words[:0] = (sys.executable, refusing.__file__, self.flag)
 
     def first_line(self):
-        line = super().first_line()
-        if line.startswith(refusing.REFUSED):
-            raise LeftOut(refusing.REFUSED)
-        return line
+        return watched(super().first_line())
 
 
 def test_a_callback_thread_that_is_refused_memory_goes_on(setting):

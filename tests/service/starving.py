@@ -11,8 +11,6 @@ sys.dont_write_bytecode = True
 
 import refusing
 
-REFUSED = refusing.REFUSED
-
 
 class Starving:
     """Counts calls that want memory from when there is a switch on, and has one of them fail."""
