@@ -7,12 +7,26 @@ import sys
 import tempfile
 import time
 
+import sbom
+
 ROOT = os.path.dirname(os.path.dirname(os.path.abspath(__file__)))
 PARTS = f"{ROOT}/tools/debian"
 DOC = "usr/share/doc/raxunto"
 MAINTAINER = "Raxunto maintainers <maintainers@users.noreply.raxunto.example>"
 # The pages for those who use and run it.
 USE = sorted(f"docs/use/{name}" for name in os.listdir(f"{ROOT}/docs/use"))
+# The figures.
+REPORTS = sorted(f"reports/{name}" for name in os.listdir(f"{ROOT}/reports"))
+# How a link of a page begins, and how it does in the package, where no page lies below docs/.
+LINKS = (
+    (b"](docs/", b"]("),
+    (b"](../docs/", b"](../"),
+    (b"](../../reports/", b"](../reports/"),
+    (b"](../../CHANGELOG.md", b"](../CHANGELOG.md"),
+    (b"](../../clients/", b"](../clients/"),
+    (b"](../../docs/", b"](../../"),
+)
+ASSURANCE = sorted(f"docs/assurance/{name}" for name in os.listdir(f"{ROOT}/docs/assurance"))
 # Where each file of the repository goes, and whether it is packed by gzip there.
 FILES = (
     ("examples/systemd/lra.service", "usr/lib/systemd/system/lra.service", False),
@@ -25,10 +39,12 @@ FILES = (
     ("man/lra_audit.1", "usr/share/man/man1/lra_audit.1.gz", True),
     ("tools/debian/lintian-overrides", "usr/share/lintian/overrides/raxunto", False),
     ("README.md", f"{DOC}/README.md", False),
+    ("CHANGELOG.md", f"{DOC}/CHANGELOG.md", False),
+    ("clients/python/README.md", f"{DOC}/clients/python/README.md", False),
+    ("clients/python/raxunto.py", f"{DOC}/clients/python/raxunto.py", False),
     *((path, f"{DOC}/use/{os.path.basename(path)}", False) for path in USE),
-    ("docs/PROVED.md", f"{DOC}/PROVED.md", False),
-    ("docs/HEADLINE.md", f"{DOC}/HEADLINE.md", False),
-    ("docs/MEASURED.md", f"{DOC}/MEASURED.md", False),
+    *((path, f"{DOC}/assurance/{os.path.basename(path)}", False) for path in ASSURANCE),
+    *((path, f"{DOC}/{path}", False) for path in REPORTS),
     ("examples/systemd/gentle.conf", f"{DOC}/examples/gentle.conf", False),
 )
 # What an administrator may change, and an upgrade or a removal leaves as it is.
@@ -77,18 +93,27 @@ def wanted(paths):
 def changes(release):
     """The package's own list of changes."""
     when = time.strftime("%a, %d %b %Y %H:%M:%S +0000", time.gmtime(release.moment))
-    return f"raxunto ({release.version}) unstable; urgency=medium\n\n  * Commit {release.commit}.\n\n -- {MAINTAINER}  {when}\n"
+    said = f"Version {release.version}, of commit {release.commit}: CHANGELOG.md says what is new."
+    return f"raxunto ({release.version}) unstable; urgency=medium\n\n  * {said}\n\n -- {MAINTAINER}  {when}\n"
+
+
+def linked(path, data):
+    """The bytes of a file, with a page's links as they lead on in the package."""
+    for link, packed in LINKS if path.endswith(".md") else ():
+        data = data.replace(link, packed)
+    return data
 
 
 def fill(tree, release):
     """Makes all that is installed."""
     for path, place, is_packed in FILES:
-        data = read(f"{ROOT}/{path}")
+        data = linked(path, read(f"{ROOT}/{path}"))
         put(tree, place, gzip.compress(data, mtime=0) if is_packed else data)
     for name, program in release.programs.items():
         put(tree, f"usr/bin/{name}", read(program), 0o755)
     os.symlink("lra", f"{tree}/usr/share/bash-completion/completions/lra_audit")
     put(tree, f"{DOC}/PROVED", release.proved.encode())
+    put(tree, f"{DOC}/{sbom.NAME}", release.sbom.encode())
     put(tree, f"{DOC}/copyright", filled("copyright", {"COMMIT": release.commit}))
     put(tree, f"{DOC}/changelog.gz", gzip.compress(changes(release).encode(), mtime=0))
 
