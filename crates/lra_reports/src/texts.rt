@@ -14,4 +14,4 @@ lra --version                     prints the version, and what proved it
 ";
 
 /// Their version, and the identity of the logic that their proofs are checked by, which kits of several numbers share.
-pub const VERSION: &str = "lra unreleased\nrattle logic dac8208d650f15bf\n";
+pub const VERSION: &str = "lra 0.1.0\nrattle logic dac8208d650f15bf\n";
