@@ -11,7 +11,7 @@ use std::alloc::Global;
 use std::sync::atomic::{AtomicU64, Ordering};
 use std::sync::{Arc, Mutex, Wait};
 
-/// How many milliseconds pass at least from one look at the file to the next.
+/// The number of milliseconds that pass at least from one look at the file to the next.
 const PAUSE: u64 = 1_000;
 
 /// Returns from when on the file is looked at again, after a look at a moment.

@@ -13,7 +13,7 @@ use std::io::Read;
 use std::os::unix::fs::MetadataExt;
 use std::rt::Files;
 
-/// How many bytes the file has at most.
+/// The most bytes that the file has.
 const LONGEST: u32 = 65_536;
 
 /// By which it is known that the file of a name is another, or has changed.
@@ -27,7 +27,8 @@ pub struct Print {
     pub nanoseconds: i64,
 }
 
-/// Who has files in which keys stand: every runtime with the system's files. It names no other type, so that threads may share it.
+/// A source of files in which keys stand: every runtime with the system's files. It names no other type, so that
+/// threads may share it.
 pub trait KeyFiles {
     /// By which it is known whether the file of a name changes, where the name stands for a file.
     fn print(&self, path: &str) -> Option<Print>;

@@ -1,4 +1,4 @@
-//! Who answers, but only what is let in.
+//! A responder that is asked only what is let in.
 
 ghost use Rattle.std.specs.Prelude.{◌≡◌};
 
@@ -10,7 +10,8 @@ use lra_steps::{Answered, Responder};
 use lra_wire::RequestRead;
 use std::alloc::Global;
 
-/// Whoever answers, asked only what is let in; who tells what is in force; and who is told of what is denied. It can't be dropped, but gives back who answers.
+/// A responder that is asked only what is let in, a source of what is in force, and a listener for what is denied. It
+/// can't be dropped, but gives back the responder.
 pub struct Guarded<A: Responder, L: Latest, H: Refused> {
     inner: A,
     latest: L,
@@ -30,7 +31,7 @@ impl<A: Responder, L: Latest + Drop, H: Refused + Drop> Guarded<A, L, H> {
         }
     }
 
-    /// Who answers.
+    /// Returns the responder.
     pub fn into_inner(self) -> A
         ensures { result ≡ self.inner }
     {

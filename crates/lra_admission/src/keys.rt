@@ -12,7 +12,7 @@ use lra_model::Memory;
 use sha2::{Digest, Sha256};
 use std::alloc::Global;
 
-/// How a value of `Authorization` begins that gives a secret.
+/// The beginning of a value of `Authorization` that gives a secret.
 const SCHEME: &[u8] = b"bearer ";
 
 /// The keys of those who may call: the digests of their secrets.
@@ -21,7 +21,7 @@ pub struct Keys {
     digests: Vec<[u8; DIGEST]>,
 }
 
-/// Whether two digests are one, in a time that doesn't go with where they differ.
+/// Returns whether two digests are one, in a time that doesn't go with where they differ.
 fn is_same(one: &[u8; DIGEST], other: &[u8; DIGEST]) -> bool
     ensures { result ≡ bytes_eq one.now other.now }
 {
@@ -32,7 +32,7 @@ fn is_same(one: &[u8; DIGEST], other: &[u8; DIGEST]) -> bool
     is_same
 }
 
-/// Whether a digest is one of several, in a time that doesn't go with which it is.
+/// Returns whether a digest is one of several, in a time that doesn't go with which it is.
 fn is_among(digest: &[u8; DIGEST], digests: &[[u8; DIGEST]]) -> bool
     ensures { result ≡ list_any (λ own. bytes_eq own digest.now) digests.now }
 {
@@ -110,7 +110,8 @@ impl Keys {
         Ok(Keys { digests })
     }
 
-    /// Whether someone has this secret, in a time that tells nothing of whose it is, nor how near it comes.
+    /// Returns whether one of the keys is of this secret, in a time that tells nothing of which it is, nor how near the
+    /// secret comes.
     pub fn admits(&self, secret: &[u8]) -> bool
         ensures { result ≡ is_known (digests_of self.now) secret.now }
     {

@@ -1,4 +1,4 @@
-//! What is in force, and who tells it.
+//! The rules that are in force, and the source that tells them.
 
 ghost use Rattle.std.specs.Prelude.{◌≡◌, option_map};
 ghost use Rattle.lra_admission.specs.Keys.{digests_of};
@@ -18,7 +18,7 @@ pub struct Admission<'a> {
     pub names: &'a [Name],
 }
 
-/// Whether a request gives a key that is known.
+/// Returns whether a request gives a key that is known.
 fn has_key(keys: &Keys, authorization: &Option<Vec<u8>>) -> bool
     ensures { result ≡ spec.has_key (digests_of keys.now) (option_map (λ value. value.items) authorization.now) }
 {
@@ -31,7 +31,7 @@ fn has_key(keys: &Keys, authorization: &Option<Vec<u8>>) -> bool
     }
 }
 
-/// Whether keys are asked for, and a request gives none that is known.
+/// Returns whether keys are asked for, and a request gives none that is known.
 fn lacks_key(keys: Option<&Keys>, authorization: &Option<Vec<u8>>) -> bool
     ensures { result ≡ spec.lacks_key (option_map (λ k. digests_of k.now) keys.entry) (option_map (λ value. value.items) authorization.now) }
 {
@@ -41,7 +41,7 @@ fn lacks_key(keys: Option<&Keys>, authorization: &Option<Vec<u8>>) -> bool
     }
 }
 
-/// Whether a request came by one of the names.
+/// Returns whether a request came by one of the names.
 fn has_host(names: &[Name], host: &Option<Vec<u8>>) -> bool
     ensures { result ≡ spec.has_host names.now (option_map (λ value. value.items) host.now) }
 {
@@ -51,7 +51,7 @@ fn has_host(names: &[Name], host: &Option<Vec<u8>>) -> bool
     }
 }
 
-/// Whether a request came from no page, or from one of a place with one of the names.
+/// Returns whether a request came from no page, or from one of a place with one of the names.
 fn has_origin(names: &[Name], origin: &Option<Vec<u8>>) -> bool
     ensures { result ≡ spec.has_origin names.now (option_map (λ value. value.items) origin.now) }
 {
@@ -86,7 +86,7 @@ impl Admission<'_> {
     }
 }
 
-/// Who tells what is in force.
+/// A source that tells what is in force.
 pub trait Latest {
     ghost use Rattle.std.specs.Prelude.{◌≡◌};
     ghost use Rattle.lra_admission.specs.Admitting.{Rules, rules_of};
@@ -101,7 +101,7 @@ pub trait Latest {
     fn look(&mut self, moment: u64)
         ensures { looks (in_force self.old) (in_force self.new) };
 
-    /// What is in force. This takes no time.
+    /// Returns what is in force. This takes no time.
     fn admission(&self) -> Admission<'_>
         ensures { rules_of result ≡ in_force self.now };
 }

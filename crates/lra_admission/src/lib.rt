@@ -1,4 +1,4 @@
-//! Who may call a service: by secrets, whose digests stand in a file, and by the names of hosts.
+//! The admission to a service: by secrets, whose digests stand in a file, and by the names of hosts.
 #![tactic(auto)]
 
 mod book;

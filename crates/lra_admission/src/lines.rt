@@ -6,7 +6,7 @@ ghost use Rattle.lra_admission.specs.inner.Left.{lines_left};
 
 use hex::FromHex;
 
-/// How many bytes a SHA-256 has.
+/// The number of bytes that a SHA-256 has.
 pub(crate) const DIGEST: usize = 32;
 
 /// The place of the first line feed.
@@ -29,7 +29,7 @@ pub(crate) fn cut_line(text: &[u8]) -> (&[u8], Option<&[u8]>)
     }
 }
 
-/// Whether a line says nothing.
+/// Returns whether a line says nothing: it is empty, or begins with `#`.
 pub(crate) fn is_remark(line: &[u8]) -> bool
     ensures { result ≡ spec.is_remark line.now }
 {
@@ -39,7 +39,7 @@ pub(crate) fn is_remark(line: &[u8]) -> bool
     }
 }
 
-/// What follows the spaces in front.
+/// Returns what follows the spaces in front.
 fn skip_spaces(text: &[u8]) -> &[u8]
     ensures { result.now ≡ spec.skip_spaces text.now }
 {
@@ -51,7 +51,7 @@ fn skip_spaces(text: &[u8]) -> &[u8]
     &text[text.len()..]
 }
 
-/// What follows the name that a text begins with: its first bytes that are no spaces.
+/// Returns what follows the name that a text begins with: its first bytes that are no spaces.
 fn skip_name(text: &[u8]) -> &[u8]
     ensures { result.now ≡ spec.skip_name text.now }
 {

@@ -24,21 +24,21 @@ impl Model for Name {
     ghost view = { λ n. string_bytes n.text };
 }
 
-/// Whether two texts are one but for the case of their letters.
+/// Returns whether two texts are one but for the case of their letters.
 fn is_alike(one: &[u8], other: &[u8]) -> bool
     ensures { result ≡ str_eq_ignore_ascii_case one.now other.now }
 {
     one.eq_ignore_ascii_case(other)
 }
 
-/// Whether there are digits alone.
+/// Returns whether all bytes of a text are digits.
 fn all_digits(text: &[u8]) -> bool
     ensures { result ≡ list_all is_ascii_digit text.now }
 {
     text.iter().all(|byte| byte.is_ascii_digit())
 }
 
-/// What follows the first byte of a kind, or nothing.
+/// Returns what follows the first closing bracket, or nothing.
 fn behind_bracket(text: &[u8]) -> &[u8]
     ensures { result.now ≡ spec.behind_bracket text.now }
 {
@@ -63,7 +63,7 @@ fn from_colon(text: &[u8]) -> &[u8]
     &text[text.len()..]
 }
 
-/// What follows the host that a text begins with.
+/// Returns what follows the host that a text begins with.
 fn behind_host(text: &[u8]) -> &[u8]
     ensures { result.now ≡ spec.behind_host text.now }
 {
@@ -74,7 +74,7 @@ fn behind_host(text: &[u8]) -> &[u8]
     }
 }
 
-/// Whether a text is a colon and a port, or nothing.
+/// Returns whether a text is a colon and a port, or nothing.
 fn is_any_port(text: &[u8]) -> bool
     ensures { result ≡ spec.is_any_port text.now }
 {
@@ -84,21 +84,21 @@ fn is_any_port(text: &[u8]) -> bool
     }
 }
 
-/// Whether a byte may stand in a name, behind the bracket that may begin it.
+/// Returns whether a byte may stand in a name, behind the bracket that may begin it.
 fn is_name_byte(byte: u8) -> bool
     ensures { result ≡ spec.is_name_byte byte }
 {
     byte.is_ascii_alphanumeric() || matches!(byte, b'-' | b'.' | b'_' | b':' | b']')
 }
 
-/// Whether there are bytes alone that may stand there.
+/// Returns whether all bytes of a text may stand there.
 fn all_name_bytes(text: &[u8]) -> bool
     ensures { result ≡ list_all spec.is_name_byte text.now }
 {
     text.iter().all(|byte| is_name_byte(*byte))
 }
 
-/// Whether a text may follow the host of a name.
+/// Returns whether a text may follow the host of a name.
 fn is_own_port(rest: &[u8]) -> bool
     ensures { result ≡ spec.is_own_port rest.now }
 {
@@ -115,14 +115,14 @@ fn behind_opening(text: &[u8]) -> &[u8]
     }
 }
 
-/// Whether a text has a closing bracket.
+/// Returns whether a text has a closing bracket.
 fn has_closing(text: &[u8]) -> bool
     ensures { result ≡ list_any spec.is_closing text.now }
 {
     text.contains(&b']')
 }
 
-/// Whether a bracket is closed in a text where one begins it, and nowhere else.
+/// Returns whether a text has a closing bracket where an opening one begins it, and none otherwise.
 fn is_closed(text: &[u8]) -> bool
     ensures { result ≡ spec.is_closed text.now }
 {
@@ -133,14 +133,14 @@ fn is_closed(text: &[u8]) -> bool
     }
 }
 
-/// Whether a text may be a host, as far as its bytes say.
+/// Returns whether a text may be a host, as far as its bytes say.
 fn is_spelled(text: &[u8]) -> bool
     ensures { result ≡ spec.is_spelled text.now }
 {
     all_name_bytes(behind_opening(text)) && is_closed(text)
 }
 
-/// Whether a text is a name.
+/// Returns whether a text is a name.
 fn is_name(text: &[u8]) -> bool
     ensures { result ≡ spec.is_name text.now }
 {
@@ -148,7 +148,7 @@ fn is_name(text: &[u8]) -> bool
     is_spelled(text) && rest.len() < text.len() && is_own_port(rest)
 }
 
-/// Whether a text may follow a name.
+/// Returns whether a text may follow a name.
 fn may_follow(name: &[u8], rest: &[u8]) -> bool
     ensures { result ≡ spec.may_follow name.now rest.now }
 {
@@ -159,7 +159,7 @@ fn may_follow(name: &[u8], rest: &[u8]) -> bool
     }
 }
 
-/// Whether a host is the one of a name.
+/// Returns whether a host is the one of a name.
 fn is_named(name: &[u8], host: &[u8]) -> bool
     ensures { result ≡ spec.is_named name.now host.now }
 {
@@ -167,7 +167,7 @@ fn is_named(name: &[u8], host: &[u8]) -> bool
     is_alike(name, front) && may_follow(name, rest)
 }
 
-/// Whether one of the names is that of a host.
+/// Returns whether a host is that of one of the names.
 pub(crate) fn is_own_host(names: &[Name], host: &[u8]) -> bool
     ensures { result ≡ spec.is_own_host names.now host.now }
 {
@@ -179,21 +179,21 @@ pub(crate) fn is_own_host(names: &[Name], host: &[u8]) -> bool
     false
 }
 
-/// Whether a byte may stand in a scheme, behind its first.
+/// Returns whether a byte may stand in a scheme, behind its first.
 fn is_scheme_byte(byte: u8) -> bool
     ensures { result ≡ spec.is_scheme_byte byte }
 {
     byte.is_ascii_alphanumeric() || matches!(byte, b'+' | b'-' | b'.')
 }
 
-/// Whether there are bytes alone that may stand in a scheme, behind its first.
+/// Returns whether all bytes of a text may stand in a scheme, behind its first.
 fn all_scheme_bytes(text: &[u8]) -> bool
     ensures { result ≡ list_all spec.is_scheme_byte text.now }
 {
     text.iter().all(|byte| is_scheme_byte(*byte))
 }
 
-/// Whether a text is a scheme.
+/// Returns whether a text is a scheme.
 fn is_scheme(text: &[u8]) -> bool
     ensures { result ≡ spec.is_scheme text.now }
 {
@@ -203,7 +203,7 @@ fn is_scheme(text: &[u8]) -> bool
     }
 }
 
-/// What stands before the first colon.
+/// Returns what stands before the first colon, or all of it.
 fn before_colon(text: &[u8]) -> &[u8]
     ensures { result.now ≡ spec.before_colon text.now }
 {
@@ -222,7 +222,7 @@ fn host_in(origin: &[u8]) -> Option<&[u8]>
     }
 }
 
-/// Whether an origin is of one of the names.
+/// Returns whether an origin is of one of the names.
 pub(crate) fn is_own_origin(names: &[Name], origin: &[u8]) -> bool
     ensures { result ≡ spec.is_own_origin names.now origin.now }
 {

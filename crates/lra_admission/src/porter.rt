@@ -1,4 +1,4 @@
-//! Who tells what is in force while a service runs.
+//! The source of what is in force while a service runs.
 
 ghost use Rattle.std.specs.Prelude.{◌≡◌, IfOk, is_some, option_map};
 ghost use Rattle.std.specs.Arc.{arc_value};
@@ -46,7 +46,8 @@ impl Held<'_> {
     }
 }
 
-/// Who tells one who answers what is in force: the keys of a book as they were a second before at most, if there is one, and names that stay.
+/// A source of what is in force, for one responder: the keys of a book as they were a second before at most, if there
+/// is one, and names that stay.
 #[derive(Drop)]
 pub struct Porter<'a, R, H> {
     rt: &'a R,

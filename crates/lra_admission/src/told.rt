@@ -1,15 +1,15 @@
-//! Who is told what was refused, and what became of the keys.
+//! The listeners for what was refused, and for what became of the keys.
 
 use crate::fault::KeysFault;
 use lra_front::Denial;
 
-/// Who is told of the requests that are denied here.
+/// A listener for the requests that are denied here.
 pub trait Refused {
     /// A request was denied.
     fn denied(&self, denial: Denial);
 }
 
-/// Who is told what became of the keys of a file that has changed.
+/// A listener for what became of the keys of a file that has changed.
 pub trait Renewed {
     /// They were read and are in force now; or why those before them stay so.
     fn renewed(&self, outcome: Result<(), KeysFault>);

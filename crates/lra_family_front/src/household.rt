@@ -25,7 +25,7 @@ use lra_steps::{Answered, Responder};
 use lra_wire::RequestRead;
 use std::alloc::Global;
 
-/// Who tells which counters are in a family by now.
+/// The membership of a family: it tells which counters are in the family by now.
 pub trait Kinship<C: Counter + Drop> {
     ghost use Rattle.std.specs.Prelude.{ℕ, Bool, false, Option, IsFalse};
     ghost use Rattle.lra_family_front.specs.Households.{KeepsBase, Moved};
@@ -38,12 +38,12 @@ pub trait Kinship<C: Counter + Drop> {
         ensures moved { Moved family.old family.new }
         ensures base { KeepsBase family.old family.new };
 
-    /// Whether a family may still lack any counter. This is asked for each request, and so takes no time.
+    /// Returns whether a family may still lack any counter. This is asked for each request, and so takes no time.
     fn lacks_any(&self) -> bool
         ensures { IsFalse result → (named : Option ℕ) → tells named false };
 
-    /// Whether a family may still lack the counter of an instance, or for none the newest: then what names it can't be
-    /// answered yet.
+    /// Returns whether a family may still lack the counter of an instance, or for none the newest: then what names it
+    /// can't be answered yet.
     fn lacks(&self, named: Option<Instance>) -> bool
         ensures { tells named result };
 }
@@ -58,7 +58,7 @@ fn newest<C: Counter + Drop>(family: &Family<C>) -> &C
     }
 }
 
-/// Whether the URIs of a counter begin as those of a family do.
+/// Returns whether the URIs of a counter begin as those of a family do.
 fn is_kin<C: Counter + Drop>(family: &Family<C>, counter: &C) -> bool
     ensures { IsTrue result → (base : List ℕ) → HaveBase base family.now → (C.sight counter.now).setting.base ≡ base }
 {
@@ -91,7 +91,7 @@ pub fn dismiss<C: Counter + Drop>(family: &mut Family<C>, instance: Instance) ->
     family.retire(instance)
 }
 
-/// Whether a request starts an action.
+/// Returns whether a request starts an action.
 fn starts(routes: &Routes, request: &RequestRead) -> bool
     ensures { result ≡ is_start (request_of request.now) }
 {
@@ -101,8 +101,8 @@ fn starts(routes: &Routes, request: &RequestRead) -> bool
     )
 }
 
-/// Whether it is told that a family may lack who answers what names an instance, or none, and starts an action or doesn't:
-/// the newest, or one that isn't there.
+/// Returns whether a family may lack the counter that answers what names an instance, or none, and starts an action or
+/// doesn't, as its kinship tells: the newest, or one that isn't there.
 fn is_lacked<C: Counter + Drop, K: Kinship<C>>(
     family: &Family<C>,
     kinship: &K,
@@ -119,8 +119,8 @@ fn is_lacked<C: Counter + Drop, K: Kinship<C>>(
     }
 }
 
-/// What a request is answered that can't be answered yet, where that is the newest: it is refused, and reaches no
-/// member.
+/// Returns the denial of a request that can't be answered yet, in a family with that newest instance: the request is
+/// refused, and reaches no member.
 fn put_off<C: Counter + Drop, K: Kinship<C>>(
     alloc: Global,
     routes: &Routes,

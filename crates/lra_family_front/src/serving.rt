@@ -1,4 +1,4 @@
-//! What one request does at a family.
+//! The effect of one request at a family.
 
 ghost use Rattle.std.specs.Prelude.{◌≡◌, ◌≢◌, map, unwrap_or, IsSome};
 ghost use Rattle.lra_wire.specs.Request.{request_of};

@@ -1,4 +1,4 @@
-//! What a request is answered, and the reply that tells it.
+//! The answer to a request, and the reply that tells it.
 
 ghost use Rattle.std.specs.Prelude.{◌≡◌, ◌+◌, ◌≤◌, ◌++◌, if◌then◌else◌, ℕ, List, [], map, length, decimal, vec_len, vec_capacity, IfOk, IsTrue, string_bytes, Err};
 ghost use Rattle.std.specs.Ordering.{nat_cmp};
@@ -21,10 +21,10 @@ use serde_json::{Value, json};
 use std::alloc::Global;
 use std::io::Write;
 
-/// How many fields a reply has at most.
+/// The most fields that a reply has.
 const MOST_FIELDS: usize = 5;
 
-/// What a request is answered.
+/// The answer to a request.
 #[derive(Clone, Copy, Debug, PartialEq, Eq)]
 pub enum Answer {
     /// The action that was started.
@@ -45,7 +45,7 @@ pub enum Answer {
     Denied(Denial),
 }
 
-/// What a reply is written from: the URI that its answer names, its body, and the body's length in digits.
+/// The parts that a reply is written from: the URI that its answer names, its body, and the body's length in digits.
 #[derive(Drop)]
 struct Parts {
     uri: String,
@@ -240,7 +240,7 @@ impl Answer {
         Ok(fields)
     }
 
-    /// What its reply is written from.
+    /// Returns the parts that its reply is written from.
     fn parts(self, alloc: Global, instance: Instance, base: &Base) -> Result<Parts, Memory>
         requires numbers { spec.HasIdentifiers self }
         ensures { IfOk result (IsPartsOf instance base.now self) }
@@ -285,7 +285,7 @@ impl Answer {
     }
 }
 
-/// What follows the head of a reply: nothing where the head alone was asked for.
+/// Returns what follows the head of a reply: nothing where the head alone was asked for.
 fn content(text: &str, head: bool) -> &[u8]
     ensures { result.now ≡ (if head then [] else text.now) }
 {

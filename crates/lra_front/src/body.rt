@@ -1,4 +1,4 @@
-//! What the body of a request says.
+//! The body of a request, and what it says.
 
 ghost use Rattle.std.specs.Prelude.{◌≡◌, ◌&&◌, is_some, option_map, IfSome};
 ghost use Rattle.serde_json.specs.Data.{object, no_members};
@@ -91,7 +91,7 @@ impl Operation {
         }
     }
 
-    /// Whether its body is read: those that a GET asks for don't read it.
+    /// Returns whether its body is read: the operations that a GET asks for don't read it.
     fn reads_body(self) -> bool
         ensures { result ≡ spec.reads_body self }
     {
@@ -99,7 +99,7 @@ impl Operation {
     }
 }
 
-/// Whether a key is that of one of a member's addresses.
+/// Returns whether a key is that of one of a member's addresses.
 fn is_address(key: &str) -> bool
     ensures { result ≡ is_some (spec.kind_in key.now (spec.keys Operation.Join)) }
 {
@@ -156,7 +156,8 @@ fn object_in(alloc: Global, body: &[u8]) -> Result<Value, Denial>
 }
 
 impl Operation {
-    /// What a body says, where it is one that the operation reads.
+    /// Reads the object that a body says. It is empty where the operation reads no body, and denied where it doesn't
+    /// fit the operation.
     pub(crate) fn read_body(self, alloc: Global, body: &[u8]) -> Result<Value, Denial>
         ensures { ReadsBody self body.now result }
     {
@@ -170,7 +171,7 @@ impl Operation {
         }
     }
 
-    /// Whether its body may be this object.
+    /// Returns whether its body may be this object.
     fn fits(self, body: &Value) -> bool
         ensures { IfSome (as_object (view body.now)) (λ members. result ≡ (spec.members_fit self members && spec.has_needed self members)) }
     {

@@ -5,7 +5,7 @@ ghost use Rattle.lra_front.specs.Operations as spec;
 
 use crate::paths::Path;
 
-/// What a path names.
+/// The place that a path names.
 #[derive(Clone, Copy, Debug, PartialEq, Eq, Drop)]
 pub enum Place {
     /// Where actions are started.
@@ -24,7 +24,7 @@ pub enum Place {
     Member,
 }
 
-/// What a request asks for.
+/// The operation that a request asks for.
 #[derive(Clone, Copy, Debug, PartialEq, Eq)]
 pub enum Operation {
     /// To start an action.
@@ -219,7 +219,7 @@ impl Operation {
         }
     }
 
-    /// Whether a method asks for it at a place.
+    /// Returns whether a method asks for it at a place.
     fn is_asked(self, method: &str, place: Place) -> bool
         ensures { result ≡ spec.is_asked method.now place self }
     {

@@ -1,4 +1,4 @@
-//! What one request does.
+//! The effect of one request: its answer, and the order that it gives the counter.
 
 ghost use Rattle.lra_wire.specs.Request.{request_of};
 ghost use Rattle.lra_front.specs.Replies.{HasIdentifiers};
@@ -13,7 +13,7 @@ use lra_commands::{Counter, CounterFault, Told};
 use lra_wire::RequestRead;
 use std::alloc::Global;
 
-/// What is answered where something is told of what was asked.
+/// Returns the answer to what was asked, from what the counter told of it.
 fn told(wish: &Wish, told: Told) -> Answer
     requires { IsTellable wish.now told }
     ensures answer { TellsOf wish.now told result }
@@ -38,7 +38,7 @@ fn told(wish: &Wish, told: Told) -> Answer
     }
 }
 
-/// What is answered to a counter's reply.
+/// Returns the answer to what was asked, from the counter's reply.
 fn answer(wish: &Wish, reply: Result<Told, CounterFault>) -> Answer
     requires { IsAnswerable wish.now reply }
     ensures answer { Answers wish.now reply result }

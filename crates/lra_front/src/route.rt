@@ -1,4 +1,4 @@
-//! What the path and the method of a request ask for.
+//! The operation that the path and the method of a request ask for.
 
 ghost use Rattle.std.specs.Prelude.{◌≡◌};
 ghost use Rattle.std.specs.List.{before_first, after_first};
@@ -16,7 +16,7 @@ pub struct Routes {
     router: PathRouter<Place>,
 }
 
-/// What follows the first slash, or nothing.
+/// Returns what follows the first slash, or nothing.
 fn after_slash(text: &str) -> &str
     ensures { result.now ≡ after_first is_slash text.now }
 {
@@ -26,7 +26,7 @@ fn after_slash(text: &str) -> &str
     }
 }
 
-/// What stands before the first slash, or all of it.
+/// Returns what stands before the first slash, or all of it.
 fn before_slash(text: &str) -> &str
     ensures { result.now ≡ before_first is_slash text.now }
 {
@@ -44,7 +44,7 @@ pub fn id_in(target: &str) -> &str
     before_slash(after_slash(after_slash(target)))
 }
 
-/// Whether a target has a query.
+/// Returns whether a target has a query.
 fn has_query(target: &str) -> bool
     ensures { result ≡ has_query target.now }
 {
@@ -58,7 +58,7 @@ impl Routes {
         Ok(Routes { router })
     }
 
-    /// What a target names. One with a query names nothing.
+    /// Returns the place that a target names. One with a query names nothing.
     #[tactic(auto, unfolding(crate::specs::Routes::place_of))]
     fn place(&self, target: &str) -> Option<Place>
         ensures { result ≡ place_of target.now }
@@ -69,7 +69,7 @@ impl Routes {
         self.router.at(target)
     }
 
-    /// What a request asks for: the path is looked at first, then the method.
+    /// Returns the operation that a request asks for: the path is looked at first, then the method.
     pub fn operation(&self, method: &str, target: &str) -> Result<Operation, Denial>
         ensures { result ≡ operation_of method.now target.now }
     {

@@ -17,7 +17,7 @@ use lra_wire::{Inbox, RequestRead, WireFault, read_request};
 use std::alloc::Global;
 use std::io::{Read, Write};
 
-/// How a stream ended.
+/// The way in which a stream ended.
 #[derive(Clone, Copy, Debug, PartialEq, Eq)]
 pub enum StreamEnd {
     /// All requests were answered up to the end, or up to one after which the stream is closed.
@@ -28,7 +28,7 @@ pub enum StreamEnd {
     WriteFault,
 }
 
-/// What became of a stream at its next request.
+/// The outcome of a stream's next request.
 #[derive(Clone, Copy, Debug, PartialEq, Eq)]
 pub enum Served {
     /// It was answered, and the stream goes on.
@@ -37,7 +37,7 @@ pub enum Served {
     Ended(StreamEnd),
 }
 
-/// What is answered to a fault of reading: nothing where the stream was cut or failed.
+/// Returns the answer to a fault of reading: none where the stream was cut or failed.
 pub fn fault_answer(fault: WireFault) -> Option<Answer>
     ensures { result ≡ spec.fault_answer fault }
 {
@@ -76,7 +76,7 @@ fn refuse<W: Write, C: Counter>(
     }
 }
 
-/// Whether the stream is closed after a request: where it asks for that, or is the last that is taken.
+/// Returns whether the stream is closed after a request: where it asks for that, or is the last that is taken.
 fn closes_after(request: &RequestRead, last: bool) -> bool
     ensures { result ≡ spec.closes_after last (request_of request.now) }
 {
@@ -138,7 +138,7 @@ pub fn serve_request<R: Read + Drop, W: Write, C: Counter, K: Clock>(
     }
 }
 
-/// How many requests are taken of a stream at most.
+/// The most requests that are taken of a stream.
 const MOST_REQUESTS: u64 = 1000;
 
 /// Answers the requests of an inbox.

@@ -1,4 +1,4 @@
-//! What a request asks of the coordinator.
+//! The wish of a request, and how it is read.
 
 ghost use Rattle.std.specs.Prelude.{◌≡◌, IsTrue, IfSome, IfOk, Ok, option_map};
 ghost use Rattle.serde_json.specs.Find.{as_object};
@@ -21,7 +21,7 @@ use lra_wire::RequestRead;
 use serde_json::Value;
 use std::alloc::Global;
 
-/// What a request asks of the coordinator.
+/// The wish of a request: what it asks of the coordinator.
 #[derive(Debug, Drop)]
 pub enum Wish {
     /// To start an action. A limit is in milliseconds, and 0 is none.
@@ -167,7 +167,7 @@ fn leave(instance: Instance, base: &Base, action: u64, body: &Value) -> Result<W
 }
 
 impl Operation {
-    /// What it asks for of an action.
+    /// Returns what it asks for of an action.
     fn of_action(
         self,
         alloc: Global,
@@ -196,7 +196,7 @@ impl Operation {
         }
     }
 
-    /// What it asks for of a member.
+    /// Returns what it asks for of a member.
     fn of_member(self, member: u64, body: &Value) -> Wish
         requires { IsTrue (is_of_member self) }
         ensures { IfSome (as_object (view body.now)) (λ members. spec.IsOfMember members self member (Ok result)) }
@@ -210,7 +210,7 @@ impl Operation {
         }
     }
 
-    /// What it asks for, at a path with that ID.
+    /// Returns what it asks for, at a path with that ID.
     fn wish(
         self,
         alloc: Global,
@@ -236,8 +236,8 @@ impl Operation {
 }
 
 impl Routes {
-    /// What a request asks for: the path is looked at first, then the method, the body, and the identifiers, the path's
-    /// first. Memory may be refused where the operation reads its body.
+    /// Returns what a request asks for: the path is looked at first, then the method, the body, and the identifiers,
+    /// the path's first. Memory may be refused where the operation reads its body.
     pub fn wish(
         &self,
         alloc: Global,

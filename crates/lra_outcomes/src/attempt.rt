@@ -11,7 +11,7 @@ use std::alloc::{AllocError, Global};
 pub struct Attempt {
     /// The address that was asked.
     pub address: String,
-    /// What came of it.
+    /// The outcome of the callback.
     pub reply: Reply,
     /// The moment at which that was, in milliseconds since 1970 by the service's clock.
     pub moment: u64,

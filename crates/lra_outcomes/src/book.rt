@@ -8,14 +8,14 @@ use crate::attempt::Attempt;
 use std::alloc::{AllocError, Global};
 use std::collections::HashMap;
 
-/// How many members are remembered at most.
+/// The most members that are remembered.
 pub const MOST: usize = 100_000;
 
 /// The last callbacks of members that weren't brought further, by the members' numbers.
 #[derive(Drop)]
 pub(crate) struct Book {
     by_member: HashMap<u64, Attempt>,
-    /// How many callbacks found no room.
+    /// The number of callbacks that found no room.
     dropped: u64,
     ghost few: { hash_map_len by_member ≤ 100_000 },
 }

@@ -1,4 +1,4 @@
-//! What came of the last callbacks of a journal's members, where they weren't brought further.
+//! The outcomes of the last callbacks of a journal's members, where these weren't brought further.
 #![tactic(auto)]
 
 mod attempt;

@@ -8,8 +8,8 @@ use std::collections::HashSet;
 use std::sync::atomic::{AtomicBool, Ordering};
 use std::sync::{Mutex, Wait};
 
-/// What came of the last callbacks of a journal's members, by member, where it didn't bring them further. Threads share
-/// it. [`MOST`](crate::MOST) members are remembered at most; what finds no room isn't, and is counted.
+/// The outcomes of the last callbacks of a journal's members, by member, where these weren't brought further. Threads
+/// share them. [`MOST`](crate::MOST) members are remembered at most; what finds no room isn't, and is counted.
 #[derive(Drop)]
 pub struct Outcomes {
     alloc: Global,

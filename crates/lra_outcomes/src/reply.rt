@@ -1,4 +1,4 @@
-//! What a callback came to, in words.
+//! The outcome of a callback, in words.
 
 ghost use Rattle.std.specs.Prelude.{◌≡◌, ◌++◌, OnOk, codes};
 ghost use Rattle.std.specs.Fmt.{decimal};
@@ -7,7 +7,7 @@ ghost use Rattle.lra_outcomes.specs.Replies.{words_of};
 use itoa::Buffer;
 use std::alloc::AllocError;
 
-/// What came of a callback that didn't bring its member further.
+/// The outcome of a callback that didn't bring its member further.
 #[derive(Clone, Copy, Debug, PartialEq, Eq)]
 pub enum Reply {
     /// The rules for members don't allow any of its addresses.
@@ -20,7 +20,7 @@ pub enum Reply {
     TimedOut { seconds: u64 },
     /// The connection ended before the whole response.
     Cut,
-    /// What came is no response that is read.
+    /// The bytes that came are no response that is read.
     NotHttp,
     /// It was answered with that code.
     Answered { code: u16 },

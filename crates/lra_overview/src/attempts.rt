@@ -13,12 +13,12 @@ use lra_model::Memory;
 use lra_outcomes::{Attempt, Reply, put_words};
 use std::alloc::{AllocError, Global};
 
-/// What is told of the last callback of a member that hasn't brought it further.
+/// The last callback of a member that hasn't brought it further, as it is told.
 #[derive(Drop)]
 pub struct Tried {
     /// The address that was asked.
     pub address: String,
-    /// What came of it, in words.
+    /// Its outcome, in words.
     pub words: String,
     /// The moment at which that was, and how many milliseconds ago.
     pub moment: u64,
@@ -29,7 +29,7 @@ pub struct Tried {
 #[derive(Drop)]
 pub struct Line {
     pub row: MemberRow,
-    /// How many milliseconds are left until it is asked next, where it is to be.
+    /// The number of milliseconds that are left until it is asked next, where it is to be.
     pub left: u64,
     pub tried: Option<Tried>,
 }
@@ -139,7 +139,7 @@ pub fn members_in(alloc: Global, nodes: &[Node]) -> Result<Vec<MemberRow>, Memor
     Ok(rows)
 }
 
-/// Whether the last callback of a member was answered that it is at it.
+/// Returns whether the last callback of a member was answered that it is at it.
 pub(crate) fn is_at_it<O: Overview>(
     alloc: Global,
     overview: &mut O,

@@ -1,4 +1,4 @@
-//! How many actions have each status, counted so that what can't change is counted once.
+//! The number of actions that have each status, counted so that what can't change is counted once.
 
 ghost use Rattle.std.specs.Prelude.{◌≡◌};
 
@@ -11,7 +11,7 @@ use lra_ids::Instance;
 use lra_model::ActionStatus;
 use std::alloc::Global;
 
-/// How many rows one query looks at. So many actions, one after another, are a stretch.
+/// The number of rows that one query looks at. So many actions, one after another, are a stretch.
 pub(crate) const STRETCH: u64 = 256;
 
 /// The statuses in the order in which they are asked for: most actions of a stretch have the first of them.
@@ -25,7 +25,8 @@ const ASKED: [ActionStatus; 7] = [
     ActionStatus::FailedToCancel,
 ];
 
-/// What is known of a journal's actions. Those of a stretch in which all have ended are counted once; the others are counted again each time.
+/// The knowledge of a journal's actions. Those of a stretch in which all have ended are counted once; the others are
+/// counted again each time.
 #[derive(Drop)]
 pub struct Census {
     /// Where those stretches begin in which some haven't ended.
@@ -34,20 +35,22 @@ pub struct Census {
     ending: Vec<u64>,
     /// From this place on no stretch is whole, or none was looked at.
     behind: u64,
-    /// How many of those have each status whose stretches aren't open.
+    /// The number of actions of each status, of those whose stretches aren't open.
     ended: Shares,
-    /// What is known of the members that are still to be told how their action ended.
+    /// The knowledge of the members that are still to be told how their action ended.
     telling: Telling,
 }
 
-/// How many rows of a stretch belong to a listing, and where the next stretch begins, if there is one.
+/// The number of rows of a stretch that belong to a listing, and the place where the next stretch begins, if there is
+/// one.
 #[derive(Clone, Copy)]
 struct Part {
     count: u64,
     next: Option<u64>,
 }
 
-/// How many actions of a stretch have each status, and where the next stretch begins, if there is one.
+/// The number of actions of a stretch that have each status, and the place where the next stretch begins, if there is
+/// one.
 #[derive(Clone, Copy)]
 struct Stretch {
     shares: Shares,
@@ -55,13 +58,13 @@ struct Stretch {
 }
 
 impl Stretch {
-    /// Whether it is whole, and all its actions have ended.
+    /// Returns whether it is whole, and all its actions have ended.
     fn is_over(&self) -> bool {
         self.next.is_some() && count_ended(&self.shares) == STRETCH
     }
 }
 
-/// How many actions of a stretch have a status, or how many there are.
+/// Counts the actions of a stretch that have a status, or all of them.
 fn count_at<O: Overview>(
     overview: &mut O,
     instance: Instance,
@@ -219,7 +222,7 @@ impl Census {
         Ok(shares)
     }
 
-    /// How many actions have each status now. Where that can't be told, all is counted again the next time.
+    /// Counts the actions that have each status now. Where that can't be told, all is counted again the next time.
     pub(crate) fn count<O: Overview>(
         &mut self,
         overview: &mut O,

@@ -1,4 +1,4 @@
-//! How many there are.
+//! The counts of actions and members.
 
 ghost use Rattle.std.specs.Prelude.{◌≡◌, ◌≤◌, ◌<◌, ◌+◌, ◌^◌};
 
@@ -12,10 +12,11 @@ use lra_commands::{CounterFault, Known, Query, Refusal};
 use lra_ids::Instance;
 use std::alloc::Global;
 
-/// How many bits the greatest number of an action or of a member has, at most: a journal has no more bytes than such a number says.
+/// The most bits that the greatest number of an action or of a member has: a journal has no more bytes than such a
+/// number says.
 const MOST_BITS: u32 = 31;
 
-/// How many there are, at some moment.
+/// The counts of actions and members, at some moment.
 #[derive(Clone, Copy)]
 pub struct Counts {
     pub shares: Shares,
@@ -25,7 +26,7 @@ pub struct Counts {
     pub oldest: Option<u64>,
     /// The members that hold up ends.
     pub overdue: Overdue,
-    /// How many members are still to be told how their action ended.
+    /// The number of members that are still to be told how their action ended.
     pub untold: u64,
 }
 
@@ -61,8 +62,8 @@ pub fn grown(base: u64, current: u64) -> u64
     base.saturating_add(current)
 }
 
-/// How many actions and members there ever were, and how many actions ended as failed, of some journals. They never get
-/// fewer.
+/// The number of actions and of members that there ever were, and of actions that ended as failed, of some journals.
+/// They never get fewer.
 #[derive(Clone, Copy)]
 pub struct Totals {
     pub actions: u64,
@@ -94,7 +95,7 @@ impl Totals {
     }
 }
 
-/// Whether what was asked is there.
+/// Returns whether what was asked is there.
 fn is_there(asked: Result<Known, CounterFault>) -> Result<bool, Trouble> {
     match asked {
         Ok(_) => Ok(true),
@@ -103,7 +104,7 @@ fn is_there(asked: Result<Known, CounterFault>) -> Result<bool, Trouble> {
     }
 }
 
-/// How many members there are: they have the numbers from 1 on.
+/// Counts the members: they have the numbers from 1 on.
 fn count_members<O: Overview>(overview: &mut O, instance: Instance) -> Result<u64, Trouble>
     ensures { O.orders overview.new ≡ O.orders overview.old }
 {
@@ -117,7 +118,7 @@ fn count_members<O: Overview>(overview: &mut O, instance: Instance) -> Result<u6
     Ok(found)
 }
 
-/// How many actions there are: they have the numbers from 1 on.
+/// Counts the actions: they have the numbers from 1 on.
 fn count_actions<O: Overview>(overview: &mut O, instance: Instance) -> Result<u64, Trouble>
     ensures { O.orders overview.new ≡ O.orders overview.old }
 {
@@ -146,8 +147,8 @@ fn oldest<O: Overview>(
     Ok(first)
 }
 
-/// How many actions and members there are, by queries of 256 rows at most each, how many members hold up ends at a moment,
-/// and how many are still to be told how their action ended. The census goes on from what it counted before.
+/// Counts the actions and the members, by queries of 256 rows at most each, the members that hold up ends at a moment,
+/// and those that are still to be told how their action ended. The census goes on from what it counted before.
 pub fn count_all<O: Overview>(
     alloc: Global,
     overview: &mut O,

@@ -10,7 +10,7 @@ use lra_ids::Instance;
 use lra_model::{ActionStatus, MemberStatus};
 use std::alloc::Global;
 
-/// How many rows of one action are shown at most.
+/// The most rows of one action that are shown.
 pub const MOST_SHOWN: usize = 1_000;
 
 /// An action of a list.
@@ -28,7 +28,7 @@ pub struct MemberRow {
     pub status: MemberStatus,
     /// The ask of it that is outstanding.
     pub ask: Option<u64>,
-    /// What it is to be asked next.
+    /// The ask that it is to get next.
     pub want: Option<Want>,
 }
 
@@ -44,7 +44,8 @@ pub struct Listed {
 pub struct Waiting {
     pub row: ActionRow,
     pub awaited: Option<Awaited>,
-    /// What the member is to be asked next that it waits for, and how many milliseconds are left until then.
+    /// The ask that the member is to get next that it waits for, and the number of milliseconds that are left until
+    /// then.
     pub want: Option<Want>,
     pub left: u64,
     /// For how many milliseconds at least it is there, where that is known.
@@ -71,11 +72,11 @@ pub struct Shown {
     pub members: Vec<MemberRow>,
     pub nested: Vec<ActionRow>,
     pub awaited: Option<Awaited>,
-    /// Whether there are more members or nested actions than are shown.
+    /// There may be more members or nested actions than are shown.
     pub is_cut: bool,
 }
 
-/// What holds an action's end, and its place among the action's rows.
+/// The row that holds an action's end, and its place among the action's rows.
 #[derive(Clone, Copy)]
 struct Held {
     place: u64,
@@ -248,7 +249,7 @@ fn held_by<O: Overview>(
     Ok(None)
 }
 
-/// What an action waits for, if anything.
+/// Returns what an action waits for, if anything.
 pub fn waits_for<O: Overview>(
     overview: &mut O,
     instance: Instance,

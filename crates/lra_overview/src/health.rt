@@ -1,4 +1,4 @@
-//! Whether a service is well (MicroProfile Health 4.0).
+//! The health of a service (MicroProfile Health 4.0).
 
 ghost use Rattle.std.specs.Prelude.{◌≡◌, ◌++◌, OnOk};
 ghost use Rattle.lra_overview.specs.Health as spec;
@@ -8,34 +8,34 @@ use crate::overview::Facts;
 use lra_ids::Instance;
 use lra_model::Memory;
 
-/// What is asked of a service's health.
+/// The question that is asked of a service's health.
 #[derive(Clone, Copy, Debug, PartialEq, Eq)]
 pub enum Probe {
     /// All of it.
     Whole,
-    /// Whether it should be started anew.
+    /// The question whether it should be started anew.
     Live,
-    /// Whether it can be sent requests.
+    /// The question whether it can be sent requests.
     Ready,
-    /// Whether it has begun.
+    /// The question whether it has begun.
     Started,
 }
 
-/// How many actions and members there are, where the coordinator told it.
+/// The number of actions and of members, where the coordinator told it.
 #[derive(Clone, Copy)]
 pub struct Answered {
     pub actions: u64,
     pub members: u64,
 }
 
-/// Whether the journal takes and keeps what is written.
+/// Returns whether the journal takes and keeps what is written.
 fn keeps(facts: &Facts) -> bool
     ensures { result ≡ spec.keeps facts.now }
 {
     !facts.has_failed
 }
 
-/// Whether the journal has room, and so the coordinator for what there may be too much of.
+/// Returns whether the journal has room, and so the coordinator for what there may be too much of.
 fn has_room(facts: &Facts, answered: &Option<Answered>) -> bool
     ensures { result ≡ spec.has_room facts.now answered.now }
 {
@@ -48,7 +48,7 @@ fn has_room(facts: &Facts, answered: &Option<Answered>) -> bool
     bytes && entries && counted
 }
 
-/// Whether actions may be begun.
+/// Returns whether actions may be begun.
 fn takes_starts(facts: &Facts) -> bool
     ensures { result ≡ spec.takes_starts facts.now }
 {
@@ -97,7 +97,7 @@ fn is_timely(facts: &Facts) -> bool
     follows(facts) && syncs_in_time(facts)
 }
 
-/// Whether all checks of a probe came out well.
+/// Returns whether all checks of a probe came out well.
 pub fn is_up(probe: Probe, facts: &Facts, answered: &Option<Answered>) -> bool
     ensures { result ≡ spec.is_up probe facts.now answered.now }
 {
@@ -310,7 +310,7 @@ fn put_sync(page: &mut Vec<u8>, facts: &Facts) -> Result<(), Memory>
     put(page, "}}")
 }
 
-/// What is told beside of whether a worker is behind the set of journals: why that is.
+/// Returns the end of the check of the set of journals, with the reason why a worker is behind the set, where one is.
 fn set_data(facts: &Facts) -> &'static str
     ensures { result.now ≡ spec.set_data facts.now }
 {

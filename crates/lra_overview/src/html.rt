@@ -16,7 +16,7 @@ use lra_commands::{Awaited, Want};
 use lra_model::{ActionStatus, MemberStatus, Memory};
 use lra_outcomes::is_telling;
 
-/// What forms need to be taken.
+/// The terms on which forms are taken.
 #[derive(Clone, Copy)]
 pub struct Forms<'a> {
     /// The word by which it is known that a form is one of these pages.
@@ -29,11 +29,11 @@ pub struct Forms<'a> {
 const KEY: &str =
     "<input type=\"password\" name=\"key\" placeholder=\"key\" aria-label=\"key\" autocomplete=\"new-password\">";
 
-/// What each page begins with.
+/// The beginning of each page.
 const HEAD: &str =
     "<!DOCTYPE html>\n<html lang=\"en\"><head><meta charset=\"utf-8\"><meta name=\"viewport\" content=\"width=device-width,initial-scale=1\"><title>Raxunto</title><style>\n";
 
-/// How a page looks, by day.
+/// The looks of a page, by day.
 const LOOKS: &str =
     ":root{color-scheme:light dark;--ink:#1c2430;--dim:#5b6675;--paper:#fbfbf9;--card:#fff;--line:#d9dde3;--go:#1f6f43;--wait:#9a5b00;--bad:#b3261e;--link:#1a5fb4}
 body{margin:0;background:var(--paper);color:var(--ink);font:15px/1.5 system-ui,sans-serif}
@@ -46,7 +46,7 @@ p{color:var(--dim);margin:.4rem 0}
 .counts b{display:block;font-size:1.3rem;font-variant-numeric:tabular-nums}
 ";
 
-/// How tables, forms and pictures look.
+/// The looks of tables, forms and pictures.
 const TABLES: &str =
     "table{border-collapse:collapse;width:100%;background:var(--card);border:1px solid var(--line)}
 th,td{text-align:left;padding:.4rem .7rem;border-bottom:1px solid var(--line);vertical-align:middle}
@@ -64,7 +64,7 @@ input{width:7rem}button{cursor:pointer}button:hover{border-color:var(--bad);colo
 svg text{fill:var(--ink)}svg circle,svg rect{fill:currentColor}svg .branch{fill:none;stroke:var(--line);stroke-width:2}
 ";
 
-/// How a page looks by night.
+/// The looks of a page by night.
 const NIGHT: &str =
     "@media(prefers-color-scheme:dark){:root{--ink:#e4e7ec;--dim:#98a2b1;--paper:#14171c;--card:#1b2027;--line:#333b47;--go:#6fcf97;--wait:#e8b45a;--bad:#ff8a80;--link:#8ab4f8}}
 </style></head><body><header><h1><a href=\"/\">Raxunto</a></h1>";
@@ -203,7 +203,7 @@ fn put_give_up_form(
     names.put_all(page, &closing)
 }
 
-/// What is asked back before a member that is waited for is given up.
+/// The question that is asked back before a member that is waited for is given up.
 const AS_FAILED: &str = "Have it count as failed for good?";
 
 /// The same of a member that is only to be told how its action ended.
@@ -603,10 +603,10 @@ fn put_title(
     }
 }
 
-/// What the first page is of.
+/// The content of the first page.
 #[derive(Clone, Copy)]
 pub struct Home<'a> {
-    /// How many actions have each status, and how many members hold up ends.
+    /// The number of actions that have each status, and of members that hold up ends.
     pub shares: &'a [Share],
     pub overdue: Overdue,
     /// The status of which the listed actions are, or else they haven't ended.

@@ -87,14 +87,14 @@ pub(crate) fn put_json(alloc: Global, page: &mut Vec<u8>, text: &str) -> Result<
     page.extend_from_slice(spelled.as_bytes())
 }
 
-/// Whether an identifier can have a number.
+/// Returns whether an identifier can have a number.
 pub(crate) fn has_id(number: u64) -> bool
     ensures { result ≡ spec.has_id number }
 {
     0 < number && number < 1 << 62
 }
 
-/// What stands from a place on.
+/// Returns what stands from a place on.
 pub(crate) fn behind(text: &[u8], start: usize) -> &[u8]
     requires { start ≤ length text.now }
     ensures { result.now ≡ drop start text.now }

@@ -1,4 +1,5 @@
-//! What operators see of a service, over whatever tells of its histories: the texts of its health, its metrics, its lists and its pages.
+//! The operators' view of a service, over whatever tells of its histories: the texts of its health, its metrics, its
+//! lists and its pages.
 #![tactic(auto)]
 
 mod attempts;

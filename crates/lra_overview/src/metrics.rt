@@ -1,4 +1,4 @@
-//! What is measured of a service, in the text format 0.0.4 of Prometheus.
+//! The measures of a service, in the text format 0.0.4 of Prometheus.
 
 use crate::counts::{Counts, Totals};
 use crate::laying::{put, put_number};
@@ -6,7 +6,7 @@ use crate::overdue::Overdue;
 use crate::overview::Facts;
 use lra_model::Memory;
 
-/// What kind of number a measure is.
+/// The kind of number that a measure is.
 #[derive(Clone, Copy, Debug, PartialEq, Eq)]
 pub enum Kind {
     Gauge,
@@ -14,7 +14,7 @@ pub enum Kind {
     Histogram,
 }
 
-/// How many parts of a whole are told.
+/// The number of parts that a whole is told in.
 const PARTS: u64 = 1_000_000;
 
 /// Adds what a measure is, before its lines.
@@ -159,7 +159,7 @@ fn put_untold(page: &mut Vec<u8>, untold: u64) -> Result<(), Memory> {
     )
 }
 
-/// How many millionths of a limit are left.
+/// Returns how many millionths of a limit are left.
 fn left(count: u64, most: u64) -> u64 {
     let room = most.saturating_sub(count);
     room.saturating_mul(PARTS).checked_div(most).unwrap_or(0)

@@ -8,7 +8,7 @@ use lra_ids::{Base, Instance};
 use lra_model::Memory;
 use std::alloc::Global;
 
-/// How many bytes stand between the base and the identifier in the URI of an action.
+/// The number of bytes that stand between the base and the identifier in the URI of an action.
 const BELOW_BASE: usize = 16;
 
 /// Whose identifiers a text has.

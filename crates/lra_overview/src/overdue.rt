@@ -12,13 +12,14 @@ use lra_ids::Instance;
 use lra_model::ActionStatus;
 use std::alloc::Global;
 
-/// How many queries are asked for one count at most.
+/// The most queries that are asked for one count.
 const MOST: u64 = 1_000;
 
-/// How often a member is asked in vain before it counts as one that doesn't answer.
+/// The number of times that a member is asked in vain before it counts as one that doesn't answer.
 const IN_VAIN: u64 = 3;
 
-/// How many members of actions that are closing or cancelling hold these up. Those that are being asked aren't among them.
+/// The number of members that hold up actions which are closing or cancelling. Those that are being asked aren't among
+/// them.
 #[derive(Clone, Copy)]
 pub struct Overdue {
     /// They were asked in vain three times or more, and are silent or answer what brings them no further.
@@ -29,7 +30,7 @@ pub struct Overdue {
     pub at_it: u64,
 }
 
-/// How a member that isn't being asked holds up an end.
+/// The way in which a member that isn't being asked holds up an end.
 #[derive(Clone, Copy, Debug, PartialEq, Eq)]
 pub enum Standing {
     /// It answered last that it is at it.
@@ -191,8 +192,8 @@ impl Tally {
     }
 }
 
-/// How many members hold up ends at a moment, of those actions that a census found to be closing or cancelling, those that were started first before the others: a thousand
-/// queries are asked at most.
+/// Counts the members that hold up ends at a moment, of those actions that a census found to be closing or cancelling,
+/// those that were started first before the others: a thousand queries are asked at most.
 pub(crate) fn count_overdue<O: Overview>(
     alloc: Global,
     overview: &mut O,

@@ -6,7 +6,7 @@ use lra_model::Memory;
 use lra_outcomes::Attempt;
 use std::alloc::Global;
 
-/// What is known of a service beside its histories. Times are in milliseconds.
+/// The facts that are known of a service beside its histories. Times are in milliseconds.
 #[derive(Clone, Copy)]
 pub struct Facts {
     /// The moment at which this was so.
@@ -17,32 +17,32 @@ pub struct Facts {
     pub has_failed: bool,
     /// The service is to end, now or once its actions have: none are begun any more.
     pub is_ending: bool,
-    /// How many journals are served.
+    /// The number of journals that are served.
     pub journals: u64,
-    /// How many bytes the newest journal has, and how many it may have.
+    /// The number of bytes that the newest journal has, and the most that it may have.
     pub bytes: u64,
     pub most_bytes: u64,
-    /// How many entries it has, as lines behind its first one, and how many it may have.
+    /// The number of entries that it has, as lines behind its first one, and the most that it may have.
     pub entries: u64,
     pub most_entries: u64,
-    /// How many actions and members there may be.
+    /// The most actions and members that there may be.
     pub most_actions: u64,
     pub most_members: u64,
-    /// How many connections of services there are.
+    /// The number of connections of services.
     pub connections: u64,
-    /// How many callbacks are under way.
+    /// The number of callbacks that are under way.
     pub callbacks: u64,
-    /// How many bytes of memory the process has, in all and in place, where the system tells it.
+    /// The number of bytes of memory that the process has, in all and in place, where the system tells it.
     pub virtual_bytes: Option<u64>,
     pub resident_bytes: Option<u64>,
-    /// How much processor time it took, in hundredths of a second, where the system tells it.
+    /// The processor time that it took, in hundredths of a second, where the system tells it.
     pub processor_ticks: Option<u64>,
     /// A worker can't follow a change of the set of journals.
     pub lags: bool,
-    /// How long the sync that is under way has taken, 0 where none is, and how long one may take.
+    /// The time that the sync that is under way has taken, 0 where none is, and the time that one may take.
     pub sync_age: u64,
     pub sync_limit: u64,
-    /// How many workers and callback workers have ended though the service goes on.
+    /// The number of workers and of callback workers that have ended though the service goes on.
     pub lost_workers: u64,
     pub lost_callback_workers: u64,
     /// A journal whose callbacks stand still, if any do.
@@ -63,14 +63,14 @@ pub trait Overview {
     /// The instance of a journal, the oldest first, where there is one at that place.
     fn instance(&self, place: u64) -> Option<Instance>;
 
-    /// What the URIs of the journals begin with.
+    /// Returns the base that the URIs of the journals begin with.
     fn base(&self) -> &Base;
 
     /// Has the journals join that are new, and those leave that were put away.
     fn catch_up(&mut self)
         ensures { orders self.new ≡ orders self.old };
 
-    /// What is known beside the histories.
+    /// Returns what is known beside the histories.
     fn facts(&mut self) -> Facts
         ensures { orders self.new ≡ orders self.old };
 
@@ -78,7 +78,7 @@ pub trait Overview {
     fn put_tallies(&mut self, page: &mut Vec<u8>) -> Result<(), Memory>
         ensures { orders self.new ≡ orders self.old };
 
-    /// What a query is told of a journal's history. It gives no order.
+    /// Answers a query of a journal's history. It gives no order.
     fn query(&mut self, instance: Instance, query: Query) -> Result<Known, CounterFault>
         ensures { orders self.new ≡ orders self.old };
 

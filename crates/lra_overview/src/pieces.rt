@@ -1,11 +1,11 @@
-//! What the texts of this crate are made of.
+//! The pieces that the texts of this crate are made of.
 
 use lra_model::{ActionStatus, AskKind, MemberStatus};
 
 /// A piece of a page, or of a list.
 #[derive(Clone, Copy)]
 pub enum Piece<'a> {
-    /// What this program itself has in it, as it stands. No text from elsewhere lives so long.
+    /// A text that this program itself has in it, as it stands. No text from elsewhere lives so long.
     Own(&'static str),
     /// A text from elsewhere, escaped for HTML.
     Told(&'a str),

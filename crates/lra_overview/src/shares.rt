@@ -1,15 +1,15 @@
-//! How many actions have each status.
+//! The number of actions that have each status.
 
 use lra_model::ActionStatus;
 
-/// How many actions have a status.
+/// The number of actions that have a status.
 #[derive(Clone, Copy)]
 pub struct Share {
     pub status: ActionStatus,
     pub count: u64,
 }
 
-/// How many actions have each status, in the order in which that is told.
+/// The number of actions that have each status, in the order in which that is told.
 pub type Shares = [Share; 7];
 
 /// There are no actions.
@@ -60,7 +60,7 @@ pub fn add_shares(shares: &mut Shares, others: &Shares) {
     }
 }
 
-/// Whether an action of that status has ended.
+/// Returns whether an action of that status has ended.
 fn has_ended(status: ActionStatus) -> bool {
     !matches!(
         status,
@@ -68,7 +68,7 @@ fn has_ended(status: ActionStatus) -> bool {
     )
 }
 
-/// How many have ended.
+/// Counts the actions that have ended.
 pub(crate) fn count_ended(shares: &Shares) -> u64 {
     let mut all: u64 = 0;
     for share in shares {
@@ -79,7 +79,7 @@ pub(crate) fn count_ended(shares: &Shares) -> u64 {
     all
 }
 
-/// How many are closing or cancelling.
+/// Counts the actions that are closing or cancelling.
 pub(crate) fn count_ending(shares: &Shares) -> u64 {
     let mut all: u64 = 0;
     for share in shares {

@@ -131,7 +131,7 @@ fn put_nodes(page: &mut Vec<u8>, names: &Names<'_>, nodes: &[Node]) -> Result<()
     Ok(())
 }
 
-/// How deep the deepest node hangs.
+/// Returns how deep the deepest node hangs.
 fn depth_of(nodes: &[Node]) -> u32
     ensures { result ≡ pictures.deepest nodes.now }
 {

@@ -1,4 +1,4 @@
-//! What hangs below an action.
+//! The tree of what hangs below an action.
 
 ghost use Rattle.std.specs.Prelude.{◌≡◌};
 
@@ -8,10 +8,10 @@ use crate::overview::Overview;
 use lra_ids::Instance;
 use std::alloc::Global;
 
-/// How many nodes a tree has at most.
+/// The most nodes that a tree has.
 const MOST_NODES: usize = 400;
 
-/// What a node stands for.
+/// The action or the member that a node stands for.
 #[derive(Clone, Copy)]
 pub enum NodeOf {
     Action(ActionRow),

@@ -1,4 +1,4 @@
-//! What hasn't ended, the oldest first.
+//! The actions that haven't ended, the oldest first.
 
 ghost use Rattle.std.specs.Prelude.{◌≡◌};
 
@@ -11,7 +11,7 @@ use lra_ids::Instance;
 use lra_model::ActionStatus;
 use std::alloc::Global;
 
-/// What comes next of a status.
+/// The next row of a status, as far as it was looked for.
 #[derive(Clone, Copy)]
 enum Ahead {
     /// It is to be looked for from this place on.
@@ -22,7 +22,7 @@ enum Ahead {
     Nothing,
 }
 
-/// How far the actions of a status were gone through.
+/// A status, and how far its actions were gone through.
 #[derive(Clone, Copy)]
 struct Cursor {
     status: ActionStatus,
@@ -37,7 +37,7 @@ fn begin(status: ActionStatus, from: u64) -> Cursor {
     }
 }
 
-/// How far the actions of each status were gone through that haven't ended.
+/// The cursors of the statuses that actions have which haven't ended.
 #[derive(Clone, Copy)]
 struct Search {
     active: Cursor,
@@ -55,7 +55,7 @@ impl Cursor {
         }
     }
 
-    /// Whether it comes before another.
+    /// Returns whether it comes before another.
     fn is_before(&self, other: &Cursor) -> bool {
         match (self.place(), other.place()) {
             (Some(own), Some(place)) => own <= place,
@@ -116,7 +116,7 @@ impl Search {
         }
     }
 
-    /// Whether no row comes any more.
+    /// Returns whether no row comes any more.
     fn is_over(&self) -> bool {
         let closed = self.closing.place().is_none() && self.cancelling.place().is_none();
         closed && self.active.place().is_none()

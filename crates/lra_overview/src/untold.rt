@@ -9,7 +9,7 @@ use lra_commands::{Known, Listing, Query, Row, Want};
 use lra_ids::Instance;
 use std::alloc::Global;
 
-/// How many queries are asked for one count at most of the actions that were looked at before, and of the others.
+/// The most queries that are asked for one count of the actions that were looked at before, and as many of the others.
 const MOST: u64 = 4_096;
 
 /// Returns whether a member of an action that has ended is still to be told so, or to be forgotten: it is being asked, or is
@@ -20,7 +20,7 @@ pub fn is_untold(ask: Option<u64>, want: Option<Want>, is_given_up: bool) -> boo
     (ask.is_some() || want.is_some()) && !is_given_up
 }
 
-/// What an action came to.
+/// The outcome of a look at an action.
 #[derive(Clone, Copy)]
 enum Looked {
     /// There is none at that place.
@@ -36,11 +36,11 @@ enum Looked {
 /// A look at actions that goes on from count to count.
 #[derive(Clone, Copy)]
 struct Look {
-    /// How many queries may still be asked for this count.
+    /// The number of queries that may still be asked for this count.
     left: u64,
     /// The place of the member that is looked at next, of the action under way.
     from: u64,
-    /// How many of those before it are untold.
+    /// The number of members before it that are untold.
     untold: u64,
 }
 
@@ -145,11 +145,12 @@ impl Look {
 #[derive(Clone, Copy)]
 struct Kept {
     place: u64,
-    /// How many of its members were untold when it was looked at last.
+    /// The number of its members that were untold when it was looked at last.
     untold: u64,
 }
 
-/// What is known of the members that are untold. An action that has ended, and of which each member knows, is looked at once.
+/// The knowledge of the members that are untold. An action that has ended, and of which each member knows, is looked at
+/// once.
 #[derive(Drop)]
 pub(crate) struct Telling {
     /// The other actions that were looked at.

@@ -1,4 +1,4 @@
-//! What a request that means another has of itself.
+//! The parts of the request that is meant: those that differ, and else the request's own.
 
 ghost use Rattle.std.specs.Prelude.{◌≡◌, option_map, unwrap_or, string_bytes, IfOk};
 

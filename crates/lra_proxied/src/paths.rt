@@ -8,7 +8,7 @@ ghost use Rattle.lra_proxied.specs.Paths as spec;
 use lra_model::Memory;
 use std::alloc::Global;
 
-/// Whether two texts of one length are the same, in a time that doesn't go with where they differ.
+/// Returns whether two texts of one length are the same, in a time that doesn't go with where they differ.
 fn is_same(one: &[u8], other: &[u8]) -> bool
     requires { length one.now ≡ length other.now }
     ensures { result ≡ bytes_eq one.now other.now }
@@ -20,7 +20,8 @@ fn is_same(one: &[u8], other: &[u8]) -> bool
     same
 }
 
-/// Whether a text begins with a front that may be a secret, in a time that doesn't go with where it differs from that.
+/// Returns whether a text begins with a front that may be a secret, in a time that doesn't go with where it differs
+/// from that.
 fn begins_alike(text: &str, front: &str) -> bool
     ensures { result ≡ starts_with nat_eq text.now front.now }
 {
@@ -30,7 +31,7 @@ fn begins_alike(text: &str, front: &str) -> bool
     }
 }
 
-/// What a text has behind a front, where it begins with that.
+/// Returns what a text has behind a front, where it begins with that.
 fn behind<'t>(front: &str, text: &'t str) -> Option<&'t str>
     ensures { option_map (λ rest. rest.now) result ≡ spec.behind front.now text.now }
 {
@@ -41,21 +42,21 @@ fn behind<'t>(front: &str, text: &'t str) -> Option<&'t str>
     }
 }
 
-/// Whether a text begins with a front.
+/// Returns whether a text begins with a front.
 fn begins_with(text: &str, front: &str) -> bool
     ensures { result ≡ starts_with nat_eq text.now front.now }
 {
     text.starts_with(front)
 }
 
-/// Whether a text begins as all paths do that are served, but for their first slash.
+/// Returns whether a text begins as all paths do that are served, but for their first slash.
 fn is_served(text: &str) -> bool
     ensures { result ≡ spec.is_served text.now }
 {
     begins_with(text, "lra-coordinator") || begins_with(text, "lra-recovery")
 }
 
-/// What a text has behind a front, where it begins with that and goes on as a path that is served.
+/// Returns what a text has behind a front, where it begins with that and goes on as a path that is served.
 #[tactic(auto, unfolding(crate::specs::Paths::served_behind))]
 pub(crate) fn served_behind<'t>(front: &str, text: &'t str) -> Option<&'t str>
     ensures { option_map (λ rest. rest.now) result ≡ spec.served_behind front.now text.now }
@@ -64,7 +65,7 @@ pub(crate) fn served_behind<'t>(front: &str, text: &'t str) -> Option<&'t str>
     if is_served(rest) { Some(rest) } else { None }
 }
 
-/// What follows the first slash, or nothing.
+/// Returns what follows the first slash, or nothing.
 fn after_slash(text: &str) -> &str
     ensures { result.now ≡ after_first is_slash text.now }
 {
@@ -82,7 +83,7 @@ pub fn path_of(base: &str) -> &str
     after_slash(after_slash(after_slash(base)))
 }
 
-/// What a target has behind a path, where a proxy passed that on.
+/// Returns what a target has behind a path, where a proxy passed that on.
 fn passed_on<'t>(path: &str, target: &'t str) -> Option<&'t str>
     ensures { option_map (λ rest. rest.now) result ≡ spec.passed_on path.now target.now }
 {
@@ -92,7 +93,7 @@ fn passed_on<'t>(path: &str, target: &'t str) -> Option<&'t str>
     served_behind(path, behind("/", target)?)
 }
 
-/// Whether a target isn't behind the path of a base, as a proxy passes it on.
+/// Returns whether a target isn't behind the path of a base, as a proxy passes it on.
 pub(crate) fn is_outside(base: &str, target: &str) -> bool
     ensures { result ≡ spec.is_outside base.now target.now }
 {

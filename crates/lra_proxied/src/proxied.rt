@@ -1,4 +1,4 @@
-//! Who answers what requests mean.
+//! A responder to what requests mean.
 
 ghost use Rattle.std.specs.Prelude.{◌≡◌};
 
@@ -11,8 +11,9 @@ use lra_steps::{Answered, Responder};
 use lra_wire::RequestRead;
 use std::alloc::Global;
 
-/// Whoever answers, asked what each request means: behind a proxy that passes the path of the base on, and by identifiers under older bases. A strict one
-/// lets requests in by the path of the base alone. It can't be dropped, but gives back who answers.
+/// A responder that is asked what each request means: behind a proxy that passes the path of the base on, and by
+/// identifiers under older bases. A strict one lets requests in by the path of the base alone. It can't be dropped, but
+/// gives back the responder.
 pub struct Proxied<A: Responder> {
     inner: A,
     olders: Vec<Base>,
@@ -34,7 +35,7 @@ impl<A: Responder> Proxied<A> {
         }
     }
 
-    /// Who answers.
+    /// Returns the responder.
     pub fn into_inner(self) -> A
         ensures { result ≡ self.inner }
     {

@@ -19,7 +19,7 @@ pub fn copy_bases(alloc: Global, bases: &[Base]) -> Result<Vec<Base>, Memory>
     Ok(copies)
 }
 
-/// What a text has behind the first of several bases that it is under.
+/// Returns what a text has behind the first of several bases that it is under.
 fn behind_any<'t>(bases: &[Base], text: &'t str) -> Option<&'t str>
     ensures { option_map (λ rest. rest.now) result ≡ spec.behind_any bases.now text.now }
 {

@@ -1,17 +1,17 @@
-//! Who tells which journals are near their end.
+//! The reserve of journals, which tells which of them are near their end.
 
 ghost use Rattle.std.specs.Prelude.{◌≡◌, IfSome, IsFalse};
 
 use lra_model::Instance;
 
-/// Who tells which journals are near their end.
+/// A reserve of journals: it tells which of them are near their end.
 pub trait Reserve {
     ghost use Rattle.std.specs.Prelude.{ℕ, Option, None};
 
     // What it may tell of what names an instance, or none: which journal near its end would take that, if one does.
     ghost tells: { Option ℕ → Option ℕ → Type 0 };
 
-    /// Whether any may be near its end. This is asked for each request, and so takes no time.
+    /// Returns whether any may be near its end. This is asked for each request, and so takes no time.
     fn has_any(&self) -> bool
         ensures { IsFalse result → (named : Option ℕ) → tells named None };
 

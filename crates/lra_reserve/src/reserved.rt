@@ -1,4 +1,4 @@
-//! Who answers, but turns away what would begin something in a journal near its end.
+//! A responder that turns away what would begin something in a journal near its end.
 
 ghost use Rattle.std.specs.Prelude.{◌≡◌, IfNone, IfSome};
 ghost use Rattle.lra_wire.specs.Request.{request_of};
@@ -15,21 +15,21 @@ use lra_steps::{Answered, Responder};
 use lra_wire::RequestRead;
 use std::alloc::Global;
 
-/// Who answers, and who tells which journals are near their end.
+/// A responder, and the reserve that tells which journals are near their end.
 #[derive(Drop)]
 pub struct Reserved<A: Responder, K: Reserve> {
     inner: A,
     reserve: K,
 }
 
-/// Whether what an operation asks for begins something.
+/// Returns whether what an operation asks for begins something.
 fn begins_at(operation: Operation) -> bool
     ensures { result ≡ spec.begins_at operation }
 {
     matches!(operation, Operation::Start | Operation::Join)
 }
 
-/// Whether a request begins something.
+/// Returns whether a request begins something.
 fn begins(routes: &Routes, request: &RequestRead) -> bool
     ensures { result ≡ spec.begins (request_of request.now) }
 {
@@ -39,7 +39,7 @@ fn begins(routes: &Routes, request: &RequestRead) -> bool
     }
 }
 
-/// Whether a request lets a member join.
+/// Returns whether a request lets a member join.
 fn is_join(routes: &Routes, request: &RequestRead) -> bool
     ensures { result ≡ spec.is_join (operation_of (request_of request.now).method (request_of request.now).target) }
 {
@@ -57,7 +57,7 @@ impl<A: Responder, K: Reserve> Reserved<A, K> {
         Reserved { inner, reserve }
     }
 
-    /// What a request is answered that is turned away, if it is.
+    /// Returns the denial of a request that is turned away, if it is.
     fn turned_away(&self, alloc: Global, routes: &Routes, request: &RequestRead) -> Option<Answered>
         ensures none { IfNone result (spec.IsLet K.tells (request_of request.now)) }
         ensures some { IfSome result (λ answered. spec.IsTurnedAway K.tells (request_of request.now) answered) }

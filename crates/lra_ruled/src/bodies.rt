@@ -15,14 +15,14 @@ use serde_json::Value;
 use serde_json::value::Map;
 use std::alloc::Global;
 
-/// Whether a key is that of one of a member's addresses.
+/// Returns whether a key is that of one of a member's addresses.
 fn is_address(key: &str) -> bool
     ensures { result ≡ is_some (kind_in key.now (keys Operation.Join)) }
 {
     key == "compensate" || key == "complete" || key == "status" || key == "forget" || key == "after"
 }
 
-/// Whether the body of a join may have a value under a key.
+/// Returns whether the body of a join may have a value under a key.
 fn fits(key: &str, value: &Value) -> bool
     ensures { result ≡ member_fits Operation.Join key.now (view value.now) }
 {
@@ -40,7 +40,7 @@ fn all_fit(members: &Map<String, Value>) -> bool
     true
 }
 
-/// Whether a value is the body of a join.
+/// Returns whether a value is the body of a join.
 fn is_join(value: &Value) -> bool
     ensures { result ≡ is_some (option_and_then (fitting Operation.Join) (as_object (view value.now))) }
 {
@@ -50,7 +50,7 @@ fn is_join(value: &Value) -> bool
     }
 }
 
-/// What the body of a join says, where it says anything.
+/// Returns what a body says as that of a join, where it is one. An empty body says nothing.
 fn joined_in(alloc: Global, body: &[u8]) -> Result<Option<Value>, Memory>
     ensures { IfOk result (IsJoined body.now) }
 {
@@ -68,7 +68,7 @@ fn joined_in(alloc: Global, body: &[u8]) -> Result<Option<Value>, Memory>
     }
 }
 
-/// Whether a body is that of a join, and has an address that rules don't let.
+/// Returns whether a body is that of a join, and has an address that rules don't let.
 pub(crate) fn is_outside(alloc: Global, rules: &Rules, body: &[u8]) -> Result<bool, Memory>
     ensures { IfOk result (λ told. told ≡ spec.is_outside_by rules.now body.now) }
 {

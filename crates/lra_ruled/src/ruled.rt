@@ -1,4 +1,4 @@
-//! Who answers, but refuses joins outside the rules.
+//! A responder that refuses joins outside the rules.
 
 ghost use Rattle.std.specs.Prelude.{◌≡◌, false, IfNone, IfSome};
 ghost use Rattle.lra_wire.specs.Request.{request_of};
@@ -14,14 +14,14 @@ use lra_steps::{Answered, Responder};
 use lra_wire::RequestRead;
 use std::alloc::Global;
 
-/// Who answers, and the rules for where members may be.
+/// A responder, and the rules for where members may be.
 #[derive(Drop)]
 pub struct Ruled<'r, A> {
     inner: A,
     rules: &'r Rules,
 }
 
-/// Whether a request asks to join.
+/// Returns whether a request asks to join.
 fn is_join(routes: &Routes, request: &RequestRead) -> bool
     ensures { result ≡ spec.is_join (request_of request.now) }
 {
@@ -60,7 +60,7 @@ impl<'r, A> Ruled<'r, A> {
         Ruled { inner, rules }
     }
 
-    /// Who answers.
+    /// Returns the responder.
     pub fn into_inner(self) -> A
         ensures { result ≡ self.entry.inner }
     {

@@ -27,10 +27,10 @@ use std::snapshot::Snapshot;
 /// The most bytes that are kept: those of the largest request, a head of 8,192 bytes and a body of 65,536.
 const MAX_KEPT: usize = 73_728;
 
-/// How many requests are taken at most, beside the last.
+/// The most requests that are taken, beside the last.
 const MOST_OTHERS: u64 = 999;
 
-/// What stands next.
+/// The step that comes next.
 #[derive(Clone, Copy, Debug, PartialEq, Eq)]
 pub enum Step {
     /// More bytes are wanted.
@@ -58,17 +58,17 @@ pub struct Connection {
     instance: Instance,
     kept: Queue,
     out: Queue,
-    /// What was found of what is kept, so that it isn't read anew with each piece.
+    /// The parts that were found of what is kept, so that it isn't read anew with each piece.
     seen: Seen,
     /// The request that stands to be answered.
     stands: Option<RequestRead>,
     ended: Option<StreamEnd>,
     closed: bool,
-    /// How many requests are taken yet, beside the last.
+    /// The number of requests that are still taken, beside the last.
     left: u64,
-    /// What the URIs in replies begin with. From here on all is for contracts, and takes no memory.
+    /// The base that the URIs in replies begin with. From here on all is for contracts, and takes no memory.
     base: Snapshot<Base>,
-    /// What was kept after each piece came, and where the piece begins.
+    /// The bytes that were kept after each piece came, and the place where the piece begins.
     reads: Log<Queue, usize>,
     turns: Log<RequestRead, Reply>,
     /// The output before each time that bytes were handed out, and how many went.
@@ -87,14 +87,14 @@ impl Model for Connection {
     ghost invariant = { Holds };
 }
 
-/// What stands behind a place is noted.
+/// Notes what stands in a queue from a place on.
 fn note_back(log: &mut Log<Queue, usize>, queue: &Queue, place: usize)
     ensures { backs log.new.items ≡ backs log.old.items ++ drop place queue.now ∷ [] }
 {
     *log = log.and(queue, &place);
 }
 
-/// What stands before a place is noted.
+/// Notes what stands in a queue before a place.
 fn note_front(log: &mut Log<Queue, usize>, queue: &Queue, place: usize)
     ensures { fronts log.new.items ≡ fronts log.old.items ++ take place queue.now ∷ [] }
 {
@@ -133,7 +133,7 @@ fn next_front(
     }
 }
 
-/// How a connection ends where more of a request is wanted: not at all while bytes may come.
+/// Returns how a connection ends where more of a request is wanted: not at all while bytes may come.
 fn end_without(closed: bool, kept: &[u8]) -> Option<StreamEnd>
     requires { IsTrue closed → IsUnfinished kept.now }
     ensures { EndsWithout closed kept.now result }
@@ -147,21 +147,21 @@ fn end_without(closed: bool, kept: &[u8]) -> Option<StreamEnd>
     }
 }
 
-/// Whether the head of a reply alone is asked for.
+/// Returns whether the head of a reply alone is asked for.
 fn is_head(request: &RequestRead) -> bool
     ensures { result ≡ stream.is_head (request_of request.now) }
 {
     request.method.as_str() == Method::HEAD.as_str()
 }
 
-/// Whether the stream is closed after a request: where it asks for that, or is the last that is taken.
+/// Returns whether the stream is closed after a request: where it asks for that, or is the last that is taken.
 fn closes_after(request: &RequestRead, left: u64) -> bool
     ensures { result ≡ stream.closes_after (left == 0) (request_of request.now) }
 {
     request.close || left == 0
 }
 
-/// How a connection ends with a reply: where it is lost, or the stream is closed after it.
+/// Returns how a connection ends with a reply: it ends where the reply is lost, or the stream is closed after it.
 fn end_after(replied: bool, close: bool) -> Option<StreamEnd>
     ensures { result ≡ (if replied then (if close then Some Done else None) else Some WriteFault) }
 {
@@ -196,14 +196,14 @@ impl Connection {
         }
     }
 
-    /// What is true of every connection.
+    /// States what is true of every connection.
     pub fn served(&self)
         ensures { IsServed self.now }
     {
         let _closed = self.closed;
     }
 
-    /// How many bytes may be taken.
+    /// Returns how many bytes may be taken.
     pub fn room(&self) -> usize
         ensures { result ≡ room_of self.now }
     {

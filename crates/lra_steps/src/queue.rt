@@ -4,7 +4,8 @@ ghost use Rattle.std.specs.Prelude.{◌≡◌, ◌≤◌, [], ◌++◌, length, 
 use std::alloc::{AllocError, Global};
 use std::marker::Model;
 
-/// How much memory is kept while there are no bytes: enough for a short message, so that one after another takes no memory anew.
+/// The most memory that is kept while there are no bytes: enough for a short message, so that one after another takes
+/// no memory anew.
 const LEAST: usize = 256;
 
 /// A contract sees the bytes that are still there. It has more than a little memory only while there are some.

@@ -1,4 +1,4 @@
-//! Who answers requests.
+//! The responder, which answers requests.
 
 ghost use Rattle.std.specs.Prelude.{◌≡◌};
 ghost use Rattle.lra_wire.specs.Request.{request_of};
@@ -11,7 +11,7 @@ use lra_ids::{Base, Instance};
 use lra_wire::RequestRead;
 use std::alloc::Global;
 
-/// What a request is answered, and what of a journal the answer rests on.
+/// The answer to a request, and what of a journal it rests on.
 #[derive(Clone, Copy, Debug, PartialEq, Eq)]
 pub struct Answered {
     /// The instance whose identifiers the answer names.
@@ -35,7 +35,7 @@ impl Answered {
     }
 }
 
-/// Who answers requests: a counter, or several of which each request names one.
+/// A responder to requests: a counter, or several of which each request names one.
 ///
 /// Callers know of it what all its URIs begin with. What an answer does, and what a rest does, are relations that are
 /// fixed by the type; whatever these are, it is a law that those URIs go on to begin so.
@@ -59,7 +59,7 @@ pub trait Responder {
     // What a rest does: what is known before it and after it.
     ghost rests: { State → State → Type 0 };
 
-    /// What all its URIs begin with. This takes no memory.
+    /// Returns the base that all its URIs begin with. This takes no memory.
     fn base(&self) -> &Base
         ensures { result.now ≡ base_of (sight self.now) };
 
