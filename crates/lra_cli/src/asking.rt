@@ -4,10 +4,10 @@ use lra_journal::read_number;
 use lra_model::ActionStatus;
 use lra_stories::{Form, read_wanted};
 
-/// What these words ask for.
+/// A story, a listing or a journal to be followed, as words ask for it.
 #[derive(Clone, Copy)]
 pub(crate) enum Asking<'a> {
-    /// What happened to an action.
+    /// The story of what happened to an action.
     Explain {
         place: &'a str,
         form: Form,
@@ -116,7 +116,7 @@ fn read_choice(options: &[String]) -> Option<Listed> {
     }
 }
 
-/// Whether a word names something, and is no option.
+/// Returns whether a word names something, and is no option.
 fn is_name(word: &str) -> bool {
     !word.starts_with("--")
 }
@@ -130,7 +130,7 @@ fn explain_of<'a>(place: &'a str, form: Form, name: &'a str) -> Option<Asking<'a
     }
 }
 
-/// What words with a verb and a place ask for.
+/// Reads what words with a verb and a place ask for.
 fn read_on<'a>(verb: &str, place: &'a str, rest: &'a [String]) -> Option<Asking<'a>> {
     match verb {
         "explain" => match rest {
@@ -159,7 +159,7 @@ fn read_on<'a>(verb: &str, place: &'a str, rest: &'a [String]) -> Option<Asking<
     }
 }
 
-/// What these words ask for, where it is a story, a listing or a journal to be followed.
+/// Reads what these words ask for, where it is a story, a listing or a journal to be followed.
 pub(crate) fn read_asking(words: &[String]) -> Option<Asking<'_>> {
     match words {
         [verb, place, rest @ ..] if is_name(place.as_str()) => {

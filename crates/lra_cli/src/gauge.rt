@@ -28,13 +28,13 @@ pub(crate) struct Gauge<'a, R, H> {
     alloc: Global,
     clock: &'a R,
     herald: &'a H,
-    /// How many bytes there are.
+    /// The number of bytes that there are.
     all: u64,
-    /// How many were read.
+    /// The number of bytes that were read.
     read: AtomicU64,
     /// The millisecond of the steady clock from which on the line is written.
     due: AtomicU64,
-    /// Whether the line stands there.
+    /// A flag, set while the line stands there.
     stands: AtomicBool,
 }
 

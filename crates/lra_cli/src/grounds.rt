@@ -13,20 +13,20 @@ use std::fs::File;
 use std::rt::Files;
 use std::sync::Arc;
 
-/// How many bytes a token has at least, and at most.
+/// The least number of bytes that a token has, and the most.
 const SHORTEST: usize = 16;
 
 const LONGEST: usize = 128;
 
-/// What the terms of a service are made of.
+/// The parts that the terms of a service are made of.
 #[derive(Drop)]
 pub(crate) struct Grounds {
-    /// What identifiers begin with, if that isn't `http://`, the address and `/`.
+    /// The beginning of identifiers, if that isn't `http://`, the address and `/`.
     base: Option<Base>,
     rest: Rest,
 }
 
-/// What they are made of beside what identifiers begin with.
+/// The parts that they are made of beside what identifiers begin with.
 #[derive(Drop)]
 pub(crate) struct Rest {
     is_strict: bool,
@@ -37,7 +37,7 @@ pub(crate) struct Rest {
 }
 
 impl Grounds {
-    /// What identifiers begin with, and the rest.
+    /// Returns what identifiers begin with, and the rest.
     pub(crate) fn parted(self) -> (Option<Base>, Rest) {
         let Grounds { base, rest } = self;
         (base, rest)
@@ -56,7 +56,7 @@ impl Rest {
         }
     }
 
-    /// What says whose the folder is, if anything does.
+    /// Returns the fence, which says whose the folder is, if there is one.
     pub(crate) fn fence(&self) -> Option<&Arc<Fence>> {
         self.fence.as_ref()
     }
@@ -96,7 +96,7 @@ fn keys_of<R: AllocGlobal + Files<File = File> + KeyFiles>(
     }
 }
 
-/// What says whose the folder is, if a file that does is named.
+/// Returns the fence, which says whose the folder is, if a file of it is named.
 fn fence_of<R: AllocGlobal + Fenced>(
     rt: &R,
     said: &Said,
@@ -145,7 +145,7 @@ fn rules_of(alloc: Global, said: &Said) -> Result<Rules, OptionsFault> {
     Ok(Rules::new(rules))
 }
 
-/// Whether a text may be the last part of a base, and is long enough that nobody guesses it.
+/// Returns whether a text may be the last part of a base, and is long enough that nobody guesses it.
 fn is_token(text: &str) -> bool {
     let is_plain = text.as_bytes().iter().all(|byte| byte.is_ascii_alphanumeric()
         || *byte == b'-'
@@ -187,7 +187,7 @@ fn base_with(alloc: Global, base: &str, token: &str) -> Result<Base, OptionsFaul
     }
 }
 
-/// What identifiers are to begin with, if the options say so.
+/// Copies what identifiers are to begin with, if the options say so.
 pub(crate) fn copy_base(options: &Options<'_>) -> Result<Option<Base>, AllocError> {
     match &options.base {
         Some(base) => Ok(Some(base.copy()?)),
@@ -195,7 +195,8 @@ pub(crate) fn copy_base(options: &Options<'_>) -> Result<Option<Base>, AllocErro
     }
 }
 
-/// What identifiers begin with, at an address, where that isn't `http://`, the address and `/`; and whether a part of it is a secret.
+/// Returns what identifiers begin with, at an address, where that isn't `http://`, the address and `/`; and whether a
+/// part of it is a secret.
 fn base_of<R: AllocGlobal + Files<File = File> + KeyFiles>(
     rt: &R,
     options: &Options<'_>,
@@ -217,7 +218,7 @@ fn base_of<R: AllocGlobal + Files<File = File> + KeyFiles>(
     Ok((Some(base?), true))
 }
 
-/// What the terms of a service at an address are made of.
+/// Returns the parts that the terms of a service at an address are made of.
 pub(crate) fn grounds_of<R: AllocGlobal + Files<File = File> + KeyFiles + Fenced>(
     rt: &R,
     options: &Options<'_>,

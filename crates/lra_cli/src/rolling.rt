@@ -1,4 +1,4 @@
-//! What is served of a folder.
+//! The service of a folder.
 
 use crate::grounds::Grounds;
 use crate::reasons::{FaultLog, Unlogged, fail, log_unsound};

@@ -1,4 +1,4 @@
-//! What is served.
+//! The service of a journal, or of a folder of them.
 
 use crate::grounds::{Grounds, copy_base, grounds_of, wrong};
 use crate::nowhere::warn_of_nowhere;
@@ -48,7 +48,7 @@ fn stand_ins<R: Files<File = File>>(rt: &R) -> [Option<File>; 3] {
     [nothing(rt), nothing(rt), nothing(rt)]
 }
 
-/// Whether words ask for a service by options.
+/// Returns whether words ask for a service by options.
 pub(crate) fn have_options(words: &[String]) -> bool {
     match words {
         [verb, rest @ ..] => {

@@ -57,7 +57,7 @@ fn list<R: AllocGlobal + Files + Input + Print + Eprint>(
     list_run(rt.alloc(), input, choice, "", &mut io::writer(rt))
 }
 
-/// What is listed of one of a folder's journals.
+/// The listing of one of a folder's journals.
 #[derive(Drop)]
 struct Listing {
     name: String,
@@ -81,7 +81,7 @@ fn add_listing<F: Read + Drop>(
     list_run(alloc, file, choice, prefix.as_str(), text)
 }
 
-/// What is listed of the journal of a name, whose file this is, where it could be opened.
+/// Returns the listing of the journal of a name, whose file this is, where it could be opened.
 fn listing_of<F: Read + Drop>(
     alloc: Global,
     choice: &Choice,
@@ -97,7 +97,8 @@ fn listing_of<F: Read + Drop>(
     }
 }
 
-/// What is listed of the journals of these names, or of as many as can be open at once, each by a thread of its own where one can be started.
+/// Lists the journals of these names, or as many as can be open at once, each by a thread of its own where one can be
+/// started.
 fn list_side_by_side<R: AllocGlobal + Files<File = File> + Threads + Input + Sync>(
     rt: &R,
     folder: &str,

@@ -1,6 +1,6 @@
-//! What the program says of itself.
+//! The texts in which the program speaks of itself.
 
-/// How it is called.
+/// The ways in which the program is called.
 pub(crate) const HELP: &str = "\
 lra                               audits standard input
 lra audit FILE                    audits a journal, or all that a folder has

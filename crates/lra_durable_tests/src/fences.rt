@@ -5,7 +5,7 @@ use lra_storage::{Fenced, stands};
 use std::alloc::Global;
 use std::sync::Arc;
 
-/// Whether the file of a name has the bytes that it had at first, or why it is no fence.
+/// Returns whether the file of a name has the bytes that it had at first, or why it is no fence.
 fn told<R: Fenced>(rt: &R, alloc: Global, path: &str) -> Result<bool, SmallFault> {
     let fence = rt.fence(path)?;
     match Arc::new(alloc, fence) {

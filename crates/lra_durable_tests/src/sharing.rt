@@ -9,10 +9,11 @@ use std::marker::Sync;
 use std::sync::{Arc, Wait};
 use std::thread::{Threads, join};
 
-/// How many bytes were kept when each of three could go on, if it could, and how many syncs there were.
+/// The number of bytes that were kept when each of three could go on, if it could, and the number of syncs.
 type Told = (Option<u64>, Option<u64>, Option<u64>, u64);
 
-/// How many bytes are kept when one who waits for the disk can go on, once it has so many.
+/// Waits until the platter has so many bytes, and then until they are kept. Returns how many are kept then, if they
+/// are.
 fn wait<R: Wait>(
     rt: &R,
     platter: &Platter,
@@ -43,7 +44,8 @@ fn write_both<R: Wait>(
     first && second && !is_early
 }
 
-/// What three were told: one who waits for two bytes, whose sync is held back, and two who wait for five that were written meanwhile.
+/// Returns what three threads were told: one that waits for two bytes, whose sync is held back, and two that wait for
+/// five that were written meanwhile.
 fn share<R: Threads + Wait + Sync>(rt: &R, alloc: Global, is_broken: bool) -> Option<Told> {
     let Begun {
         platter,

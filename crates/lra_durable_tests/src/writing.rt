@@ -7,7 +7,7 @@ use std::io::{ErrorKind, Write};
 use std::sync::Wait;
 use std::test::Fail;
 
-/// What became of a write.
+/// Writes bytes, and returns the kind of the error, if there is one.
 fn outcome<W: Write>(keeper: &mut W, bytes: &[u8]) -> Option<ErrorKind> {
     match keeper.write_all(bytes) {
         Ok(()) => None,
@@ -15,7 +15,8 @@ fn outcome<W: Write>(keeper: &mut W, bytes: &[u8]) -> Option<ErrorKind> {
     }
 }
 
-/// Whether a write that the disk takes in part is taken back, and the next one stands behind those that were whole.
+/// Returns whether a write that the disk takes in part is taken back, and the next one stands behind those that were
+/// whole.
 fn takes_back<R: Wait>(rt: &R, alloc: Global) -> Option<bool> {
     let Begun {
         platter,
@@ -37,7 +38,8 @@ fn a_write_stands_whole_or_not_at_all(rt: HostRuntime) {
     assert!(rt; takes_back(&rt, rt.alloc()) == Some(true));
 }
 
-/// Whether a write that can't be taken back is the disk's failure: nothing is written from then on, and nobody waits.
+/// Returns whether a write that can't be taken back is the disk's failure: nothing is written from then on, and nobody
+/// waits.
 fn fails<R: Wait>(rt: &R, alloc: Global) -> Option<bool> {
     let Begun {
         platter,
@@ -60,7 +62,8 @@ fn a_write_that_cannot_be_taken_back_is_the_end(rt: HostRuntime) {
     assert!(rt; fails(&rt, rt.alloc()) == Some(true));
 }
 
-/// Whether a write that is a byte too long for the room that there is gets nothing, though the disk would take it, and one that just fits is added.
+/// Returns whether a write that is a byte too long for the room that there is gets nothing, though the disk would take
+/// it, and one that just fits is added.
 fn keeps_within<R: Wait>(rt: &R, alloc: Global) -> Option<bool> {
     let Begun {
         platter,

@@ -91,7 +91,7 @@ impl Session for Counting {
     }
 }
 
-/// How many orders the member of an instance was given.
+/// Returns how many orders the member of an instance was given.
 pub(super) fn orders_of(family: &Family<Counting>, instance: u64) -> Option<u64> {
     match family.member(Instance::new(instance)?) {
         Some(counter) => Some(counter.orders),

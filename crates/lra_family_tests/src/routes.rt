@@ -57,7 +57,7 @@ GET /nothing||NoSuchPath|0 0
 GET /lra-coordinator/00000000-0000-8007-8000-000000000001?x||NoSuchPath|0 0
 DELETE /lra-coordinator/00000000-0000-8007-8000-000000000001||BadMethod|0 0"###;
 
-/// What stands before a sign, and what after it.
+/// Returns what stands before a sign, and what after it.
 fn parted<'t>(text: &'t str, sign: &str) -> (&'t str, &'t str) {
     match text.split_once(sign) {
         Some(parts) => parts,
@@ -97,7 +97,7 @@ fn answered(
     respond(alloc, routes, family, 5, request)
 }
 
-/// Whether the members were given as many orders as two digits say.
+/// Returns whether the members were given as many orders as two digits say.
 fn were_given(family: &Family<Counting>, digits: &str) -> bool {
     let older = orders_of(family, OLDER);
     let newer = orders_of(family, NEWER);
@@ -118,7 +118,7 @@ fn has_position(told: Answered, digits: &str) -> bool {
     }
 }
 
-/// Whether a request is answered by a word, at a family of both.
+/// Returns whether a request is answered by a word, at a family of both.
 fn comes_to(alloc: Global, head: &str, body: &str, wanted: &str, digits: &str) -> Option<bool> {
     let routes = Routes::new(alloc).ok()?;
     let request = request(alloc, head, body)?;
@@ -146,7 +146,8 @@ fn a_request_is_the_one_member_s_that_it_names(rt: HostRuntime) {
 const NESTED: &str =
     r#"{"parent":"http://h.test/lra-coordinator/00000000-0000-8007-8000-000000000001"}"#;
 
-/// Whether a nested start is its parent's journal's; and where memory is refused for it, it reaches nobody, and is answered the next time.
+/// Returns whether a nested start is its parent's journal's. Where memory is refused for it, it reaches nobody, and is
+/// answered the next time.
 fn is_given_once(alloc: Global) -> Option<bool> {
     let routes = Routes::new(alloc).ok()?;
     let request = request(alloc, "POST /lra-coordinator", NESTED)?;

@@ -105,7 +105,7 @@ fn statuses(alloc: Global, replies: &str) -> Option<String> {
     Some(told)
 }
 
-/// Whether these are the replies.
+/// Returns whether these are the replies.
 fn are_so(alloc: Global, sent: &[u8], wanted: &str) -> bool {
     let Ok(replies) = str::from_utf8(sent) else {
         return false;
@@ -130,7 +130,7 @@ fn household(alloc: Global, looks: u64, lacks: bool) -> Option<Household<Countin
     ))
 }
 
-/// Whether the stream is replied so at a household.
+/// Returns whether the stream is replied so at a household.
 fn is_replied(
     alloc: Global,
     household: &mut Household<Counting, Late>,
@@ -146,7 +146,7 @@ fn is_replied(
     Some(replied)
 }
 
-/// Whether the stream is replied so, and each member is given two orders.
+/// Returns whether the stream is replied so, and each member is given two orders.
 fn comes_to(alloc: Global, size: usize) -> Option<bool> {
     let mut household = household(alloc, 0, false)?;
     let replied = is_replied(alloc, &mut household, size, STATUSES);
@@ -163,7 +163,8 @@ fn a_connection_asks_members_by_turns(rt: HostRuntime) {
     assert!(rt; comes_to(rt.alloc(), 4096) == Some(true));
 }
 
-/// Whether what no member answers is refused while one may be lacked, and the older is given its own two orders, and no start.
+/// Returns whether what no member answers is refused while one may be lacked, and the older is given its own two
+/// orders, and no start.
 fn reaches_nobody(alloc: Global, size: usize) -> Option<bool> {
     let mut household = household(alloc, 3, true)?;
     let replied = is_replied(alloc, &mut household, size, LACKING);
@@ -180,7 +181,7 @@ fn what_may_be_lacked_reaches_nobody(rt: HostRuntime) {
     assert!(rt; reaches_nobody(rt.alloc(), 4096) == Some(true));
 }
 
-/// Whether the newer member has joined after one rest more than these looks.
+/// Returns whether the newer member has joined after one rest more than these looks.
 fn has_joined(alloc: Global, looks: u64) -> Option<bool> {
     let mut household = household(alloc, looks, false)?;
     household.rest();

@@ -1,4 +1,4 @@
-//! How many address texts a second `is_address_text` tests, for short texts and for texts of 512 bytes.
+//! The number of address texts that `is_address_text` tests a second, for short texts and for texts of 512 bytes.
 
 use crate::line::Line;
 use crate::stopwatch::{Stopwatch, a_second};

@@ -6,14 +6,14 @@ use std::io::Print;
 /// One figure.
 #[derive(Clone, Copy)]
 pub struct Line<'a> {
-    /// What was measured.
+    /// The name of what was measured.
     pub what: &'a str,
-    /// How much there was of something.
+    /// The amount that there was of something.
     pub size: u64,
     pub of: &'a str,
     pub figure: f64,
     pub unit: &'a str,
-    /// How many times that of another line it is.
+    /// The quotient of the figure and that of another line.
     pub ratio: f64,
 }
 

@@ -8,7 +8,7 @@ use std::sync::{Mutex, Wait};
 use std::thread::{self, Threads};
 use std::time::Clock;
 
-/// What is done by turns.
+/// Something that is done by turns.
 pub trait Turns {
     /// Takes a turn; false where that can't be done.
     fn take_turn(&mut self) -> bool;

@@ -33,7 +33,7 @@ pub fn nanoseconds_each(seconds: f64, calls: u64) -> f64 {
     seconds * 1e9 / nearest_u64_to_f64(calls)
 }
 
-/// How many calls there are a second.
+/// Returns how many calls there are a second.
 pub fn a_second(seconds: f64, calls: u64) -> f64 {
     nearest_u64_to_f64(calls) / seconds
 }

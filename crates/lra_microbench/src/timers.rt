@@ -7,7 +7,7 @@ use lra_timers::{Agenda, Memory};
 
 const SIZES: [u64; 3] = [1_000, 20_000, 400_000];
 
-/// How many turns are timed together.
+/// The number of turns that are timed together.
 const TURNS: u64 = 100_000;
 
 /// A turn's calls: the first twice, a replacement, a drop and a set.

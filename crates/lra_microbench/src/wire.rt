@@ -10,7 +10,7 @@ use anyhow::Result;
 use lra_wire::{Inbox, read_request};
 use std::alloc::Global;
 
-/// How many requests a stream has.
+/// The number of requests that a stream has.
 const REQUESTS: u64 = 10_000;
 
 /// The shortest of so many runs counts: what else the machine does only makes a run longer.

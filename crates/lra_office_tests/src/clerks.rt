@@ -20,7 +20,7 @@ use std::test::Fail;
 use std::thread::{Threads, join};
 use std::time::Clock;
 
-/// Whether a clerk is answered as one who is alone.
+/// Returns whether a clerk is answered as one that is alone.
 fn acts_alone<V: Serving, R: Wait>(rt: &R, office: &OfficeOf<V>, clerk: &mut Clerk<V>) -> bool
     requires { IsClerkOf office.now.lock V.covers clerk.old }
     ensures { IsClerkOf office.now.lock V.covers clerk.new }
@@ -143,7 +143,7 @@ fn two<V: Serving + Send, R: Threads + Wait + Sync>(
     Some((first, second, action))
 }
 
-/// How many entries bear a number.
+/// Counts the entries that bear a number.
 fn count_by(entries: &[Entry], number: u32) -> u32 {
     let mut count = 0u32;
     for entry in entries {
@@ -154,7 +154,7 @@ fn count_by(entries: &[Entry], number: u32) -> u32 {
     count
 }
 
-/// How many entries of a journal bear the numbers 1, 2 and 3.
+/// Counts the entries of a journal that bear the numbers 1, 2 and 3.
 fn counts(alloc: Global, journal: &[u8]) -> Result<(u32, u32, u32), Fail> {
     let (_, _, entries) = read_journal(alloc, journal)?;
     let all = entries.as_slice();
@@ -163,7 +163,7 @@ fn counts(alloc: Global, journal: &[u8]) -> Result<(u32, u32, u32), Fail> {
     Ok(counts)
 }
 
-/// What is left of two clerks that met, and whether one has seen what the other did in its thread.
+/// Returns what is left of two clerks that met, and whether one has seen what the other did in its thread.
 fn sees_the_other<V: Serving + Send, R: Threads + Wait + Sync>(
     rt: &R,
     office: &OfficeOf<V>,
@@ -225,7 +225,7 @@ impl<R: Clock> Write for Slow<'_, R> {
     }
 }
 
-/// Whether an action is started while the writer waits.
+/// Returns whether an action is started while the writer waits.
 fn starts_slowly<V: Serving, R: Wait>(rt: &R, office: &OfficeOf<V>, mut clerk: Clerk<V>) -> bool
     requires { IsClerkOf office.now.lock V.covers clerk }
 {
@@ -234,7 +234,7 @@ fn starts_slowly<V: Serving, R: Wait>(rt: &R, office: &OfficeOf<V>, mut clerk: C
     told == Ok(Told::Action(1))
 }
 
-/// Whether a status is asked for in vain once the writer waits.
+/// Returns whether a status is asked for in vain once the writer waits.
 fn is_told_busy<V: Serving, R: Clock>(
     rt: &R,
     office: &OfficeOf<V>,
@@ -250,7 +250,7 @@ fn is_told_busy<V: Serving, R: Clock>(
     has_entered && answer == Err(TryRefusal::Busy)
 }
 
-/// Whether one clerk was told that the lock is another's, and the other one was served.
+/// Returns whether one clerk was told that the lock is another's, and the other one was served.
 fn do_overlap<V: Serving + Send, R: Threads + Wait + Clock + Sync>(
     rt: &R,
     office: &OfficeOf<V>,

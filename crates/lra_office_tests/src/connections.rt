@@ -122,7 +122,7 @@ fn two_answer<V: Serving + Send, R: Threads + Wait + Sync>(
     (clerk, has_ended && other_has_ended)
 }
 
-/// What a client reads, and how the two end who answer it.
+/// A flag, set where both threads that answer a client end so, and the bytes that the client reads.
 type Visited = (bool, io::Result<Vec<u8>>);
 
 /// Two who answer a connection each, beside a client of theirs: whether both end so, and what the client reads.

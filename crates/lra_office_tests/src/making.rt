@@ -17,7 +17,7 @@ use std::io::Write;
 use std::sync::Wait;
 use std::test::Fail;
 
-/// What the URIs begin with.
+/// Returns what the URIs begin with.
 pub fn base(alloc: Global) -> Result<Address, Fail>
     ensures { IfOk result (λ base. is_base base ≡ true) }
 {

@@ -1,10 +1,10 @@
-//! What two threads tell one another.
+//! The signals that two threads give one another.
 
 use std::sync::atomic::{AtomicBool, Ordering};
 use std::thread::sleep;
 use std::time::{Clock, Duration};
 
-/// What one who holds something up and the thread beside it tell one another.
+/// The signals between a thread that holds something up and the thread beside it.
 #[derive(Drop)]
 pub struct Signals {
     /// The first is to wait from now on.

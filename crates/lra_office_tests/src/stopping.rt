@@ -1,4 +1,4 @@
-//! What is left of an office when its writer fails, and what goes on from there.
+//! The state in which an office is left when its writer fails, and what goes on from there.
 
 ghost use Rattle.std.specs.Prelude.{◌≡◌};
 ghost use Rattle.lra_office.specs.Clerks.{IsClerkOf};
@@ -34,7 +34,7 @@ fn writer_with(alloc: Global, room: usize, bad_call: u32) -> Faulty {
     }
 }
 
-/// What came of each command after the enrolment, and of a status at the end, by a letter.
+/// The answers to each command after the enrolment, and to a status at the end, each by a letter.
 ///
 /// `t` where something was told, `S` where it was refused since the writer has failed, `x` where it was refused else, and `-` where nothing
 /// was to be done; of the status `a` for Active, `g` for Closing and `d` for Closed.
@@ -45,7 +45,7 @@ struct Answers {
 }
 
 impl Answers {
-    /// Whether they are what is to come of the commands where so many were told something.
+    /// Returns whether they are what is to come of the commands where so many were told something.
     fn are_of(&self, told: usize) -> bool {
         match ANSWERS.lines().nth(told) {
             Some(letters) => letters.as_bytes() == self.letters.as_slice(),
@@ -93,9 +93,9 @@ fn refusal_letter(fault: OfficeRefusal) -> u8 {
     }
 }
 
-/// What is to come of the commands, by how many of all ten were told something, the enrolment among them: the one whose text doesn't fit
-/// is stopped, and so is each later one that would write. What is refused anyhow, or writes nothing, is answered as ever. The first line
-/// is of none.
+/// The answers that are to come of the commands, by how many of all ten were told something, the enrolment among them:
+/// the one whose text doesn't fit is stopped, and so is each later one that would write. What is refused anyhow, or
+/// writes nothing, is answered as ever. The first line is of none.
 const ANSWERS: &str = "\
 ----------
 Sxxx----xx
@@ -215,7 +215,8 @@ fn give_all<R: Wait>(
     answers
 }
 
-/// What came of the commands in an office, and its writer. Where the clerk's enrolment was stopped, there is none.
+/// The writer of an office, and what came of the commands there. Where the clerk's enrolment was stopped, there is
+/// none.
 type Ran = Option<(Faulty, Answers)>;
 
 /// Gives the commands by a clerk, and shuts the office.
@@ -287,7 +288,8 @@ fn count_lines(bytes: &[u8]) -> u32 {
     lines
 }
 
-/// How many commands have all their lines among so many: the first line is the header, and the last command has two.
+/// Returns how many commands have all their lines among so many: the first line is the header, and the last command has
+/// two.
 fn fitting(lines: u32) -> usize {
     if lines == 12 {
         return 10;
@@ -295,7 +297,8 @@ fn fitting(lines: u32) -> usize {
     lines.saturating_sub(1).min(9) as usize
 }
 
-/// Whether a writer with so much room has taken just so many bytes, and the commands were answered as where that many fit.
+/// Returns whether a writer with so much room has taken just so many bytes, and the commands were answered as where
+/// that many fit.
 fn stops_in_time<R: Wait>(
     rt: &R,
     alloc: Global,
@@ -315,7 +318,7 @@ fn stops_in_time<R: Wait>(
     }
 }
 
-/// Whether a writer whose one call goes wrong isn't called again, and has taken what was written before.
+/// Returns whether a writer whose one call goes wrong isn't called again, and has taken what was written before.
 fn is_left_alone<R: Wait>(
     rt: &R,
     alloc: Global,
@@ -337,7 +340,7 @@ fn is_left_alone<R: Wait>(
     }
 }
 
-/// What an office has written that goes on from a journal, once an action was started there and it is shut.
+/// Returns what an office has written that goes on from a journal, once an action was started there and it is shut.
 fn started_at<R: Wait>(
     rt: &R,
     office: Office<Faulty>,
@@ -356,7 +359,8 @@ fn started_at<R: Wait>(
     }
 }
 
-/// What reopening a journal's bytes comes to: the fault, or what was written of it and of an action that was started then.
+/// Returns what reopening a journal's bytes comes to: the fault, or what was written of it and of an action that was
+/// started then.
 fn go_on<R: Wait>(
     rt: &R,
     alloc: Global,
@@ -381,14 +385,15 @@ fn go_on<R: Wait>(
     }
 }
 
-/// Whether a journal's lines and what was written after them make a sound journal.
+/// Returns whether a journal's lines and what was written after them make a sound journal.
 fn is_sound(alloc: Global, lines: &[u8], written: &[u8]) -> Result<bool, Fail> {
     let mut journal = Vec::from_slice(alloc, lines)?;
     journal.extend_from_slice(written)?;
     Ok(matches!(audit(alloc, journal.as_slice())?, Verdict::Sound(_)))
 }
 
-/// Whether so many bytes of the journal are reopened just where they have its header, and what is written then makes a sound journal.
+/// Returns whether so many bytes of the journal are reopened just where they have its header, and what is written then
+/// makes a sound journal.
 fn reopens<R: Wait>(rt: &R, alloc: Global, room: usize) -> Result<bool, Fail> {
     let (front, _) = JOURNAL.as_bytes().split_at(room.min(JOURNAL.len()));
     match go_on(rt, alloc, front, 31)? {
@@ -414,7 +419,7 @@ fn first_unsound<R: Wait>(rt: &R, alloc: Global) -> Result<Option<usize>, Fail> 
     Ok(None)
 }
 
-/// Whether a journal is sound, and gone on from by these lines.
+/// Returns whether a journal is sound, and gone on from by these lines.
 fn goes_on_by<R: Wait>(
     rt: &R,
     alloc: Global,
@@ -436,7 +441,7 @@ fn goes_on_by<R: Wait>(
 const TORN: &str =
     "lra-journal 1 7\n1 0 enrol\n1 0 start 1 * 0\n1 1 join 1 1 http://p.test/u * * * *\n1 2 close 1 client\n1 2 sk";
 
-/// Whether the torn journal, where only seven entries fit, is refused before the writer is called.
+/// Returns whether the torn journal, where only seven entries fit, is refused before the writer is called.
 fn is_full(alloc: Global) -> Result<bool, Fail> {
     let journal = Vec::from_slice(alloc, TORN.as_bytes())?;
     let limits = Limits {
@@ -482,7 +487,7 @@ fn a_writer_that_fails_is_called_no_more(rt: HostRuntime) -> Result<(), Fail> {
     Ok(())
 }
 
-/// Whether a torn journal is gone on from by the end that it lacks, and one without its last end by that.
+/// Returns whether a torn journal is gone on from by the end that it lacks, and one without its last end by that.
 fn lacking_ends_are_added<R: Wait>(rt: &R, alloc: Global) -> Result<bool, Fail> {
     let torn = "2 9 enrol\n2 9 skip 1\n2 9 end 1 Closed\n2 9 restart\n2 9 start 2 * 0\n";
     let is_mended = goes_on_by(rt, alloc, TORN, 9, torn)?;

@@ -26,7 +26,7 @@ const ASKING: u32 = 2;
 /// The commands of each thread.
 const COMMANDS: u64 = 1_000;
 
-/// How often one of them starts an action.
+/// The number of turns from one start of an action to the next.
 const STARTING: u64 = 50;
 
 /// The entry that a command writes first.
@@ -79,7 +79,7 @@ fn joining(alloc: Global, number: u32, turn: u64) -> Result<Uris, AllocError> {
     participant(alloc, &host, false)
 }
 
-/// What comes of an ask: every seventh fails.
+/// Returns what comes of an ask: every seventh fails.
 fn outcome_of(ask: u64) -> Outcome {
     if ask % 7 == 0 {
         Outcome::Failed
@@ -219,7 +219,7 @@ impl<V: Serving, R: Wait> Worker<'_, V, R> {
         }
     }
 
-    /// What its commands wrote.
+    /// Returns what its commands wrote.
     fn into_written(self) -> Vec<Own> {
         let Worker { clerk, written, .. } = self;
         drop(clerk);
@@ -227,7 +227,7 @@ impl<V: Serving, R: Wait> Worker<'_, V, R> {
     }
 }
 
-/// What a clerk with this number writes.
+/// Returns what a clerk with this number writes.
 fn work_of<V: Serving, R: Wait>(
     rt: &R,
     alloc: Global,
@@ -272,10 +272,10 @@ fn clerks<V: Serving, R: Wait>(
     Ok(pass)
 }
 
-/// What each thread wrote.
+/// The entries that each thread wrote.
 type Written = Result<Vec<Option<Vec<Own>>>, AllocError>;
 
-/// What each clerk writes, in a thread of its own.
+/// Returns what each clerk writes, in a thread of its own.
 fn work_all<V: Serving + Send, R: Threads + Wait + Sync>(
     rt: &R,
     alloc: Global,
@@ -293,7 +293,7 @@ fn work_all<V: Serving + Send, R: Threads + Wait + Sync>(
     )
 }
 
-/// What each thread wrote at an office, and a clerk who is enrolled once all have ended.
+/// Returns what each thread wrote at an office, and a clerk that is enrolled once all have ended.
 fn work_at<V: Serving + Send, R: Threads + Wait + Sync>(
     rt: &R,
     alloc: Global,
@@ -327,7 +327,7 @@ fn run<W: Write + Drop + Send, R: Threads + Wait + Sync>(
     shut(office, worked)
 }
 
-/// Whether the commands' entries of a number are these, in this order.
+/// Returns whether the commands' entries of a number are these, in this order.
 fn are_of(entries: &[Entry], number: u32, written: &[Own]) -> bool {
     let mut left = written;
     for entry in entries {
@@ -353,8 +353,8 @@ fn summary(alloc: Global, journal: &[u8]) -> Result<Summary, Fail> {
     }
 }
 
-/// Whether what each thread wrote stands among the entries once and in order, under its clerk's number, and how many entries that is
-/// in all.
+/// Returns whether what each thread wrote stands among the entries once and in order, under its clerk's number, and how
+/// many entries that is in all.
 fn stand_among(entries: &[Entry], written: &[Option<Vec<Own>>]) -> Result<(bool, u64), Fail> {
     let mut stand = true;
     let mut count = 0u64;
@@ -380,7 +380,8 @@ fn stand_in(
     told
 }
 
-/// Whether what each thread wrote stands in the journal, how many entries that is, and the summary of the journal.
+/// Returns whether what each thread wrote stands in the journal, how many entries that is, and the summary of the
+/// journal.
 fn told_of(alloc: Global, journal: &[u8], written: &Written) -> Result<(bool, u64, Summary), Fail> {
     let Ok(written) = written else {
         return Err("there is memory for all")?;

@@ -151,7 +151,7 @@ fn closes<V: Serving, R: Wait>(
     Ok(closed && done)
 }
 
-/// How a worker ends whose gate holds its errand back so often, and how often the gate was asked.
+/// Returns how a worker ends whose gate holds its errand back so often, and how often the gate was asked.
 fn holds_back<V: Serving, R: Wait>(
     rt: &R,
     office: &OfficeOf<V>,
@@ -216,7 +216,7 @@ fn tell_held<R: Wait>(rt: &R, alloc: Global, holds: u32, text: &mut String) -> R
     Ok(())
 }
 
-/// What comes of an errand that is held back just short of for ever, for ever, and longer still.
+/// The outcome of an errand that is held back just short of for ever, for ever, and longer still.
 const TOLD: &str = "Ended 1000\n1 9 reply 1 done\n1 9 end 1 Closed\nHeld 1000\nHeld 1000\n";
 
 #[test]

@@ -174,7 +174,7 @@ WrongKey
 0 HTTP/1.1 200 OK
 value="FailedToComplete"><button>Yes, give up"##;
 
-/// What a request is replied, behind how many orders were given for it.
+/// Returns what a request is replied, behind how many orders were given for it.
 fn replied(
     alloc: Global,
     port: &mut Port,
@@ -190,7 +190,7 @@ fn replied(
     format!(in alloc; "{given} {text}").ok()
 }
 
-/// Whether a text has what a line wants.
+/// Returns whether a text has what a line wants.
 fn has(text: &str, line: &str) -> bool {
     match line.strip_prefix('!') {
         Some(unwanted) => !text.contains(unwanted),

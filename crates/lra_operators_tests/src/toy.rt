@@ -11,10 +11,10 @@ use lra_outcomes::{Attempt, Reply};
 use lra_overview::{Facts, Overview};
 use std::alloc::Global;
 
-/// How many milliseconds pass from one look at the service to the next.
+/// The number of milliseconds that pass from one look at the service to the next.
 const STEP: u64 = 1_500;
 
-/// What is known beside the history, at first.
+/// The facts that are known beside the history, at first.
 const FACTS: Facts = Facts {
     moment: 9_000,
     began: 1_500,
@@ -146,7 +146,7 @@ fn row_at(of: Listing, place: u64) -> Known {
     }
 }
 
-/// How many of the row at a place belong to a listing, and the place behind it.
+/// Returns whether the row at a place belongs to a listing, as a count of 1 or 0, and the place behind it.
 fn count_at(of: Listing, place: u64) -> Known {
     match row_at(of, place) {
         Known::Row { .. } => Known::Counted {
@@ -164,7 +164,7 @@ fn count_at(of: Listing, place: u64) -> Known {
     }
 }
 
-/// What an action waits for.
+/// Returns what an action waits for.
 fn awaited_by(action: u64) -> Known {
     match action {
         1 => Known::Awaits {

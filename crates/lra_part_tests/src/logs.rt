@@ -83,7 +83,7 @@ const OBJECTS: &str = r#"{"journals":2,"level":"info","message":"serving","time"
 {"journal":"00001a0c1f8b2d4","level":"warn","member":3,"message":"member silent","outcome":"the request was not sent","time":"T","times":10}
 {"level":"warn","message":"a name\u001b[31m with \n and \\ in it","time":"T"}"#;
 
-/// What a journal's bytes tell, where nothing else is written to it.
+/// The lines that a journal's bytes tell, where nothing else is written to it.
 const TOLD: &str = "debug action started journal=000000000000007 action=1
 warn member silent journal=000000000000007 member=5 times=1
 warn member silent journal=000000000000007 member=6 times=1
@@ -92,7 +92,7 @@ warn member silent journal=000000000000007 member=5 times=1
 warn action ended journal=000000000000007 action=1 status=FailedToClose
 ";
 
-/// What came of a callback, by the place of the line that tells it.
+/// Returns what came of a callback, by the place of the line that tells it.
 fn reply_at(place: usize) -> Option<Reply> {
     match place {
         19 => Some(Reply::NotAllowed),
@@ -174,7 +174,7 @@ fn line_at(alloc: Global, format: Format, place: usize) -> Option<String> {
         .ok()
 }
 
-/// Whether the line at a place is that.
+/// Returns whether the line at a place is that.
 fn is_line(alloc: Global, format: Format, place: usize, want: &str) -> bool {
     match line_at(alloc, format, place) {
         Some(line) => line.as_str().strip_suffix("\n") == Some(want),
@@ -182,7 +182,7 @@ fn is_line(alloc: Global, format: Format, place: usize, want: &str) -> bool {
     }
 }
 
-/// Whether a moment is spelled so.
+/// Returns whether a moment is spelled so.
 fn is_spelled(alloc: Global, row: &str) -> bool {
     let Some((moment, want)) = row.split_once(' ') else {
         return false;
@@ -233,7 +233,8 @@ fn journal_text(alloc: Global) -> Option<String> {
     Some(text)
 }
 
-/// What is told of a journal's bytes in pieces of that size, but for so many of the last, as lines without their moments.
+/// Returns what is told of a journal's bytes in pieces of that size, but for so many of the last, as lines without
+/// their moments.
 fn told_of(alloc: Global, size: usize, less: usize) -> Option<String> {
     if size == 0 {
         return None;
@@ -254,7 +255,7 @@ fn told_of(alloc: Global, size: usize, less: usize) -> Option<String> {
     Some(told)
 }
 
-/// Whether just that is told.
+/// Returns whether just that is told.
 fn is_told(alloc: Global, size: usize, less: usize, want: &str) -> bool {
     match told_of(alloc, size, less) {
         Some(told) => told.as_str() == want,
@@ -273,7 +274,8 @@ fn what_is_written_is_told(rt: HostRuntime) {
     }
 }
 
-/// How many events a journal's bytes tell, and how many of its lines weren't read for want of memory. None where there was none for its text.
+/// Counts the events that a journal's bytes tell, and those of its lines that weren't read for want of memory. Returns
+/// none where there was none for its text.
 fn counted(alloc: Global) -> Option<(usize, u64)> {
     let text = journal_text(alloc)?;
     let mut chronicle = Chronicle::new(alloc, Instance::new(7)?);
@@ -284,7 +286,7 @@ fn counted(alloc: Global) -> Option<(usize, u64)> {
     Some((events.len(), chronicle.lost()))
 }
 
-/// Whether nothing was lost and all is told, or less was told and what was lost is counted.
+/// Returns whether nothing was lost and all is told, or less was told and what was lost is counted.
 fn is_counted(events: usize, lost: u64) -> bool {
     if lost == 0 { events == 6 } else { events < 7 }
 }
@@ -297,7 +299,7 @@ fn what_memory_is_refused_for_is_counted(rt: HostRuntime) {
     assert!(rt; is_counted(events, lost), "{events} {lost}");
 }
 
-/// What threads may share.
+/// Takes what threads may share.
 fn cross<T: Send + Sync>(_value: &T) {}
 
 #[test]

@@ -27,7 +27,7 @@ const FAULTS: &str = r"10/8 no host, address or network
 *.test no host, address or network
 pay.test:65536 no port";
 
-/// What stands before the first space, and behind it.
+/// Returns what stands before the first space, and behind it.
 fn cut(text: &str) -> (&str, &str) {
     match text.split_once(' ') {
         Some(parts) => parts,
@@ -35,7 +35,7 @@ fn cut(text: &str) -> (&str, &str) {
     }
 }
 
-/// Whether one rule lets a host and port at an address.
+/// Returns whether one rule lets a host and port at an address.
 fn is_let(alloc: Global, rule: &str, socket: &str, to: &str) -> Option<bool> {
     let to = to.parse::<SocketAddr>().ok()?;
     let mut rules = Vec::new(alloc);
@@ -46,7 +46,7 @@ fn is_let(alloc: Global, rule: &str, socket: &str, to: &str) -> Option<bool> {
     Some(told)
 }
 
-/// Whether that is what a row tells.
+/// Returns whether that is what a row tells.
 fn is_told(alloc: Global, row: &str) -> bool {
     let (rule, rest) = cut(row);
     let (socket, rest) = cut(rest);
@@ -61,7 +61,7 @@ fn rules_let_what_they_are_for(rt: HostRuntime) {
     }
 }
 
-/// Whether a text is no rule for the reason that a row tells.
+/// Returns whether a text is no rule for the reason that a row tells.
 fn is_no_rule(alloc: Global, row: &str) -> bool {
     let (text, why) = cut(row);
     match Rule::read(alloc, text) {

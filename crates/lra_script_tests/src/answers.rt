@@ -1,4 +1,4 @@
-//! What a coordinator answers, taken down.
+//! The answers of a coordinator, taken down.
 
 use lra_commands::Known;
 use lra_core::{Refusal, Told};

@@ -26,7 +26,7 @@ use std::str::from_utf8;
 
 const BASE: &str = "http://127.0.0.1:8080/";
 
-/// What the URIs begin with.
+/// Returns what the URIs begin with.
 pub fn base(alloc: Global) -> Option<Address>
     ensures { IfSome result (λ base. is_base base ≡ true) }
 {
@@ -45,7 +45,7 @@ fn coordinator(alloc: Global, limits: Limits) -> Option<Coordinator>
     Some(Coordinator::new(alloc, instance, base, limits))
 }
 
-/// What comes of a script at a coordinator. Nothing, where there is none, or it isn't of that version.
+/// Returns what comes of a script at a coordinator: nothing, where there is none, or it isn't of that version.
 fn come(alloc: Global, place: Option<Coordinator>, version: Version, script: &str) -> Vec<u8> {
     let Some(mut coordinator) = place else {
         return Vec::new(alloc);
@@ -58,7 +58,7 @@ fn come(alloc: Global, place: Option<Coordinator>, version: Version, script: &st
     text
 }
 
-/// What comes of a script at a coordinator with the usual limits.
+/// Returns what comes of a script at a coordinator with the usual limits.
 fn come_usually(alloc: Global, script: &str) -> Vec<u8> {
     let place = coordinator(alloc, Limits::usual());
     come(alloc, place, Version::Two, script)
@@ -94,7 +94,7 @@ fn limits(line: &str) -> Limits
     }
 }
 
-/// What comes of a script at a coordinator with the limits of a line.
+/// Returns what comes of a script at a coordinator with the limits of a line.
 fn come_within(alloc: Global, line: &str, script: &str) -> Vec<u8> {
     let place = coordinator(alloc, limits(line));
     come(alloc, place, Version::Two, script)
@@ -120,7 +120,7 @@ fn put_starts(script: &mut Vec<u8>) -> io::Result<()> {
     Ok(())
 }
 
-/// What a cancel of the outermost of them appends.
+/// Writes what a cancel of the outermost of them appends.
 fn put_ends(script: &mut Vec<u8>) -> io::Result<()> {
     for action in 2..65 {
         writeln!(script, "+ 1 1 cancel {action} parent")?;
@@ -191,7 +191,7 @@ fn open(alloc: Global, journal: &str, entries: u32) -> Result<Coordinator, OpenF
     }
 }
 
-/// Whether a fault is this: a line and a rule, or too many entries.
+/// Returns whether a fault is this: a line and a rule, or too many entries.
 pub fn is_so(fault: OpenFault, wanted: &str) -> bool {
     match fault {
         OpenFault::Unsound { line, rule } => {
@@ -202,7 +202,7 @@ pub fn is_so(fault: OpenFault, wanted: &str) -> bool {
     }
 }
 
-/// Whether a journal isn't opened for this.
+/// Returns whether a journal isn't opened for this.
 fn is_refused(alloc: Global, journal: &str, entries: u32, wanted: &str) -> bool {
     match open(alloc, journal, entries) {
         Ok(coordinator) => {
@@ -213,7 +213,7 @@ fn is_refused(alloc: Global, journal: &str, entries: u32, wanted: &str) -> bool 
     }
 }
 
-/// Whether the journal of a row is refused as the row says.
+/// Returns whether the journal of a row is refused as the row says.
 fn row_is_refused(alloc: Global, row: &str) -> bool {
     let (line, journal) = parted(row, "\n");
     let (entries, wanted) = parted(line, " ");
@@ -227,7 +227,7 @@ fn journals_are_opened(rt: HostRuntime) {
     }
 }
 
-/// What comes of a script at a coordinator that goes on from a journal of version 1.
+/// Returns what comes of a script at a coordinator that goes on from a journal of version 1.
 fn come_later(alloc: Global, journal: &str, script: &str) -> Vec<u8> {
     let place = open(alloc, journal, 100).ok();
     come(alloc, place, Version::One, script)
@@ -264,7 +264,7 @@ fn close(coordinator: &mut Coordinator, commits: bool) -> &'static str {
     }
 }
 
-/// Whether action 1 has this status.
+/// Returns whether action 1 has this status.
 fn has_status(coordinator: &Coordinator, status: ActionStatus) -> bool {
     coordinator.status(1, 1) == Ok(Told::ActionIs(status))
 }

@@ -4,7 +4,7 @@ use lra_core::Errand;
 use std::alloc::{AllocError, Global};
 use std::io::{self, Write};
 
-/// How many errands a script holds at most.
+/// The most errands that a script holds.
 const ASKS: usize = 16;
 
 /// An errand that is held.

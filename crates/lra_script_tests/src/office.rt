@@ -24,13 +24,13 @@ use std::io::{self, Write};
 use std::process::Abort;
 use std::sync::{Mutex, Wait};
 
-/// How many bytes come of a script at most.
+/// The most bytes that come of a script.
 const ROOM: usize = 8_192;
 
 const NO_MEMORY: OfficeRefusal = OfficeRefusal::Refused(Refusal::Memory);
 
-/// What is to stay as it is where memory is refused: how long the journal is, to which text is added alone, and the statuses of the
-/// first actions and members.
+/// The state that is to stay as it is where memory is refused: how long the journal is, to which text is added alone,
+/// and the statuses of the first actions and members.
 type Seen = (usize, [Option<Told>; 4]);
 
 /// A writer in memory that is looked at while an office has it.
@@ -58,7 +58,7 @@ struct Player<'a, V: Serving, R> {
     alloc: Global,
     office: OfficeOf<V>,
     clerk: Clerk<V>,
-    /// What the office's writer has taken.
+    /// The text that the office's writer has taken.
     journal: &'a Mutex<Vec<u8>>,
     held: Errands,
     /// The commands, each with its answer.
@@ -131,7 +131,7 @@ impl<V: Serving, R: Wait> Player<'_, V, R> {
         self.record(moment, ask, outcome)
     }
 
-    /// What there is now that a refusal is to keep.
+    /// Returns what there is now that a refusal is to keep.
     fn seen(&mut self) -> Seen {
         let statuses = [
             self.office.status(self.rt, &mut self.clerk, 1).ok(),
@@ -142,7 +142,7 @@ impl<V: Serving, R: Wait> Player<'_, V, R> {
         (self.journal.lock(self.rt).len(), statuses)
     }
 
-    /// Whether refused memory has changed nothing.
+    /// Returns whether refused memory has changed nothing.
     fn is_as(&mut self, seen: Seen) -> bool {
         self.seen() == seen
     }
@@ -285,7 +285,7 @@ fn named<V: Serving, R: Wait>(
     }
 }
 
-/// Whether a line of a script is a command that the clerk gives, discards an errand, or only asks.
+/// Returns whether a line of a script is a command that the clerk gives, discards an errand, or only asks.
 fn is_given(line: &str) -> bool {
     line.starts_with("1 ")
         || line.starts_with("discard ")
@@ -448,7 +448,7 @@ fn play<R: Wait>(rt: &R, alloc: Global, script: &str, text: &mut Vec<u8>) -> Vec
     journal.into_inner()
 }
 
-/// What comes of a script is what it says.
+/// Asserts that what comes of a script is what it says.
 fn assert_script<R: Abort + Wait>(rt: &R, alloc: Global, script: &str) {
     let mut text = room(alloc);
     let taken = play(rt, alloc, script, &mut text);
@@ -474,7 +474,7 @@ struct Reopening<'a> {
     written: &'a str,
 }
 
-/// What a renewal is refused by, in a word.
+/// Returns what a renewal is refused by, in a word.
 fn refusal_word(renewed: Result<Told, OfficeRefusal>) -> &'static str {
     match renewed {
         Ok(_) => "not refused",
@@ -483,7 +483,7 @@ fn refusal_word(renewed: Result<Told, OfficeRefusal>) -> &'static str {
     }
 }
 
-/// What a renewal is refused by at the office of a journal. Nothing, where memory was refused.
+/// Returns what a renewal is refused by at the office of a journal: nothing, where memory was refused.
 fn goes_on<R: Wait>(
     rt: &R,
     alloc: Global,
@@ -523,7 +523,8 @@ fn take_back<R: Wait>(rt: &R, taken: &Mutex<Vec<u8>>, written: &str) -> bool {
     !is_part
 }
 
-/// What a renewal is refused by, once more where memory was refused. Then nothing had been written, or all.
+/// Returns what a renewal is refused by, tried once more where memory was refused. Then nothing had been written, or
+/// all.
 fn goes_on_twice<R: Wait>(
     rt: &R,
     alloc: Global,
@@ -539,7 +540,7 @@ fn goes_on_twice<R: Wait>(
     goes_on(rt, alloc, row, taken).unwrap_or("memory is refused twice")
 }
 
-/// What comes of a journal that is reopened is what its row says.
+/// Asserts that what comes of a journal that is reopened is what its row says.
 fn assert_reopened<R: Abort + Wait>(rt: &R, alloc: Global, row: Reopening<'_>, wanted: &str) {
     let taken = Mutex::new(room(alloc));
     let word = goes_on_twice(rt, alloc, row, &taken);

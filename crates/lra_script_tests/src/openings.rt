@@ -8,7 +8,7 @@ use lra_core::{Command, CoordinatorOf, Counted, Limits, Memory, OpenFault, Openi
 use lra_ids::Base;
 use std::alloc::Global;
 
-/// How many bytes a piece has; of the last size there is one piece.
+/// The numbers of bytes that a piece has; of the last size there is one piece.
 const SIZES: [usize; 3] = [1, 7, 65_536];
 
 /// A journal that was cut off in a block: the line that has no end isn't read.
@@ -20,7 +20,7 @@ lra-journal 1 7
 1 2 close 1 client
 1 2 sk";
 
-/// What an enrolment there appends.
+/// The text that an enrolment there appends.
 const ADDED: &[u8] = b"2 9 enrol\n2 9 skip 1\n2 9 end 1 Closed\n";
 
 /// An opening that was fed these bytes in pieces of this size.
@@ -66,7 +66,7 @@ fn open(
     }
 }
 
-/// Whether a journal isn't opened for this.
+/// Returns whether a journal isn't opened for this.
 fn is_refused(alloc: Global, journal: &str, entries: u32, wanted: &str, size: usize) -> bool {
     match open(alloc, journal, entries, size) {
         Ok(coordinator) => {
@@ -77,7 +77,7 @@ fn is_refused(alloc: Global, journal: &str, entries: u32, wanted: &str, size: us
     }
 }
 
-/// Whether the journal of a row is refused as the row says, in pieces of this size.
+/// Returns whether the journal of a row is refused as the row says, in pieces of this size.
 fn row_is_refused(alloc: Global, row: &str, size: usize) -> bool {
     let (line, journal) = parted(row, "\n");
     let (entries, wanted) = parted(line, " ");
@@ -93,7 +93,7 @@ fn journals_are_opened_in_pieces(rt: HostRuntime) {
     }
 }
 
-/// What an enrolment would append; nothing where it is refused.
+/// Returns what an enrolment would append; nothing where it is refused.
 fn enrolment(alloc: Global, coordinator: &mut CoordinatorOf<Counted>) -> Vec<u8> {
     let mut text = Vec::new(alloc);
     for _again in 0..2 {
@@ -106,7 +106,8 @@ fn enrolment(alloc: Global, coordinator: &mut CoordinatorOf<Counted>) -> Vec<u8>
     text
 }
 
-/// What an enrolment would append to the journal that was cut off, where its other lines are fed in pieces of this size.
+/// Returns what an enrolment would append to the journal that was cut off, where its other lines are fed in pieces of
+/// this size.
 fn added(alloc: Global, size: usize) -> Vec<u8> {
     match open(alloc, CUT, 100, size) {
         Ok(mut coordinator) => {

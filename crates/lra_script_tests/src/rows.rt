@@ -378,7 +378,7 @@ pub const LIMITED: &str = "\
 1 0 start * 0 -> refused Full(Actions)
 ";
 
-/// How many entries fit, what a journal opens as, and the journal.
+/// The number of entries that fit, what a journal opens as, and the journal.
 pub const OPENED: &str = "\
 100 5 ending
 lra-journal 1 7

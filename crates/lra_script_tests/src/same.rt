@@ -1,4 +1,4 @@
-//! What came, beside what was wanted.
+//! The comparison of what came with what was wanted.
 
 use std::process::Abort;
 use std::str::from_utf8;
@@ -10,7 +10,7 @@ pub fn assert_same(rt: &impl Abort, came: &[u8], wanted: &[u8]) {
     assert_eq!(rt; came, wanted);
 }
 
-/// What came of a script is what it says.
+/// Asserts that what came of a script is what it says.
 pub fn assert_came(rt: &impl Abort, came: Vec<u8>, script: &str) {
     assert_same(rt, came.as_slice(), script.as_bytes());
     drop(came);

@@ -10,12 +10,12 @@ pub struct Words<'a> {
     pub left: &'a str,
 }
 
-/// What stands before the first such sign, and behind it: all and nothing, where there is none.
+/// Returns what stands before the first such sign, and behind it: all and nothing, where there is none.
 pub fn parted<'a>(row: &'a str, sign: &str) -> (&'a str, &'a str) {
     row.split_once(sign).unwrap_or((row, ""))
 }
 
-/// Whether a line with such a first word only asks.
+/// Returns whether a line with such a first word only asks.
 pub fn asks(first: &str) -> bool {
     first == "awaited" || first == "listed" || first == "counted"
 }

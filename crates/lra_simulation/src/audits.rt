@@ -1,4 +1,5 @@
-//! What is looked at once nothing goes on any more: each journal by the auditor, and what clients and members saw beside it.
+//! The audits once nothing goes on any more: of each journal by the auditor, and of what clients and members saw beside
+//! it.
 
 use super::checks::{check_end, check_member, check_nested};
 use super::client::Client;
@@ -10,14 +11,14 @@ use lra_auditor::{Account, Auditor, ListedAction, Listing};
 use lra_model::MemberStatus;
 use std::alloc::Global;
 
-/// What clients and members saw.
+/// The clients and the members, with what they saw.
 #[derive(Clone, Copy)]
 pub struct Seen<'a> {
     pub clients: &'a [Client],
     pub members: &'a [Member],
 }
 
-/// What the auditor lists of a journal, which has to be sound.
+/// Returns what the auditor lists of a journal, which has to be sound.
 fn listing_of(alloc: Global, text: &[u8]) -> Result<Listing> {
     let mut auditor = Auditor::new(alloc);
     auditor.feed(text)?;
@@ -27,12 +28,12 @@ fn listing_of(alloc: Global, text: &[u8]) -> Result<Listing> {
     }
 }
 
-/// How many lines a journal has.
+/// Counts the lines of a journal.
 fn count_lines(text: &[u8]) -> usize {
     text.iter().filter(|&&byte| byte == b'\n').count()
 }
 
-/// Who was told the numbers of a journal's actions and members.
+/// The numbers of a journal's actions and members, each with a flag that is set once a client or member was told it.
 #[derive(Drop)]
 struct Owners {
     actions: Vec<bool>,

@@ -1,4 +1,4 @@
-//! What is to happen, each at its moment; at one moment, what was put first.
+//! The events that are to happen, each at its moment; at one moment, the one that was put first comes first.
 
 use super::event::Event;
 use anyhow::Result;
@@ -11,7 +11,7 @@ use std::collections::BinaryHeap;
 #[derive(Clone, Copy, PartialEq, Eq, PartialOrd, Ord)]
 struct Due {
     moment: u64,
-    /// How many events were put before.
+    /// The number of events that were put before.
     turn: u64,
     place: usize,
 }

@@ -27,7 +27,7 @@ impl Chance {
         least.saturating_add(self.below(width))
     }
 
-    /// Whether something happens that does so in so many of a thousand cases.
+    /// Draws whether something happens that does so in so many of a thousand cases.
     pub fn happens(&mut self, of_thousand: u64) -> bool {
         self.below(1_000) < of_thousand
     }

@@ -1,11 +1,11 @@
-//! What has to hold of an action's end, as its client and its members saw it.
+//! The conditions that have to hold of an action's end, as its client and its members saw it.
 
 use super::client::{Client, Finish};
 use super::member::{Member, Stand};
 use anyhow::{Result, ensure};
 use lra_model::ActionStatus;
 
-/// Whether a status is one of an action that is closed or cancelled, or was.
+/// Returns whether a status is one of an action that is closed or cancelled so, or was.
 fn is_of(finish: Finish, status: ActionStatus) -> bool {
     match finish {
         Finish::Close => matches!(

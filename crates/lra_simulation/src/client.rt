@@ -5,10 +5,10 @@ use super::event::Call;
 use anyhow::{Result, bail};
 use lra_core::{Refusal, Told};
 
-/// How deep actions are nested.
+/// The depth to which actions are nested.
 const DEPTH: u64 = 4;
 
-/// How a client ends its action.
+/// The way in which a client ends its action.
 #[derive(Clone, Copy, Debug, PartialEq, Eq)]
 pub enum Finish {
     Close,
@@ -29,14 +29,14 @@ pub struct Client {
     pub first: usize,
     pub members: usize,
     joined: usize,
-    /// How many more clients nest their actions in its own.
+    /// The number of further clients that nest their actions in its own.
     pub nested: u64,
     is_to_renew: bool,
     is_to_leave: bool,
     finish: Finish,
     /// The number of its action, once it was told.
     pub action: Option<u64>,
-    /// What it has asked for and isn't answered yet, and how often.
+    /// The call that it has made and that isn't answered yet, and how often it made it.
     pub call: Option<Call>,
     pub tries: u64,
     /// The end that it was told.
@@ -89,12 +89,12 @@ impl Client {
         }
     }
 
-    /// How deep the actions are that are nested in its own.
+    /// Returns how deep the actions are that are nested in its own.
     pub fn depth_below(&self) -> u64 {
         self.depth.saturating_add(1)
     }
 
-    /// What it asks for next, if anything.
+    /// Returns what it asks for next, if anything.
     pub fn next_call(&self) -> Option<Call> {
         if self.is_over {
             None

@@ -1,4 +1,4 @@
-//! What happens to clients.
+//! The events that happen to clients.
 
 use super::client::Client;
 use super::counts::add_one;
@@ -8,14 +8,15 @@ use super::world::{GAP, World};
 use anyhow::{Context, Result};
 use lra_core::{Refusal, Told};
 
-/// How long a client waits for an answer, how often it asks, and how long it thinks in between.
+/// The time that a client waits for an answer, the number of times that it asks, and the time that it thinks in
+/// between.
 const PATIENCE: u64 = 2_500;
 
 const TRIES: u64 = 6;
 
 const THOUGHT: (u64, u64) = (1, 400);
 
-/// How many of a thousand requests come twice.
+/// The number of a thousand requests that come twice.
 const REPEATED: u64 = 20;
 
 impl World {
@@ -144,7 +145,7 @@ impl World {
         Ok(())
     }
 
-    /// What a client was answered concerns a member, too.
+    /// Tells a member what its client was answered, where that concerns the member, too.
     fn tell_member(&mut self, call: Call, answer: Result<Told, Refusal>) {
         match (call, answer) {
             (Call::Join { member }, Ok(Told::Member(number) | Told::AlreadyMember(number))) => {

@@ -1,10 +1,10 @@
-//! What a simulation counts.
+//! The counts of a simulation.
 
 use anyhow::Result;
 use lra_model::ActionStatus;
 use std::io::Print;
 
-/// How many actions ended in each way.
+/// The numbers of actions that ended in each way.
 #[derive(Clone, Copy, Default)]
 pub struct Ends {
     pub closed: u64,
@@ -42,7 +42,7 @@ impl Ends {
     }
 }
 
-/// What happened in the world, and what the journals have at the end.
+/// The counts of what happened in the world, and of what the journals have at the end.
 #[derive(Clone, Copy, Default)]
 pub struct Counts {
     pub events: u64,

@@ -1,9 +1,9 @@
-//! What happens in the world, each at its moment.
+//! The events of the world, each at its moment.
 
 use lra_core::{Refusal, Told};
 use lra_model::{AskKind, Direction, Ending, Outcome};
 
-/// What a client asks of its site. Members are told by their places in the world.
+/// A request of a client to its site. Members are told by their places in the world.
 #[derive(Clone, Copy, Debug, PartialEq, Eq)]
 pub enum Call {
     Start,
@@ -18,7 +18,7 @@ pub enum Call {
 #[derive(Clone, Copy, Debug)]
 pub struct Ask {
     pub site: usize,
-    /// How often the site has crashed before.
+    /// The number of times that the site has crashed before.
     pub life: u64,
     pub number: u64,
     /// The member whose address is called, and what that address is for.
@@ -29,7 +29,7 @@ pub struct Ask {
     pub action_number: u64,
 }
 
-/// What happens.
+/// An event in the world.
 #[derive(Clone, Copy, Debug)]
 pub enum Event {
     /// One more client comes to a site.
@@ -59,7 +59,7 @@ pub enum Event {
     },
     /// An ask arrives at its member.
     Ask(Ask),
-    /// What came of an ask arrives at the site.
+    /// The outcome of an ask arrives at the site.
     Reply {
         ask: Ask,
         outcome: Outcome,
@@ -71,7 +71,7 @@ pub enum Event {
         member: usize,
         way: Direction,
     },
-    /// What a member tells of itself arrives at its site.
+    /// A report of a member on itself arrives at its site.
     Report {
         member: usize,
         ending: Ending,

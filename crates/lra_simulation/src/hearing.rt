@@ -1,14 +1,14 @@
-//! What happens to members.
+//! The events that happen to members.
 
 use super::event::{Ask, Event};
 use super::world::World;
 use anyhow::{Context, Result, ensure};
 use lra_model::{Direction, Outcome};
 
-/// How long a member goes on by itself.
+/// The time that a member goes on by itself.
 const WORKING: (u64, u64) = (20, 3_000);
 
-/// How many of a thousand fail then, how many tell how they ended, and how many of these do so twice.
+/// The numbers of a thousand that fail then, that tell how they ended, and, of these, that do so twice.
 const FAILING: u64 = 30;
 
 const TELLING: u64 = 700;

@@ -5,7 +5,7 @@ use lra_journal::UrisRef;
 use lra_model::{AskKind, Direction, Ending, Memory, Outcome, Uris};
 use std::alloc::Global;
 
-/// What a member did in one way.
+/// The progress that a member made in one way.
 #[derive(Clone, Copy, Debug, PartialEq, Eq)]
 pub enum Stand {
     Untouched,
@@ -41,7 +41,7 @@ pub struct Member {
     pub was_told_to_compensate: bool,
 }
 
-/// What a member does that is asked for something for the first time.
+/// Draws what a member does that is asked for something for the first time, and what it answers, if anything.
 fn begin(chance: &mut Chance) -> (Stand, Option<Outcome>) {
     match chance.below(100) {
         0..4 => (Stand::Untouched, None),
@@ -52,7 +52,7 @@ fn begin(chance: &mut Chance) -> (Stand, Option<Outcome>) {
     }
 }
 
-/// What a member does that is asked for something, having done that much, and what it answers, if anything.
+/// Draws what a member does that is asked for something, having done that much, and what it answers, if anything.
 fn go_on(stand: Stand, chance: &mut Chance) -> (Stand, Option<Outcome>) {
     match stand {
         Stand::Untouched => begin(chance),
@@ -62,7 +62,7 @@ fn go_on(stand: Stand, chance: &mut Chance) -> (Stand, Option<Outcome>) {
     }
 }
 
-/// What a member answers to a notice.
+/// Draws what a member answers to a notice, if anything.
 fn notice(chance: &mut Chance) -> Option<Outcome> {
     if chance.happens(900) {
         Some(Outcome::Done)
@@ -186,7 +186,7 @@ pub fn uris_of(alloc: Global, place: usize, doors: Doors) -> Result<Uris, Memory
     uris.to_uris(alloc)
 }
 
-/// What an address is for, and whose it is.
+/// Returns what an address is for, and whose it is.
 pub fn address_of(text: &str) -> Option<(AskKind, usize)> {
     let (front, place) = text.rsplit_once('/')?;
     let (_, name) = front.rsplit_once('/')?;

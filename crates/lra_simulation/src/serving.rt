@@ -1,4 +1,4 @@
-//! What happens at sites.
+//! The events that happen at sites.
 
 ghost use Rattle.std.specs.Prelude.{◌≡◌, true};
 ghost use Rattle.lra_core.specs.Prepares.{is_suited};
@@ -12,7 +12,7 @@ use anyhow::{Context, Result, bail};
 use lra_core::{Command, Refusal, Told};
 use lra_model::{Ending, Outcome, Uris};
 
-/// How long a site is down, in milliseconds.
+/// The time that a site is down, in milliseconds.
 const DOWN: (u64, u64) = (50, 1_000);
 
 /// So many of a thousand crashes come though nothing is written; others are tried again after so long.
@@ -58,7 +58,7 @@ impl World {
         self.members.get(place)?.number
     }
 
-    /// What a client's request is answered.
+    /// Performs a client's request, and returns what it is answered.
     fn perform(&mut self, place: usize, call: Call) -> Result<Result<Told, Refusal>> {
         let client = *self.clients.get(place).context("no client")?;
         let site = client.site;
@@ -140,7 +140,7 @@ impl World {
         Ok(())
     }
 
-    /// What came of an ask arrives at its site.
+    /// Records what came of an ask at its site, unless the site has crashed since.
     pub fn record(&mut self, ask: Ask, outcome: Outcome) -> Result<()> {
         let site = self.sites.get_mut(ask.site).context("no site")?;
         if site.life != ask.life {
@@ -153,7 +153,7 @@ impl World {
         self.settle(ask.site)
     }
 
-    /// What a member tells of itself arrives at its site.
+    /// Reports what a member tells of itself to its site.
     pub fn report(&mut self, place: usize, ending: Ending) -> Result<()> {
         let member = *self.members.get(place).context("no member")?;
         let site = self.clients.get(member.client).context("no client")?.site;

@@ -10,7 +10,7 @@ use super::site::Site;
 use anyhow::{Context, Result, ensure};
 use std::alloc::Global;
 
-/// How a world is broken, which has to be told.
+/// A way in which a world is broken, which has to be told.
 #[derive(Clone, Copy, Debug, PartialEq, Eq)]
 pub enum Fault {
     /// A crash loses what was synced, too.
@@ -19,7 +19,7 @@ pub enum Fault {
     LoseQuietly,
 }
 
-/// What a simulation is asked for.
+/// The setting that a simulation is asked for.
 #[derive(Clone, Copy)]
 pub struct Setting {
     pub seed: u64,
@@ -28,7 +28,8 @@ pub struct Setting {
     pub fault: Option<Fault>,
 }
 
-/// How long a message takes, in milliseconds, and one of the slow ones; so many of a thousand are slow, and so many are lost.
+/// The time that a message takes, in milliseconds, and one of the slow ones; so many of a thousand are slow, and so
+/// many are lost.
 const QUICK: (u64, u64) = (1, 50);
 
 const SLOW: (u64, u64) = (50, 2_000);
@@ -37,13 +38,13 @@ const SLOW_ONES: u64 = 20;
 
 const LOST_ONES: u64 = 20;
 
-/// How long a sync takes.
+/// The time that a sync takes.
 const SYNC: (u64, u64) = (1, 20);
 
-/// How long a site waits for what comes of an ask.
+/// The time that a site waits for what comes of an ask.
 const PATIENCE: u64 = 3_000;
 
-/// How long it is from a client of a site to the next one, at most.
+/// The time from a client of a site to the next one, at most.
 pub const GAP: u64 = 600;
 
 /// A moment at which nothing goes on any more: 100 days after the first.
@@ -60,7 +61,7 @@ pub struct World {
     pub members: Vec<Member>,
     pub counts: Counts,
     pub setting: Setting,
-    /// How many actions are yet to be started.
+    /// The number of actions that are yet to be started.
     pub left: u64,
 }
 

@@ -8,7 +8,7 @@ use lra_ids::{Address, address};
 use lra_model::{Outcome, suits};
 use std::alloc::Global;
 
-/// What URIs begin with.
+/// Returns what URIs begin with.
 pub fn base(alloc: Global) -> Option<Address>
     ensures { IfSome result (λ base. is_base base ≡ true) }
 {

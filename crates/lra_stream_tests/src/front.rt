@@ -45,7 +45,7 @@ fn end_word(end: StreamEnd) -> &'static str {
     }
 }
 
-/// Whether a counter's stream has this reply, where the sink takes it, and ends so.
+/// Returns whether a counter's stream has this reply, where the sink takes it, and ends so.
 fn comes_to<C: Counter>(
     alloc: Global,
     counter: &mut C,
@@ -85,7 +85,7 @@ fn worn_answers(alloc: Global, reader: Pieces<'_>, reply: &str, end: &str) -> bo
     answered
 }
 
-/// Whether the stream of a row is answered as the row says, whole and byte by byte.
+/// Returns whether the stream of a row is answered as the row says, whole and byte by byte.
 fn row_is_answered(alloc: Global, row: &str) -> bool {
     let row = written_out(alloc, row);
     let (stream, rest) = parted(row.as_str(), "|");
@@ -103,7 +103,7 @@ fn answers_streams_whole_and_byte_by_byte(rt: HostRuntime) {
     }
 }
 
-/// Whether a stream has no reply that comes up to here, and then ends or fails.
+/// Returns whether a stream has no reply that comes up to here, and then ends or fails.
 fn is_cut(alloc: Global, rest: &[u8], fails: bool, end: &str) -> bool {
     let reader = Pieces {
         rest,

@@ -2,7 +2,7 @@
 
 use std::alloc::{AllocError, Global};
 
-/// What stands before the first such sign, and behind it: all and nothing, where there is none.
+/// Returns what stands before the first such sign, and behind it: all and nothing, where there is none.
 pub fn parted<'a>(row: &'a str, sign: &str) -> (&'a str, &'a str) {
     row.split_once(sign).unwrap_or((row, ""))
 }

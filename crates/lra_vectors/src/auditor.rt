@@ -15,10 +15,10 @@ use std::process::Abort;
 const NESTED: &str =
     "lra-journal 1 7;1 0 enrol;1 0 start 1 * 0;1 1 start 2 1 0;1 2 join 1 2 http://n.test/u http://n.test/c * http://n.test/f http://n.test/a;1 3 close 2 client;1 4 ask 1 1 complete;1 5 reply 1 done;1 5 end 2 Closed;1 6 cancel 1 client;1 6 cancel 2 parent;1 7 ask 2 1 compensate;1 8 reply 2 done;1 8 end 2 Cancelled;1 8 end 1 Cancelled;1 9 ask 3 1 after;1 10 reply 3 silent;1 110 ask 4 1 after;1 111 reply 4 done;";
 
-/// What the nested journal comes to.
+/// The verdict on the nested journal.
 const NESTED_VERDICT: &str = "18 entries, 2 actions, 0 unended, 0 closed, 2 cancelled, 0 failed";
 
-/// What is told of a legal history.
+/// Returns what is told of a legal history.
 fn told_of(alloc: Global, summary: &Summary) -> Result<String, Memory> {
     let (entries, actions) = (summary.entries, summary.actions);
     let (unended, closed) = (summary.unended, summary.closed);
@@ -29,7 +29,7 @@ fn told_of(alloc: Global, summary: &Summary) -> Result<String, Memory> {
     )
 }
 
-/// What a verdict tells.
+/// Returns what a verdict tells.
 fn told(alloc: Global, verdict: Verdict) -> Result<String, Memory> {
     match verdict {
         Verdict::Sound(summary) => {
@@ -44,7 +44,7 @@ fn told(alloc: Global, verdict: Verdict) -> Result<String, Memory> {
     }
 }
 
-/// What an audit of bytes tells.
+/// Returns what an audit of bytes tells.
 fn told_whole(alloc: Global, bytes: &[u8]) -> Result<String, Memory> {
     let verdict = audit(alloc, bytes)?;
     told(alloc, verdict)
@@ -67,13 +67,13 @@ fn feed_pieces(auditor: &mut Auditor, bytes: &[u8], size: usize) -> Result<(), A
     Ok(())
 }
 
-/// What is told at the end of an auditor that was fed.
+/// Returns what is told at the end of an auditor that was fed.
 fn told_at_end(alloc: Global, auditor: Auditor) -> Result<String, AuditorFault> {
     let verdict = auditor.finish()?;
     Ok(told(alloc, verdict)?)
 }
 
-/// What is told at the end, or the fault of an auditor that is spent then.
+/// Returns what is told at the end, or the fault of an auditor that is spent then.
 fn ended(
     fed: Result<(), AuditorFault>,
     told: Result<String, AuditorFault>,
@@ -86,7 +86,7 @@ fn ended(
     Err(if is_spent { fault } else { AuditorFault::Spent })
 }
 
-/// What is told of bytes that are fed in pieces of this size.
+/// Returns what is told of bytes that are fed in pieces of this size.
 fn told_in_pieces(alloc: Global, bytes: &[u8], size: usize) -> Result<String, AuditorFault> {
     let mut auditor = Auditor::new(alloc);
     let fed = feed_pieces(&mut auditor, bytes, size);
@@ -143,7 +143,7 @@ fn pieces_after_a_fault(rt: HostRuntime) {
     assert_told(&rt, "pieces after a fault", verdict.ok(), "line 2 clerk");
 }
 
-/// What a check of the entries from a place on tells.
+/// Returns what a check of the entries from a place on tells.
 fn told_from(
     alloc: Global,
     version: Version,
@@ -154,7 +154,7 @@ fn told_from(
     told(alloc, verdict)
 }
 
-/// What a check of a journal's entries from a place on tells.
+/// Returns what a check of a journal's entries from a place on tells.
 fn told_in_memory(alloc: Global, bytes: &[u8], place: usize) -> Result<String, Memory> {
     match read_journal(alloc, bytes) {
         Ok((version, _, entries)) => {

@@ -38,13 +38,13 @@ fn carry_out<S: Sources, W: Write>(
     }
 }
 
-/// What is printed, and the outcome.
+/// Returns what is printed, and the outcome.
 fn shown(alloc: Global, printed: &[u8], outcome: Result<u8, RunFault>) -> Option<String> {
     let printed = from_utf8(printed).ok()?;
     format!(in alloc; "{printed}{outcome:?}").ok()
 }
 
-/// What is printed where words ask for something, and the outcome.
+/// Returns what is printed where words ask for something, and the outcome.
 fn told<S: Sources>(alloc: Global, sources: &S, words: &str) -> Option<String> {
     let mut printed = Vec::new(alloc);
     let outcome = carry_out(alloc, sources, words, &mut printed);
@@ -55,7 +55,7 @@ fn told<S: Sources>(alloc: Global, sources: &S, words: &str) -> Option<String> {
 
 const JOURNAL: &str = "lra-journal 1 7\n1 0 enrol\n1 0 start 1 * 0\n1 5 start 2 1 0\n";
 
-/// What is printed, with the outcome behind it.
+/// The text that is printed, with the outcome behind it.
 const AUDITED: &str = "sound entries 3 actions 2 unended 2 closed 0 cancelled 0 failed 0\nOk(0)";
 
 const LISTED: &str = "action 1 * Active\naction 2 1 Active\nOk(0)";
@@ -77,7 +77,8 @@ const SCRIPT: &str =
 const PLAYED: &str =
     "+ lra-journal 2 7\nclerk 1\n+ 1 0 enrol\naction 1\n+ 1 0 start 1 * 9\nmember 1\n+ 1 1 join 1 1 http://p.test/u http://p.test/c * * *\nnow Closing\n+ 1 5 close 1 client\nask 1 1 complete http://p.test/c\n+ 1 6 ask 1 1 complete\nrecorded\n+ 1 7 reply 1 done\n+ 1 7 end 1 Closed\nrefused NotAsked\nOk(1)";
 
-/// What is asked for of a file, what is read there, what is printed with the outcome behind it, and the status.
+/// The words that ask for something of a file, the text that is read there, the text that is printed with the outcome
+/// behind it, and the status.
 #[derive(Clone, Copy)]
 struct Case {
     words: &'static str,
@@ -86,7 +87,7 @@ struct Case {
     status: u8,
 }
 
-/// How many cases there are.
+/// The number of cases.
 const CASES: u8 = 5;
 
 fn case_of(words: &'static str, text: &'static str, want: &'static str, status: u8) -> Case {
@@ -108,7 +109,7 @@ fn case_at(place: u8) -> Case {
     }
 }
 
-/// What comes of a case whose file is read haltingly.
+/// Returns what comes of a case whose file is read haltingly.
 fn told_haltingly(alloc: Global, case: Case, fails: bool) -> Option<String> {
     let source = Halts {
         text: case.text,
@@ -152,7 +153,7 @@ fn outcome(alloc: Global, case: Case, room: usize) -> Result<u8, RunFault> {
     carry_out(alloc, &source, case.words, &mut Full { room })
 }
 
-/// Whether all of a case's output is written, and no less room will do.
+/// Returns whether all of a case's output is written, and no less room will do.
 fn is_written_whole(alloc: Global, case: Case) -> bool {
     let (printed, _) = parted(case.want, "Ok(");
     let len = printed.len();
@@ -179,7 +180,7 @@ fn grown(alloc: Global) -> Option<Vec<u8>> {
     }
 }
 
-/// Whether what is printed of a case is what is wanted, or where memory is refused the first part of it.
+/// Returns whether what is printed of a case is what is wanted, or where memory is refused the first part of it.
 fn is_begun(case: Case, outcome: Result<u8, RunFault>, out: &[u8]) -> bool {
     let (printed, _) = parted(case.want, "Ok(");
     if outcome == Err(RunFault::Memory) {

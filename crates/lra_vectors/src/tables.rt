@@ -206,7 +206,7 @@ fn shown(alloc: Global, entries: &[Entry]) -> Result<String, Memory> {
     format!(in alloc; "{entries:?}")
 }
 
-/// What is planned of an entry that is allowed now.
+/// Returns what is planned of an entry that is allowed now.
 fn planned(alloc: Global, tables: &mut Tables, entry: &Entry) -> Result<String, Memory>
     requires { Follows tables.old.sheet entry.now }
     ensures { tables.new.sheet ≡ tables.old.sheet }
@@ -217,7 +217,7 @@ fn planned(alloc: Global, tables: &mut Tables, entry: &Entry) -> Result<String, 
     planned
 }
 
-/// How many of these lines follow by themselves from the one before.
+/// Counts the first of these lines, up to one that doesn't follow by itself from the one before.
 fn count_following(lines: &[&str]) -> usize {
     let mut count = 0usize;
     for line in lines {
@@ -229,7 +229,7 @@ fn count_following(lines: &[&str]) -> usize {
     count
 }
 
-/// What is planned of the entry at a place is it and what follows, as the history has it.
+/// Asserts that what is planned of the entry at a place is it and what follows, as the history has it.
 fn assert_plan<R: Abort>(
     rt: &R,
     alloc: Global,
@@ -281,7 +281,7 @@ fn assert_rows<R: Abort>(
     Ok(())
 }
 
-/// Whether entries are a legal history.
+/// Returns whether entries are a legal history.
 fn is_sound(alloc: Global, version: Version, entries: &[Entry]) -> Result<bool, Memory>
     ensures { IfOk result (λ sound. sound ≡ is_legal version is_address entries.now) }
 {

@@ -1,14 +1,14 @@
-//! What is told beside what is wanted, and tables of both.
+//! The comparison of what is told with what is wanted, and tables of both.
 
 use std::alloc::Global;
 use std::process::Abort;
 
-/// What stands before the first such sign, and behind it: all and nothing, where there is none.
+/// Returns what stands before the first such sign, and behind it: all and nothing, where there is none.
 pub fn parted<'a>(row: &'a str, sign: &str) -> (&'a str, &'a str) {
     row.split_once(sign).unwrap_or((row, ""))
 }
 
-/// What is told is what is wanted. Nothing is told where memory is refused.
+/// Asserts that what is told is what is wanted. Nothing is told where memory is refused.
 pub fn assert_told<R: Abort>(rt: &R, of: &str, told: Option<String>, want: &str) {
     match told {
         Some(told) => {
@@ -21,7 +21,7 @@ pub fn assert_told<R: Abort>(rt: &R, of: &str, told: Option<String>, want: &str)
 
 /// Something that is told of texts.
 pub trait Telling {
-    /// What is told of a text. Nothing, where memory is refused.
+    /// Returns what is told of a text, or nothing where memory is refused.
     fn tell(&self, alloc: Global, text: &str) -> Option<String>;
 }
 

@@ -12,31 +12,32 @@ use std::sync::Wait;
 use std::thread::sleep;
 use std::time::{Clock, Duration, Instant};
 
-/// How many seconds a visit may take.
+/// The seconds that a visit may take.
 const VISIT: u64 = 10;
 
-/// How many visitors there are at once.
+/// The most visitors that there are at once.
 const MOST: usize = 64;
 
-/// How many are let in at a look, and how many requests are answered. Where so many come, more may wait: a crowd.
+/// The number of visitors that are let in at a look, and of requests that are answered. Where so many come, more may
+/// wait: a crowd.
 const AT_ONCE: usize = 4;
 
-/// How often one visitor is read or written at a look.
+/// The number of times that one visitor is read or written at a look.
 const STEPS: usize = 8;
 
-/// How many milliseconds pass at least before it is looked anew: where something moved, and where nothing did or a crowd comes. Each look may take a
-/// processor from one who answers services, and so a crowd has fewer of them.
+/// The milliseconds that pass at least before it is looked anew: where something moved, and where nothing did or a
+/// crowd comes. Each look may take a processor from a thread that answers services, and so a crowd has fewer of them.
 const SHORT: u64 = 2;
 
 const LONG: u64 = 20;
 
-/// Who knows whether a service has ended.
+/// Something that knows whether a service has ended.
 pub trait Ends {
-    /// Whether no one answers any more.
+    /// Returns whether no one answers any more.
     fn is_over(&self) -> bool;
 }
 
-/// Who is told of requests that may not be made.
+/// The listener that is told of requests that may not be made.
 pub trait Turned {
     /// A request was refused with that status code, for its key or for where it comes from.
     fn turned_away(&self, code: u16);
@@ -57,18 +58,18 @@ struct Desk {
     alloc: Global,
     port: Port,
     visitors: Vec<Visitor>,
-    /// What comes of this look.
+    /// The outcome of this look.
     look: Look,
 }
 
-/// What comes of a look.
+/// The outcome of a look.
 #[derive(Clone, Copy)]
 struct Look {
-    /// How many have come.
+    /// The number of visitors that have come.
     came: usize,
-    /// How many requests are still answered.
+    /// The number of requests that may still be answered.
     left: usize,
-    /// Whether a byte came or went.
+    /// A flag, set where a byte came or went.
     has_moved: bool,
 }
 
@@ -82,14 +83,14 @@ impl Look {
         }
     }
 
-    /// How long it rests at least behind it.
+    /// Returns how long it rests at least behind it.
     fn pause(&self) -> Duration {
         let is_quick = self.came < AT_ONCE && (self.came > 0 || self.has_moved);
         Duration::from_millis(if is_quick { SHORT } else { LONG })
     }
 }
 
-/// Whether a moment has passed.
+/// Returns whether a moment has passed.
 fn has_passed<R: Clock>(rt: &R, end: Instant) -> bool {
     match Instant::now(rt) {
         Ok(now) => now >= end,
@@ -123,7 +124,7 @@ impl Desk {
         }
     }
 
-    /// Whether the visitor at a place waits for its answer.
+    /// Returns whether the visitor at a place waits for its answer.
     fn is_waiting(&self, place: usize) -> bool {
         match self.visitors.get(place) {
             Some(visitor) => visitor.is_waiting(),

@@ -1,4 +1,4 @@
-//! What carries errands, which are tallied.
+//! A carriage of errands, which are tallied.
 
 ghost use Rattle.std.specs.Prelude.{◌≡◌};
 
@@ -16,7 +16,7 @@ struct Begun {
     since: Instant,
 }
 
-/// What carries errands as another carriage does, and tallies what comes of them.
+/// A carriage that carries errands as another one does, and tallies what comes of them.
 #[derive(Drop)]
 pub struct CountedCarriage<'a, C, R> {
     inner: C,

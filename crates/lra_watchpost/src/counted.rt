@@ -1,4 +1,4 @@
-//! Who answers requests, which are tallied.
+//! A responder to requests, which are tallied.
 
 ghost use Rattle.std.specs.Prelude.{◌≡◌};
 
@@ -11,7 +11,7 @@ use lra_wire::RequestRead;
 use std::alloc::Global;
 use std::time::{Clock, Instant};
 
-/// Who answers requests as another does, and tallies them.
+/// A responder that answers requests as another one does, and tallies them.
 #[derive(Drop)]
 pub struct CountedResponder<'a, A, R> {
     inner: A,
@@ -19,7 +19,7 @@ pub struct CountedResponder<'a, A, R> {
     tallies: &'a Tallies,
 }
 
-/// Whether an answer tells that the coordinator has stopped.
+/// Returns whether an answer tells that the coordinator has stopped.
 fn has_stopped(answer: Answer) -> bool {
     matches!(answer, Answer::Denied(Denial::Refused(Refusal::Stopped)))
 }

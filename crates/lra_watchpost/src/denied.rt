@@ -1,4 +1,4 @@
-//! How many requests were denied before they were looked at.
+//! The number of requests that were denied before they were looked at.
 
 use lra_front::Denial;
 use lra_model::Memory;
@@ -8,7 +8,7 @@ use std::sync::atomic::{AtomicU64, Ordering};
 /// The measure's name.
 const NAME: &str = "lra_requests_denied_total";
 
-/// How many requests were denied, by why.
+/// The numbers of requests that were denied, by why.
 #[derive(Drop)]
 pub(crate) struct Denied {
     key: AtomicU64,

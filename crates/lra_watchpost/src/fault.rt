@@ -31,7 +31,7 @@ impl From<AllocError> for PortFault {
 }
 
 impl PortFault {
-    /// What is told of it.
+    /// Returns what is told of it.
     const fn text(self) -> &'static str
         ensures { result.now ≡ specs.why self }
     {

@@ -1,17 +1,17 @@
-//! How a histogram is told.
+//! The way in which a histogram is told.
 
 use lra_model::Memory;
 use lra_overview::{Kind, describe, put, put_number, put_parts};
 use lra_storage::Histogram;
 
-/// What a histogram measures. Its name and what it is need no escapes.
+/// The quantity that a histogram measures. Its name and what it is need no escapes.
 #[derive(Clone, Copy)]
 pub(crate) struct Measured {
     pub(crate) name: &'static str,
     pub(crate) help: &'static str,
     /// The ends of the classes.
     pub(crate) ends: &'static [u64],
-    /// How many of what is counted make up one of what is told.
+    /// The number of what is counted that makes up one of what is told.
     pub(crate) parts: u64,
 }
 

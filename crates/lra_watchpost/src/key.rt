@@ -10,7 +10,7 @@ use std::alloc::Global;
 use std::fs::File;
 use std::rt::Files;
 
-/// How many bytes the file of a key has at most.
+/// The most bytes that the file of a key has.
 const LONGEST: usize = 1_024;
 
 /// The line without its end.
@@ -21,14 +21,14 @@ fn line_of(text: &str) -> &str {
     }
 }
 
-/// Whether a text has nothing but visible characters, and spaces, of ASCII.
+/// Returns whether a text has nothing but visible characters, and spaces, of ASCII.
 fn all_shown(text: &[u8]) -> bool
     ensures { result ≡ list_all is_shown text.now }
 {
     text.iter().all(|byte| 0x20 <= *byte && *byte <= 0x7e)
 }
 
-/// Whether a text can be a key, and stand in the head of a request.
+/// Returns whether a text can be a key, and stand in the head of a request.
 fn is_key(text: &[u8]) -> bool
     ensures { result ≡ is_key text.now }
 {

@@ -1,4 +1,4 @@
-//! How much of a processor those who look may take.
+//! The share of a processor that operators' looks may take.
 
 ghost use Rattle.std.specs.Prelude.{◌≡◌, ◌+◌, ◌-◌, ◌*◌, ◌/◌, min};
 ghost use Rattle.std.specs.Duration.{as_nanos, max_nanos};
@@ -9,13 +9,14 @@ use std::time::{Duration, Instant};
 /// Of which part of a processor's time is forgiven as it passes: a twentieth.
 const SHARE: u32 = 20;
 
-/// How much may be taken at once, in milliseconds, before it is slowed down: so one operator's pages are answered without a rest.
+/// The time that may be taken at once, in milliseconds, before it is slowed down: so one operator's pages are answered
+/// without a rest.
 const AT_ONCE: u64 = 200;
 
 /// The longest rest, in milliseconds.
 const LONGEST: u64 = 500;
 
-/// What was taken of a processor and isn't forgiven yet: of the time that passes a twentieth is.
+/// The time that was taken of a processor and isn't forgiven yet: of the time that passes a twentieth is.
 #[derive(Drop)]
 pub(crate) struct Pace {
     taken: Duration,

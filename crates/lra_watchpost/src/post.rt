@@ -24,7 +24,7 @@ pub struct Watchpost {
     stopwatch: Stopwatch,
 }
 
-/// Whether a listener can be reached from this machine alone.
+/// Returns whether a listener can be reached from this machine alone.
 fn is_own(listener: &TcpListener) -> bool {
     match listener.local_addr() {
         Ok(address) => address.ip().is_loopback(),
@@ -77,17 +77,17 @@ impl Watchpost {
         }
     }
 
-    /// What the system tells of the process now.
+    /// Returns what the system tells of the process now.
     pub fn vitals(&self) -> Vitals {
         self.gauges.read()
     }
 
-    /// What syncs of the disk are timed by.
+    /// Returns the stopwatch that times syncs of the disk.
     pub(crate) fn stopwatch(&self) -> Stopwatch {
         self.stopwatch
     }
 
-    /// What requests need to be taken.
+    /// Returns what requests need to be taken.
     pub(crate) fn access(&self) -> Access<'_>
         ensures key { spec.key_of result ≡ option_map string_bytes self.now.key }
         ensures token { result.token.now ≡ string_bytes self.now.token }

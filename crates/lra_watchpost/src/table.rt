@@ -1,4 +1,4 @@
-//! How often something of two kinds was.
+//! The table of how often something of two kinds was.
 
 use lra_front::Operation;
 use lra_model::Memory;
@@ -23,7 +23,7 @@ pub(crate) fn label_of(operation: Option<Operation>) -> &'static str {
     }
 }
 
-/// What a table counts: the names of its two labels, and the words that each may have. No word needs to be escaped.
+/// The words of a table: the names of its two labels, and the words that each may have. No word needs to be escaped.
 #[derive(Clone, Copy)]
 pub(crate) struct Words {
     pub(crate) name: &'static str,

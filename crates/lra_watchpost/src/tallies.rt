@@ -1,4 +1,4 @@
-//! What is tallied of a service while it runs.
+//! The tallies of a service while it runs.
 
 use crate::denied::Denied;
 use crate::histogram::{Measured, put_histogram};
@@ -37,10 +37,10 @@ const CALLBACKS: Words = Words {
     columns: &["done", "accepted", "failed", "silent"],
 };
 
-/// How many microseconds a second has.
+/// The number of microseconds that a second has.
 const SECOND: u64 = 1_000_000;
 
-/// How long requests took.
+/// The times that requests took.
 const REQUEST_TIMES: Measured = Measured {
     name: "lra_request_seconds",
     help: "How long the coordinator took to answer a request of a service, without the wait for the disk.",
@@ -48,7 +48,7 @@ const REQUEST_TIMES: Measured = Measured {
     parts: SECOND,
 };
 
-/// How long callbacks took.
+/// The times that callbacks took.
 const CALLBACK_TIMES: Measured = Measured {
     name: "lra_callback_seconds",
     help: "How long a callback took from when it was due until something came of it.",
@@ -56,7 +56,7 @@ const CALLBACK_TIMES: Measured = Measured {
     parts: SECOND,
 };
 
-/// How long syncs took.
+/// The times that syncs took.
 const SYNC_TIMES: Measured = Measured {
     name: "lra_sync_seconds",
     help: "How long a sync of the disk took that kept something new.",
@@ -64,7 +64,7 @@ const SYNC_TIMES: Measured = Measured {
     parts: SECOND,
 };
 
-/// How much they kept.
+/// The numbers of commands that syncs kept.
 const SYNC_WRITES: Measured = Measured {
     name: "lra_commands_per_sync",
     help: "How many commands that wrote something one sync kept. The first line of a journal counts as one.",
@@ -72,7 +72,7 @@ const SYNC_WRITES: Measured = Measured {
     parts: 1,
 };
 
-/// What is tallied of a service while it runs.
+/// The tallies of a service while it runs.
 #[derive(Drop)]
 pub struct Tallies {
     requests: Table,
@@ -80,13 +80,13 @@ pub struct Tallies {
     callbacks: Table,
     callback_times: Histogram,
     denied: Denied,
-    /// What the disk takes down of its syncs, where operators come in.
+    /// The record that the disk takes down of its syncs, where operators come in.
     syncs: Option<Arc<Syncs>>,
-    /// How many milliseconds a sync may take.
+    /// The milliseconds that a sync may take.
     sync_limit: u64,
     /// The number behind that of the journal whose coordinator answered last that it has stopped, or 0.
     stopped: AtomicU64,
-    /// How many workers and callback workers have ended though the service goes on.
+    /// The numbers of workers and callback workers that have ended though the service goes on.
     lost_workers: AtomicU64,
     lost_callback_workers: AtomicU64,
     /// The number behind that of the journal whose callbacks were noted last to stand still, or 0.
@@ -124,13 +124,13 @@ fn outcome_word(outcome: Outcome) -> &'static str {
     }
 }
 
-/// How many microseconds have passed since a moment, where that can be told.
+/// Returns how many microseconds have passed since a moment, where that can be told.
 fn micros_since<R: Clock>(rt: &R, began: Option<Instant>) -> Option<u64> {
     let passed = Instant::now(rt).ok()?.saturating_duration_since(began?);
     u64::try_from(passed.as_micros()).ok()
 }
 
-/// What a disk takes down of its syncs from now on.
+/// Makes the record that a disk takes down of its syncs from now on.
 fn new_syncs(alloc: Global, stopwatch: Stopwatch) -> Result<Arc<Syncs>, Memory> {
     match Arc::new(alloc, Syncs::new(alloc, stopwatch)?) {
         Ok(syncs) => Ok(syncs),
@@ -203,7 +203,7 @@ impl Tallies {
         self.stopped.store(number, Ordering::SeqCst);
     }
 
-    /// Whether it is known of a journal's coordinator that it has stopped.
+    /// Returns whether it is known of a journal's coordinator that it has stopped.
     pub fn has_stopped(&self, instance: Instance) -> bool {
         self.stopped.load(Ordering::SeqCst) == instance.number().saturating_add(1)
     }

@@ -6,7 +6,7 @@ use std::fs::File;
 use std::io::Read;
 use std::rt::Files;
 
-/// How many random bytes it is made of.
+/// The number of random bytes that it is made of.
 const BYTES: usize = 16;
 
 /// Random bytes of the system's.

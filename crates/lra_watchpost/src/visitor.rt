@@ -6,10 +6,10 @@ use std::io::{ErrorKind, Read, Write};
 use std::net::{Shutdown, TcpStream};
 use std::time::Instant;
 
-/// How many bytes are read at once.
+/// The number of bytes that are read at once.
 const PIECE: usize = 4_096;
 
-/// How far a visit is.
+/// The stage of a visit.
 #[derive(Clone, Copy, Debug, PartialEq, Eq)]
 enum Stage {
     /// The request comes.
@@ -22,7 +22,7 @@ enum Stage {
     Leaves,
 }
 
-/// What came of a look at a visitor.
+/// The outcome of a look at a visitor.
 #[derive(Clone, Copy, Debug, PartialEq, Eq)]
 pub(crate) enum Step {
     /// Bytes went or came.
@@ -45,7 +45,7 @@ pub(crate) struct Visitor {
     stage: Stage,
 }
 
-/// What comes of bytes that went or came, or of a fault.
+/// Returns what comes of bytes that went or came, or of a fault.
 fn step_of(moved: std::io::Result<usize>) -> Step {
     match moved {
         Ok(0) => Step::Gone,
@@ -70,7 +70,7 @@ impl Visitor {
         }
     }
 
-    /// Whether its request is whole, and isn't answered yet.
+    /// Returns whether its request is whole, and isn't answered yet.
     pub(crate) fn is_waiting(&self) -> bool {
         self.stage == Stage::Waits
     }

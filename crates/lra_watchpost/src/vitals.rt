@@ -1,4 +1,4 @@
-//! What the system tells of the process.
+//! The figures that the system tells of the process.
 
 ghost use Rattle.std.specs.Prelude.{◌≡◌, None};
 
@@ -6,16 +6,16 @@ use std::fs::File;
 use std::os::unix::fs::FileExt;
 use std::rt::Files;
 
-/// How many bytes a page of memory has.
+/// The number of bytes that a page of memory has.
 const PAGE: u64 = 4_096;
 
-/// How much of a file of the system's is read.
+/// The number of bytes of a file of the system's that are read.
 const MOST: usize = 1_024;
 
-/// What the system tells of the process.
+/// The figures that the system tells of the process.
 #[derive(Clone, Copy, Debug, PartialEq, Eq)]
 pub struct Vitals {
-    /// How many bytes of memory it has, in all and in place.
+    /// The number of bytes of memory that it has, in all and in place.
     pub virtual_bytes: Option<u64>,
     pub resident_bytes: Option<u64>,
     /// The processor time that it took, in hundredths of a second.
@@ -43,7 +43,8 @@ pub(crate) struct Gauges {
     time: Option<File>,
 }
 
-/// What is read at once of a file of the system's, which tells anew at each read from its start.
+/// Reads a piece at once of a file of the system's, which tells anew at each read from its start, and returns its
+/// length.
 fn read_file(file: Option<&File>, piece: &mut [u8; MOST]) -> Option<usize> {
     file?.read_at(piece, 0).ok()
 }
@@ -84,7 +85,7 @@ impl Gauges {
         }
     }
 
-    /// What the system tells now.
+    /// Reads what the system tells now.
     pub(crate) fn read(&self) -> Vitals {
         let (virtual_bytes, resident_bytes) = memory(self.memory.as_ref()).unwrap_or((None, None));
         Vitals {

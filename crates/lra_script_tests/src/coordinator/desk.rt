@@ -15,10 +15,11 @@ use std::alloc::{AllocError, Global};
 use std::io::{self, Write};
 use std::str::from_utf8;
 
-/// How many bytes come of a script at most.
+/// The most bytes that come of a script.
 const ROOM: usize = 32_768;
 
-/// What is to stay as it is where memory is refused, beside the entries: the statuses of the first actions and members.
+/// The state that is to stay as it is where memory is refused, beside the entries: the statuses of the first actions
+/// and members.
 type Kept = [Option<Told>; 4];
 
 /// A coordinator, the errands that it gave, and what came of its commands.
@@ -27,7 +28,7 @@ struct Desk<'a> {
     alloc: Global,
     coordinator: &'a mut Coordinator,
     held: Errands,
-    /// What came of the commands of a script.
+    /// The text that came of the commands of a script.
     text: Vec<u8>,
     /// The lines that a command would append.
     lines: Vec<u8>,
@@ -57,7 +58,7 @@ pub fn played(alloc: Global, coordinator: &mut Coordinator, script: &str) -> Vec
 }
 
 impl Desk<'_> {
-    /// What came of the commands.
+    /// Returns what came of the commands.
     fn into_text(self) -> Vec<u8> {
         let Desk { text, .. } = self;
         text
@@ -153,7 +154,7 @@ impl Desk<'_> {
         self.record(by, moment, ask, outcome)
     }
 
-    /// What there is now that a refusal is to keep, beside the entries.
+    /// Returns what there is now that a refusal is to keep, beside the entries.
     fn kept(&self) -> Kept {
         [
             self.coordinator.status(1, 1).ok(),
@@ -163,7 +164,7 @@ impl Desk<'_> {
         ]
     }
 
-    /// Whether the entries are those whose lines were taken down.
+    /// Returns whether the entries are those whose lines were taken down.
     fn has_journal(&mut self) -> bool {
         self.spelled.clear();
         spell_entries(self.coordinator, &mut self.spelled).is_ok()
@@ -346,7 +347,7 @@ fn put_lines(lines: &[u8], text: &mut Vec<u8>) -> Option<()> {
     Some(())
 }
 
-/// What an audit says, made again where memory was refused.
+/// Returns what an audit says, made again where memory was refused.
 fn checked(alloc: Global, version: Version, entries: &[Entry]) -> Result<Verdict, Memory> {
     match check(alloc, version, entries) {
         Err(_) => check(alloc, version, entries),

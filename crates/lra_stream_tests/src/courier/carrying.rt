@@ -57,7 +57,7 @@ Connection: close\r
 \r
 ";
 
-/// How a stream goes on behind its bytes.
+/// The way in which a stream goes on behind its bytes.
 #[derive(Clone, Copy)]
 enum Rest {
     Open,
@@ -106,7 +106,7 @@ fn moved(
     None
 }
 
-/// What a callback comes to where these bytes come in pieces of this size, if all of the request went out.
+/// Returns what a callback comes to where these bytes come in pieces of this size, if all of the request went out.
 fn carried(
     alloc: Global,
     bytes: &[u8],
@@ -122,7 +122,7 @@ fn carried(
     if whole { told } else { None }
 }
 
-/// Whether it tells what it came to, and the code of a final response in the bytes where that is an outcome.
+/// Returns whether it tells what it came to, and the code of a final response in the bytes where that is an outcome.
 fn is_coded(
     alloc: Global,
     carrying: &Carrying,
@@ -152,7 +152,7 @@ fn is_coded(
     }
 }
 
-/// What `exchange` says of these bytes, and then the end.
+/// Returns what `exchange` says of these bytes, and then the end.
 fn exchanged(alloc: Global, bytes: &[u8]) -> Outcome {
     let mut writer = Sink::new(alloc, 4096, 4096);
     let reader = Pieces {
@@ -184,7 +184,7 @@ fn is_fault(alloc: Global, told: Option<Result<Outcome, CallFault>>, fault: &str
     }
 }
 
-/// Whether that comes of bytes in pieces of 1, of 7 and of all, as `exchange` says, and of no fewer of them.
+/// Returns whether that comes of bytes in pieces of 1, of 7 and of all, as `exchange` says, and of no fewer of them.
 fn whole_comes_to(alloc: Global, bytes: &[u8], outcome: &str) -> bool {
     let fewer = &bytes[..bytes.len().saturating_sub(1)];
     exchanged(alloc, bytes).name() == outcome
@@ -217,7 +217,7 @@ fn ended_comes_to(alloc: Global, bytes: &[u8], outcome: &str) -> bool {
         )
 }
 
-/// Whether that fault comes of bytes, whatever follows.
+/// Returns whether that fault comes of bytes, whatever follows.
 fn is_refused(alloc: Global, bytes: &[u8], fault: &str) -> bool {
     exchanged(alloc, bytes).name() == "silent"
         && is_fault(alloc, carried(alloc, bytes, 1, Rest::Open), fault)

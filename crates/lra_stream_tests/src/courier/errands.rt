@@ -8,13 +8,13 @@ use lra_model::{Outcome, Uris};
 use std::alloc::{AllocError, Global};
 use std::io::Write;
 
-/// How long a member is left alone at most before it is asked again, in milliseconds.
+/// The time that a member is left alone at most before it is asked again, in milliseconds.
 const PAUSE: u64 = 1_000_000;
 
 /// A member's addresses: to compensate, to complete, and for its status.
 const ADDRESSES: &str = "http://p.test:9000/u http://p.test:9000/c http://p.test:9000/s";
 
-/// What goes out for the first ask.
+/// The text that goes out for the first ask.
 const FIRST_REQUEST: &str = "PUT /c HTTP/1.1\r
 Host: p.test:9000\r
 Long-Running-Action: http://127.0.0.1:8080/lra-coordinator/00000000-0000-8007-8000-000000000001\r
@@ -129,7 +129,7 @@ fn carry_anew(alloc: Global, member: &Uris, responses: &str, text: &mut Vec<u8>)
     done
 }
 
-/// Whether this is what is taken down behind the first request.
+/// Returns whether this is what is taken down behind the first request.
 fn come_to(alloc: Global, member: &Uris, responses: &str, wanted: &str) -> bool {
     let mut text = Vec::new(alloc);
     let done = carry_anew(alloc, member, responses, &mut text);
@@ -137,7 +137,7 @@ fn come_to(alloc: Global, member: &Uris, responses: &str, wanted: &str) -> bool 
     done && later == Some(wanted.as_bytes())
 }
 
-/// Whether a row's responses come to what it says.
+/// Returns whether a row's responses come to what it says.
 fn row_holds(alloc: Global, row: &str) -> bool {
     let Some(member) = member(alloc, ADDRESSES) else {
         return false;
@@ -179,7 +179,7 @@ pub(super) fn errand_to(alloc: Global, addresses: &str) -> Option<Errand> {
     errand
 }
 
-/// How much of the first request this is.
+/// Returns how much of the first request this is.
 fn part(taken: &[u8]) -> &'static str {
     if taken.is_empty() {
         return "nothing";
@@ -190,7 +190,7 @@ fn part(taken: &[u8]) -> &'static str {
     "a part"
 }
 
-/// What comes of an errand that the member has done, where the text of the request goes.
+/// Returns what comes of an errand that the member has done. The text of the request goes to `taken`.
 fn exchanged_in(alloc: Global, errand: &Errand, taken: &mut Vec<u8>) -> Outcome {
     let response: &[u8] = b"HTTP/1.1 200 OK\r\nContent-Length: 9\r\n\r\nCompleted";
     if taken.reserve(1024).is_err() {
@@ -199,8 +199,8 @@ fn exchanged_in(alloc: Global, errand: &Errand, taken: &mut Vec<u8>) -> Outcome 
     exchange(alloc, response, taken, errand)
 }
 
-/// How much of the request goes out for an errand that the member has done, and what comes of it: nothing, and silence, where there
-/// is no memory for that text.
+/// Returns how much of the request goes out for an errand that the member has done, and what comes of it: nothing, and
+/// silence, where there is no memory for that text.
 fn exchanged(alloc: Global, errand: &Errand) -> (&'static str, &'static str) {
     let mut taken = Vec::new(alloc);
     let outcome = exchanged_in(alloc, errand, &mut taken);
@@ -209,12 +209,12 @@ fn exchanged(alloc: Global, errand: &Errand) -> (&'static str, &'static str) {
     (sent, outcome.name())
 }
 
-/// Whether an exchange went well.
+/// Returns whether an exchange went well.
 fn is_done((sent, outcome): (&str, &str)) -> bool {
     sent == "all" && outcome == "done"
 }
 
-/// Whether an exchange is as one that was refused memory: nothing was sent, or all, and nothing came of it.
+/// Returns whether an exchange is as one that was refused memory: nothing was sent, or all, and nothing came of it.
 fn is_refused((sent, outcome): (&str, &str)) -> bool {
     sent != "a part" && outcome == "silent"
 }

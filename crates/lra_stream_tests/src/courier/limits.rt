@@ -12,11 +12,11 @@ use std::time::{Clock, Duration};
 
 const RESPONSE: &[u8] = b"HTTP/1.1 204 x\r\n\r\n";
 
-/// What the clock shows, what happened, and how long it takes, in seconds.
+/// The moment that the clock shows, what happened, and how long it takes, in seconds.
 #[derive(Drop)]
 struct World {
     now: Cell<u64>,
-    /// How many connections were asked for, and the last one's port.
+    /// The number of connections that were asked for, and the last one's port.
     connects: Cell<u64>,
     port: Cell<u16>,
     /// So many of them fail.
@@ -161,10 +161,10 @@ impl<'a> Net for Handle<'a> {
     }
 }
 
-/// How many connections fail, how many seconds each takes, and each read, the address of a call, and what comes of it: where it
-/// matters, the last port and the number of connections too. The port is the address's or 80. The limit of 30 s is one over all
-/// reads: the response comes in 18, of which the last begins once 17 are over. That of 5 s is one over all addresses, of which a
-/// name has two.
+/// The number of connections that fail, the seconds that each takes, and each read, the address of a call, and what
+/// comes of it: where it matters, the last port and the number of connections too. The port is the address's or 80. The
+/// limit of 30 s is one over all reads: the response comes in 18, of which the last begins once 17 are over. That of 5
+/// s is one over all addresses, of which a name has two.
 const CALLS: &str = "\
 0 0 0 http://127.0.0.1/f -> done, port 80,
 0 0 0 http://127.0.0.1:9000/f -> done, port 9000,
@@ -182,14 +182,14 @@ const CALLS: &str = "\
 1 5 0 http://p.test/f -> silent, port 80, 1 connections
 2 1 0 http://p.test/f -> silent, port 80, 2 connections";
 
-/// What comes of a call in a world.
+/// Returns what comes of a call in a world.
 fn told(alloc: Global, world: &World, address: &str) -> Result<String, AllocError> {
     let outcome = TcpCourier::new(Handle { world }, alloc).call(&forget(address));
     let (name, port, connects) = (outcome.name(), world.port.get(), world.connects.get());
     format!(in alloc; "{name}, port {port}, {connects} connections")
 }
 
-/// Whether what comes of it is what is wanted.
+/// Returns whether what comes of it is what is wanted.
 fn comes_to(alloc: Global, world: &World, address: &str, wanted: &str) -> bool {
     match &told(alloc, world, address) {
         Ok(told) => told.as_str().starts_with(wanted),

@@ -1,4 +1,4 @@
-//! What a callback that is carried comes to where a growth is refused: run with one allocation failing in turn.
+//! The outcome of a callback that is carried where a growth is refused: run with one allocation failing in turn.
 use super::carrying::asked;
 use lra_courier::{Carrying, SendFault, Step};
 use lra_model::Outcome;
@@ -21,7 +21,7 @@ fn made(alloc: Global) -> Option<Carrying> {
     }
 }
 
-/// How much may be handed out and taken, and what it came to.
+/// Returns how much may be handed out and taken, and what it came to.
 fn shown(carrying: &Carrying) -> (usize, usize, Option<Outcome>) {
     (carrying.out().len(), carrying.room(), carrying.outcome())
 }
@@ -50,7 +50,7 @@ fn take(carrying: &mut Carrying, bytes: &[u8]) -> Option<bool> {
     carrying.take(bytes).ok()
 }
 
-/// What the callback comes to where these bytes come one by one, and then the end.
+/// Returns what the callback comes to where these bytes come one by one, and then the end.
 fn heard(carrying: &mut Carrying, bytes: &[u8]) -> Option<Outcome> {
     let count = carrying.out().len();
     carrying.gone(count);

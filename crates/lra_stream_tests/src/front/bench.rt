@@ -16,7 +16,7 @@ pub(super) fn enrolled(alloc: Global) -> Option<Bench> {
     Some(Bench::new(coordinator, 1))
 }
 
-/// How many entries a bench has that is let go of.
+/// Returns how many entries a bench has that is let go of.
 pub(super) fn entries_of(bench: Bench) -> usize {
     let coordinator = bench.into_coordinator();
     let count = coordinator.entries().len();
@@ -35,7 +35,7 @@ Long-Running-Action: http://127.0.0.1:8080/lra-coordinator/00000000-0000-8007-80
 \r
 {\"lra\":\"http://127.0.0.1:8080/lra-coordinator/00000000-0000-8007-8000-000000000001\"}";
 
-/// Whether a start has this front of its reply at a bench, whose writer has room for that alone, and ends so.
+/// Returns whether a start has this front of its reply at a bench, whose writer has room for that alone, and ends so.
 fn has_front(alloc: Global, bench: &mut Bench, front: &[u8], end: &str) -> bool {
     let mut sink = Sink::new(alloc, 7, front.len());
     let reader = Pieces::of(START, 4096);
@@ -44,7 +44,7 @@ fn has_front(alloc: Global, bench: &mut Bench, front: &[u8], end: &str) -> bool 
     has_front
 }
 
-/// Whether a start stands whose writer takes this front of its reply alone, and ends so.
+/// Returns whether a start stands whose writer takes this front of its reply alone, and ends so.
 fn stands(alloc: Global, front: &[u8], end: &str) -> bool {
     let Some(mut bench) = enrolled(alloc) else {
         return false;

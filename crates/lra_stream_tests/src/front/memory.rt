@@ -1,4 +1,4 @@
-//! What a stream comes to where a growth is refused: run with one allocation failing in turn.
+//! The outcome of a stream where a growth is refused: run with one allocation failing in turn.
 
 use super::bench::{STARTED, enrolled, entries_of};
 use crate::pieces::{Pieces, Sink};
@@ -46,7 +46,7 @@ const REPLIES: [(&str, &str); 5] = [
     ("503 close", CLOSED),
 ];
 
-/// What the stream comes to: how many requests were read and entries are there; how it ended; and the replies.
+/// The outcome of the stream: how many requests were read and entries are there; how it ended; and the replies.
 const WHOLE: &str = "2 requests, 2 entries, Done: 201 200";
 
 /// The same where a growth was refused: in making the routes or the inbox, in reading the first request, in its body or its command, in
@@ -77,8 +77,8 @@ impl Clock for Asked {
     }
 }
 
-/// How many requests of the stream were read at a bench of its own, how many entries it has then, and how the stream ended. Nothing,
-/// where memory was refused before it began.
+/// Serves the stream at a bench of its own. Returns how many of its requests were read, how many entries the bench has
+/// then, and how the stream ended: nothing, where memory was refused before it began.
 fn serve_once(alloc: Global, sink: &mut Sink) -> Option<(u64, usize, StreamEnd)> {
     let mut bench = enrolled(alloc)?;
     let mut clock = Asked { requests: 0 };
@@ -137,7 +137,7 @@ fn put_told(alloc: Global, line: &mut String) -> Result<(), AllocError> {
     done
 }
 
-/// What the stream comes to: nothing where memory was refused before it began.
+/// Returns what the stream comes to: nothing where memory was refused before it began.
 fn told(alloc: Global) -> String {
     let mut line = String::new(alloc);
     if put_told(alloc, &mut line).is_err() {
@@ -146,7 +146,7 @@ fn told(alloc: Global) -> String {
     line
 }
 
-/// Whether the stream came to something that it may come to where one growth is refused.
+/// Returns whether the stream came to something that it may come to where one growth is refused.
 fn is_refused(told: &str) -> bool {
     for end in ENDS.lines() {
         if told == end {

@@ -16,7 +16,7 @@ fn cut(alloc: Global, text: &str, size: usize) -> Option<Vec<Vec<u8>>> {
     Some(pieces)
 }
 
-/// Whether pieces are replied so at a counter, and end so.
+/// Returns whether pieces are replied so at a counter, and end so.
 fn comes_to<C: Session>(
     alloc: Global,
     counter: &mut C,
@@ -41,7 +41,7 @@ fn is_answered(alloc: Global, text: &str, size: usize, reply: &str, end: &str) -
     Some(answered)
 }
 
-/// Whether the stream of a row is answered as the row says, in pieces of this size.
+/// Returns whether the stream of a row is answered as the row says, in pieces of this size.
 fn row_is_answered(alloc: Global, row: &str, size: usize) -> bool {
     let row = written_out(alloc, row);
     let (stream, rest) = parted(row.as_str(), "|");

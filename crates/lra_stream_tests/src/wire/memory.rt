@@ -1,4 +1,4 @@
-//! What each call answers where a growth is refused: run with one allocation failing in turn.
+//! The answers of each call where a growth is refused: run with one allocation failing in turn.
 use crate::pieces::{Sink, in_pieces};
 use lra_wire::{RequestWrite, WireFault, read_request, read_response, write_request};
 use std::alloc::Global;

@@ -1,4 +1,5 @@
-//! What each call answers where a growth is refused: run with one allocation failing in turn. A call after it has memory.
+//! The answers of each call where a growth is refused: run with one allocation failing in turn. A call after it has
+//! memory.
 use super::{NESTED, NESTED_VERDICT, journal_of, told_in_memory, told_in_pieces, told_whole};
 use crate::texts::assert_told;
 use lra_auditor::{Account, Auditor, AuditorFault, Memory};
@@ -51,7 +52,7 @@ fn a_refused_growth_spends_an_auditor(rt: HostRuntime) {
     assert_told(&rt, NESTED, feed_again(rt.alloc()).ok(), NESTED_VERDICT);
 }
 
-/// Whether an auditor that was fed has an account of a legal history.
+/// Returns whether an auditor that was fed has an account of a legal history.
 fn is_sound(auditor: Auditor) -> Result<bool, AuditorFault> {
     match auditor.list()? {
         Account::Sound(listing) => {
@@ -62,7 +63,7 @@ fn is_sound(auditor: Auditor) -> Result<bool, AuditorFault> {
     }
 }
 
-/// Whether there is an account of a legal history, or else the auditor is spent since memory was refused to it.
+/// Returns whether there is an account of a legal history, or else the auditor is spent since memory was refused to it.
 fn is_listed(alloc: Global) -> Result<bool, Memory> {
     let journal = nested(alloc)?;
     let mut auditor = Auditor::new(alloc);

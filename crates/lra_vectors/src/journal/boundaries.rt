@@ -1,4 +1,4 @@
-//! What is a line, and what is none by a little.
+//! The texts that are a line, and those that are none by a little.
 
 use super::*;
 use std::process::Abort;

@@ -7,7 +7,7 @@ use lra_audits::RunFault;
 use lra_reports::{Sources, upgrade_twice};
 use std::alloc::Global;
 
-/// What comes of an upgrade of these bytes, and those at a second reading.
+/// Returns what comes of an upgrade of these bytes, and those at a second reading.
 fn told_of(alloc: Global, first: &[u8], again: &[u8]) -> Option<String> {
     let mut printed = Vec::new(alloc);
     let outcome = upgrade_twice(alloc, first, again, &mut printed);
@@ -32,7 +32,7 @@ impl Telling for Again {
     }
 }
 
-/// What is read first, and then, with lines that end in semicolons, and what comes of them.
+/// The texts that are read first, and then, with lines that end in semicolons, and what comes of them.
 const AGAIN: &str = "\
 lra-journal 1 7;1 0 enrol;|lra-journal 1 7;1 0 enrol; -> lra-journal 2 7;1 0 enrol;Ok(0)
 lra-journal 1 7;|lra-journal 1 7; -> lra-journal 2 7;Ok(0)

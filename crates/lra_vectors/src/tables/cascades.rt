@@ -5,7 +5,7 @@ use super::assert_history;
 use lra_journal::JournalFault;
 use lra_model::Memory;
 
-/// How many actions the chain has.
+/// The number of actions that the chain has.
 const DEPTH: u64 = 64;
 
 /// So many actions have this status.

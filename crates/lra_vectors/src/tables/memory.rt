@@ -63,7 +63,7 @@ fn entries_again(alloc: Global) -> Result<(Version, Vec<Entry>), Memory> {
     }
 }
 
-/// Whether an action's rows are the same.
+/// Returns whether an action's rows are the same.
 fn is_same_action(left: &Tables, right: &Tables, number: u64) -> bool {
     match (left.action(number), right.action(number)) {
         (Some(one), Some(other)) => {
@@ -83,7 +83,7 @@ fn is_same_action(left: &Tables, right: &Tables, number: u64) -> bool {
     }
 }
 
-/// Whether a member's rows are the same.
+/// Returns whether a member's rows are the same.
 fn is_same_member(left: &Tables, right: &Tables, number: u64) -> bool {
     match (left.member(number), right.member(number)) {
         (Some(one), Some(other)) => {
@@ -102,7 +102,7 @@ fn is_same_member(left: &Tables, right: &Tables, number: u64) -> bool {
     }
 }
 
-/// Whether the counts are the same.
+/// Returns whether the counts are the same.
 fn are_same_counts(left: &Tables, right: &Tables) -> bool {
     (
         left.count_entries(),
@@ -121,7 +121,7 @@ fn are_same_counts(left: &Tables, right: &Tables) -> bool {
     )
 }
 
-/// Whether two tables have the same rows.
+/// Returns whether two tables have the same rows.
 fn are_same(left: &Tables, right: &Tables) -> bool {
     for number in 0..4 {
         if !is_same_action(left, right, number) || !is_same_member(left, right, number + 1) {
@@ -165,7 +165,7 @@ fn follow(tables: &mut Tables, entry: &Entry) -> Result<(), Memory>
     Ok(())
 }
 
-/// Whether there is memory to plan an entry. The plan is dropped.
+/// Returns whether there is memory to plan an entry. The plan is dropped.
 fn is_planned(tables: &mut Tables, entry: &Entry) -> bool
     requires { Follows tables.old.sheet entry.now }
     ensures { tables.new.sheet ≡ tables.old.sheet }
@@ -225,7 +225,7 @@ fn fill_empty<R: Abort>(rt: &R, alloc: Global, entries: &[Entry]) -> Result<(), 
     filled
 }
 
-/// Whether the entries are a legal history. Where memory for that is refused, the second try has it.
+/// Returns whether the entries are a legal history. Where memory for that is refused, the second try has it.
 fn is_sound_again(alloc: Global, version: Version, entries: &[Entry]) -> Result<bool, Memory>
     ensures { IfOk result (λ sound. sound ≡ is_legal version is_address entries.now) }
 {
