@@ -159,7 +159,7 @@ pub trait Clerkship: Session {
     /// Another clerk of the same office, where one can be enrolled at a moment, in milliseconds.
     fn fork(&mut self, moment: u64) -> Option<Self>;
 
-    /// What its office tells of its history, if it does.
+    /// Returns what its office tells of its history, if it does.
     fn query(&mut self, query: Query) -> Option<Known>;
 
     /// Ends its office, where that has no other clerk: no order reaches it any more. Else the clerk is given back.

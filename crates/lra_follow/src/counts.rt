@@ -1,11 +1,11 @@
-//! What is counted of a journal as it grows.
+//! Counts of a journal as it grows.
 
 use lra_auditor::Follower;
 use lra_journal::{DeedRef, EntryRef};
 use lra_model::{ActionStatus, Instance, Memory, Version};
 use std::alloc::Global;
 
-/// How many entries came, and the status of each action, in the order of their numbers.
+/// Number of entries that came, and the status of each action, in the order of their numbers.
 #[derive(Drop)]
 pub struct Counts {
     entries: u64,
@@ -21,17 +21,17 @@ impl Counts {
         }
     }
 
-    /// How many entries came.
+    /// Returns how many entries came.
     pub fn entries(&self) -> u64 {
         self.entries
     }
 
-    /// How many actions started.
+    /// Returns how many actions started.
     pub fn actions(&self) -> u64 {
         self.statuses.len() as u64
     }
 
-    /// How many actions haven't ended.
+    /// Counts the actions that haven't ended.
     pub fn unended(&self) -> u64 {
         let mut count: u64 = 0;
         for status in self.statuses.as_slice() {

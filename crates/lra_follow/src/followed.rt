@@ -9,19 +9,19 @@ use std::fs::File;
 use std::io::Write;
 use std::rt::Files;
 
-/// How many looks there are from one line to the next at least.
+/// Least number of looks from one line to the next.
 const LOOKS: u64 = 4;
 
 /// A journal that is followed.
 #[derive(Drop)]
 pub(crate) struct Followed {
     alloc: Global,
-    /// What stands before each line that is told of it.
+    /// Text before each line that is told of it.
     front: String,
     watch: Watch,
-    /// How many entries were told of, if any line was.
+    /// Number of entries that were told of, if any line was.
     told: Option<u64>,
-    /// How many looks there were since.
+    /// Number of looks since.
     looks: u64,
 }
 
@@ -48,7 +48,7 @@ impl Followed {
         self.watch.look(rt)
     }
 
-    /// What of its file was read.
+    /// Returns what of its file was read.
     pub(crate) fn extent(&self) -> Extent {
         self.watch.extent()
     }
@@ -67,7 +67,7 @@ impl Followed {
         is_there
     }
 
-    /// How many entries came, where any whole line did.
+    /// Returns how many entries came, where any whole line did.
     fn entries(&self) -> Option<u64> {
         match self.watch.tail() {
             Some(tail) if tail.fed() > 0 => Some(tail.counts().entries()),
@@ -75,7 +75,7 @@ impl Followed {
         }
     }
 
-    /// Whether all that came was told.
+    /// Returns whether all that came was told.
     pub(crate) fn is_told(&self) -> bool {
         self.entries() == self.told
     }

@@ -10,7 +10,7 @@ use std::fs::File;
 use std::io::Write;
 use std::rt::Files;
 
-/// What stands before the name of a journal that was put away.
+/// Text before the name of a journal that was archived.
 const ENDED: &str = "ended/";
 
 /// A journal of a folder.
@@ -20,9 +20,9 @@ struct Journal {
     name: String,
     /// None before the first look, and once it was put away and all of it was told: nobody writes to it any more.
     followed: Option<Followed>,
-    /// What of its file was read by then.
+    /// Part of its file that was read by then.
     extent: Option<Extent>,
-    /// Whether it isn't there any more, and nothing of it is to be told.
+    /// Mark that it isn't there any more, and that nothing of it is to be told.
     is_gone: bool,
 }
 
@@ -31,7 +31,7 @@ fn path_of(alloc: Global, folder: &str, name: &str) -> Result<String, Memory> {
     format!(in alloc; "{folder}/{name}")
 }
 
-/// What stands before each line that is told of a name.
+/// Returns what stands before each line that is told of a name.
 fn front_of(alloc: Global, name: &str) -> Result<String, Memory> {
     format!(in alloc; "{name} ")
 }
@@ -61,7 +61,7 @@ impl Journal {
         })
     }
 
-    /// Whether it was put away.
+    /// Returns whether it was archived.
     fn is_ended(&self) -> bool {
         self.name.starts_with(ENDED)
     }
@@ -83,7 +83,8 @@ impl Journal {
         Ok(())
     }
 
-    /// What is seen of it where its name doesn't stand for its file any more: it may have been put away, or let go of.
+    /// Returns what is seen of it where its name doesn't stand for its file any more: it may have been archived, or let
+    /// go of.
     fn see_moved<R: AllocGlobal + Files<File = File>>(
         &mut self,
         rt: &R,

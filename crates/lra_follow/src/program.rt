@@ -12,13 +12,13 @@ use std::sync::{Arc, Wait};
 use std::thread::{Builder, Threads, sleep};
 use std::time::{Clock, Duration};
 
-/// How long it waits from one look to the next, in milliseconds.
+/// Number of milliseconds that it waits from one look to the next.
 const PAUSE: u64 = 250;
 
-/// How many bytes of what nobody needs are read at once.
+/// Number of bytes of what nobody needs that are read at once.
 const IGNORED: usize = 256;
 
-/// Whether it is to end.
+/// Request that it ends.
 #[derive(Drop)]
 pub struct Stop {
     is_asked: AtomicBool,
@@ -37,7 +37,7 @@ impl Stop {
         self.is_asked.store(true, Ordering::SeqCst);
     }
 
-    /// Whether it is to end.
+    /// Returns whether it is to end.
     pub fn is_asked(&self) -> bool {
         self.is_asked.load(Ordering::SeqCst)
     }

@@ -1,4 +1,4 @@
-//! What is told of a journal that is followed.
+//! Texts that tell of a journal that is followed.
 
 use crate::counts::Counts;
 use lra_model::Memory;

@@ -1,4 +1,4 @@
-//! Who is told of what happens.
+//! Receivers of what happens.
 
 ghost use Rattle.std.specs.Prelude.{◌≡◌, false};
 
@@ -6,16 +6,16 @@ use crate::event::Event;
 use log::Level;
 use std::sync::Arc;
 
-/// Who is told of what happens.
+/// Receiver of what happens.
 pub trait Journalist {
-    /// Whether anything is made of what happens at that level.
+    /// Returns whether anything is made of what happens at that level.
     fn hears(&self, level: Level) -> bool;
 
     /// Something has happened.
     fn note(&self, event: &Event);
 }
 
-/// Who makes nothing of it.
+/// Receiver that makes nothing of it.
 #[derive(Clone, Copy, Debug)]
 pub struct Nobody;
 

@@ -44,7 +44,7 @@ pub(crate) fn is_urgent(level: Level) -> bool
     }
 }
 
-/// What stands before a line of that level for systemd's journal.
+/// Returns what stands before a line of that level for systemd's journal.
 pub(crate) fn priority(level: Level) -> &'static str
     ensures { result.now ≡ spec.priority level }
 {

@@ -1,4 +1,5 @@
-//! What a running service tells on standard error: events as lines, in text or in JSON, by level, and no more of them in a second than can be read.
+//! Log of a running service on standard error: events as lines, in text or in JSON, by level, and no more of them in a
+//! second than can be read.
 #![tactic(auto)]
 
 mod chronicle;

@@ -1,14 +1,14 @@
-//! How many lines are written in a second.
+//! Limit on the lines that are written in a second.
 
 ghost use Rattle.std.specs.Prelude.{◌≡◌};
 ghost use Rattle.lra_logs.specs.Meters as spec;
 
 use std::marker::Model;
 
-/// How many lines are written in a second at most, beside warnings and errors.
+/// Largest number of lines that are written in a second, beside warnings and errors.
 const MOST: u64 = 100;
 
-/// What becomes of a line.
+/// Decision on a line.
 #[derive(Clone, Copy, Debug, PartialEq, Eq)]
 pub enum Verdict {
     /// It is written.
@@ -19,7 +19,7 @@ pub enum Verdict {
     Suppress,
 }
 
-/// How many lines beside warnings and errors were written in a second, and how many weren't.
+/// Numbers of the lines beside warnings and errors that were written in a second, and of those that weren't.
 #[derive(Debug, Drop)]
 pub struct Meter {
     second: u64,
@@ -76,7 +76,7 @@ impl Meter {
         }
     }
 
-    /// What becomes of a line now.
+    /// Decides what becomes of a line now.
     fn verdict(&self, is_urgent: bool) -> Verdict
         ensures { result ≡ spec.verdict_at self.now is_urgent }
     {
@@ -95,7 +95,8 @@ impl Meter {
         }
     }
 
-    /// What becomes of a line at a moment, in milliseconds of a clock that doesn't go back. An urgent one, which is a warning or an error, is always written.
+    /// Decides what becomes of a line at a moment, in milliseconds of a clock that doesn't go back. An urgent one,
+    /// which is a warning or an error, is always written.
     pub fn admit(&mut self, moment: u64, is_urgent: bool) -> Verdict
         ensures verdict { result ≡ spec.verdict_at (spec.turned self.old moment) is_urgent }
         ensures pace { self.new ≡ spec.after (spec.turned self.old moment) is_urgent result }
@@ -113,7 +114,8 @@ impl Meter {
         verdict
     }
 
-    /// How many lines weren't written of which nobody was told, for who tells it now.
+    /// Returns how many lines weren't written of which nothing was told, and forgets them: the caller tells of them
+    /// now.
     pub fn settle(&mut self) -> u64
         ensures all { result ≡ self.old.suppressed }
         ensures none { self.new ≡ record self.old { suppressed = 0 } }

@@ -1,4 +1,4 @@
-//! What a service tells anyway, as a log has it.
+//! Lines that a service tells anyway, as a log has them.
 
 ghost use Rattle.std.specs.Prelude.{◌≡◌, codes};
 ghost use Rattle.lra_logs.specs.inner.Sayings as spec;
@@ -23,7 +23,7 @@ fn unnamed(text: &str) -> &str
     }
 }
 
-/// What a line says, without the program's name and the line feed.
+/// Returns what a line says, without the program's name and the line feed.
 pub(crate) fn said(line: &str) -> &str
     ensures { spec.Says line.now result.now }
 {

@@ -7,7 +7,7 @@ use jiff_core::civil::Date;
 use lra_model::Memory;
 use std::alloc::Global;
 
-/// How many milliseconds a day has.
+/// Number of milliseconds of a day.
 const DAY: u64 = 86_400_000;
 
 /// A date's text.

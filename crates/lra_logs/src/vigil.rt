@@ -18,11 +18,11 @@ use std::collections::HashMap;
 pub(crate) struct Vigil {
     /// The member of each ask that stands.
     asks: HashMap<u64, u64>,
-    /// How often each member was silent in a row, where it was.
+    /// Number of silences in a row of each member that was silent.
     silences: HashMap<u64, u64>,
 }
 
-/// Whether a silence is told of.
+/// Returns whether a silence is told of.
 fn is_told(times: u64) -> bool
     ensures { result ≡ spec.is_told times }
 {

@@ -13,7 +13,7 @@ use thiserror::Error;
 /// Why nothing is served, or is served any more.
 #[derive(Clone, Copy, Debug, PartialEq, Eq, Error)]
 pub enum ServeFault {
-    /// What keeps a run from an answer: here its input is the journal's file.
+    /// Fault that keeps a run from an answer: here its input is the journal's file.
     #[error(transparent)]
     Run(RunFault),
     /// Another holds its lock, or it can't be created, cut, locked or written.

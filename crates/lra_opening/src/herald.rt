@@ -6,7 +6,7 @@ pub trait Herald {
     fn tell(&self, line: &str);
 }
 
-/// Who tells nobody.
+/// Herald that tells nothing.
 #[derive(Clone, Copy, Debug)]
 pub struct Silence;
 
@@ -14,7 +14,7 @@ impl Herald for Silence {
     fn tell(&self, _line: &str) {}
 }
 
-/// Who tells on standard error.
+/// Herald that tells on standard error.
 #[derive(Drop)]
 pub struct Aloud<'a, R> {
     pub rt: &'a R,
@@ -27,7 +27,7 @@ impl<R: Eprint> Herald for Aloud<'_, R> {
     }
 }
 
-/// Who tells on standard error where somebody watches: where it is a terminal.
+/// Herald that tells on standard error where somebody watches: where it is a terminal.
 #[derive(Drop)]
 pub struct Watched<'a, R> {
     pub rt: &'a R,

@@ -1,5 +1,5 @@
-//! What a service has to be before it serves: its journal's file found, locked, audited and cut to its whole lines, and the office that goes
-//! on from it; and why nothing is served.
+//! Preparation of a service before it serves: its journal's file found, locked, audited and cut to its whole lines, and
+//! the office that goes on from it; and the reasons why nothing is served.
 #![tactic(auto)]
 
 mod auditing;

@@ -1,4 +1,4 @@
-//! How far a file has been read, told once a second.
+//! Progress of reading a file, told once a second.
 
 ghost use Rattle.std.specs.Prelude.{◌≡◌};
 
@@ -8,7 +8,7 @@ use std::io;
 use std::io::Read;
 use std::time::{Clock, Duration, Instant};
 
-/// How many seconds there are from one line to the next.
+/// Number of seconds from one line to the next.
 const PAUSE: u64 = 1;
 
 /// A megabyte, in bytes.
@@ -23,9 +23,9 @@ pub(crate) struct Progress<'a, F, R, H> {
     clock: &'a R,
     herald: &'a H,
     name: &'a str,
-    /// How many bytes the file has.
+    /// Number of bytes that the file has.
     all: u64,
-    /// How many were read.
+    /// Number of bytes that were read.
     read: u64,
     /// The moment from which the next line is due, where the clock told one.
     due: Option<Instant>,
@@ -60,7 +60,7 @@ impl<'a, F: Read, R: Clock, H: Herald> Progress<'a, F, R, H> {
         }
     }
 
-    /// Whether the next line is due.
+    /// Returns whether the next line is due.
     fn is_due(&self) -> bool {
         match (self.due, Instant::now(self.clock)) {
             (Some(due), Ok(now)) => due.saturating_duration_since(now).is_zero(),

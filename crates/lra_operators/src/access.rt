@@ -1,4 +1,4 @@
-//! Whether a request may be made.
+//! Admission of requests.
 
 ghost use Rattle.std.specs.Prelude.{◌≡◌, IfOk, bytes_eq, string_bytes, option_map};
 ghost use Rattle.std.specs.List.{before_first, after_first, list_all};
@@ -14,7 +14,7 @@ use lra_model::Memory;
 use lra_wire::{RequestFields, RequestRead};
 use std::alloc::Global;
 
-/// What requests need to be taken.
+/// Secrets that a request has to give to be admitted.
 #[derive(Clone, Copy)]
 pub struct Access<'a> {
     /// The key that each has to give, if there is one.
@@ -23,7 +23,7 @@ pub struct Access<'a> {
     pub token: &'a str,
 }
 
-/// Whether a request may be made.
+/// Decision whether a request may be made.
 #[derive(Clone, Copy, Debug, PartialEq, Eq)]
 pub enum Admission {
     Admitted,
@@ -39,7 +39,7 @@ pub enum Admission {
     MistypedKey,
 }
 
-/// What of a request says whether it may be made.
+/// Facts of a request that decide whether it may be made.
 #[derive(Clone, Copy)]
 pub struct Seen {
     /// Each request has to give a key.
@@ -49,7 +49,8 @@ pub struct Seen {
     /// It asks for an order, and for the one that gives a member up.
     pub is_order: bool,
     pub is_give_up: bool,
-    /// What it gives: the key in its head, in any way or in the one that no browser takes by itself, or in the form that its body is, and the token in that form.
+    /// The secrets that it gives: the key in its head, in any way or in the one that no browser takes by itself, or in
+    /// the form that its body is, and the token in that form.
     pub head_has_key: bool,
     pub bearer_has_key: bool,
     pub form_has_key: bool,
@@ -64,7 +65,7 @@ impl Seen {
     ghost use Rattle.std.specs.Prelude.{◌≡◌};
     ghost use Rattle.lra_operators.specs.Access.{order_admission, admission_of};
 
-    /// Whether an order may be given.
+    /// Decides whether an order may be given.
     fn order_admission(self) -> Admission
         ensures { result ≡ order_admission self }
     {
@@ -86,7 +87,7 @@ impl Seen {
         Admission::Forged
     }
 
-    /// Whether the request may be made.
+    /// Decides whether the request may be made.
     pub fn admission(self) -> Admission
         ensures { result ≡ admission_of self }
     {
@@ -103,7 +104,7 @@ impl Seen {
     }
 }
 
-/// Whether two texts are one, in a time that depends on how long the given one is alone.
+/// Returns whether two texts are the same, in a time that depends on how long the given one is alone.
 fn is_same(given: &[u8], wanted: &[u8]) -> bool
     ensures { result ≡ bytes_eq given.now wanted.now }
 {
@@ -126,7 +127,7 @@ fn bearer_in(authorization: &str) -> &str
     }
 }
 
-/// What a value of `Authorization` has as `Basic`: a name, a colon and a password, spelled in base64.
+/// Returns what a value of `Authorization` has as `Basic`: a name, a colon and a password, spelled in base64.
 fn basic_in(authorization: &str) -> &str
     ensures { result.now ≡ spec.basic_in authorization.now }
 {
@@ -137,7 +138,7 @@ fn basic_in(authorization: &str) -> &str
     }
 }
 
-/// What the spelled bytes are, or none where they are no base64.
+/// Returns the bytes that are spelled in base64, or none where they are no base64.
 fn decoded(alloc: Global, spelled: &str) -> Result<Vec<u8>, Memory>
     ensures { IfOk result (λ bytes. bytes.items ≡ spec.decoded spelled.now) }
 {
@@ -158,7 +159,7 @@ fn text_of(bytes: &[u8]) -> &str
     }
 }
 
-/// What stands before the first space, or all of it.
+/// Returns what stands before the first space, or all of the text.
 fn before_space(text: &str) -> &str
     ensures { result.now ≡ before_first spec.is_space text.now }
 {
@@ -168,7 +169,7 @@ fn before_space(text: &str) -> &str
     }
 }
 
-/// What follows the first space, or nothing.
+/// Returns what follows the first space, or nothing.
 fn after_space(text: &str) -> &str
     ensures { result.now ≡ after_first spec.is_space text.now }
 {
@@ -178,7 +179,7 @@ fn after_space(text: &str) -> &str
     }
 }
 
-/// What stands before the first colon, or all of it.
+/// Returns what stands before the first colon, or all of the text.
 fn before_colon(text: &str) -> &str
     ensures { result.now ≡ before_first spec.is_colon text.now }
 {
@@ -188,7 +189,7 @@ fn before_colon(text: &str) -> &str
     }
 }
 
-/// What follows the first colon, or nothing.
+/// Returns what follows the first colon, or nothing.
 fn after_colon(text: &str) -> &str
     ensures { result.now ≡ after_first spec.is_colon text.now }
 {
@@ -198,7 +199,7 @@ fn after_colon(text: &str) -> &str
     }
 }
 
-/// Whether a name has digits and points alone.
+/// Returns whether a name has digits and points alone.
 fn is_numeric(name: &[u8]) -> bool
     ensures { result ≡ list_all spec.is_numeric name.now }
 {
@@ -206,21 +207,21 @@ fn is_numeric(name: &[u8]) -> bool
         .all(|byte| byte.is_ascii_digit() || *byte == b'.')
 }
 
-/// Whether a name is an address of the machine's own in numbers.
+/// Returns whether a name is an address of the machine's own in numbers.
 fn is_loopback(name: &[u8]) -> bool
     ensures { result ≡ spec.is_loopback name.now }
 {
     name.starts_with(b"127.") && is_numeric(name)
 }
 
-/// Whether a name without its port is the machine's own.
+/// Returns whether a name without its port is the machine's own.
 fn is_own_host(name: &[u8]) -> bool
     ensures { result ≡ spec.is_own_host name.now }
 {
     name == b"localhost".as_slice() || is_loopback(name)
 }
 
-/// Whether a host is the machine's own, as those name it who are on it.
+/// Returns whether a host is the machine's own, as it is named on the machine itself.
 fn is_own_name(host: &str) -> bool
     ensures { result ≡ spec.is_own_name host.now }
 {
@@ -230,7 +231,7 @@ fn is_own_name(host: &str) -> bool
         || bytes.starts_with(b"[::1]:")
 }
 
-/// Whether a request came by a name of the machine's own.
+/// Returns whether a request came by a name of the machine's own.
 fn is_own(host: &Option<Vec<u8>>) -> bool
     ensures { result ≡ spec.is_own (option_map (λ value. value.items) host.now) }
 {
@@ -240,7 +241,7 @@ fn is_own(host: &Option<Vec<u8>>) -> bool
     }
 }
 
-/// Whether a request says that its body is JSON.
+/// Returns whether a request says that its body is JSON.
 fn is_json(kind: &Option<Vec<u8>>) -> bool
     ensures { result ≡ spec.is_json (option_map (λ value. value.items) kind.now) }
 {
@@ -257,7 +258,7 @@ fn is_give_up(operation: Operation) -> bool
     matches!(operation, Operation::GiveUp)
 }
 
-/// Whether a text is the one that is wanted, if one is.
+/// Returns whether a text is the one that is wanted, if one is.
 fn is_wanted(given: &str, wanted: Option<&str>) -> bool
     ensures { result ≡ spec.gives (Some given.now) (option_map (λ text. text.now) wanted.entry) }
 {
@@ -277,7 +278,7 @@ fn is_mistaken(given: &str, wanted: Option<&str>) -> bool
     }
 }
 
-/// Whether the head of a request gives the key as `Bearer`, where there is one.
+/// Returns whether the head of a request gives the key as `Bearer`, where there is one.
 fn bearer_gives(fields: &RequestFields, key: Option<&str>) -> bool
     ensures { result ≡ spec.gives (spec.bearer_of (what_fields fields.now)) (option_map (λ text. text.now) key.entry) }
 {
@@ -287,7 +288,7 @@ fn bearer_gives(fields: &RequestFields, key: Option<&str>) -> bool
     }
 }
 
-/// Whether a value of `Authorization` gives the key as the password of `Basic`, where there is one.
+/// Returns whether a value of `Authorization` gives the key as the password of `Basic`, where there is one.
 fn is_password(alloc: Global, authorization: &str, key: Option<&str>) -> Result<bool, Memory>
     ensures { IfOk result (λ b. b ≡ spec.gives (Some (spec.password_in authorization.now)) (option_map (λ text. text.now) key.entry)) }
 {
@@ -296,7 +297,7 @@ fn is_password(alloc: Global, authorization: &str, key: Option<&str>) -> Result<
     Ok(is_wanted(password, key))
 }
 
-/// Whether the head of a request gives the key as the password of `Basic`, where there is one.
+/// Returns whether the head of a request gives the key as the password of `Basic`, where there is one.
 fn basic_gives(alloc: Global, fields: &RequestFields, key: Option<&str>) -> Result<bool, Memory>
     ensures { IfOk result (λ b. b ≡ spec.gives (spec.password_of (what_fields fields.now)) (option_map (λ text. text.now) key.entry)) }
 {
@@ -306,7 +307,7 @@ fn basic_gives(alloc: Global, fields: &RequestFields, key: Option<&str>) -> Resu
     }
 }
 
-/// Whether a form gives the text under a name that is wanted, if one is.
+/// Returns whether a form gives the text under a name that is wanted, if one is.
 fn form_gives(alloc: Global, form: &[u8], name: &str, wanted: Option<&str>) -> Result<bool, Memory>
     ensures { IfOk result (λ b. b ≡ spec.gives (form_value name.now form.now) (option_map (λ text. text.now) wanted.entry)) }
 {
@@ -336,7 +337,7 @@ impl<'a> Access<'a> {
     ghost use Rattle.lra_wire.specs.Request.{request_of};
     ghost use Rattle.lra_operators.specs.Access.{key_of, seen, admission_of};
 
-    /// What a key asks for, if there is one, and the word of the forms.
+    /// Makes the access by a key, if there is one, and by the word of the forms.
     pub fn new(key: &'a Option<String>, token: &'a str) -> Access<'a>
         ensures key { key_of result ≡ option_map string_bytes key.now }
         ensures token { result.token.now ≡ token.now }

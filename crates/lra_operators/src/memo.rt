@@ -1,4 +1,4 @@
-//! What was counted last, and since when actions are known of.
+//! Latest counts, and the moments since when actions are known of.
 
 ghost use Rattle.std.specs.Prelude.{◌≡◌};
 
@@ -10,7 +10,7 @@ use std::alloc::Global;
 /// For how many milliseconds a count is good.
 const FRESH: u64 = 1_000;
 
-/// How many marks are kept at most.
+/// Largest number of marks that are kept.
 const MOST_MARKS: usize = 256;
 
 /// That there were so many actions at a moment.
@@ -20,7 +20,7 @@ struct Mark {
     moment: u64,
 }
 
-/// What was counted last of a journal.
+/// Latest counts of a journal.
 #[derive(Drop)]
 pub(crate) struct Counted {
     pub(crate) instance: Instance,
@@ -29,13 +29,14 @@ pub(crate) struct Counted {
     marks: Vec<Mark>,
 }
 
-/// What was counted last of each journal, and when. Counts are remembered for a second, so that asking often holds nobody up.
+/// Latest counts of each journal, and their moment. Counts are remembered for a second, so that asking often holds
+/// nobody up.
 #[derive(Drop)]
 pub struct Memo {
     moment: u64,
     /// The newest last.
     journals: Vec<Counted>,
-    /// What those journals had that left, as was counted last.
+    /// Totals of those journals that left, as was counted last.
     gone: Totals,
 }
 
@@ -90,7 +91,7 @@ impl Counted {
         Ok(())
     }
 
-    /// How many milliseconds the oldest action that hasn't ended is known of, at a moment.
+    /// Returns for how many milliseconds the oldest action that hasn't ended has been known, at a moment.
     fn age(&self, moment: u64) -> u64 {
         let Some(oldest) = self.counts.oldest else {
             return 0;
@@ -115,7 +116,7 @@ impl Counted {
         }
     }
 
-    /// Whether an action has a status, as was counted last.
+    /// Returns whether an action has a status, as was counted last.
     fn has(&self, status: ActionStatus) -> bool {
         self.counts
             .shares
@@ -124,7 +125,7 @@ impl Counted {
     }
 }
 
-/// Whether a journal is served.
+/// Returns whether a journal is served.
 fn is_served<O: Overview>(overview: &O, instance: Instance) -> bool {
     for place in 0..u64::MAX {
         let Some(served) = overview.instance(place) else {
@@ -138,7 +139,7 @@ fn is_served<O: Overview>(overview: &O, instance: Instance) -> bool {
 }
 
 impl Memo {
-    /// What was counted of a journal, if anything.
+    /// Returns the latest counts of a journal, if there are any.
     pub(crate) fn journal(&self, instance: Instance) -> Option<&Counted> {
         self.journals
             .as_slice()
@@ -146,7 +147,7 @@ impl Memo {
             .find(|counted| counted.instance == instance)
     }
 
-    /// Whether it is of the journals that are served.
+    /// Returns whether it is of the journals that are served.
     fn is_of<O: Overview>(&self, overview: &O) -> bool {
         for (place, counted) in self.journals.as_slice().iter().enumerate() {
             if overview.instance(place as u64) != Some(counted.instance) {
@@ -211,17 +212,17 @@ impl Memo {
         Ok(())
     }
 
-    /// Whether it is good at a moment.
+    /// Returns whether it is good at a moment.
     fn is_fresh<O: Overview>(&self, overview: &O, moment: u64) -> bool {
         moment.saturating_sub(self.moment) < FRESH && self.is_of(overview)
     }
 
-    /// What was counted of the newest journal.
+    /// Returns the latest counts of the newest journal.
     pub(crate) fn newest(&self) -> Option<&Counted> {
         self.journals.as_slice().last()
     }
 
-    /// What was counted of the first journal in which something hasn't ended, or else of the newest.
+    /// Returns the latest counts of the first journal in which something hasn't ended, or else of the newest.
     pub(crate) fn first_open(&self) -> Option<&Counted> {
         for counted in self.journals.as_slice() {
             if counted.counts.oldest.is_some() {
@@ -248,7 +249,7 @@ impl Memo {
         totals
     }
 
-    /// How many there are in all journals.
+    /// Returns the sums of the counts of all journals.
     pub(crate) fn total(&self) -> Counts {
         let mut total = Counts::none();
         for counted in self.journals.as_slice() {
@@ -257,7 +258,7 @@ impl Memo {
         total
     }
 
-    /// How many milliseconds the oldest action that hasn't ended is known of, at a moment.
+    /// Returns for how many milliseconds the oldest action that hasn't ended has been known, at a moment.
     pub(crate) fn age(&self, moment: u64) -> u64 {
         let mut age = 0;
         for counted in self.journals.as_slice() {
@@ -266,7 +267,7 @@ impl Memo {
         age
     }
 
-    /// What is counted at a moment, or was within the second before it.
+    /// Returns the counts of a moment, or those of the second before it. Counts anew where those aren't good any more.
     pub(crate) fn look<'a, O: Overview>(
         memo: &'a mut Memo,
         alloc: Global,

@@ -5,7 +5,7 @@ ghost use Rattle.lra_operators.specs.Operations as spec;
 
 use lra_front::Path;
 
-/// What a request asks for. Each operation has a path of its own.
+/// Operation that a request asks for. Each operation has a path of its own.
 #[derive(Clone, Copy, Debug, PartialEq, Eq, Drop)]
 pub enum Operation {
     /// To know a service's whole health.

@@ -1,4 +1,4 @@
-//! What requests order, and that it is given.
+//! Orders that requests ask for, and how they are given.
 
 ghost use Rattle.std.specs.Prelude.{◌≡◌, string_bytes};
 ghost use Rattle.lra_overview.specs.Orders.{Gives};

@@ -23,7 +23,7 @@ use lra_overview::{Forms, Names, Overview, Probe, Trouble, put_plain_page, put_t
 use lra_wire::RequestRead;
 use std::alloc::Global;
 
-/// What answers operators' requests: the routes, and what was counted last.
+/// Handler of operators' requests: the routes, and the latest counts.
 #[derive(Drop)]
 pub struct Port {
     alloc: Global,
@@ -90,7 +90,7 @@ fn status_told(told: Told) -> &'static str {
     }
 }
 
-/// Whether a body is a form's.
+/// Returns whether the body of a request is a form.
 fn is_form(request: &RequestRead) -> bool {
     match &request.fields.content_type {
         Some(kind) => kind
@@ -111,7 +111,7 @@ impl Port {
         })
     }
 
-    /// What isn't served.
+    /// Returns the reply to a request that isn't served.
     fn tell_unserved<O: Overview>(
         &self,
         overview: &O,
@@ -196,7 +196,7 @@ impl Port {
         }
     }
 
-    /// What an order came to: a browser is sent to the first page.
+    /// Returns the reply that tells what an order came to: a browser is sent to the first page.
     fn tell_done(&self, request: &RequestRead, told: Told) -> Result<Reply, Trouble>
         ensures { IfOk result (λ reply. has_code reply.status (200 ∷ 303 ∷ []) ≡ true) }
     {
@@ -236,7 +236,7 @@ impl Port {
         Ok(reply)
     }
 
-    /// What a request that may be made is answered.
+    /// Returns the reply to a request that may be made.
     fn respond_to<O: Overview>(
         &mut self,
         overview: &mut O,
@@ -255,7 +255,7 @@ impl Port {
         }
     }
 
-    /// What a request that has a route is answered.
+    /// Returns the reply to a request that has a route.
     fn respond<O: Overview>(
         &mut self,
         overview: &mut O,
@@ -274,7 +274,8 @@ impl Port {
         }
     }
 
-    /// What a request is replied. It gives the one order that it asks for, where its route leads to where that is given and it may be made there, or none.
+    /// Returns the reply to a request. It gives the one order that it asks for, where its route leads to where that is
+    /// given and it may be made there, or none.
     pub fn answer<O: Overview>(
         &mut self,
         overview: &mut O,
@@ -291,7 +292,7 @@ impl Port {
         }
     }
 
-    /// What is replied where a request can't be read.
+    /// Returns the reply to a request that can't be read.
     pub fn refuse(&self, status: StatusCode, word: &str) -> Result<Reply, Memory>
         ensures { IfOk result (λ reply. reply.status ≡ status) }
     {

@@ -1,4 +1,4 @@
-//! What is replied.
+//! Replies to requests.
 
 ghost use Rattle.std.specs.Prelude.{◌≡◌};
 
@@ -8,7 +8,7 @@ use lra_wire::{ReplyWrite, WireFault, write_response_in};
 use std::alloc::Global;
 use std::io::Write;
 
-/// What a browser may do with a page: show it, and send its forms back here.
+/// Policy of a page: a browser may show it, and send its forms back here.
 const POLICY: &str =
     "default-src 'none'; style-src 'unsafe-inline'; img-src data:; form-action 'self'; frame-ancestors 'none'; base-uri 'none'";
 
@@ -31,7 +31,7 @@ impl Kind {
     }
 }
 
-/// What a request is replied.
+/// Reply to a request.
 #[derive(Drop)]
 pub struct Reply {
     pub status: StatusCode,

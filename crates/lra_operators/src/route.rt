@@ -1,4 +1,4 @@
-//! What the path and the method of a request ask for.
+//! Operations that the path and the method of a request ask for.
 
 ghost use Rattle.std.specs.Prelude.{◌≡◌};
 ghost use Rattle.std.specs.List.{before_first, after_first};
@@ -22,7 +22,7 @@ pub struct Routes {
     router: PathRouter<Operation>,
 }
 
-/// What follows the first slash, or nothing.
+/// Returns what follows the first slash, or nothing.
 fn after_slash(text: &str) -> &str
     ensures { result.now ≡ after_first is_slash text.now }
 {
@@ -32,7 +32,7 @@ fn after_slash(text: &str) -> &str
     }
 }
 
-/// What stands before the first slash, or all of it.
+/// Returns what stands before the first slash, or all of the text.
 fn before_slash(text: &str) -> &str
     ensures { result.now ≡ before_first is_slash text.now }
 {

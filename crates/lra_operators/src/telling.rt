@@ -21,7 +21,7 @@ use lra_overview::{
 };
 use std::alloc::Global;
 
-/// How many actions a page has, and how many at most.
+/// Number of actions that a page usually has, and the largest.
 const USUAL: u64 = 100;
 
 const MOST: u64 = 1_000;
@@ -31,14 +31,14 @@ pub(crate) fn first_of<O: Overview>(overview: &O) -> Result<Instance, Trouble> {
     overview.instance(0).ok_or(Trouble::NoSuchJournal)
 }
 
-/// What an identifier names: the instance of its journal, and its number there.
+/// Target of an identifier: the instance of its journal, and its number there.
 #[derive(Clone, Copy)]
 pub(crate) struct Named {
     pub instance: Instance,
     pub number: u64,
 }
 
-/// What an identifier names, of the journals that are there.
+/// Finds what an identifier names, among the journals that are there.
 pub(crate) fn find_named<O: Overview>(overview: &O, id: &str) -> Option<Named>
     ensures { IfSome result (λ found. IsSpelling (id_text found.instance) id.now found.number) }
 {
@@ -88,7 +88,7 @@ fn status_in(alloc: Global, query: &str) -> Result<Option<ActionStatus>, Trouble
     }
 }
 
-/// How many rows a query asks for.
+/// Reads how many rows a query asks for.
 fn most_in(alloc: Global, query: &str) -> Result<u64, Trouble> {
     let Some(word) = text_in(alloc, query, "limit")? else {
         return Ok(USUAL);
@@ -164,7 +164,7 @@ fn empty(alloc: Global, kind: Kind) -> Reply
     Reply::new(StatusCode::OK, kind, Vec::new(alloc))
 }
 
-/// Whether the coordinator of each journal answers, and there is one.
+/// Returns whether the coordinator of each journal answers, and there is one.
 fn all_answer<O: Overview>(overview: &mut O) -> bool
     ensures { O.orders overview.new ≡ O.orders overview.old }
 {
@@ -183,7 +183,7 @@ fn all_answer<O: Overview>(overview: &mut O) -> bool
     false
 }
 
-/// How many there are in the newest journal, where the coordinators answer.
+/// Returns how many actions and members there are in the newest journal, where the coordinators answer.
 fn answered_in<O: Overview>(
     alloc: Global,
     overview: &mut O,
@@ -242,7 +242,7 @@ fn put_measures(page: &mut Vec<u8>, facts: &Facts, memo: &Memo) -> Result<(), Tr
     Ok(())
 }
 
-/// What is measured.
+/// Returns the reply that has the metrics.
 pub(crate) fn tell_metrics<O: Overview>(
     alloc: Global,
     overview: &mut O,
@@ -342,7 +342,7 @@ fn tell_shown<O: Overview>(
     Ok(reply)
 }
 
-/// What is waited for in a journal, from a place on, and the action to go on from.
+/// Waits in a journal, from a place on, and the action to go on from.
 #[derive(Drop)]
 struct Hanging {
     waiting: Vec<Waiting>,

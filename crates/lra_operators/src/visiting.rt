@@ -1,4 +1,4 @@
-//! What bytes that have come are replied.
+//! Replies to bytes that have come.
 
 ghost use Rattle.std.specs.Prelude.{IfSome};
 ghost use Rattle.lra_operators.specs.Orders.{AnswersBytes};
@@ -13,10 +13,10 @@ use lra_overview::Overview;
 use lra_wire::{Front, WireFault, request_front};
 use std::alloc::Global;
 
-/// How many bytes a request may have, its head included.
+/// Largest number of bytes of a request, its head included.
 const MOST_BYTES: usize = 65_536;
 
-/// What has come.
+/// Front of the bytes that have come.
 #[derive(Drop)]
 enum Came {
     Request(Front),
@@ -25,7 +25,7 @@ enum Came {
     TooMuch,
 }
 
-/// What stands at the front of what came, if it can be told yet.
+/// Reads what stands at the front of the bytes that have come, if it can be told yet.
 fn look(alloc: Global, bytes: &[u8]) -> Option<Came>
     ensures { IfSome result (IsRead bytes.now) }
 {
@@ -37,7 +37,8 @@ fn look(alloc: Global, bytes: &[u8]) -> Option<Came>
     }
 }
 
-/// Whether these bytes are enough for a reply: a request stands there that is whole, or it is known that none can.
+/// Returns whether these bytes are enough for a reply: a request stands there that is whole, or it is known that none
+/// can.
 pub fn is_enough(alloc: Global, bytes: &[u8]) -> bool {
     look(alloc, bytes).is_some()
 }
@@ -74,8 +75,8 @@ fn reply_of<O: Overview>(
     }
 }
 
-/// What bytes that have come are replied, or nothing where they aren't enough. The stream is to be closed behind it. They give the one order that the request asks for
-/// that they begin with, where it may be made, or none.
+/// Returns the reply to bytes that have come, or nothing where they aren't enough. The stream is to be closed behind
+/// it. They give the one order that the request asks for that they begin with, where it may be made, or none.
 #[tactic(auto, using(crate::proofs::Giving::read_answers))]
 pub fn reply_to<O: Overview>(
     alloc: Global,

@@ -10,10 +10,10 @@ use std::fs;
 use std::rt::Files;
 use toml::{Table, Value};
 
-/// How many bytes a file of settings may have.
+/// Largest number of bytes of a file of settings.
 const LONGEST: u32 = 65_536;
 
-/// What a file says.
+/// Settings and texts that a file has.
 #[derive(Drop)]
 pub(crate) struct Config {
     pub(crate) given: Given,
@@ -51,14 +51,14 @@ fn table_of(alloc: Global, name: &str, bytes: &[u8]) -> Result<Table, OptionsFau
     }
 }
 
-/// What is wrong with a file that is no table.
+/// Returns what is wrong with a file that is no table.
 fn told(alloc: Global, name: &str, error: &toml::de::Error) -> Result<String, AllocError> {
     let text = format!(in alloc; "{error}")?;
     let line = one_line(alloc, text.as_str())?;
     format!(in alloc; "{name}: {line}")
 }
 
-/// What a parameter is by a value. A place says whose it is.
+/// Reads a parameter from a value. A place says whose it is.
 fn number_of(
     alloc: Global,
     parameter: Parameter,
@@ -99,7 +99,7 @@ fn note_texts(
     Ok(())
 }
 
-/// What is true or false by a value. A place says whose it is.
+/// Reads true or false from a value. A place says whose it is.
 fn truth_of(alloc: Global, place: &str, value: &Value) -> Result<bool, OptionsFault> {
     match value.as_bool() {
         Some(truth) => Ok(truth),
@@ -146,7 +146,7 @@ fn note(
     note_other(alloc, place.as_str(), key, value, config)
 }
 
-/// What a file says.
+/// Reads a file of settings.
 pub(crate) fn read_config<R: Files>(
     rt: &R,
     alloc: Global,

@@ -11,7 +11,7 @@ use thiserror::Error;
 pub enum OptionsFault {
     #[error("out of memory")]
     Memory,
-    /// What is wrong, and with which option.
+    /// Description of what is wrong, and with which option.
     #[error("{0}")]
     Wrong(String),
     /// Help was asked for, which is this.

@@ -8,10 +8,10 @@ use clap::{Arg, ArgAction, ArgMatches, Command, Error};
 use lra_settings::{Given, Parameter};
 use std::alloc::{AllocError, Global};
 
-/// How many threads of a kind a service may have.
+/// Largest number of threads of a kind that a service may have.
 const MOST_WORKERS: u64 = 16;
 
-/// What the words say.
+/// Meaning of the words.
 #[derive(Drop)]
 pub(crate) struct Line<'a> {
     pub(crate) address: &'a str,
@@ -29,7 +29,7 @@ pub(crate) struct Line<'a> {
     pub(crate) given: Given,
 }
 
-/// What a parameter says in the help.
+/// Returns what the help says of a parameter.
 fn help_of(parameter: Parameter) -> &'static str {
     match parameter {
         Parameter::Connections => "Connections at once [10000]",
@@ -51,7 +51,7 @@ fn help_of(parameter: Parameter) -> &'static str {
     }
 }
 
-/// What a parameter is counted in.
+/// Returns what a parameter is counted in.
 fn unit_of(parameter: Parameter) -> &'static str {
     match parameter {
         Parameter::Connections
@@ -173,7 +173,7 @@ fn with_flags(alloc: Global, command: Command<'_>) -> Result<Command<'_>, AllocE
         .arg(check)
 }
 
-/// What the words are read by.
+/// Makes the command that the words are read by.
 fn command_of<'a>(alloc: Global) -> Result<Command<'a>, AllocError> {
     let mut command = Command::new(alloc, "lra serve").no_binary_name(true);
     for parameter in &Parameter::ALL {
@@ -198,7 +198,7 @@ fn fault_of(alloc: Global, error: &Error) -> OptionsFault {
     }
 }
 
-/// What is said of the settings.
+/// Returns what is said of the settings.
 fn given_in(alloc: Global, matches: &ArgMatches<'_>) -> Result<Given, OptionsFault> {
     let mut given = Given::nothing();
     for parameter in &Parameter::ALL {
@@ -220,7 +220,7 @@ fn option_of(alloc: Global, parameter: Parameter) -> Result<String, AllocError> 
     format!(in alloc; "--{name}")
 }
 
-/// How many threads of a kind a text spells.
+/// Reads how many threads of a kind a text spells.
 fn workers_in(alloc: Global, text: &str) -> Result<u32, OptionsFault> {
     match number_in(text) {
         Some(number) if 0 < number && number <= MOST_WORKERS => Ok(number as u32),
@@ -228,7 +228,7 @@ fn workers_in(alloc: Global, text: &str) -> Result<u32, OptionsFault> {
     }
 }
 
-/// What is said by a required word.
+/// Returns what is said by a required word.
 fn word_in<'a>(matches: &ArgMatches<'a>, name: &str) -> &'a str {
     match matches.get_str(name) {
         Some(text) => text,
@@ -252,7 +252,7 @@ fn note_texts(
     Ok(())
 }
 
-/// What is said by the options whose values are texts.
+/// Returns what is said by the options whose values are texts.
 fn said_in(alloc: Global, matches: &ArgMatches<'_>) -> Result<Said, AllocError> {
     let mut said = Said::nothing(alloc);
     for word in &Word::ALL {
@@ -265,7 +265,7 @@ fn said_in(alloc: Global, matches: &ArgMatches<'_>) -> Result<Said, AllocError> 
     Ok(said)
 }
 
-/// What the matches say.
+/// Returns what the matches say.
 fn line_of<'a>(alloc: Global, matches: &ArgMatches<'a>) -> Result<Line<'a>, OptionsFault> {
     let given = given_in(alloc, matches)?;
     let workers = workers_in(alloc, word_in(matches, "WORKERS"))?;
@@ -282,7 +282,7 @@ fn line_of<'a>(alloc: Global, matches: &ArgMatches<'a>) -> Result<Line<'a>, Opti
     })
 }
 
-/// What the words after the verb say.
+/// Reads what the words after the verb say.
 pub(crate) fn read_line<'a>(alloc: Global, words: &'a [String]) -> Result<Line<'a>, OptionsFault> {
     let command = command_of(alloc)?;
     match command.try_get_matches_from(words) {

@@ -23,7 +23,7 @@ pub(crate) fn out_of_range(
     wrong(format!(in alloc; "{place}: {text} is not from {least} to {most}"))
 }
 
-/// What a parameter is by a text. A place says whose it is.
+/// Reads a parameter from a text. A place says whose it is.
 pub(crate) fn value_in(
     alloc: Global,
     parameter: Parameter,

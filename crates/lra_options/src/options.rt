@@ -1,4 +1,4 @@
-//! What is to be served, by the words of the command line and the file that they may name.
+//! Service to be run, by the words of the command line and the file that they may name.
 
 ghost use Rattle.std.specs.Prelude.{◌≡◌, true, IfOk};
 ghost use Rattle.lra_settings.specs.Settings.{are_fit};
@@ -12,19 +12,20 @@ use lra_settings::{Given, Settings, settings_of};
 use std::alloc::{AllocError, Global};
 use std::rt::Files;
 
-/// What is to be served, and by which settings.
+/// Service to be run, and its settings.
 #[derive(Drop)]
 pub struct Options<'a> {
     pub address: &'a str,
     pub file: &'a str,
-    /// How many threads of a kind there are: from 1 to 16.
+    /// Number of threads of a kind: from 1 to 16.
     pub workers: u32,
     pub settings: Settings,
-    /// What identifiers begin with, if that isn't `http://`, the address and `/`.
+    /// Base that identifiers begin with, if that isn't `http://`, the address and `/`.
     pub base: Option<Base>,
-    /// What they may begin with as well where clients send them: older bases, of which the first counts that begins one.
+    /// Older bases that identifiers may begin with as well where clients send them; the first of them that begins one
+    /// counts.
     pub also_bases: Vec<Base>,
-    /// What is said of the options whose values are texts.
+    /// Values of the options that are texts.
     pub said: Said,
     /// A folder takes no more starts, and is served until what it has is done.
     pub drains: bool,
@@ -47,7 +48,7 @@ fn fit_settings(alloc: Global, line: &Given, file: &Given) -> Result<Settings, O
     Err(wrong(format!(in alloc; "retry-first: {first} is more than retry-last, {last}")))
 }
 
-/// What the file that a line names says, if it names one.
+/// Reads the file that a line names, if it names one.
 fn config_of<R: Files>(
     rt: &R,
     alloc: Global,
@@ -106,7 +107,7 @@ fn bases_of(
     bases_in(alloc, file, word, line.config)
 }
 
-/// What a line says is to be served.
+/// Returns what a line says is to be served.
 fn options_of<'a, R: Files>(
     rt: &R,
     alloc: Global,
@@ -147,8 +148,8 @@ fn options_of<'a, R: Files>(
     })
 }
 
-/// What is to be served by these words, which follow `serve`, and by the settings of the file that they may name. A service may be run by them. Each fault names
-/// the option, or the key of the file, and what is wrong with it.
+/// Reads what is to be served from these words, which follow `serve`, and from the settings of the file that they may
+/// name. A service may be run by them. Each fault names the option, or the key of the file, and what is wrong with it.
 pub fn read_options<'a, R: AllocGlobal + Files>(
     rt: &R,
     words: &'a [String],

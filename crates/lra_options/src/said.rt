@@ -5,9 +5,9 @@ use std::alloc::{AllocError, Global};
 /// An option whose value is a text.
 #[derive(Clone, Copy, PartialEq, Eq)]
 pub enum Word {
-    /// What identifiers begin with.
+    /// Base that identifiers begin with.
     Base,
-    /// What else they may begin with.
+    /// Older base that they may begin with as well.
     AlsoBase,
     /// The file with the last part of what they begin with, which is a secret.
     Token,
@@ -23,7 +23,7 @@ pub enum Word {
     Members,
     /// From which level on events are logged.
     Log,
-    /// How they are written.
+    /// Format in which they are written.
     LogFormat,
     /// The file that says whose a folder is.
     Fence,
@@ -62,12 +62,12 @@ impl Word {
         }
     }
 
-    /// Whether it may be said any number of times: its key in a file has a list then.
+    /// Returns whether it may be said any number of times: its key in a file has a list then.
     pub fn is_list(self) -> bool {
         matches!(self, Word::AlsoBase | Word::Origin | Word::Members)
     }
 
-    /// What stands for its value in the help.
+    /// Returns what stands for its value in the help.
     pub(crate) fn unit(self) -> &'static str {
         match self {
             Word::Base | Word::AlsoBase => "URL",
@@ -80,7 +80,7 @@ impl Word {
         }
     }
 
-    /// What the help says of it.
+    /// Returns what the help says of it.
     pub(crate) fn help(self) -> &'static str {
         match self {
             Word::Base => "What identifiers begin with [http://ADDRESS/]",
@@ -122,7 +122,7 @@ struct Saying {
     text: String,
 }
 
-/// What is said of options whose values are texts, in one place.
+/// Values of the options that are texts, in one place.
 #[derive(Drop)]
 pub struct Said {
     sayings: Vec<Saying>,
@@ -142,7 +142,7 @@ impl Said {
         Ok(())
     }
 
-    /// Whether anything is said of an option.
+    /// Returns whether anything is said of an option.
     fn has(&self, word: Word) -> bool {
         self.sayings.iter().any(|saying| saying.word == word)
     }
@@ -182,7 +182,7 @@ impl Said {
         Ok(())
     }
 
-    /// What is said on a line, and of the options of which nothing is said there what is said in a file.
+    /// Returns what is said on a line, and of the options of which nothing is said there what is said in a file.
     pub(crate) fn or(self, file: Said) -> Result<Said, AllocError> {
         let mut said = self;
         match said.add_others(file) {

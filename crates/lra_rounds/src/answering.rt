@@ -10,10 +10,10 @@ use lra_model::Memory;
 use lra_steps::{Connection, Responder, Step, answer_request};
 use std::alloc::Global;
 
-/// How many requests of one connection are answered in a round.
+/// Largest number of requests of one connection that are answered in a round.
 const MOST_REQUESTS: u64 = 16;
 
-/// How many bytes of replies may wait before no further request is answered.
+/// Number of bytes of waiting replies from which on no further request is answered.
 const MOST_WAITING: usize = 65_536;
 
 /// Where a connection stands once its requests have been answered.

@@ -9,10 +9,10 @@ use std::net::Net;
 use std::sync::atomic::{AtomicBool, AtomicU64, Ordering};
 use std::sync::{Mutex, Wait};
 
-/// What the events of newcomers are known by. No client has that key.
+/// Key of the events of newcomers. No client has that key.
 pub(crate) const BELL: Token = Token(usize::MAX);
 
-/// Whether connections come in to a thread.
+/// State of a thread's door: connections come in, or don't.
 #[derive(Clone, Copy, Debug, PartialEq, Eq)]
 pub(crate) enum Door {
     Open,
@@ -22,12 +22,12 @@ pub(crate) enum Door {
     Closed,
 }
 
-/// What stands under the lock.
+/// State under the lock.
 #[derive(Drop)]
 struct Inner {
     /// Those that have come, and that the thread hasn't taken yet.
     streams: Vec<TcpStream>,
-    /// What the thread waits for streams with, until it takes that.
+    /// Poll that the thread waits for streams with, until it takes that.
     poll: Option<Poll>,
     door: Door,
 }
@@ -36,11 +36,11 @@ struct Inner {
 #[derive(Drop)]
 pub struct Arrivals {
     inner: Mutex<Inner>,
-    /// What wakes the thread.
+    /// Waker of the thread.
     bell: Waker,
-    /// How many the thread has.
+    /// Number of connections that the thread has.
     clients: AtomicU64,
-    /// Whether a newcomer waits for a descriptor.
+    /// Mark of a newcomer that waits for a descriptor.
     wants_room: AtomicBool,
 }
 
@@ -61,7 +61,7 @@ impl Arrivals {
         })
     }
 
-    /// How many connections the thread has, or will take; the most where it takes none any more.
+    /// Returns how many connections the thread has, or will take; the most where it takes none any more.
     pub fn load<R: Wait>(&self, rt: &R) -> u64 {
         let inner = self.inner.lock(rt);
         if inner.door != Door::Open {
@@ -115,7 +115,7 @@ impl Arrivals {
         let _ = self.bell.wake();
     }
 
-    /// What the thread waits with, for the one that asks first.
+    /// Takes the poll that the thread waits with: the first caller has it.
     pub(crate) fn take_poll<R: Wait>(&self, rt: &R) -> Option<Poll> {
         self.inner.lock(rt).poll.take()
     }

@@ -1,9 +1,10 @@
-//! What the URIs begin with that clients are told.
+//! Base of the URIs that clients are told.
 
 use std::marker::Brand;
 
-/// What the URIs of those begin with who answer the clients of a thread. It is fixed by their type, so that each client that is kept is known to be told the
-/// same. A function over such a type is called at `Brand`, and the proof of that call says what the URIs begin with.
+/// URI base shared by all that answer the clients of a thread. It is fixed by their type, so that each client that is
+/// kept is known to be told the same. A function over such a type is called at `Brand`, and the proof of that call says
+/// what the URIs begin with.
 pub trait WhichBase {
     ghost use Rattle.std.specs.Prelude.{ℕ, List};
 

@@ -42,7 +42,7 @@ impl From<AllocError> for ClientFault {
     }
 }
 
-/// What a client's stream gave.
+/// Outcome of reading a client's stream.
 #[derive(Clone, Copy, Debug, PartialEq, Eq)]
 pub enum Reading {
     /// Some bytes.
@@ -55,7 +55,7 @@ pub enum Reading {
     Full,
 }
 
-/// What a client's stream took.
+/// Outcome of writing to a client's stream.
 #[derive(Clone, Copy, Debug, PartialEq, Eq)]
 pub enum Handing {
     /// Some bytes.
@@ -74,7 +74,7 @@ pub enum Handing {
 pub struct Client<S, G: SyncGroup, P: WhichBase> {
     stream: S,
     connection: Connection,
-    /// What has to be durable before a byte leaves of the replies that wait.
+    /// Positions that have to be durable before a byte leaves of the replies that wait.
     positions: Positions,
     of: PhantomData<(P, G)>,
     ghost here: { connection.base ≡ P.base },
@@ -97,7 +97,7 @@ impl<S, G: SyncGroup, P: WhichBase> Client<S, G, P> {
         }
     }
 
-    /// How many bytes may come, of requests that aren't answered yet.
+    /// Returns how many bytes may come, of requests that aren't answered yet.
     pub fn room(&self) -> usize
         ensures { result ≡ room_of self.now.connection }
     {
@@ -130,7 +130,7 @@ impl<S, G: SyncGroup, P: WhichBase> Client<S, G, P> {
         )
     }
 
-    /// Whether all that may be handed out has been.
+    /// Returns whether all that may be handed out has been.
     pub fn is_done(&self) -> bool
         ensures { IsTrue result ↔ (self.now.connection.out ≡ []) }
     {

@@ -21,7 +21,7 @@ use std::collections::VecDeque;
 use std::mem;
 use std::sync::Wait;
 
-/// How many are visited again in a round.
+/// Largest number of clients that are visited again in a round.
 const MOST_AGAIN: u64 = 16;
 
 /// The clients of a thread, each under a key, and what is to be done for whom.
@@ -60,17 +60,17 @@ impl<G: SyncGroup, P: WhichBase> Clients<G, P> {
         self.seats.len()
     }
 
-    /// Whether someone is to be visited.
+    /// Returns whether a client is to be visited.
     pub(crate) fn has_ready(&self) -> bool {
         !self.ready.is_empty() || !self.again.is_empty()
     }
 
-    /// Whether someone's replies wait to leave.
+    /// Returns whether a client's replies wait to leave.
     pub(crate) fn has_waiting(&self) -> bool {
         !self.waiting.is_empty()
     }
 
-    /// Whether the replies of all of them wait to leave, so that nobody else can ask for anything.
+    /// Returns whether the replies of all of them wait to leave, so that no other client can ask for anything.
     pub(crate) fn all_wait(&self) -> bool {
         self.waiting.len() >= self.seats.len()
     }
@@ -114,7 +114,7 @@ impl<G: SyncGroup, P: WhichBase> Clients<G, P> {
         false
     }
 
-    /// Whether what is noted of a client is the end of its turn.
+    /// Returns whether what is noted of a client is the end of its turn.
     fn is_as_noted(&self, key: usize) -> bool {
         match self.seats.get(key) {
             Some(seat) => seat.noted() == seat.turn(),
@@ -249,7 +249,8 @@ impl<G: SyncGroup, P: WhichBase> Clients<G, P> {
         }
     }
 
-    /// Whether the replies of someone wait to leave, also where its stream takes nothing, or may be on their way.
+    /// Returns whether the replies of a client wait to leave, also where its stream takes nothing, or may be on their
+    /// way.
     pub(crate) fn are_owed(&self) -> bool {
         self.seats.iter().any(|(_, seat)| seat.is_owed())
     }

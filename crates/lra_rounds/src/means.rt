@@ -1,9 +1,9 @@
-//! What a thread answers with.
+//! Means that a thread answers with.
 
 use lra_front::Routes;
 use std::alloc::Global;
 
-/// What a thread answers with.
+/// Means that a thread answers with.
 #[derive(Drop)]
 pub(crate) struct Means {
     pub(crate) alloc: Global,

@@ -22,21 +22,20 @@ use std::sync::Wait;
 use std::time::Duration;
 use std::{io, time};
 
-/// How many events a thread is told of at once.
+/// Largest number of events that a thread is told of at once.
 const MOST_EVENTS: usize = 1_024;
 
-/// How many bytes are read of a client at once.
+/// Number of bytes that are read of a client at once.
 const PIECE: usize = 16_384;
 
-/// How many milliseconds a thread that has nothing to do waits before it looks whether a journal has failed, and has
-/// whoever answers rest. So much lies
-/// between two rests too.
+/// Number of milliseconds that a thread that has nothing to do waits before it looks whether a journal has failed, and
+/// lets its handler rest. So much lies between two rests too.
 const LOOK: u64 = 250;
 
-/// How many rounds replies wait for others to share their sync.
+/// Number of rounds that replies wait for others to share their sync.
 const MOST_ROUNDS: u32 = 4;
 
-/// How many milliseconds replies wait to leave at most, once the thread is to end.
+/// Largest number of milliseconds that replies wait to leave, once the thread is to end.
 const PARTING: u64 = 10_000;
 
 /// Why a thread has ended.
@@ -52,7 +51,7 @@ pub enum RoundsEnd {
     Io,
 }
 
-/// What a thread works with.
+/// Context that a thread works in.
 #[derive(Drop)]
 pub struct Rounds<'a, R, G: SyncGroup> {
     rt: &'a R,
@@ -61,19 +60,19 @@ pub struct Rounds<'a, R, G: SyncGroup> {
     arrivals: &'a Arrivals,
     /// Those of whom one is woken once a journal has taken something.
     bells: &'a [Waker],
-    /// How many clients there are at most.
+    /// Largest number of clients that there may be.
     most: usize,
     times: Times,
 }
 
-/// What a thread waits with, and what it has come to know.
+/// Poll that a thread waits with, and what the thread has come to know.
 #[derive(Drop)]
 struct Watch<'a, R> {
     poll: Poll,
     events: Events,
     buffer: Vec<u8>,
     moments: Moments<'a, R>,
-    /// How many rounds replies have waited.
+    /// Number of rounds that replies have waited.
     rounds: u32,
     /// Whose turn it is to be woken.
     turn: usize,
@@ -124,7 +123,7 @@ impl<'a, R: Wait + time::Clock, G: SyncGroup> Rounds<'a, R, G> {
         }
     }
 
-    /// What a thread works with beside its clients.
+    /// Makes what a thread works with beside its clients.
     fn watch(&self, poll: Poll) -> Result<Watch<'a, R>, Memory> {
         let events = Events::with_capacity(self.alloc, MOST_EVENTS)?;
         let buffer = vec![in self.alloc; 0u8; PIECE]?;
@@ -152,7 +151,7 @@ impl<'a, R: Wait + time::Clock, G: SyncGroup> Rounds<'a, R, G> {
         }
     }
 
-    /// How long the next wait for streams may last.
+    /// Returns how long the next wait for streams may last.
     fn wait<P: WhichBase>(&self, clients: &Clients<G, P>, now: u64) -> Duration {
         if clients.has_ready() || clients.has_waiting() {
             return Duration::ZERO;

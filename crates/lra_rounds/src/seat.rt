@@ -16,14 +16,14 @@ use mio::net::TcpStream;
 use std::mem;
 use std::sync::Wait;
 
-/// How often a client's stream is written to in a round.
+/// Largest number of writes to a client's stream in a round.
 const MOST_CALLS: u64 = 4;
 
-/// How many milliseconds a client has to close its stream, once it has all its replies and no further request of it is
-/// read.
+/// Number of milliseconds that a client has to close its stream, once it has all its replies and no further request of
+/// it is read.
 const LINGER: u64 = 2_000;
 
-/// How many bytes are thrown away meanwhile.
+/// Number of bytes that are thrown away meanwhile.
 const MOST_DISCARDED: usize = 1_048_576;
 
 /// Whose turn it is with a client, and until when.
@@ -42,7 +42,7 @@ pub(crate) enum Turn {
     Waits,
 }
 
-/// What a client needs next.
+/// Next need of a client.
 #[derive(Clone, Copy, Debug, PartialEq, Eq)]
 pub(crate) enum Need {
     /// That its stream is ready.
@@ -62,7 +62,7 @@ pub(crate) struct Seat<G: SyncGroup, P: WhichBase> {
     turn: Turn,
     /// The turn whose end is noted, which may have passed into others that last longer; none is, where it says that the disk's is.
     noted: Turn,
-    /// How much room it has while nothing of a request has come.
+    /// Room that it has while nothing of a request has come.
     whole: usize,
     /// Its stream may have bytes that weren't read.
     may_read: bool,
@@ -74,7 +74,7 @@ pub(crate) struct Seat<G: SyncGroup, P: WhichBase> {
     has_ended: bool,
     /// Its stream gave its end.
     is_read_out: bool,
-    /// How many more bytes are thrown away.
+    /// Number of bytes that are still thrown away.
     left: usize,
     /// Its stream takes nothing for now.
     is_blocked: bool,
@@ -119,8 +119,8 @@ impl<G: SyncGroup, P: WhichBase> Seat<G, P> {
         self.noted = turn;
     }
 
-    /// Whether the end of its turn has to be noted anew. What is noted may come too soon, but not too late: while one idles again and again, or waits for
-    /// the disk, nothing is.
+    /// Returns whether the end of its turn has to be noted anew. What is noted may come too soon, but not too late:
+    /// while one idles again and again, or waits for the disk, nothing is.
     pub(crate) fn is_to_note(&self) -> bool {
         match (self.noted, self.turn) {
             (_, Turn::Waits) => false,
@@ -176,13 +176,13 @@ impl<G: SyncGroup, P: WhichBase> Seat<G, P> {
         Ok(())
     }
 
-    /// Whether it has all its replies, and what still comes is thrown away.
+    /// Returns whether it has all its replies, and what still comes is thrown away.
     pub(crate) fn lingers(&self) -> bool {
         matches!(self.turn, Turn::Closes(_))
     }
 
-    /// What it needs once it has all its replies and no further request is read. Its writing side is shut first, so
-    /// that its client reads all of them.
+    /// Returns what it needs once it has all its replies and no further request is read. Its writing side is shut
+    /// first, so that its client reads all of them.
     fn close(&mut self, now: u64) -> Need {
         if self.is_read_out || self.left == 0 {
             return Need::End;
@@ -247,7 +247,7 @@ impl<G: SyncGroup, P: WhichBase> Seat<G, P> {
         let _ = self.client.sync(rt, group);
     }
 
-    /// Whether replies of it wait to leave, or may be on their way.
+    /// Returns whether replies of it wait to leave, or may be on their way.
     pub(crate) fn is_owed(&self) -> bool {
         !self.client.is_done() || self.lingers()
     }
@@ -257,7 +257,7 @@ impl<G: SyncGroup, P: WhichBase> Seat<G, P> {
         self.is_listed = false;
     }
 
-    /// What it needs next. Where its turn has come to an end the next one begins.
+    /// Returns what it needs next. Where its turn has come to an end the next one begins.
     pub(crate) fn next(&mut self, times: Times, now: u64) -> Need {
         if !self.client.is_done() {
             self.turn = reply_turn(self.turn, self.is_blocked, now.saturating_add(times.reply));
@@ -275,8 +275,8 @@ impl<G: SyncGroup, P: WhichBase> Seat<G, P> {
     }
 }
 
-/// What a client needs that isn't owed anything: another visit where more may be there to be read, or a request to be
-/// answered.
+/// Returns what a client needs that isn't owed anything: another visit where more may be there to be read or a request
+/// to be answered, and else that its stream is ready.
 fn need_of(is_more: bool) -> Need
     ensures { result ≡ (if is_more then Visit else Rest) }
 {

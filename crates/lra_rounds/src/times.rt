@@ -1,6 +1,6 @@
-//! How long a client has.
+//! Time limits of a client.
 
-/// How many milliseconds a client has.
+/// Time limits of a client, in milliseconds.
 #[derive(Clone, Copy, Debug, PartialEq, Eq)]
 pub struct Times {
     /// Between requests, until the first byte of the next.

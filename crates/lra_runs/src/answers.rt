@@ -1,4 +1,4 @@
-//! What is printed of an answer.
+//! Printed form of an answer.
 
 ghost use Rattle.std.specs.Prelude.{◌≡◌, ◌++◌, ◌∷◌, [], IfOk, Ok, Err, codes, string_bytes};
 ghost use Rattle.std.specs.Fmt.{decimal};
@@ -70,7 +70,7 @@ pub(crate) fn line_of_block(alloc: Global, block: &Block) -> Result<String, Memo
     }
 }
 
-/// What a refusal says beside its name: the action's status, or what there is too much of.
+/// Returns what a refusal says beside its name: the action's status, or what there is too much of.
 fn detail(refusal: Refusal) -> Option<&'static str>
     ensures { detail_text (option_copied result) ≡ refusal_detail refusal }
 {

@@ -10,10 +10,10 @@ use itoa::Buffer;
 use lra_audits::Usage;
 use lra_reports::{Question, read_question};
 
-/// How many threads of a kind a service may have.
+/// Largest number of threads of a kind that a service may have.
 const MOST_WORKERS: u32 = 16;
 
-/// What the program `lra` is asked to do.
+/// Task that the program `lra` is asked to do.
 #[derive(Clone, Copy, Debug)]
 pub enum Task<'a> {
     /// Answer what a program that reads and reports is asked.
@@ -74,7 +74,7 @@ fn script_of(words: &[String]) -> Option<&str>
     }
 }
 
-/// What these words ask for, without the program's own name.
+/// Reads what these words ask for, without the program's own name.
 pub fn read_task(words: &[String]) -> Result<Task<'_>, Usage>
     ensures task { IfOk result (IsTask (texts words.now)) }
     ensures usage { IfErr result (λ _. (task : Task) → IsTask (texts words.now) task → ⊥) }

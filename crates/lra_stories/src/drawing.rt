@@ -17,7 +17,7 @@ use lra_model::{ActionStatus, Memory};
 use lra_rows::Rows;
 use std::alloc::{AllocError, Global};
 
-/// How the picture looks, by day and by night.
+/// Look of the picture, by day and by night.
 const LOOKS: &str = "<style>
 svg{background:#fbfbf9}text{font:13px ui-monospace,monospace;fill:#1c2430}.moment{fill:#5b6675}.head{font-weight:600}
 circle,rect,path{fill:currentColor}line{stroke:currentColor;stroke-width:3}.lane{fill:none;stroke:#d9dde3}
@@ -30,7 +30,7 @@ circle,rect,path{fill:currentColor}line{stroke:currentColor;stroke-width:3}.lane
 </style>
 ";
 
-/// How far down the row of a number begins.
+/// Returns how far down the row of a number begins.
 fn top_of(number: u64) -> Result<u64, Memory>
     ensures { IfOk result (λ top. top ≡ drawn.top_of number) }
 {
@@ -40,7 +40,7 @@ fn top_of(number: u64) -> Result<u64, Memory>
     }
 }
 
-/// How many rows there are with one more.
+/// Returns how many rows there are with one more.
 fn next_of(count: u64) -> Result<u64, Memory>
     ensures { IfOk result (λ next. next ≡ count + 1) }
 {
@@ -149,14 +149,14 @@ fn told_words(alloc: Global, rows: &Rows, told: &Told) -> Result<String, Memory>
     words(alloc, &line)
 }
 
-/// What stands in the first row.
+/// Returns what stands in the first row.
 fn head_row(alloc: Global, head: &str) -> Result<String, Memory>
     ensures { IfOk result (λ text. string_bytes text ≡ drawn.head_row head.now) }
 {
     format!(in alloc; "<text x=\"20\" y=\"18\" class=\"head\">{head}</text>")
 }
 
-/// What stands in the row of an entry.
+/// Returns what stands in the row of an entry.
 fn told_row(alloc: Global, rows: &Rows, told: &Told) -> Result<String, Memory>
     ensures { (J : History) → StandsFor rows.now.sheet J → IfOk result (λ text. string_bytes text ≡ drawn.told_row J told.now) }
 {
@@ -232,7 +232,7 @@ fn put_notes(drawing: &mut Drawing, notes: &[String]) -> Result<(), Memory>
     Ok(())
 }
 
-/// What the picture begins with.
+/// Returns what the picture begins with.
 fn opening(alloc: Global, head: &str, height: u64) -> Result<String, Memory>
     ensures { IfOk result (λ text. string_bytes text ≡ drawn.opening head.now height) }
 {

@@ -1,5 +1,5 @@
-//! What happened to one action of a journal, told in sentences or drawn; and a line for each action of one, with what
-//! it waits for.
+//! Story of one action of a journal, told in sentences or drawn; and a line for each action of one, with what it waits
+//! for.
 #![tactic(auto)]
 
 mod calls;

@@ -1,5 +1,5 @@
-//! What a listing of actions wants to know beside their statuses: the journal's instance, when each action started, the
-//! last moment, and, where it is asked for, the calls that tell what the actions wait for.
+//! Facts that a listing of actions wants to know beside their statuses: the journal's instance, when each action
+//! started, the last moment, and, where it is asked for, the calls that tell what the actions wait for.
 
 ghost use Rattle.std.specs.Prelude.{◌≡◌, ◌++◌, OnOk, None, option_map, option_to_list};
 ghost use Rattle.lra_entries.specs.Borrowed.{entry_seen};

@@ -81,7 +81,7 @@ fn turned_text(alloc: Global, reason: &str, status: ActionStatus) -> Result<Stri
     format!(in alloc; "{reason}: it is {status}")
 }
 
-/// How an action ended, and why so.
+/// Returns how an action ended, and why so.
 fn ended_text(alloc: Global, status: ActionStatus) -> Result<String, Memory>
     ensures { IfOk result (λ text. string_bytes text ≡ sentences.ended_text status) }
 {
@@ -135,7 +135,7 @@ fn joined_text(alloc: Global, rows: &Rows, member: u64) -> Result<String, Memory
     }
 }
 
-/// What a member is asked.
+/// Returns what a member is asked.
 pub(crate) fn ask_words(kind: AskKind) -> &'static str
     ensures { result.now ≡ sentences.ask_words kind }
 {
@@ -155,7 +155,7 @@ fn asked_text(alloc: Global, ask: u64, member: u64, kind: AskKind) -> Result<Str
     format!(in alloc; "member {member} is {words} (ask {ask})")
 }
 
-/// What a member says that has done what a stage is for.
+/// Returns what a member says that has done what a stage is for.
 fn done_words(stage: AskKind) -> &'static str
     ensures { result.now ≡ sentences.done_words stage }
 {
@@ -168,7 +168,7 @@ fn done_words(stage: AskKind) -> &'static str
     }
 }
 
-/// What a member says that couldn't do what a stage is for.
+/// Returns what a member says that couldn't do what a stage is for.
 fn failed_words(stage: AskKind) -> &'static str
     ensures { result.now ≡ sentences.failed_words stage }
 {
@@ -181,7 +181,7 @@ fn failed_words(stage: AskKind) -> &'static str
     }
 }
 
-/// What a member says.
+/// Returns what a member says.
 fn outcome_words(stage: AskKind, outcome: Outcome) -> &'static str
     ensures { result.now ≡ sentences.outcome_words stage outcome }
 {
@@ -193,7 +193,7 @@ fn outcome_words(stage: AskKind, outcome: Outcome) -> &'static str
     }
 }
 
-/// Whether a member gave no answer.
+/// Returns whether a member gave no answer.
 pub(crate) fn is_silent(outcome: Outcome) -> bool
     ensures { result ≡ is_silent outcome }
 {
@@ -207,7 +207,7 @@ fn silent_text(alloc: Global, ask: u64, member: u64) -> Result<String, Memory>
     format!(in alloc; "member {member} gave no answer to ask {ask}")
 }
 
-/// What a member answered.
+/// Returns what a member answered.
 fn said_text(alloc: Global, member: u64, stage: AskKind, outcome: Outcome) -> Result<String, Memory>
     ensures { IfOk result (λ text. string_bytes text ≡ sentences.said_text member stage outcome) }
 {
@@ -273,7 +273,7 @@ fn nested_ended_text(alloc: Global, action: u64, status: ActionStatus) -> Result
     format!(in alloc; "action {action} below it is {status}")
 }
 
-/// What is told of a fact, where the action has this status after it.
+/// Returns what is told of a fact, where the action has this status after it.
 fn fact_text(alloc: Global, rows: &Rows, status: ActionStatus, fact: Fact) -> Result<String, Memory>
     ensures { (J : History) → StandsFor rows.now.sheet J → IfOk result (λ text. string_bytes text ≡ sentences.fact_text J status fact) }
 {

@@ -1,4 +1,4 @@
-//! How many members of an action have each status.
+//! Number of an action's members that have each status.
 
 ghost use Rattle.std.specs.Prelude.{◌≡◌, ◌<◌, ◌+◌, ◌*◌, ◌++◌, ℕ, List, IfOk, OnOk, IfSome, string_bytes, get_or, map, option_to_list};
 ghost use Rattle.lra_course.specs.declared.listing.ListedMember.{ListedMember as ListedMemberValue};
@@ -76,7 +76,7 @@ fn zeros(alloc: Global, actions: u64) -> Result<Vec<u64>, Memory>
     }
 }
 
-/// How many members of each action have each status.
+/// Counts how many members of each action have each status.
 pub(crate) fn tallies_of(alloc: Global, listing: &Listing) -> Result<Vec<u64>, Memory>
     ensures { IfOk result (λ counts. Tallied listing.now.members counts.items) }
 {
@@ -90,7 +90,7 @@ pub(crate) fn tallies_of(alloc: Global, listing: &Listing) -> Result<Vec<u64>, M
     Ok(counts)
 }
 
-/// How many members of an action have a status.
+/// Returns how many members of an action have a status.
 fn count_at(counts: &[u64], action: u64, status: MemberStatus) -> Result<u64, Memory>
     ensures { (ms : List ListedMemberValue) → Tallied ms counts.now → IfOk result (λ count. count ≡ lines.count_of ms action (lines.place_of status)) }
 {
@@ -132,7 +132,7 @@ fn listed_words(alloc: Global, words: &[String]) -> Result<String, Memory>
     }
 }
 
-/// How many members of an action have each status that one has, or `*` where it has no member.
+/// Returns how many members of an action have each status that one has, or `*` where it has no member.
 pub(crate) fn tally_text(alloc: Global, counts: &[u64], action: u64) -> Result<String, Memory>
     ensures { (ms : List ListedMemberValue) → Tallied ms counts.now → IfOk result (λ text. string_bytes text ≡ lines.tally_text (lines.count_of ms action)) }
 {

@@ -6,10 +6,10 @@ ghost use Rattle.lra_stories.specs.Times as times;
 use lra_model::Memory;
 use std::alloc::Global;
 
-/// How many milliseconds a day has.
+/// Number of milliseconds of a day.
 const DAY: u64 = 86_400_000;
 
-/// How many milliseconds there are from 1970 to the year 10000.
+/// Number of milliseconds from 1970 to the year 10000.
 const YEARS: u64 = 253_402_300_800_000;
 
 /// A date of the Gregorian calendar.

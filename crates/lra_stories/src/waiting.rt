@@ -1,4 +1,4 @@
-//! What the actions of a listing wait for.
+//! Lines that tell what the actions of a listing wait for.
 
 ghost use Rattle.std.specs.Prelude.{◌≡◌, ◌++◌, IfOk, OnOk, map, string_bytes};
 ghost use Rattle.std.specs.List.{flat_map};
@@ -34,7 +34,8 @@ fn indented_all(alloc: Global, prefix: &str, notes: &[String]) -> Result<String,
     Ok(text)
 }
 
-/// What an action of a journal waits for, by what was kept of the journal: an indented line each, behind a prefix.
+/// Returns what an action of a journal waits for, by what was kept of the journal: an indented line each, behind a
+/// prefix.
 pub(crate) fn waits_text(
     alloc: Global,
     calls: &Calls,

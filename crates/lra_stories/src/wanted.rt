@@ -12,10 +12,10 @@ use lra_journal::read_number;
 use lra_model::Instance;
 use std::str;
 
-/// What stands before the identifier in the URI of an action.
+/// Text before the identifier in the URI of an action.
 const ACTIONS: &str = "lra-coordinator/";
 
-/// How many characters the text of an identifier has.
+/// Number of characters of the text of an identifier.
 const ID_LENGTH: usize = 36;
 
 /// The action of a number, in the journal of an instance or in any.

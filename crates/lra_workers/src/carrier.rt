@@ -22,7 +22,7 @@ use lra_office::{Clerk, OfficeOf, OfficeRefusal, Serving};
 use std::marker::PhantomData;
 use std::sync::Wait;
 
-/// How many errands are taken in one turn at most: between two turns the office is others'.
+/// Largest number of errands that are taken in one turn: between two turns the office is others'.
 const MOST_TAKEN: u32 = 64;
 
 /// A courier that hears nothing of any errand. What it answers is known to be no more than what may come of a carriage's.
@@ -38,7 +38,7 @@ impl<C: Carriage> Courier for Unheard<C> {
     ghost suits = { λ ask kind outcome given. C.suits ask kind outcome given };
 }
 
-/// Whether a carrier has ended for want of memory alone.
+/// Returns whether a carrier has ended for want of memory alone.
 fn is_for_memory(end: WorkerEnd) -> bool
     ensures { result ≡ is_for_memory end }
 {

@@ -16,7 +16,7 @@ use std::io::{self, Read, Write};
 use std::marker::Brand;
 use std::sync::Wait;
 
-/// How one who answers connections ended.
+/// Ending of a worker that answers connections.
 #[derive(Clone, Copy, Debug, PartialEq, Eq)]
 pub enum ServeEnd {
     /// So many connections were answered as were asked for.

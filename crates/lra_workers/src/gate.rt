@@ -1,17 +1,17 @@
-//! What a worker is let do.
+//! Gates that decide what a worker may do.
 
 ghost use Rattle.std.specs.Prelude.{◌≡◌};
 
 use std::sync::atomic::{AtomicBool, Ordering};
 
-/// Whether an errand is carried now.
+/// Decision whether an errand is carried now.
 #[derive(Clone, Copy, Debug, PartialEq, Eq)]
 pub enum Go {
     Carry,
     NotYet,
 }
 
-/// What a worker asks before it goes on.
+/// Gate that a worker asks before it goes on.
 pub trait Gate {
     ghost use Rattle.std.specs.Prelude.{◌≡◌, ℕ, false};
     ghost use Rattle.lra_workers.specs.declared.gate.Go.TheVariants.{NotYet};
@@ -25,22 +25,23 @@ pub trait Gate {
     // What is known of one that lets nothing new be begun.
     ghost is_closing: { Self → Type 0 } = { λ _. Unit {0} };
 
-    /// Whether another turn is made. A gate of a running service pauses here.
+    /// Returns whether another turn is made. A gate of a running service pauses here.
     fn more(&mut self) -> bool
         ensures { result ≡ false → is_shut self.new };
 
-    /// Whether new work is begun in a turn: limits fire, and errands are taken. Else it is only recorded what comes of those under way.
+    /// Returns whether new work is begun in a turn: limits fire, and errands are taken. Else it is only recorded what
+    /// comes of those under way.
     fn begins(&self) -> bool
         ensures { result ≡ false → is_closing self.now }
     {
         true
     }
 
-    /// Whether the errand of an ask is carried now.
+    /// Decides whether the errand of an ask is carried now.
     fn hold(&mut self, ask: u64) -> Go
         ensures { result ≡ NotYet → holds self.new ask };
 
-    /// What came of an ask is recorded.
+    /// Hears that what came of an ask is recorded.
     fn answered(&mut self, ask: u64);
 
     /// Pauses, since memory was refused: what was wanted is tried again after it. A gate of a running service sleeps for a while that grows as long as that is all

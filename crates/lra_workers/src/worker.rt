@@ -20,10 +20,10 @@ use lra_model::Outcome;
 use lra_office::{Clerk, OfficeOf, OfficeRefusal, Serving};
 use std::sync::Wait;
 
-/// How often a gate may say of one errand that it isn't carried yet.
+/// Number of times that a gate may say of one errand that it isn't carried yet.
 const HOLDS: u32 = 1_000;
 
-/// How a worker ended.
+/// Ending of a worker.
 #[derive(Clone, Copy, Debug, PartialEq, Eq)]
 pub enum WorkerEnd {
     /// Its gate let it make no further turn.
@@ -58,7 +58,7 @@ pub(crate) fn fire<V: Serving, R: Wait, C: Courier, K: Clock>(
     unreachable!()
 }
 
-/// Whether a gate lets an ask's errand be carried, before it has said too often that it isn't yet.
+/// Returns whether a gate lets an ask's errand be carried, before it has said too often that it isn't yet.
 fn is_let_go<G: Gate>(gate: &mut G, ask: u64) -> bool
     ensures { result ≡ false → G.holds gate.new ask }
 {
@@ -73,7 +73,7 @@ fn is_let_go<G: Gate>(gate: &mut G, ask: u64) -> bool
     }
 }
 
-/// How a worker goes on whose record is refused: an ask that isn't outstanding any more is passed over.
+/// Decides how a worker goes on whose record is refused: an ask that isn't outstanding any more is passed over.
 pub(crate) fn after_refusal(refusal: OfficeRefusal) -> Result<(), WorkerEnd>
     ensures { MatchResult result (λ _. refusal ≡ fault.Refused NotAsked) (λ end. (refusal ≢ fault.Refused NotAsked) × (end ≡ worker.Refused refusal)) }
 {
