@@ -31,7 +31,7 @@ impl Model for Board {
     ghost invariant = { λ b. MarkedBut b.rows.sheet.state b.ready [] [] };
 }
 
-/// What its parent does to the action, if there is one.
+/// Returns what its parent does to the action, if there is one.
 fn turned(rows: &Rows, action: Option<u64>) -> Option<Deed>
     ensures { result ≡ option_and_then (turn_by rows.now.sheet.state) action }
 {
@@ -132,8 +132,8 @@ impl Board {
         uris
     }
 
-    /// What a coordinator does next of itself: the skip of the least member that may be skipped; else what its parent does to the
-    /// least action to which it does anything; else the end of the greatest action that may end.
+    /// Returns what a coordinator does next of itself: the skip of the least member that may be skipped; else what its
+    /// parent does to the least action to which it does anything; else the end of the greatest action that may end.
     pub fn next_settling(&self) -> Option<Deed>
         ensures { (J : History) → StandsFor self.now.rows.sheet J → result ≡ next_settling J }
     {

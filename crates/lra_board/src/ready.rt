@@ -23,7 +23,7 @@ pub(crate) struct Ready {
     pub(crate) ends: Marks,
 }
 
-/// Whether its parent does something to an action.
+/// Returns whether its parent does something to an action.
 fn is_turned(rows: &Rows, action: u64) -> bool
     ensures { result ≡ is_some (turn_by rows.now.sheet.state action) }
 {

@@ -100,7 +100,7 @@ impl Board {
         uris
     }
 
-    /// Whether one more entry can be counted.
+    /// Checks that one more entry can be counted.
     fn count_one(&self) -> Result<(), Memory>
         ensures { OnOk result ((K : History) → StandsFor self.now.rows.sheet K → nat_lt (length K) (2 ^ 63) ≡ true) }
     {
@@ -111,7 +111,7 @@ impl Board {
         }
     }
 
-    /// How many entries there can be that settle, where they can be counted.
+    /// Returns how many entries there can be that settle, where they can be counted.
     fn most_settling(&self) -> Result<u64, Memory>
         ensures { IfOk result (λ n. (K : History) → StandsFor self.now.rows.sheet K → n ≡ most_settling K) }
     {

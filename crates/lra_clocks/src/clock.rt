@@ -1,6 +1,6 @@
-//! What tells moments.
+//! Clocks.
 
-/// What gives the moments at which requests are answered.
+/// A clock: it gives the moments at which requests are answered.
 pub trait Clock {
     ghost use Rattle.std.specs.Prelude.{ℕ};
 

@@ -19,7 +19,7 @@ pub fn seconds_on<R: Clock>(clock: &R, secs: u64) -> io::Result<Instant>
     }
 }
 
-/// How long it is until then, where that is some time: a socket takes no time-out of zero.
+/// Returns the time until then, where that is some time: a socket takes no time-out of zero.
 pub fn time_until<R: Clock>(clock: &R, end: Instant) -> io::Result<Duration>
     ensures some { IfOk result (λ left. 0 < as_nanos left) }
     ensures most { IfOk result (λ left. as_nanos left ≤ instant_nanos end) }

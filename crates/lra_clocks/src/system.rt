@@ -41,7 +41,7 @@ impl Anchor {
     }
 }
 
-/// How many whole milliseconds some time has.
+/// Returns how many whole milliseconds some time has.
 fn milliseconds_of(time: Duration) -> Option<u64>
     ensures { IfSome result (λ count. count ≡ as_nanos time / 1_000_000) }
 {

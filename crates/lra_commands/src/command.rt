@@ -1,8 +1,8 @@
-//! What clerks ask of a coordinator, and what it answers.
+//! The commands that clerks give to a coordinator, and its answers.
 
 use lra_model::{ActionStatus, Ending, MemberStatus, Outcome, Uris};
 
-/// What a clerk asks of the coordinator. `E` is the errand that a request to a member was carried by.
+/// A command that a clerk gives to the coordinator. `E` is the errand that a request to a member was carried by.
 #[derive(Debug, Drop)]
 pub enum Command<'a, E> {
     /// To have a number as a clerk.
@@ -35,7 +35,7 @@ pub enum Command<'a, E> {
     MemberStatus { member: u64 },
 }
 
-/// What the coordinator answers where it doesn't refuse.
+/// The coordinator's answer where it doesn't refuse.
 #[derive(Clone, Copy, Debug, PartialEq, Eq)]
 pub enum Told {
     /// The new clerk's number.

@@ -91,7 +91,7 @@ pub trait Counter {
     fn instance(&self) -> Instance
         ensures { result ≡ (sight self.now).setting.instance };
 
-    /// What the URIs of the coordinator begin with. This takes no memory.
+    /// Returns the base with which the URIs of the coordinator begin. This takes no memory.
     fn base(&self) -> &Base
         ensures { result.now ≡ (sight self.now).setting.base };
 

@@ -44,8 +44,8 @@ pub fn queries_miss()
     ensures { QueriesMiss }
 {}
 
-/// What queries say an action waits for is what its end waits for: a Closing or Cancelling action may end exactly where none of
-/// its rows holds its end.
+/// Says that the end of an action waits for what queries say that the action waits for: a Closing or Cancelling action
+/// may end exactly where none of its rows holds its end.
 pub fn rows_hold_ends()
     ensures { RowsHoldEnds }
 {}

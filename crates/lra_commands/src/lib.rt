@@ -1,5 +1,5 @@
-//! What each command of a coordinator is answered and appends, and laws about it. The definitions stand in `specs/`; the
-//! coordinator that keeps to them is `lra_core`.
+//! The answer to each command of a coordinator and what it appends, and laws about them. The definitions stand in
+//! `specs/`; the coordinator that keeps to them is `lra_core`.
 #![tactic(auto)]
 
 mod command;

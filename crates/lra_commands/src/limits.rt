@@ -1,4 +1,4 @@
-//! How much a coordinator takes.
+//! The limits of a coordinator.
 
 ghost use Rattle.std.specs.Prelude.{◌≡◌};
 ghost use Rattle.lra_commands.specs.Terms.{usual};
@@ -7,23 +7,23 @@ ghost use Rattle.lra_commands.specs.Due.{due_after};
 use lra_model::Version;
 use lra_timers::pause;
 
-/// How much a coordinator takes, and how it repeats its asks.
+/// The limits of a coordinator: how much it accepts, and how it repeats its asks.
 #[derive(Clone, Copy, Debug, PartialEq, Eq)]
 pub struct Limits {
     pub clerks: u32,
     pub actions: u64,
     pub members: u64,
     pub entries: u64,
-    /// How deep actions are nested: one without a parent has depth 1.
+    /// The greatest depth of an action: one without a parent has depth 1.
     pub depth: u64,
-    /// How long the first repetition of an ask waits, in milliseconds.
+    /// The milliseconds that the first repetition of an ask waits.
     pub retry_base: u64,
     /// The longest that a repetition waits, in milliseconds.
     pub retry_cap: u64,
 }
 
 impl Limits {
-    /// What serves most teams.
+    /// Returns the limits that serve most teams.
     pub const fn usual() -> Limits
         ensures { result ≡ usual }
     {
@@ -51,7 +51,7 @@ impl Limits {
     }
 }
 
-/// What answers depend on beside the history: the version of the journal, and the limits.
+/// The terms that answers depend on beside the history: the version of the journal, and the limits.
 #[derive(Clone, Copy, Debug, PartialEq, Eq)]
 pub struct Terms {
     pub version: Version,

@@ -1,4 +1,4 @@
-//! What is asked of a coordinator and writes nothing, and what it tells.
+//! The queries of a coordinator, which write nothing, and their results.
 
 ghost use Rattle.std.specs.Prelude.{◌≡◌};
 ghost use Rattle.lra_commands.specs.Queries.{told_as};
@@ -6,22 +6,23 @@ ghost use Rattle.lra_commands.specs.Queries.{told_as};
 use crate::command::Told;
 use lra_model::{ActionStatus, AskKind, MemberStatus};
 
-/// What is asked of a coordinator. It is no command: it names no clerk and no moment, writes nothing and takes no memory of the
-/// coordinator, and it isn't refused where there is no room.
+/// A query of a coordinator. It is no command: it names no clerk and no moment, writes nothing and takes no memory of
+/// the coordinator, and it isn't refused where there is no room.
 #[derive(Clone, Copy, Debug, PartialEq, Eq)]
 pub enum Query {
     /// An action's status.
     ActionStatus { action: u64 },
     /// A member's status.
     MemberStatus { member: u64 },
-    /// What an action waits for. Its rows are its members and then the actions nested directly in it, those that came first
-    /// before the others; the place of the first is 0. At most 256 of them are looked at, from this place on.
+    /// The first row that an action waits for. An action's rows are its members and then the actions nested directly in
+    /// it, those that came first before the others; the place of the first is 0. At most 256 of them are looked at,
+    /// from this place on.
     Awaited { action: u64, place: u64 },
     /// The next row of a listing. The place of the first is 0. At most 256 rows are looked at, from this place on, so that a page
     /// is this query asked again, each time from the place after the one that it told.
     Row { of: Listing, place: u64 },
-    /// How many rows belong to a listing. At most 256 are looked at, from this place on, so that a count of all is the sum of what this
-    /// query is told, each time from where to go on.
+    /// The number of rows that belong to a listing. At most 256 are looked at, from this place on, so that a count of
+    /// all is the sum of what this query is told, each time from where to go on.
     Count { of: Listing, place: u64 },
 }
 
@@ -54,17 +55,17 @@ pub enum Row {
     },
 }
 
-/// What a member is to be asked next.
+/// The kind of ask that a member wants next, its repeats, and when it is due.
 #[derive(Clone, Copy, Debug, PartialEq, Eq)]
 pub struct Want {
     pub kind: AskKind,
-    /// How often it was asked in vain: it answered that it goes on, or nothing.
+    /// The number of times that it was asked in vain: it answered that it goes on, or nothing.
     pub repeats: u64,
     /// From when on it is asked, in milliseconds: 0 where it is at once.
     pub due: u64,
 }
 
-/// What holds the end of an action.
+/// The row that holds the end of an action.
 #[derive(Clone, Copy, Debug, PartialEq, Eq)]
 pub enum Awaited {
     /// A member that hasn't told how it ended, and the ask of it that is outstanding, if one is.
@@ -73,7 +74,7 @@ pub enum Awaited {
     Action { action: u64 },
 }
 
-/// What a coordinator tells of its history.
+/// The result of a query of the coordinator's history.
 #[derive(Clone, Copy, Debug, PartialEq, Eq)]
 pub enum Known {
     /// The action's status.
@@ -90,7 +91,8 @@ pub enum Known {
     Row { place: u64, row: Row },
     /// The listing has no row from the place on.
     NoMore,
-    /// How many of the rows looked at belong to the listing, and the place to go on from, if there are more rows.
+    /// The number of the rows looked at that belong to the listing, and the place to go on from, if there are more
+    /// rows.
     Counted { count: u64, next: Option<u64> },
 }
 

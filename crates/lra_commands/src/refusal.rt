@@ -8,7 +8,7 @@ use std::alloc::{AllocError, AllocFailed};
 use std::error::Error;
 use std::fmt;
 
-/// What there may be too much of.
+/// The resource that there may be too much of.
 #[derive(Clone, Copy, Debug, PartialEq, Eq)]
 pub enum Resource {
     Clerks,
@@ -35,7 +35,7 @@ pub enum Refusal {
     /// The limit would pass after 2^64 - 1 milliseconds.
     LimitTooFar,
     TooDeep,
-    /// What would be written doesn't fit into the coordinator's limits.
+    /// The entries that would be written don't fit into the coordinator's limits.
     Full(Resource),
     /// The ask isn't outstanding, or the member isn't asked what it tells.
     NotAsked,
@@ -103,7 +103,7 @@ impl Refusal {
         }
     }
 
-    /// What a person is told.
+    /// Returns the text that a person is told.
     const fn text(self) -> &'static str {
         match self {
             Refusal::NoSuchClerk => "the clerk isn't enrolled",

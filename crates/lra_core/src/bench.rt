@@ -44,7 +44,7 @@ impl Bench {
     }
 }
 
-/// What a coordinator answers, as a reply.
+/// Returns a coordinator's answer as a reply.
 fn reply_of(answer: Result<Told, Refusal>) -> Result<Told, CounterFault>
     ensures { result ≡ replied answer }
 {

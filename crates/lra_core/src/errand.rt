@@ -1,4 +1,4 @@
-//! What a member is to be asked, and the commands of which one takes down what came of it.
+//! The errands to members, and the commands of which one takes down what came of it.
 
 ghost use Rattle.std.specs.Prelude.{◌≡◌, option_map};
 
@@ -6,10 +6,10 @@ use lra_judge::{Carried, Carries};
 use lra_model::{ActionStatus, AskKind, Direction};
 use std::marker::Model;
 
-/// What a clerk asks of the coordinator.
+/// A command that a clerk gives to the coordinator.
 pub type Command<'a> = lra_commands::Command<'a, Errand>;
 
-/// What an errand says. A block has it before it is committed; the errand itself is given once it is.
+/// The contents of an errand. A block has them before it is committed; the errand itself is given once it is.
 #[derive(Drop)]
 pub struct Request {
     /// The number of the ask.
@@ -18,7 +18,7 @@ pub struct Request {
     pub member: u64,
     /// The number of the member's action.
     pub action: u64,
-    /// What the member is asked for.
+    /// The kind of ask.
     pub kind: AskKind,
     /// Which way the ask goes.
     pub direction: Direction,
@@ -30,7 +30,7 @@ pub struct Request {
     pub parent_uri: Option<String>,
     /// The member's recovery URI.
     pub recovery_uri: String,
-    /// How the action ended, at an after notice.
+    /// The status in which the action ended, at an after notice.
     pub ended: Option<ActionStatus>,
 }
 
@@ -90,7 +90,7 @@ impl Errand {
         self.request.action
     }
 
-    /// What the member is asked for.
+    /// Returns what the member is asked for.
     pub fn kind(&self) -> AskKind
         ensures { result ≡ self.now.kind }
     {
@@ -135,7 +135,7 @@ impl Errand {
         self.request.recovery_uri.as_str()
     }
 
-    /// How the action ended, at an after notice.
+    /// Returns how the action ended, at an after notice.
     pub fn ended(&self) -> Option<ActionStatus>
         ensures { result ≡ self.now.ended }
     {

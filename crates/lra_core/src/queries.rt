@@ -1,4 +1,4 @@
-//! What is asked of a coordinator and writes nothing.
+//! The queries of a coordinator, which write nothing.
 
 ghost use Rattle.std.specs.Prelude.{◌≡◌, Some};
 ghost use Rattle.lra_commands.specs.Calls.{Call};
@@ -13,8 +13,9 @@ use lra_commands::{Known, Query, Refusal, Told};
 use lra_judge::tell;
 
 impl<P: Past> CoordinatorOf<P> {
-    /// What a query is told of the history, whoever asks and whenever. This changes nothing and takes no memory, and neither limits
-    /// nor a journal that can't be written refuse it: `NoSuchAction` and `NoSuchMember` alone do.
+    /// Returns the result of a query of the history, the same for every caller at every moment. This changes nothing
+    /// and takes no memory, and neither limits nor a journal that can't be written refuse it: `NoSuchAction` and
+    /// `NoSuchMember` alone do.
     pub fn query(&self, query: Query) -> Result<Known, Refusal>
         ensures { result ≡ tell self.now.setting.limits self.now.history query }
     {
@@ -29,7 +30,7 @@ impl<P: Past> CoordinatorOf<P> {
         self.schedule.next(&self.terms.limits, &self.tables)
     }
 
-    /// What a clerk's command is told that only asks.
+    /// Returns what a clerk's command is told that only asks.
     pub(crate) fn ask(&self, by: u32, query: Query) -> Result<Told, Refusal>
         ensures { (c : Call) → c.by ≡ by → asks c.command ≡ Some query → result ≡ answer (terms_of self.now.setting) self.now.history c }
     {
@@ -40,7 +41,7 @@ impl<P: Past> CoordinatorOf<P> {
     }
 }
 
-/// What a query is told, as a command is answered it.
+/// Returns what a query is told, as a command is answered it.
 fn answer_as(known: Result<Known, Refusal>) -> Result<Told, Refusal>
     ensures { result ≡ answer_as known }
 {

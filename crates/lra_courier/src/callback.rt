@@ -10,7 +10,7 @@ use lra_model::{ActionStatus, AskKind, Direction};
 use std::alloc::{AllocError, Global};
 use std::marker::Model;
 
-/// What an errand says to its member, and in which direction. A contract sees it without where its texts lie.
+/// The contents of an errand to its member, and their direction. A contract sees it without where its texts lie.
 #[derive(Debug, Drop)]
 pub struct Callback<'a> {
     pub kind: AskKind,
@@ -23,7 +23,7 @@ pub struct Callback<'a> {
     pub parent_uri: Option<&'a str>,
     /// The member's recovery URI.
     pub recovery_uri: &'a str,
-    /// How the action ended, at an after notice.
+    /// The status in which the action ended, at an after notice.
     pub ended: Option<ActionStatus>,
 }
 
@@ -111,7 +111,7 @@ fn push_parent<'a>(
 }
 
 impl<'a> Callback<'a> {
-    /// What an errand says.
+    /// Returns what an errand says.
     pub fn of(errand: &'a Errand) -> Callback<'a>
         ensures { result ≡ spec.calling_of errand.now }
     {

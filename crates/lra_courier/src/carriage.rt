@@ -1,4 +1,4 @@
-//! What carries many errands at once.
+//! Carriages, which carry many errands at once.
 
 ghost use Rattle.std.specs.Prelude.{◌≡◌, ℕ, Option, true, OnOk, IfErr, IfSome, IfNone};
 ghost use Rattle.lra_model.specs.declared.asks.AskKind.{AskKind};
@@ -10,8 +10,8 @@ ghost use Rattle.lra_courier.specs.Carriages.{Handed, Gains, AreSame};
 use lra_core::Errand;
 use lra_model::Outcome;
 
-/// What carries errands to members, many at once. Those that are under way when it is let go of are discarded: their asks stay outstanding
-/// until a restart.
+/// A carriage: it carries errands to members, many at once. Those that are under way when it is let go of are
+/// discarded: their asks stay outstanding until a restart.
 pub trait Carriage {
     // Which errands are under way, each at a place of its own, and their positions.
     ghost held: { Self → ℕ → Option Handed };
@@ -19,7 +19,7 @@ pub trait Carriage {
     // Which outcomes may come of an ask of this number and kind.
     ghost gives: { ℕ → AskKind → Outcome → Type 0 };
 
-    /// Whether one more is taken, where memory isn't refused.
+    /// Returns whether one more is taken, where memory isn't refused.
     fn has_room(&self) -> bool;
 
     /// Takes an errand, whose request leaves once its journal is durable up to a position. Where memory is refused it

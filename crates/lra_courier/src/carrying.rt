@@ -19,14 +19,14 @@ use lra_wire::{MAX_RESPONSE, SeenResponse};
 use std::alloc::{AllocError, Global};
 use std::marker::Model;
 
-/// What stands next.
+/// The step that stands next.
 #[derive(Clone, Copy, Debug, PartialEq, Eq)]
 pub enum Step {
     /// Bytes of the request are to be handed out.
     Sends,
     /// More bytes of the response are wanted.
     Wants,
-    /// What the callback came to: it stays so.
+    /// The result of the callback: it stays so.
     Came(Result<Outcome, CallFault>),
 }
 
@@ -36,10 +36,10 @@ pub struct Carrying {
     alloc: Global,
     asked: Asked,
     request: Vec<u8>,
-    /// How many bytes of the request were handed out.
+    /// The number of bytes of the request that were handed out.
     gone: usize,
     kept: Vec<u8>,
-    /// What was found of what is kept, so that it isn't read anew with each piece.
+    /// The findings on what is kept, so that it isn't read anew with each piece.
     seen: SeenResponse,
     closed: bool,
     failed: bool,
@@ -98,7 +98,7 @@ impl Carrying {
         })
     }
 
-    /// What is true of every callback that is carried.
+    /// Says what is true of every callback that is carried.
     pub fn carried(&self)
         ensures { IsCarried self.now }
     {
@@ -120,7 +120,7 @@ impl Carrying {
         self.gone += count;
     }
 
-    /// How many bytes may be taken.
+    /// Returns how many bytes may be taken.
     pub fn room(&self) -> usize
         ensures { result ≡ room_of self.now }
     {
@@ -183,7 +183,7 @@ impl Carrying {
         }
     }
 
-    /// What it came to, where it came to something: any fault is [`Outcome::Silent`].
+    /// Returns what it came to, where it came to something: any fault is [`Outcome::Silent`].
     pub fn outcome(&self) -> Option<Outcome>
         ensures comes { result ≡ option_map (λ told. result_unwrap_or told Outcome.Silent) self.now.came }
         ensures suits { IfSome result (λ outcome. IsTrue (outcome_suits self.now.kind outcome)) }
@@ -224,7 +224,7 @@ impl Carrying {
     }
 }
 
-/// What a response comes to is what it comes to for [`Callback::exchange`].
+/// Says that what a response comes to is what it comes to for [`Callback::exchange`].
 pub fn replies_are_answers()
     ensures { (calling : Calling) (bytes rest : List ℕ) (outcome : Outcome)
         → IsReply calling.kind calling.direction bytes rest outcome → IsAnswer calling bytes rest outcome }

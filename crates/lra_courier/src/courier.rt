@@ -1,4 +1,4 @@
-//! What carries errands to members.
+//! Couriers, which carry errands to members.
 
 ghost use Rattle.std.specs.Prelude.{ℕ, ◌≡◌, true};
 ghost use Rattle.lra_model.specs.declared.asks.AskKind.{AskKind};
@@ -8,7 +8,7 @@ ghost use Rattle.lra_model.specs.Words.{outcome_suits};
 use lra_core::Errand;
 use lra_model::Outcome;
 
-/// What carries errands to members.
+/// A courier: it carries errands to members.
 pub trait Courier {
     // Which outcomes it may answer for an ask of this number and kind.
     ghost gives: { ℕ → AskKind → Outcome → Type 0 };

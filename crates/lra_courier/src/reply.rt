@@ -1,4 +1,4 @@
-//! What a member's reply comes to.
+//! The outcome of a member's reply.
 
 ghost use Rattle.std.specs.Prelude.{◌≡◌, IsTrue, reverse};
 ghost use Rattle.lra_model.specs.Words.{outcome_suits};
@@ -88,9 +88,9 @@ fn said(direction: Direction, body: &[u8], otherwise: Outcome) -> Outcome
     }
 }
 
-/// What a reply comes to where a member was asked for `kind` in `direction`. What isn't in the table of replies is
-/// [`Outcome::Silent`]. The body counts without spaces, tabs, CR and LF at its ends, and then without one enclosing pair
-/// of quotes.
+/// Returns what a reply comes to where a member was asked for `kind` in `direction`. What isn't in the table of replies
+/// is [`Outcome::Silent`]. The body counts without spaces, tabs, CR and LF at its ends, and then without one enclosing
+/// pair of quotes.
 #[tactic(auto, unfolding(crate::specs::Replies::classify))]
 pub fn classify(kind: AskKind, direction: Direction, code: u16, body: &[u8]) -> Outcome
     ensures class { result ≡ spec.classify kind direction code body.now }

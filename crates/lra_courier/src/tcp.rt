@@ -11,10 +11,10 @@ use std::io::{Read, Write};
 use std::net::{Net, OpenStream, SocketAddr, TcpStream, ToSocketAddrs};
 use std::time::{Clock, Instant};
 
-/// How many seconds a member has to take the connection.
+/// The seconds that a member has to take the connection.
 const CONNECT_SECS: u64 = 5;
 
-/// How many seconds there are in all, until the whole reply has come.
+/// The seconds that there are in all, until the whole reply has come.
 const REPLY_SECS: u64 = 30;
 
 /// A stream that is read and written until a moment, and fails from then on.

@@ -1,4 +1,4 @@
-//! What the bytes behind a request come to.
+//! The outcome of the bytes behind a request.
 ghost use Rattle.std.specs.Prelude.{◌≡◌, true, false, IfOk, IfSome, IsTrue};
 ghost use Rattle.lra_courier.specs.Replies.{classify};
 ghost use Rattle.lra_model.specs.Words.{outcome_suits};
@@ -14,14 +14,15 @@ use lra_wire::{
 };
 use std::alloc::{AllocError, Global};
 
-/// What was asked for.
+/// The kind and direction that were asked for.
 #[derive(Clone, Copy)]
 pub(crate) struct Asked {
     pub kind: AskKind,
     pub direction: Direction,
 }
 
-/// What the bytes that came so far come to, or nothing where more are wanted. What was seen of them isn't read anew.
+/// Returns what the bytes that came so far come to, or nothing where more are wanted. What was seen of them isn't read
+/// anew.
 fn told_so_far(
     alloc: Global,
     bytes: &[u8],
@@ -44,7 +45,7 @@ fn told_so_far(
     }
 }
 
-/// What a stream that ends with these bytes comes to.
+/// Returns what a stream that ends with these bytes comes to.
 fn told_at_end(
     alloc: Global,
     bytes: &[u8],
@@ -65,7 +66,7 @@ fn told_at_end(
     }
 }
 
-/// What the bytes behind a request come to, or nothing where more are wanted and may come.
+/// Returns what the bytes behind a request come to, or nothing where more are wanted and may come.
 pub(crate) fn look(
     alloc: Global,
     bytes: &[u8],

@@ -25,7 +25,8 @@ impl Judge<'_> {
     ghost use Rattle.lra_model.specs.declared.entry.Deed.TheVariants as deed;
     ghost use Rattle.lra_judge.specs.inner.Judged as judged;
 
-    /// How deep the action is nested that a new one is to be nested in, where it is Active; 0 where there is to be none.
+    /// Returns the depth of the action that a new one is to be nested in, where it is Active; 0 where there is to be
+    /// none.
     fn depth_above(&self, parent: Option<u64>) -> Result<u64, Refusal>
         ensures { (J : History) → StandsFor self.now.tables.now.sheet J → result ≡ judged.depth_above J parent }
     {
@@ -102,7 +103,7 @@ impl Judge<'_> {
         }
     }
 
-    /// Whether there is an action above and it is Active.
+    /// Returns whether there is an action above and it is Active.
     fn is_open_above(&self, parent: Option<u64>) -> bool
         ensures { (J : History) → StandsFor self.now.tables.now.sheet J → result ≡ judged.is_open_above J parent }
     {
@@ -115,7 +116,7 @@ impl Judge<'_> {
         }
     }
 
-    /// Whether the version lets a client take back what has closed.
+    /// Returns whether the version lets a client take back what has closed.
     fn takes_back(&self) -> bool
         ensures { result ≡ judged.takes_back self.now.terms.version }
     {

@@ -11,21 +11,21 @@ use lra_commands::{Refusal, Told};
 use lra_model::{AskKind, Deed, Direction, Outcome};
 use lra_tables::AskRow;
 
-/// Whether two kinds are one.
+/// Returns whether two kinds are one.
 fn is_same_kind(left: AskKind, right: AskKind) -> bool
     ensures { result ≡ words.same_kind left right }
 {
     left == right
 }
 
-/// Whether two directions are one.
+/// Returns whether two directions are one.
 fn is_same_direction(left: Direction, right: Direction) -> bool
     ensures { result ≡ words.same_direction left right }
 {
     left == right
 }
 
-/// Whether an ask is outstanding and the errand's.
+/// Returns whether an ask is outstanding and the errand's.
 fn is_carried(errand: Carried, row: AskRow) -> bool
     ensures { result ≡ judged.is_carried errand row }
 {
@@ -41,7 +41,7 @@ impl Judge<'_> {
     ghost use Rattle.lra_laws.specs.Sheets.{StandsFor};
     ghost use Rattle.lra_judge.specs.inner.Judged as judged;
 
-    /// What a member wants to be asked.
+    /// Returns what a member wants to be asked.
     fn wanted_by(&self, member: u64) -> Option<AskKind>
         ensures { (J : History) → StandsFor self.now.tables.now.sheet J → result ≡ judged.wanted_by J member }
     {
@@ -82,7 +82,7 @@ impl Judge<'_> {
         }
     }
 
-    /// What came of an ask, where it is outstanding and the errand's.
+    /// Records what came of an ask, where it is outstanding and the errand's.
     pub(crate) fn record(&self, errand: Carried, outcome: Outcome) -> Result<Decision, Refusal>
         ensures { (J : History) → StandsFor self.now.tables.now.sheet J → result ≡ judged.reply J self.now.by self.now.moment errand outcome }
     {

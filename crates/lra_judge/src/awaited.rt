@@ -10,7 +10,7 @@ use lra_commands::{Awaited, Known};
 use lra_model::{ActionStatus, MemberStatus};
 use lra_tables::{MemberRow, Tables};
 
-/// Whether a Closing action needn't wait for a member.
+/// Returns whether a Closing action needn't wait for a member.
 fn is_done_completing(status: MemberStatus) -> bool
     ensures { result ≡ words.is_done_completing status }
 {
@@ -20,7 +20,7 @@ fn is_done_completing(status: MemberStatus) -> bool
     )
 }
 
-/// Whether a Cancelling action needn't wait for a member.
+/// Returns whether a Cancelling action needn't wait for a member.
 fn is_done_compensating(status: MemberStatus) -> bool
     ensures { result ≡ words.is_done_compensating status }
 {
@@ -32,7 +32,7 @@ fn is_done_compensating(status: MemberStatus) -> bool
     )
 }
 
-/// Whether an action has ended after it was cancelled.
+/// Returns whether an action has ended after it was cancelled.
 fn has_finished_cancelling(status: ActionStatus) -> bool
     ensures { result ≡ words.has_finished_cancelling status }
 {
@@ -42,7 +42,7 @@ fn has_finished_cancelling(status: ActionStatus) -> bool
     )
 }
 
-/// Whether an action with this status waits for a member with that one.
+/// Returns whether an action with this status waits for a member with that one.
 fn waits_for_member(status: ActionStatus, member: MemberStatus) -> bool
     ensures { result ≡ awaits.waits_for_member status member }
 {
@@ -53,7 +53,7 @@ fn waits_for_member(status: ActionStatus, member: MemberStatus) -> bool
     }
 }
 
-/// Whether an action with this status waits for a nested one with that one.
+/// Returns whether an action with this status waits for a nested one with that one.
 fn waits_for_action(status: ActionStatus, nested: ActionStatus) -> bool
     ensures { result ≡ awaits.waits_for_action status nested }
 {
@@ -64,7 +64,7 @@ fn waits_for_action(status: ActionStatus, nested: ActionStatus) -> bool
     }
 }
 
-/// Whether a member can be compensated.
+/// Returns whether a member can be compensated.
 fn can_compensate(tables: &Tables, member: u64) -> bool
     ensures { (J : History) → StandsFor tables.now.sheet J → result ≡ awaits.can_compensate J member }
 {
@@ -74,7 +74,7 @@ fn can_compensate(tables: &Tables, member: u64) -> bool
     }
 }
 
-/// Whether an action with this status waits for a member: it hasn't left.
+/// Returns whether an action with this status waits for a member: it hasn't left.
 fn waits_for_row(status: ActionStatus, row: &MemberRow) -> bool
     ensures { result ≡ awaits.waits_for_row status row.now }
 {
@@ -101,7 +101,7 @@ fn status_of(tables: &Tables, action: u64) -> ActionStatus
     }
 }
 
-/// Whether a row holds the end of an action with this status.
+/// Returns whether a row holds the end of an action with this status.
 fn holds(tables: &Tables, status: ActionStatus, row: Awaited) -> bool
     ensures { (J : History) → StandsFor tables.now.sheet J → result ≡ awaits.held status J row }
 {
@@ -146,14 +146,14 @@ fn row_at(tables: &Tables, action: u64, place: u64) -> Option<Awaited>
     Some(Awaited::Action { action: *nested })
 }
 
-/// How many rows an action has.
+/// Returns the number of rows that an action has.
 pub(crate) fn count_awaited(tables: &Tables, action: u64) -> u64
     ensures { (J : History) → StandsFor tables.now.sheet J → result ≡ length (awaits.found_rows J action) }
 {
     (tables.members(action).len() + tables.children(action).len()) as u64
 }
 
-/// What is told of the row at a place, if there is one that holds the end of an action with this status.
+/// Returns what is told of the row at a place, if there is one that holds the end of an action with this status.
 pub(crate) fn look_awaited(
     tables: &Tables,
     action: u64,

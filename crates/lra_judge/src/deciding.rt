@@ -1,4 +1,4 @@
-//! What is decided on a command.
+//! The decision on a command.
 
 ghost use Rattle.std.specs.Prelude.{◌≡◌, ℕ, true, max};
 ghost use Rattle.lra_model.specs.History.{History, last_moment};
@@ -25,7 +25,7 @@ fn moment_of(tables: &Tables, moment: u64) -> u64
     moment.max(tables.last_moment())
 }
 
-/// What is decided on a command, whatever is done to look at it.
+/// Decides a command, whatever is done to look at it.
 fn judge<E: Carries>(
     alloc: Global,
     judge: &Judge<'_>,
@@ -52,9 +52,9 @@ fn judge<E: Carries>(
     }
 }
 
-/// What a clerk's command comes to at the history that the tables stand for: that it is refused, what it is told where it
-/// writes nothing, or the entry that it writes of its own. The moment, in milliseconds, is the one handed in; what is written has
-/// that of the last entry where this is later.
+/// Decides a clerk's command at the history that the tables stand for: returns its refusal, what it is told where it
+/// writes nothing, or the entry that it writes of its own. The moment, in milliseconds, is the one handed in; what is
+/// written has that of the last entry where this is later.
 ///
 /// That the entries don't fit isn't looked at, since what settles after the entry isn't known yet. Only a join takes memory, to
 /// read its addresses; `Memory` comes in no other place.

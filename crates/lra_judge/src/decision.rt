@@ -1,9 +1,9 @@
-//! What is decided on a command before anything is made.
+//! The decision on a command before anything is made.
 
 use lra_commands::Told;
 use lra_model::Entry;
 
-/// What a command that isn't refused comes to.
+/// The decision on a command that isn't refused.
 #[derive(Debug, Drop)]
 pub enum Decision {
     /// It writes nothing, and this is what it is told.

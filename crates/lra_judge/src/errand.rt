@@ -1,4 +1,4 @@
-//! What is asked of an errand.
+//! The parts of an errand that a decision reads.
 
 ghost use Rattle.std.specs.Prelude.{◌≡◌};
 ghost use Rattle.lra_commands.specs.Errands.{Asking};
@@ -6,7 +6,7 @@ ghost use Rattle.lra_judge.specs.Spoken.{carried_of};
 
 use lra_model::{AskKind, Direction};
 
-/// What of an errand decides whether its reply may come.
+/// The parts of an errand that decide whether its reply may come.
 #[derive(Clone, Copy, Debug, PartialEq, Eq)]
 pub struct Carried {
     pub ask: u64,

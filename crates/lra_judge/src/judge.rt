@@ -1,4 +1,4 @@
-//! What each command is judged by.
+//! The values that each command is judged by.
 
 ghost use Rattle.std.specs.Prelude.{◌≡◌};
 ghost use Rattle.lra_judge.specs.inner.Judged as judged;

@@ -1,4 +1,4 @@
-//! What a command is answered, and what it writes of its own: read from the tables of a history, without a walk.
+//! The answer to each command, and what it writes of its own: read from the tables of a history, without a walk.
 #![tactic(auto)]
 
 mod actions;

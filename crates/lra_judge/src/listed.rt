@@ -9,7 +9,7 @@ ghost use Rattle.lra_judge.specs.inner.Listed as listed;
 use lra_commands::{Known, Limits, Listing, Row, Want};
 use lra_tables::{MemberRow, Tables};
 
-/// What a member is to be asked next.
+/// Returns what a member is to be asked next.
 fn want_in(limits: &Limits, found: &MemberRow) -> Option<Want>
     ensures { result ≡ listed.want_in limits.now found.now }
 {
@@ -48,7 +48,7 @@ fn action_row(tables: &Tables, action: u64) -> Option<Row>
     })
 }
 
-/// How many rows a listing goes along.
+/// Returns the number of rows that a listing goes along.
 pub(crate) fn count_listed(tables: &Tables, listing: Listing) -> u64
     ensures { (J : History) → StandsFor tables.now.sheet J → result ≡ listed.count_listed J listing }
 {
@@ -77,7 +77,7 @@ fn row_at(limits: &Limits, tables: &Tables, listing: Listing, place: u64) -> Opt
     }
 }
 
-/// Whether a row belongs to a listing that goes along it.
+/// Returns whether a row belongs to a listing that goes along it.
 fn belongs(listing: Listing, row: Row) -> bool
     ensures { result ≡ queries.belongs listing row }
 {
@@ -92,7 +92,7 @@ fn belongs(listing: Listing, row: Row) -> bool
     }
 }
 
-/// What is told of the row at a place, if there is one that belongs to the listing.
+/// Returns what is told of the row at a place, if there is one that belongs to the listing.
 pub(crate) fn look_listed(
     limits: &Limits,
     tables: &Tables,

@@ -23,7 +23,7 @@ fn require_here(status: MemberStatus) -> Result<(), Refusal>
     }
 }
 
-/// Whether the direction of an ending is decided.
+/// Returns whether the direction of an ending is decided.
 fn has_told(found: &MemberRow, ending: Ending) -> bool
     ensures { result ≡ judged.has_told found.now ending }
 {
@@ -33,7 +33,7 @@ fn has_told(found: &MemberRow, ending: Ending) -> bool
     }
 }
 
-/// Whether a member is being asked for what it tells.
+/// Returns whether a member is being asked for what it tells.
 fn is_awaited(status: MemberStatus, ending: Ending) -> bool
     ensures { result ≡ judged.is_awaited status ending }
 {
@@ -124,7 +124,8 @@ impl Judge<'_> {
         Ok(self.write(Deed::Leave { member }))
     }
 
-    /// What a member tells of itself: taken where it is asked for that, and a repeat where that direction is decided.
+    /// Decides on what a member reports of itself: the report is accepted where the member is asked for that, and is a
+    /// repeat where that direction is decided.
     pub(crate) fn report(&self, member: u64, ending: Ending) -> Result<Decision, Refusal>
         ensures { (J : History) → StandsFor self.now.tables.now.sheet J → result ≡ judged.report J self.now.by self.now.moment member ending }
     {

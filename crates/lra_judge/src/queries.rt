@@ -1,4 +1,4 @@
-//! What a query is told.
+//! The results of queries.
 
 ghost use Rattle.std.specs.Prelude.{◌≡◌, Ok, Err};
 ghost use Rattle.std.specs.Option.{option_map_or};
@@ -36,7 +36,7 @@ fn member_is(tables: &Tables, member: u64) -> Result<Known, Refusal>
     }
 }
 
-/// What an action waits for, from a place on.
+/// Returns what an action waits for, from a place on.
 fn awaited(limits: &Limits, tables: &Tables, action: u64, place: u64) -> Result<Known, Refusal>
     ensures { (J : History) → StandsFor tables.now.sheet J → result ≡ known_where (is_among (actions J) action) (awaited_from J action place) refusal.NoSuchAction }
 {
@@ -54,7 +54,7 @@ fn awaited(limits: &Limits, tables: &Tables, action: u64, place: u64) -> Result<
     }
 }
 
-/// Whether an action is there.
+/// Returns whether an action is there.
 fn is_there(tables: &Tables, action: u64) -> bool
     ensures { (J : History) → StandsFor tables.now.sheet J → result ≡ is_among (actions J) action }
 {
@@ -64,7 +64,7 @@ fn is_there(tables: &Tables, action: u64) -> bool
     }
 }
 
-/// Whether what a listing is of is there.
+/// Returns whether what a listing is of is there.
 fn is_listed(tables: &Tables, listing: Listing) -> bool
     ensures { (J : History) → StandsFor tables.now.sheet J → result ≡ is_listed J listing }
 {
@@ -91,7 +91,7 @@ fn next_row(
     }
 }
 
-/// How many rows of a listing there are, of those looked at from a place on.
+/// Returns how many rows of a listing there are, of those looked at from a place on.
 fn count_rows(
     limits: &Limits,
     tables: &Tables,
@@ -107,7 +107,8 @@ fn count_rows(
     }
 }
 
-/// What a query is told at the history that the tables stand for, where members are asked again by these limits. This takes no memory.
+/// Returns what a query is told at the history that the tables stand for, where members are asked again by these
+/// limits. This takes no memory.
 pub fn tell(limits: &Limits, tables: &Tables, query: Query) -> Result<Known, Refusal>
     ensures { (J : History) → StandsFor tables.now.sheet J → result ≡ tell limits.now J query }
 {
@@ -126,7 +127,7 @@ impl Judge<'_> {
     ghost use Rattle.lra_laws.specs.Sheets.{StandsFor};
     ghost use Rattle.lra_judge.specs.inner.Judged as judged;
 
-    /// What a command is told that only asks.
+    /// Returns what a command is told that only asks.
     pub(crate) fn ask(&self, query: Query) -> Result<Decision, Refusal>
         ensures { (J : History) → StandsFor self.now.tables.now.sheet J → result ≡ judged.ask self.now.terms.limits J self.now.by query }
     {

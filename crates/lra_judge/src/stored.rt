@@ -37,7 +37,7 @@ fn stored_address(alloc: Global, text: &Option<String>) -> Result<Option<String>
     }
 }
 
-/// Whether there are the addresses that a member has to have.
+/// Returns whether there are the addresses that a member has to have.
 fn has_enough(uris: &Uris) -> bool
     ensures { result ≡ has_enough uris.now }
 {

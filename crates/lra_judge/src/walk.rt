@@ -1,4 +1,4 @@
-//! What a query goes along, row by row, and the first of the rows that it tells.
+//! The rows that a query goes along, one by one, and the first of them that it tells.
 
 ghost use Rattle.std.specs.Prelude.{◌≡◌, ◌≤◌, ◌<◌, ◌+◌, ◌-◌, ◌^◌, min, max, unwrap_or, cond, filter, length};
 ghost use Rattle.lra_model.specs.History.{History};
@@ -13,10 +13,10 @@ use lra_commands::{Known, Limits, Listing};
 use lra_model::ActionStatus;
 use lra_tables::Tables;
 
-/// How many rows one query looks at.
+/// The number of rows that one query looks at.
 const MOST_ROWS: u64 = 256;
 
-/// What a query goes along.
+/// The rows that a query goes along.
 #[derive(Clone, Copy)]
 pub(crate) enum Walk {
     /// The rows of an action with this status, for what holds its end.
@@ -25,7 +25,7 @@ pub(crate) enum Walk {
     Listed { listing: Listing },
 }
 
-/// How many rows there are.
+/// Returns the number of rows.
 fn count_rows(tables: &Tables, walk: Walk) -> u64
     ensures { (J : History) → StandsFor tables.now.sheet J → result ≡ walks.count_rows J walk }
 {
@@ -35,7 +35,7 @@ fn count_rows(tables: &Tables, walk: Walk) -> u64
     }
 }
 
-/// What is told of the row at a place, if there is one that is told.
+/// Returns what is told of the row at a place, if there is one that is told.
 fn look(limits: &Limits, tables: &Tables, walk: Walk, place: u64) -> Option<Known>
     requires { place < 2 ^ 64 - 1 }
     ensures { (J : History) → StandsFor tables.now.sheet J → result ≡ walks.look limits.now J walk place }
@@ -46,7 +46,7 @@ fn look(limits: &Limits, tables: &Tables, walk: Walk, place: u64) -> Option<Know
     }
 }
 
-/// How many rows are looked at from a place on, of so many.
+/// Returns how many rows are looked at from a place on, of so many.
 fn count_looked(rows: u64, place: u64) -> u64
     ensures most { result ≤ most_rows }
     ensures within { place + result ≤ max place rows }
@@ -59,7 +59,7 @@ fn count_looked(rows: u64, place: u64) -> u64
     }
 }
 
-/// What is told of the first of the rows looked at that is told.
+/// Returns what is told of the first of the rows looked at that is told.
 fn first_told(limits: &Limits, tables: &Tables, walk: Walk, place: u64) -> Option<Known>
     ensures { (J : History) (none : Told) → StandsFor tables.now.sheet J → unwrap_or result none ≡ walks.first_some (walks.look limits.now J walk) none place most_rows }
 {
@@ -73,7 +73,7 @@ fn first_told(limits: &Limits, tables: &Tables, walk: Walk, place: u64) -> Optio
     None
 }
 
-/// What is told where no row from any place on is.
+/// Returns what is told where no row from any place on is.
 fn last_of(walk: Walk) -> Known
     ensures { result ≡ walks.last_of walk }
 {
@@ -93,7 +93,7 @@ fn next_of(rows: u64, place: u64) -> Option<u64>
     }
 }
 
-/// What is told where none of the rows looked at is, of so many.
+/// Returns what is told where none of the rows looked at is, of so many.
 fn none_told(last: Known, rows: u64, place: u64) -> Known
     ensures { result ≡ walks.none_told last rows place }
 {
@@ -103,7 +103,7 @@ fn none_told(last: Known, rows: u64, place: u64) -> Known
     }
 }
 
-/// What is told from a place on.
+/// Returns what is told from a place on.
 pub(crate) fn tell_from(limits: &Limits, tables: &Tables, walk: Walk, place: u64) -> Known
     ensures { (J : History) → StandsFor tables.now.sheet J → walks.IsTold limits.now J walk place result }
 {
@@ -119,7 +119,7 @@ fn one_if(is_so: bool) -> u64
     if is_so { 1 } else { 0 }
 }
 
-/// How many of the rows looked at belong to a listing.
+/// Counts the rows looked at that belong to a listing.
 fn count_belonging(limits: &Limits, tables: &Tables, listing: Listing, place: u64) -> u64
     ensures { (J : History) → StandsFor tables.now.sheet J → result ≡ length (filter (belongs listing) (looked_at (rows_along limits.now J listing) place)) }
 {
@@ -132,7 +132,7 @@ fn count_belonging(limits: &Limits, tables: &Tables, listing: Listing, place: u6
     count
 }
 
-/// How many rows there are of a listing, of those looked at from a place on.
+/// Returns how many rows there are of a listing, of those looked at from a place on.
 pub(crate) fn count_from(limits: &Limits, tables: &Tables, listing: Listing, place: u64) -> Known
     ensures { (J : History) → StandsFor tables.now.sheet J → result ≡ count_from limits.now J listing place }
 {

@@ -9,7 +9,7 @@ use lra_ticket::{Kept, Pass};
 #[derive(Drop)]
 pub struct Clerk<V: Kept> {
     pub(crate) number: u32,
-    /// How many bytes of the journal tell of all that it has seen.
+    /// The number of bytes of the journal that tell of all that it has seen.
     pub(crate) position: u64,
     /// It is away while a command is done.
     pub(crate) pass: Option<Pass<V>>,

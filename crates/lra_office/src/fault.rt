@@ -24,7 +24,7 @@ pub enum ReopenFault {
     /// It passes the limits, or does once a clerk has enrolled and restarted.
     #[error("the journal passes the limits")]
     Full,
-    /// What the clerk did can't be written.
+    /// The clerk's entries can't be written.
     #[error("the journal can't be written")]
     Stopped,
     #[error("out of memory")]

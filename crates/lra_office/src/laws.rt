@@ -1,4 +1,4 @@
-//! What holds of every office: public functions that do nothing, whose contracts say it.
+//! Laws of every office: public functions that do nothing, whose contracts say what holds.
 
 ghost use Rattle.lra_office.specs.Journals.{JournalsAreSound};
 ghost use Rattle.lra_office.specs.Stops.{CallsAreStopped};

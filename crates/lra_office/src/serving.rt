@@ -1,4 +1,4 @@
-//! What stands behind the lock, as offices see it.
+//! The value behind the lock, as offices see it.
 
 ghost use Rattle.std.specs.Prelude.{◌≡◌, true};
 
@@ -39,7 +39,7 @@ pub trait Serving: Kept {
         ensures stays { has_stopped self.old ≡ true
             → (has_stopped self.new ≡ true) × (Self.history self.new ≡ Self.history self.old) };
 
-    /// What a query is told of its history.
+    /// Returns what a query is told of its history.
     fn query(&self, query: Query) -> Result<Known, Refusal>
         ensures { result ≡ tell (setting (Self.origin self.now)).limits (Self.history self.now) query };
 

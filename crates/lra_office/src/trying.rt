@@ -30,7 +30,7 @@ fn refusal_of(fault: TryFault) -> TryRefusal
     }
 }
 
-/// What is told, where the errand is let go.
+/// Returns what is told, and lets the errand go.
 pub(crate) fn told_alone(committed: Committed) -> Told
     ensures { result ≡ committed.told }
 {

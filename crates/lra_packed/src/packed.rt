@@ -10,7 +10,7 @@ use lra_model::{Memory, Uris};
 use std::alloc::Global;
 use std::marker::Model;
 
-/// What stands in a buffer before the bytes of each address that is there.
+/// The byte that stands in a buffer before the bytes of each address that is there.
 const MARK: u8 = 1;
 
 /// The five addresses that a member may have, in one buffer of just their size.
@@ -42,7 +42,7 @@ impl Model for Packed {
     ghost invariant = { λ p. IsPacked p.complete p.status p.forget p.after p.bytes.items };
 }
 
-/// How much of a buffer an address takes.
+/// Returns how many bytes of a buffer an address takes.
 fn size_of(text: &Option<String>) -> usize {
     match text {
         Some(text) => text.len().saturating_add(1),
@@ -50,7 +50,7 @@ fn size_of(text: &Option<String>) -> usize {
     }
 }
 
-/// How much of a buffer five addresses take.
+/// Returns how many bytes of a buffer five addresses take.
 fn size_of_all(uris: &Uris) -> usize {
     size_of(&uris.compensate)
         .saturating_add(size_of(&uris.complete))
@@ -95,7 +95,7 @@ fn text_at(bytes: &[u8], begin: usize, end: usize) -> Option<&str>
     }
 }
 
-/// Whether an address is that of a text, or both are absent.
+/// Returns whether an address is that of a text, or both are absent.
 fn is_same(left: Option<&str>, right: &Option<String>) -> bool
     ensures { result ≡ words.same_address (option_copied left.entry) (text_of right.now) }
 {
@@ -164,7 +164,7 @@ impl Packed {
         text_at(&self.bytes, self.after as usize, self.bytes.len())
     }
 
-    /// Whether these are the same five addresses.
+    /// Returns whether these are the same five addresses.
     pub fn is_same(&self, uris: &Uris) -> bool
         ensures { result ≡ words.same_addresses self.now uris.now }
     {

@@ -61,7 +61,7 @@ impl Asks {
         }
     }
 
-    /// Whether there is room for one more.
+    /// Returns whether there is room for one more.
     pub(crate) fn take_one(&self) -> bool
         ensures { result ≡ takes_one self.now.items self.now.capacity }
     {

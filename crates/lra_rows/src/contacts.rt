@@ -1,4 +1,4 @@
-//! How members are reached, by their numbers.
+//! The contacts of members, by their numbers.
 
 ghost use Rattle.std.specs.Prelude.{◌≡◌, ℕ, ◌^◌, true, length, option_map, IfSome, OnOk, vec_capacity};
 ghost use Rattle.std.specs.Option.{option_map_or};
@@ -87,7 +87,7 @@ fn remove_last(rows: &mut Vec<Contact>) -> Option<Packed>
     }
 }
 
-/// How each member is reached, in the order of their numbers, which are counted from 1.
+/// The contact of each member, in the order of their numbers, which are counted from 1.
 #[derive(Drop)]
 pub(crate) struct Contacts {
     rows: Vec<Contact>,
@@ -142,7 +142,7 @@ impl Contacts {
         }
     }
 
-    /// Whether there is room for one more.
+    /// Returns whether there is room for one more.
     pub(crate) fn take_one(&self) -> bool
         ensures { result ≡ takes_one self.now.items self.now.capacity }
     {
@@ -159,7 +159,7 @@ impl Contacts {
         reserve_one(&mut self.rows)
     }
 
-    /// Whether there is a place for the repeats of a member, if it is there.
+    /// Returns whether there is a place for the repeats of a member, if it is there.
     pub(crate) fn is_ready(&self, number: u64) -> bool
         ensures { result ≡ is_ready_at self.now.ready number }
     {

@@ -1,4 +1,4 @@
-//! What is asked of the rows.
+//! Reads of the rows: actions, members, asks, clerks and counts.
 
 ghost use Rattle.std.specs.Prelude.{◌≡◌, length, ◌&&◌};
 ghost use Rattle.lra_model.specs.History as history;
@@ -23,7 +23,7 @@ pub struct ActionRow {
     pub limit: u64,
     /// The moment that the limit counts from.
     pub since: u64,
-    /// How deep it is nested: 1 where it has no parent.
+    /// The depth at which it is nested: 1 where it has no parent.
     pub depth: u64,
     pub status: ActionStatus,
 }
@@ -33,16 +33,16 @@ pub struct ActionRow {
 pub struct MemberRow {
     pub action: u64,
     pub status: MemberStatus,
-    /// What decided completion: the first reply or report of it that was done or failed, or done where the member was skipped. Later ones
-    /// change nothing.
+    /// The outcome that decided completion: the first reply or report of it that was done or failed, or done where the
+    /// member was skipped. Later ones change nothing.
     pub completion: Option<Outcome>,
-    /// What decided compensation, likewise.
+    /// The outcome that decided compensation, likewise.
     pub compensation: Option<Outcome>,
     /// The ask of it that is outstanding.
     pub outstanding: Option<u64>,
-    /// What it wants to be asked next.
+    /// The kind of ask that it wants next.
     pub want: Option<AskKind>,
-    /// How often it was asked for that in vain; 0 where it wants nothing.
+    /// The number of times that it was asked for that in vain; 0 where it wants nothing.
     pub k: u64,
     /// The moment of the last such answer.
     pub last: Option<u64>,
@@ -54,11 +54,11 @@ pub struct AskRow {
     pub member: u64,
     pub kind: AskKind,
     pub direction: Direction,
-    /// Whether neither its reply nor a restart came after it.
+    /// True where neither its reply nor a restart came after it.
     pub outstanding: bool,
 }
 
-/// Whether the ask of that number is what the member's row has.
+/// Returns whether the ask of that number is the one that the member's row has.
 fn stands_as(number: u64, row: &MemberState) -> bool
     ensures { result ≡ stands_as number row.now }
 {
@@ -254,49 +254,49 @@ impl Rows {
         0 < number && u64::from(number) <= self.clerks
     }
 
-    /// Whether a clerk is enrolled.
+    /// Returns whether a clerk is enrolled.
     pub fn is_clerk(&self, number: u32) -> bool
         ensures { (J : History) → StandsFor self.now.sheet J → result ≡ history.is_among (history.clerks J) number }
     {
         self.held_clerk(number)
     }
 
-    /// How many entries there are.
+    /// Returns the number of entries.
     pub fn count_entries(&self) -> u64
         ensures { (J : History) → StandsFor self.now.sheet J → result ≡ length J }
     {
         self.entries
     }
 
-    /// How many clerks are enrolled.
+    /// Returns the number of clerks that are enrolled.
     pub fn count_clerks(&self) -> u64
         ensures { (J : History) → StandsFor self.now.sheet J → result ≡ length (history.clerks J) }
     {
         self.clerks
     }
 
-    /// How many actions were started.
+    /// Returns the number of actions that were started.
     pub fn count_actions(&self) -> u64
         ensures { (J : History) → StandsFor self.now.sheet J → result ≡ length (history.actions J) }
     {
         self.actions.len() as u64
     }
 
-    /// How many members joined.
+    /// Returns the number of members that joined.
     pub fn count_members(&self) -> u64
         ensures { (J : History) → StandsFor self.now.sheet J → result ≡ length (history.members J) }
     {
         self.members.len() as u64
     }
 
-    /// How many asks were made.
+    /// Returns the number of asks that were made.
     pub fn count_asks(&self) -> u64
         ensures { (J : History) → StandsFor self.now.sheet J → result ≡ length (history.asks J) }
     {
         self.asked
     }
 
-    /// How many asks were made before the last restart, which made them void.
+    /// Returns the number of asks that were made before the last restart, which made them void.
     pub fn count_void(&self) -> u64
         ensures { (J : History) → StandsFor self.now.sheet J → result ≡ void_asks J }
     {

@@ -68,7 +68,7 @@ pub(crate) fn remove_last<T: Drop>(rows: &mut Vec<T>)
     let _ = rows.pop();
 }
 
-/// Whether there is room for one more row.
+/// Returns whether there is room for one more row.
 pub(crate) fn takes_one<T>(rows: &Vec<T>) -> bool
     ensures { result ≡ takes_one rows.now.items (vec_capacity rows.now) }
 {

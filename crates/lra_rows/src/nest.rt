@@ -11,8 +11,8 @@ use lra_model::Memory;
 use std::alloc::Global;
 use std::marker::Model;
 
-/// How deep an action is nested, the actions nested in it, its members, and, where it is an outermost one, the members of
-/// all that stand in it, each by their numbers.
+/// The depth of an action, the actions nested in it, its members, and, where it is an outermost one, the members of all
+/// that stand in it, each by their numbers.
 #[derive(Drop)]
 pub(crate) struct Nest {
     pub(crate) depth: u64,
@@ -54,7 +54,7 @@ impl Nest {
         }
     }
 
-    /// Whether there is room for one more number in a list.
+    /// Returns whether there is room for one more number in a list.
     pub(crate) fn has_place(&self, list: Listed) -> bool
         ensures { result ≡ has_place list self.now }
     {

@@ -13,7 +13,7 @@ use crate::nest::{Listed, Nest};
 use crate::rows::Rows;
 use lra_model::{Deed, Entry, Memory, Outcome};
 
-/// Whether there is room for one more number in a list of an action, if the action is there.
+/// Returns whether there is room for one more number in a list of an action, if the action is there.
 fn has_place_at(nests: &[Nest], list: Listed, action: u64) -> bool
     ensures { result ≡ has_place_at list action nests.now }
 {
@@ -91,8 +91,8 @@ impl Rows {
         }
     }
 
-    /// Whether an entry can be carried out with no memory: there are less than 2^63 entries, each list that it adds to takes one
-    /// more, and repeats have a place that it adds to.
+    /// Returns whether an entry can be carried out with no memory: there are less than 2^63 entries, each list that it
+    /// adds to takes one more, and repeats have a place that it adds to.
     pub fn has_room(&self, entry: &Entry) -> bool
         ensures { result ≡ has_room entry.now self.now }
     {

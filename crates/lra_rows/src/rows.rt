@@ -1,4 +1,4 @@
-//! What is kept of a history.
+//! The rows of a history.
 
 ghost use Rattle.std.specs.Prelude.{◌≡◌, ℕ, length, Some, None, []};
 ghost use Rattle.lra_laws.specs.Rows as laws;
@@ -18,9 +18,9 @@ pub struct Rows {
     pub(crate) entries: u64,
     /// The moment of the last entry.
     pub(crate) moment: u64,
-    /// How many clerks are enrolled.
+    /// The number of clerks that are enrolled.
     pub(crate) clerks: u64,
-    /// How many asks were made.
+    /// The number of asks that were made.
     pub(crate) asked: u64,
     /// Asks up to this number are void.
     pub(crate) void: u64,

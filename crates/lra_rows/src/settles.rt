@@ -1,4 +1,4 @@
-//! What settles next.
+//! The deeds that settle next.
 
 use crate::lists::at;
 use crate::rows::Rows;
@@ -33,7 +33,7 @@ impl Rows {
         }
     }
 
-    /// Whether a member may be completed without being asked.
+    /// Returns whether a member may be completed without being asked.
     pub fn may_be_skipped(&self, member: u64) -> bool
         ensures state { result ≡ may_skip_by self.now.sheet.state member }
         ensures history { (J : History) → StandsFor self.now.sheet J → result ≡ may_be_skipped J member }
@@ -78,7 +78,7 @@ impl Rows {
         None
     }
 
-    /// What its parent does to an action, where it does anything: closes it, or cancels it.
+    /// Returns what its parent does to an action, where it does anything: closes it, or cancels it.
     pub fn by_parent(&self, action: u64) -> Option<Deed>
         ensures state { result ≡ turn_by self.now.sheet.state action }
         ensures history { (J : History) → StandsFor self.now.sheet J → result ≡ by_parent J action }

@@ -1,4 +1,4 @@
-//! What an entry wrote over and added.
+//! The writes of an entry: what it wrote over, and what it added.
 
 use crate::contact::Repeats;
 use lra_model::AskKind;
@@ -8,7 +8,7 @@ use std::marker::Model;
 /// A row's number, and what stood there.
 pub(crate) type Written<T> = (u64, T);
 
-/// What is counted of a history.
+/// The counts of a history: its entries, clerks and asks, and the moment of its last entry.
 #[derive(Clone, Copy)]
 pub(crate) struct Counts {
     pub(crate) entries: u64,
@@ -46,7 +46,7 @@ impl Model for Repeated {
     ghost inverse = { λ r. record { member = r.member; stage = r.stage; repeats = r.repeats } };
 }
 
-/// What an entry added at the end of the lists.
+/// The row that an entry added at the end of the lists.
 #[derive(Clone, Copy)]
 pub(crate) enum Added {
     Nothing,
@@ -55,7 +55,7 @@ pub(crate) enum Added {
     Ask,
 }
 
-/// What an entry wrote over, and what it added.
+/// The writes of an entry: what it wrote over, and what it added.
 #[derive(Clone, Copy)]
 pub(crate) struct Writes {
     pub(crate) member: Option<Written<MemberState>>,

@@ -1,4 +1,4 @@
-//! What was carried out, taken back.
+//! Taking back what was carried out.
 
 ghost use Rattle.std.specs.Prelude.{◌≡◌, vec_capacity};
 ghost use Rattle.lra_laws.specs.Rows.{change_row};

@@ -1,4 +1,4 @@
-//! What a member wants to be asked next.
+//! The kind of ask that a member wants next.
 
 ghost use Rattle.std.specs.Prelude.{◌≡◌};
 ghost use Rattle.lra_model.specs.Tests as tests;
@@ -104,7 +104,7 @@ impl Rows {
         }
     }
 
-    /// What the member of a row wants to be asked next.
+    /// Returns what the member of a row wants to be asked next.
     pub(crate) fn want(&self, row: &MemberState) -> Option<AskKind>
         ensures { result ≡ wants.wanted (facts_by self.now.sheet.state) (member_by self.now.sheet.state row.now) }
     {

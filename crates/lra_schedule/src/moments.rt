@@ -1,4 +1,4 @@
-//! What a row says of moments, in milliseconds.
+//! The moments, in milliseconds, that a row gives.
 
 ghost use Rattle.std.specs.Prelude.{◌≡◌, ◌+◌, ◌<◌, ◌^◌};
 ghost use Rattle.lra_model.specs.History.{History};

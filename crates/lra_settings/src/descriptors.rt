@@ -1,15 +1,15 @@
-//! How the descriptors are shared that the system lets a service have.
+//! The shares of the descriptors that the system lets a service have.
 
 ghost use Rattle.std.specs.Prelude.{◌≡◌};
 ghost use Rattle.lra_settings.specs.Descriptors.{taken_by_file, taken_by_folder, shared};
 
 use crate::settings::Settings;
 
-/// How many descriptors are kept back: for what any program has open, for operators, and for what is opened for a
+/// The descriptors that are kept back: for what any program has open, for operators, and for what is opened for a
 /// while.
 const KEPT_BACK: u64 = 64;
 
-/// How many there have to be beside those: for a connection and a callback.
+/// The fewest descriptors that there have to be beside those: for a connection and a callback.
 const LEAST: u64 = 2;
 
 /// Returns how many descriptors a file's service of so many workers takes beside connections and callbacks: for each

@@ -1,4 +1,4 @@
-//! What is said of the settings.
+//! The values that one place gives to the settings.
 
 ghost use Rattle.std.specs.Prelude.{◌≡◌};
 ghost use Rattle.lra_settings.specs.Settings.{usual};
@@ -7,7 +7,7 @@ ghost use Rattle.lra_settings.specs.Given.{applied, nothing};
 use crate::parameter::Parameter;
 use crate::settings::Settings;
 
-/// What is said of the settings, in one place. Of those that are `None` nothing is.
+/// The values that one place gives to the settings. It gives none to those that are `None`.
 #[derive(Clone, Copy, Debug, PartialEq, Eq)]
 pub struct Given {
     pub connections: Option<u64>,

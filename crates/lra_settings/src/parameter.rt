@@ -107,7 +107,7 @@ impl Parameter {
         }
     }
 
-    /// Whether it may be so much.
+    /// Returns whether it may be so much.
     pub fn fits(self, value: u64) -> bool
         ensures { result ≡ fits self value }
     {

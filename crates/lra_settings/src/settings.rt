@@ -5,34 +5,35 @@ ghost use Rattle.lra_settings.specs.Settings.{usual, value_of, are_in_range, are
 
 use crate::parameter::Parameter;
 
-/// How much a service has at once, how long each waits for another, and when a folder's journals roll.
+/// The settings of a service: how much it has at once, how long each waits for another, and when a folder's journals
+/// roll.
 #[derive(Clone, Copy, Debug, PartialEq, Eq)]
 pub struct Settings {
-    /// How many connections there are at once.
+    /// The number of connections at once.
     pub connections: u64,
-    /// How many callbacks go out at once.
+    /// The number of callbacks at once.
     pub callbacks: u64,
-    /// How many of them go to one host and port.
+    /// The number of them that go to one host and port.
     pub host_share: u64,
-    /// How many seconds a client has until its next request begins.
+    /// The seconds that a client has until its next request begins.
     pub idle_seconds: u64,
-    /// How many it has for a whole request, from the first byte on.
+    /// The seconds that it has for a whole request, from the first byte on.
     pub request_seconds: u64,
-    /// How many it has to take the replies that wait.
+    /// The seconds that it has to take the replies that wait.
     pub reply_seconds: u64,
-    /// How many seconds a member has to take a connection.
+    /// The seconds that a member has to take a connection.
     pub connect_seconds: u64,
-    /// How many it has for a whole callback, the connection included.
+    /// The seconds that it has for a whole callback, the connection included.
     pub callback_seconds: u64,
-    /// How many a sync of the disk may take before the service isn't ready.
+    /// The seconds that a sync of the disk may take before the service isn't ready.
     pub sync_seconds: u64,
-    /// How many milliseconds pass before a member is asked again for the first time.
+    /// The milliseconds that pass before a member is asked again for the first time.
     pub retry_first_ms: u64,
-    /// How many pass at most before it is asked again.
+    /// The milliseconds that pass at most before it is asked again.
     pub retry_last_ms: u64,
-    /// How many actions a folder's journal takes before the next one is begun.
+    /// The number of actions that a folder's journal takes before the next one is begun.
     pub roll_after: u64,
-    /// How many seconds a journal of a folder whose actions have all ended stays before it is put away.
+    /// The seconds that a journal of a folder whose actions have all ended stays before it is put away.
     pub remember_seconds: u64,
     /// The number with which the identifiers of a folder's journals begin.
     pub site: u64,
@@ -64,7 +65,7 @@ impl Settings {
         }
     }
 
-    /// What a parameter is.
+    /// Returns the value of a parameter.
     pub fn get(&self, parameter: Parameter) -> u64
         ensures { result ≡ value_of self.now parameter }
     {
@@ -86,7 +87,7 @@ impl Settings {
         }
     }
 
-    /// Whether each parameter may be what it is.
+    /// Returns whether each parameter may be what it is.
     fn are_in_range(&self) -> bool
         ensures { result ≡ are_in_range self.now }
     {
@@ -106,7 +107,8 @@ impl Settings {
             && Parameter::Site.fits(self.site)
     }
 
-    /// Whether a service may be run by them: each parameter may be what it is, and the first pause is no longer than the last.
+    /// Returns whether a service may be run by them: each parameter may be what it is, and the first pause is no longer
+    /// than the last.
     pub fn are_fit(&self) -> bool
         ensures { result ≡ are_fit self.now }
     {

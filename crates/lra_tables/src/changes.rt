@@ -40,7 +40,7 @@ fn add_all_awaited(rows: &Rows, members: &mut Vec<u64>) -> Result<(), Memory>
     Ok(())
 }
 
-/// Whether an action is nested in another.
+/// Returns whether an action is nested in another.
 fn is_nested(rows: &Rows, action: u64) -> bool
     ensures { (J : History) → StandsFor rows.now.sheet J → result ≡ is_some (parent J action) }
 {
@@ -101,7 +101,8 @@ fn add_actions(deed: &Deed, actions: &mut Vec<u64>) -> Result<(), Memory>
 }
 
 impl Changes {
-    /// What entries change that are to come after those of the rows, in time linear in what is listed: a number may come twice.
+    /// Lists what entries change that are to come after those of the rows, in time linear in what is listed: a number
+    /// may come twice.
     pub(crate) fn of(alloc: Global, rows: &Rows, entries: &[Entry]) -> Result<Changes, Memory>
         ensures members { IfOk result (λ c. (J : History) → StandsFor rows.now.sheet J → c.members.items ≡ members_changed_by J entries.now) }
         ensures actions { IfOk result (λ c. c.actions.items ≡ actions_changed_by entries.now) }

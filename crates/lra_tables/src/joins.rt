@@ -1,4 +1,4 @@
-//! Who has joined an action with the same addresses already.
+//! The member that has joined an action with the same addresses already.
 
 ghost use Rattle.std.specs.Prelude.{◌≡◌, ◌+◌, ◌≤◌, ◌&&◌, not};
 ghost use Rattle.lra_model.specs.declared.entry.Deed.TheVariants as deeds;
@@ -13,7 +13,7 @@ use lra_joined::Index;
 use lra_model::{Deed, Entry, MemberStatus, Uris};
 use lra_rows::Rows;
 
-/// Whether a member of the action is there, hasn't left, and has these addresses.
+/// Returns whether a member of the action is there, hasn't left, and has these addresses.
 fn is_same_member(rows: &Rows, number: u64, action: u64, uris: &Uris) -> bool
     ensures { (J : History) → StandsFor rows.now.sheet J → result ≡ found_same J action uris.now number }
 {

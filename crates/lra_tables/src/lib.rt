@@ -1,5 +1,5 @@
-//! What a coordinator reads of its history without a walk: its actions, members and asks by number, what settles next, and
-//! what a command would append.
+//! The tables that a coordinator reads of its history without a walk: its actions, members and asks by number, what
+//! settles next, and what a command would append.
 #![tactic(auto)]
 
 mod changes;

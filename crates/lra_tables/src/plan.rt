@@ -1,4 +1,4 @@
-//! What a command would append.
+//! The entries that a command would append.
 
 ghost use Rattle.std.specs.Prelude.{◌≡◌};
 

@@ -1,11 +1,11 @@
-//! What the lock keeps.
+//! The value that the lock keeps.
 ghost use Rattle.std.specs.Prelude.{◌≡◌, List, []};
 ghost use Rattle.lra_model.specs.declared.entry.Entry.{Entry};
 ghost use Rattle.lra_ticket.specs.History.{entries_by};
 
 /// A value with a history of entries.
 pub trait Kept: Drop {
-    /// What stays the same from the making of a value on. Contracts alone see it.
+    /// The facts that stay the same from the making of a value on. Contracts alone see them.
     type Origin;
 
     ghost origin: { Self → Self.Origin };

@@ -46,7 +46,7 @@ pub struct Held<V: Kept> {
     ghost small: { ticket + 1 < 2 ^ 64 },
 }
 
-/// What a lock had when it ended.
+/// The parts of a lock when it ended.
 #[derive(Drop)]
 pub struct Parts<V> {
     /// The next ticket.

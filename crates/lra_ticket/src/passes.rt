@@ -1,4 +1,4 @@
-//! What passes tell one another.
+//! The acts of passes on one another: a pass is split, and two are compared or joined.
 ghost use Rattle.std.specs.Prelude.{◌≡◌, ◌≢◌};
 ghost use mathlib.Core.List.{IsPrefix};
 ghost use Rattle.lra_ticket.specs.History.{Comparable, longer, entries_by};

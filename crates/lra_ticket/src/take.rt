@@ -16,16 +16,16 @@ use std::sync::Wait;
 use std::thread::yield_now;
 use std::time::Duration;
 
-/// How often a caller looks whether the lock is free before it lets other threads run.
+/// The number of times that a caller looks whether the lock is free before it lets other threads run.
 const LOOKS: u32 = 30;
 
-/// How often it lets them run before it sleeps.
+/// The number of times that it lets them run before it sleeps.
 const TURNS: u32 = 5;
 
-/// How often a caller sleeps before it draws a ticket of a lock that isn't free.
+/// The number of times that a caller sleeps before it draws a ticket of a lock that isn't free.
 const NAPS: u32 = 50;
 
-/// How long it sleeps at a time, in microseconds.
+/// The microseconds that it sleeps at a time.
 const NAP: u64 = 50;
 
 impl<V: Kept> TicketLock<V> {
@@ -63,7 +63,7 @@ impl<V: Kept> TicketLock<V> {
         }
     }
 
-    /// Whether one of some looks shows that no one has the lock or waits for it.
+    /// Returns whether one of some looks shows that no caller has the lock or waits for it.
     fn looks_free(&self) -> bool {
         let shared = &self.table.shared;
         for _ in 0..LOOKS {

@@ -1,8 +1,8 @@
-//! What a caller of the lock knows. No value of these types is made.
+//! The knowledge of a caller of the lock. No value of these types is made.
 use lra_model::Entry;
 use std::collections::LinkedList;
 
-/// What a pass has done last.
+/// The last act of a pass.
 pub enum Place {
     Idle,
     /// It read the next ticket.
@@ -21,7 +21,7 @@ pub enum Place {
     Spent,
 }
 
-/// What a pass knows.
+/// The knowledge of a pass.
 pub struct View<O> {
     /// The number that the caller's entries bear, or 0 before the first of them.
     pub number: u32,
@@ -31,7 +31,7 @@ pub struct View<O> {
     pub seen: LinkedList<Entry>,
     /// The caller's own entries.
     pub mine: LinkedList<Entry>,
-    /// How often the caller asked for the lock without waiting for it.
+    /// The number of times that the caller asked for the lock without waiting for it.
     pub tries: u64,
     pub place: Place,
 }

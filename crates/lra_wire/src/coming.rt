@@ -18,7 +18,7 @@ use crate::response::{Head, MAX_INTERIM, ResponseRead, head_at, is_interim};
 use crate::wanted::{BodyFront, Wanted, behind};
 use std::alloc::Global;
 
-/// What stands at the front of bytes that came.
+/// The response at the front of bytes that came, whole or not yet.
 #[derive(Debug, Drop)]
 pub enum Coming {
     /// A whole response, and how many bytes it takes, with the interim heads before it.
@@ -35,13 +35,13 @@ struct Passed {
     count: usize,
 }
 
-/// What was found of bytes that hold no whole response, so that they needn't be read anew with each piece that follows.
+/// The findings on bytes that hold no whole response, so that the bytes needn't be read anew with each next piece.
 #[derive(Drop)]
 pub struct SeenResponse {
     passed: Passed,
     /// The final head, once it was read.
     head: Option<Head>,
-    /// What was read of a chunked body behind it.
+    /// The chunks that were read of a chunked body behind it.
     chunks: ChunksRead,
     wanted: Wanted,
 }
@@ -63,7 +63,7 @@ impl SeenResponse {
         }
     }
 
-    /// How many bytes there may be where a line isn't whole.
+    /// Returns how many bytes there may be where a line isn't whole.
     fn most(&self) -> usize
         requires { self.now.passed.end ≤ 65536 }
         ensures is { result ≡ most_bytes self.now.head self.now.passed }
@@ -75,7 +75,7 @@ impl SeenResponse {
         }
     }
 
-    /// What is wanted still of these bytes, of which a front was seen: nothing, where it came.
+    /// Returns what is wanted still of these bytes, of which a front was seen: nothing, where it came.
     fn still_wanted(&self, bytes: &[u8]) -> Option<Wanted>
         requires { SeesResponse self.now bytes.now }
         ensures some { IfSome result (IsOpenAt AwaitsResponse 0 bytes.now) }
@@ -275,7 +275,7 @@ pub(crate) fn response_at_end(
     }
 }
 
-/// What was seen of bytes holds of them and more.
+/// Says that what was seen of bytes holds of them and more.
 pub fn seen_stays()
     ensures { (seen : SeenResponse) (bytes more : List ℕ)
         → SeesResponse seen bytes → SeesResponse seen (bytes ++ more) }

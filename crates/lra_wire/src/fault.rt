@@ -27,7 +27,7 @@ pub enum WireFault {
 }
 
 impl WireFault {
-    /// What a person is told.
+    /// Returns the text that a person is told.
     const fn text(self) -> &'static str {
         match self {
             WireFault::BadHead => "bad head",

@@ -1,4 +1,4 @@
-//! What the fields of a head say of the message.
+//! The fields of a head, and what they say of the message.
 ghost use Rattle.std.specs.Prelude.{◌≡◌, ◌≤◌, ℕ, List, [], ◌∷◌, ◌++◌, length, map, reverse, All, true};
 ghost use Rattle.std.specs.Char.{is_ascii_digit};
 ghost use Rattle.std.specs.List.{list_all};
@@ -19,7 +19,7 @@ pub(crate) enum Named<'b> {
 }
 
 impl<'b> Named<'b> {
-    /// What was found with one more value behind it.
+    /// Returns what was found with one more value behind it.
     fn and(self, value: &'b [u8]) -> Named<'b>
         ensures { (values : List (List ℕ)) → Shows self.entry values
             → Shows result (values ++ value.now ∷ []) }
@@ -32,7 +32,7 @@ impl<'b> Named<'b> {
     }
 }
 
-/// What `Content-Length` says.
+/// The value of `Content-Length`.
 #[derive(Clone, Copy)]
 pub(crate) enum Stated {
     Nothing,
@@ -57,7 +57,7 @@ pub(crate) fn lookup<'b>(bytes: &'b [u8], fields: &[HeaderSpan], name: &[u8]) ->
     found
 }
 
-/// Whether a field has the name, in any case.
+/// Returns whether a field has the name, in any case.
 pub(crate) fn has(bytes: &[u8], fields: &[HeaderSpan], name: &[u8]) -> bool
     requires { All (IsHeaderWithin (length bytes.now)) fields.now }
     ensures { result ≡ has_field name.now (map (header_bytes bytes.now) fields.now) }
@@ -69,14 +69,14 @@ pub(crate) fn has(bytes: &[u8], fields: &[HeaderSpan], name: &[u8]) -> bool
     }
 }
 
-/// Whether two texts differ in the case of their letters at most.
+/// Returns whether two texts differ in the case of their letters at most.
 pub(crate) fn is_alike(a: &[u8], b: &[u8]) -> bool
     ensures { result ≡ is_alike a.now b.now }
 {
     a.eq_ignore_ascii_case(b)
 }
 
-/// What `Content-Length` says (RFC 9110, section 8.6).
+/// Returns what `Content-Length` says (RFC 9110, section 8.6).
 pub(crate) fn stated_length(bytes: &[u8], fields: &[HeaderSpan]) -> Stated
     requires { All (IsHeaderWithin (length bytes.now)) fields.now }
     ensures { result ≡ stated_of (map (header_bytes bytes.now) fields.now) }
@@ -116,7 +116,7 @@ fn number(digits: &[u8]) -> u64
     number
 }
 
-/// Whether a `Connection` field lists `close` (RFC 9112, section 9.6).
+/// Returns whether a `Connection` field lists `close` (RFC 9112, section 9.6).
 pub(crate) fn lists_close(bytes: &[u8], fields: &[HeaderSpan]) -> bool
     requires { All (IsHeaderWithin (length bytes.now)) fields.now }
     ensures { result ≡ lists_close (map (header_bytes bytes.now) fields.now) }
@@ -131,7 +131,7 @@ pub(crate) fn lists_close(bytes: &[u8], fields: &[HeaderSpan]) -> bool
     false
 }
 
-/// Whether a list has the element, in any case (RFC 9110, section 5.6.1).
+/// Returns whether a list has the element, in any case (RFC 9110, section 5.6.1).
 fn has_element(element: &[u8], list: &[u8]) -> bool
     ensures { result ≡ has_element element.now list.now }
 {

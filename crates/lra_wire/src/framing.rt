@@ -1,4 +1,4 @@
-//! How the body of a response ends.
+//! The framing of a response: how its body ends.
 ghost use Rattle.std.specs.Prelude.{◌≡◌, length, map, All};
 ghost use Rattle.httparse.specs.Spans.{IsHeaderWithin, header_bytes};
 ghost use Rattle.lra_wire.specs.Response.{framing_of, stated_framing};
@@ -8,7 +8,7 @@ use crate::fields::{Named, Stated, is_alike, lookup, stated_length};
 use crate::request::MAX_BODY;
 use httparse::spans::HeaderSpan;
 
-/// How the body of a response ends (RFC 9112, section 6.3).
+/// The end of a response's body (RFC 9112, section 6.3).
 #[derive(Clone, Copy)]
 pub(crate) enum Framing {
     /// After so many bytes.
@@ -19,7 +19,7 @@ pub(crate) enum Framing {
     ToTheEnd,
 }
 
-/// How the body of a response with this status and these fields ends.
+/// Returns how the body of a response with this status and these fields ends.
 pub(crate) fn framing_of(
     bytes: &[u8],
     code: u16,

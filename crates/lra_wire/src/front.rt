@@ -20,7 +20,7 @@ pub struct Front {
     pub len: usize,
 }
 
-/// What stands at the front of bytes.
+/// The request at the front of bytes: whole, or open in its head or its body.
 #[derive(Drop)]
 enum Sought {
     Whole(Front),
@@ -29,11 +29,11 @@ enum Sought {
     OpenBody(usize),
 }
 
-/// What was found of bytes that hold no whole request, so that they needn't be read anew with each piece that follows.
+/// The findings on bytes that hold no whole request, so that the bytes needn't be read anew with each next piece.
 #[derive(Clone, Copy)]
 pub struct Seen {
     looked: usize,
-    /// How many bytes there are once the body is whole, or 0 where the head isn't.
+    /// The number of bytes that there are once the body is whole, or 0 where the head isn't.
     wanted: usize,
 }
 
@@ -48,7 +48,7 @@ impl Seen {
         }
     }
 
-    /// Whether these bytes, of which a front was seen, can hold no whole request yet.
+    /// Returns whether these bytes, of which a front was seen, can hold no whole request yet.
     fn stays_open(&self, bytes: &[u8]) -> bool
         requires { Sees self.now bytes.now }
         ensures { result ≡ true → StaysOpen self.now.wanted bytes.now }
@@ -122,7 +122,8 @@ pub fn request_front_seen(
     }
 }
 
-/// What it means that a stream ends with these bytes, where more of a request is wanted: nothing, or that it was cut.
+/// Returns what it means that a stream ends with these bytes, where more of a request is wanted: nothing, or that it
+/// was cut.
 pub fn end_fault(bytes: &[u8]) -> Option<WireFault>
     requires { IsUnfinished bytes.now }
     ensures { EndsWith bytes.now result }
@@ -134,7 +135,7 @@ pub fn end_fault(bytes: &[u8]) -> Option<WireFault>
     }
 }
 
-/// What [`request_front`] gives is the one reading of the bytes, whatever follows them.
+/// Says that [`request_front`] gives the one reading of the bytes, whatever follows them.
 pub fn one_front()
     ensures stays { (bytes more : List ℕ) (request : Request) (rest : List ℕ)
         → IsRequest bytes request rest → IsRequest (bytes ++ more) request (rest ++ more) }

@@ -7,7 +7,7 @@ use std::alloc::{AllocError, Global};
 use std::io::Read;
 use std::snapshot::Snapshot;
 
-/// How many bytes a read asks for.
+/// The number of bytes that a read asks for.
 const PIECE: usize = 4096;
 
 /// One read into the piece.
@@ -35,7 +35,7 @@ pub struct Inbox<R> {
     piece: Vec<u8>,
     kept: Vec<u8>,
     taken: usize,
-    /// What was kept when the reader was last asked for more. It is for contracts, and takes no memory.
+    /// The bytes that were kept when the reader was last asked for more. They are for contracts, and take no memory.
     asked: Snapshot<Vec<u8>>,
     pub(crate) spent: bool,
     ghost in_range: { taken ≤ vec_len kept },

@@ -33,8 +33,8 @@ pub struct RequestRead {
     pub target: String,
     /// The minor version: 0 for HTTP/1.0, 1 for HTTP/1.1.
     pub minor: u8,
-    /// Whether the stream is to be closed after the reply: a `Connection` field lists `close`, or
-    /// the request is one of HTTP/1.0.
+    /// True where the stream is to be closed after the reply: a `Connection` field lists `close`, or the request is one
+    /// of HTTP/1.0.
     pub close: bool,
     pub body: Vec<u8>,
     /// By which it is told who asks, from where and with what.
@@ -135,7 +135,7 @@ pub(crate) fn head_at(
     }
 }
 
-/// Whether a head of HTTP/1.1 has exactly one `Host` (RFC 9112, section 3.2).
+/// Returns whether a head of HTTP/1.1 has exactly one `Host` (RFC 9112, section 3.2).
 fn has_host(bytes: &[u8], minor: u8, fields: &[HeaderSpan]) -> bool
     requires { All (IsHeaderWithin (length bytes.now)) fields.now }
     ensures { result ≡ has_host minor (map (header_bytes bytes.now) fields.now) }
@@ -150,7 +150,7 @@ fn has_host(bytes: &[u8], minor: u8, fields: &[HeaderSpan]) -> bool
     }
 }
 
-/// How long the body is behind the head that is at the front of the bytes.
+/// Returns the length of the body behind the head that is at the front of the bytes.
 pub(crate) fn body_length_at(
     bytes: &[u8],
     headers: &[HeaderSpan],
@@ -163,7 +163,7 @@ pub(crate) fn body_length_at(
     body_length(bytes, &headers[..head.headers])
 }
 
-/// How long the body is (RFC 9112, section 6.3).
+/// Returns the length of the body (RFC 9112, section 6.3).
 fn body_length(bytes: &[u8], fields: &[HeaderSpan]) -> Result<usize, WireFault>
     requires { All (IsHeaderWithin (length bytes.now)) fields.now }
     ensures is { result ≡ body_length_of (map (header_bytes bytes.now) fields.now) }

@@ -27,11 +27,11 @@ pub struct ResponseRead {
     pub body: Vec<u8>,
 }
 
-/// What a head says.
+/// The values of a head.
 #[derive(Clone, Copy)]
 pub(crate) struct Head {
     pub(crate) code: u16,
-    /// How many bytes the head has.
+    /// The number of bytes that the head has.
     pub(crate) len: usize,
     pub(crate) framing: Result<Framing, WireFault>,
 }

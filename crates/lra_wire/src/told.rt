@@ -49,7 +49,7 @@ fn sole(
     }
 }
 
-/// What the fields at these places of a head say.
+/// Returns what the fields at these places of a head say.
 pub(crate) fn fields_at(
     alloc: Global,
     bytes: &[u8],
