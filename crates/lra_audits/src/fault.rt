@@ -19,7 +19,7 @@ pub enum RunFault {
     TooLong,
     #[error("out of memory")]
     Memory,
-    /// What was read once and found sound can't be read a second time, or isn't sound then.
+    /// The input was read once and found sound, and can't be read a second time, or isn't sound then.
     #[error("the input can't be read again")]
     Changed,
     /// A line that a script can't have, counted from 1.

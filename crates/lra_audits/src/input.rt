@@ -14,10 +14,10 @@ use lra_auditor::{Auditor, Verdict};
 use std::alloc::{AllocError, Global};
 use std::io::{ErrorKind, Read};
 
-/// How many bytes an input may have.
+/// The greatest number of bytes that an input may have.
 pub const LONGEST: usize = 1 << 30;
 
-/// How many bytes are asked for at a time.
+/// The number of bytes that are asked for at a time.
 const PIECE: usize = 65_536;
 
 /// Room for one piece.

@@ -1,4 +1,4 @@
-//! What a run writes.
+//! The output of a run.
 
 ghost use Rattle.std.specs.Prelude.{◌≡◌, IfErr, OnOk};
 ghost use Rattle.std.specs.Io.KnownBytes.{Appends};

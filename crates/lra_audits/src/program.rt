@@ -1,4 +1,4 @@
-//! What a program does on a system: it opens files, and tells faults on standard error.
+//! The program on a system, which opens files, and tells faults on standard error.
 
 ghost use Rattle.std.specs.Prelude.{◌≡◌, IfOk, IfErr};
 

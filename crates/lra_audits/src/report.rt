@@ -1,4 +1,4 @@
-//! What is printed of a verdict.
+//! The text that is printed of a verdict.
 
 ghost use Rattle.std.specs.Prelude.{◌≡◌, IfOk, string_bytes};
 ghost use Rattle.lra_audits.specs.Report.{failed_line, entries_counted, ends_counted, fault_line, report_of, status_of};

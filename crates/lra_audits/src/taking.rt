@@ -1,11 +1,11 @@
-//! What an input is given to, piece by piece.
+//! The taker that an input is given to, piece by piece.
 
 ghost use Rattle.std.specs.Prelude.{◌≡◌, ◌+◌, ◌<◌, ◌^◌, ◌++◌, length, OnOk, IfErr};
 
 use crate::fault::RunFault;
 use lra_auditor::Auditor;
 
-/// What takes an input, piece by piece.
+/// A taker of an input, piece by piece.
 pub trait Taker {
     ghost use Rattle.std.specs.Prelude.{◌≡◌, ◌+◌, ◌<◌, ◌^◌, ◌++◌, ℕ, List, [], length, OnOk, IfErr};
     ghost use Rattle.lra_audits.specs.declared.fault.RunFault.{RunFault};

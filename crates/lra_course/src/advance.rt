@@ -21,7 +21,7 @@ use lra_states::{
 };
 use std::collections::HashMap;
 
-/// Whether a member counts in its action as before.
+/// Returns whether a member counts in its action as before.
 fn counts_same(before: &MemberState, now: &MemberState) -> bool
     ensures { result ≡ true → (before.now.status ≡ now.now.status) × (before.now.addresses.compensate ≡ now.now.addresses.compensate) }
 {

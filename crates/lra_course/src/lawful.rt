@@ -21,7 +21,7 @@ use lra_model::{ActionStatus, AskKind, Cause, Memory, Outcome, Version, suits};
 use lra_states::{ActionState, Limit, MemberState, Presence, is_settled, right_end, was_accepted};
 use std::alloc::Global;
 
-/// Whether a number is the next one of its kind, after so many.
+/// Returns whether a number is the next one of its kind, after so many.
 pub(crate) fn is_next(number: u64, count: u64) -> bool
     ensures { result ≡ (number == count + 1) }
 {
@@ -31,7 +31,7 @@ pub(crate) fn is_next(number: u64, count: u64) -> bool
     }
 }
 
-/// Whether a version of the journal has the deed.
+/// Returns whether a version of the journal has the deed.
 pub(crate) fn has_deed(version: Version, deed: &DeedRef<'_>) -> bool
     ensures { result ≡ rules.has_deed version (deed_seen deed.now) }
 {
@@ -41,7 +41,7 @@ pub(crate) fn has_deed(version: Version, deed: &DeedRef<'_>) -> bool
     }
 }
 
-/// Whether a limit's end is a moment.
+/// Returns whether a limit's end is a moment.
 pub(crate) fn is_moment(moment: u64, limit: u64) -> bool
     ensures { result ≡ tests.is_moment (moment + limit) }
 {
@@ -89,7 +89,7 @@ fn has_compensate_or_after_alone(uris: &UrisRef<'_>) -> bool
             && uris.forget.is_none())
 }
 
-/// Whether a member may have these addresses.
+/// Returns whether a member may have these addresses.
 pub(crate) fn addresses_fit(alloc: Global, uris: &UrisRef<'_>) -> Result<bool, Memory>
     ensures { IfOk result (λ fit. fit ≡ tests.addresses_fit is_address uris.now) }
 {
@@ -167,7 +167,7 @@ impl Rows {
         }
     }
 
-    /// Whether the member's action is Active.
+    /// Returns whether the member's action is Active.
     pub(crate) fn is_in_active_action(&self, number: u64) -> bool
         ensures { result ≡ tests.at_member (λ x. tests.status_is words.is_active (facts_by self.now) x.action) (facts_by self.now) number }
     {
@@ -204,7 +204,7 @@ impl Rows {
         }
     }
 
-    /// Whether the action may be closed by that cause.
+    /// Returns whether the action may be closed by that cause.
     pub(crate) fn may_close(&self, number: u64, cause: Cause) -> bool
         ensures { result ≡ tests.at_action (tests.may_close cause (facts_by self.now)) (facts_by self.now) number }
     {
@@ -227,7 +227,7 @@ impl Rows {
         }
     }
 
-    /// Whether the action may be cancelled by that cause at that moment.
+    /// Returns whether the action may be cancelled by that cause at that moment.
     pub(crate) fn may_cancel(
         &self,
         version: Version,
@@ -247,7 +247,7 @@ impl Rows {
         }
     }
 
-    /// Whether the member may be completed without being asked.
+    /// Returns whether the member may be completed without being asked.
     pub(crate) fn may_skip(&self, number: u64) -> bool
         ensures { result ≡ tests.at_member (tests.may_skip (facts_by self.now)) (facts_by self.now) number }
     {
@@ -323,7 +323,7 @@ impl Rows {
         }
     }
 
-    /// Whether the member may be asked that now.
+    /// Returns whether the member may be asked that now.
     pub(crate) fn may_ask(&self, number: u64, kind: AskKind) -> bool
         ensures { result ≡ tests.at_member (tests.may_ask kind (facts_by self.now)) (facts_by self.now) number }
     {
@@ -337,7 +337,7 @@ impl Rows {
         }
     }
 
-    /// Whether the ask is outstanding and may be answered so.
+    /// Returns whether the ask is outstanding and may be answered so.
     pub(crate) fn may_reply(&self, ask: u64, outcome: Outcome) -> bool
         ensures { result ≡ tests.may_reply (facts_by self.now) ask outcome }
     {
@@ -350,7 +350,7 @@ impl Rows {
         }
     }
 
-    /// Whether the member may tell that it ended so.
+    /// Returns whether the member may report that it ended so.
     pub(crate) fn may_report(&self, number: u64, outcome: Outcome) -> bool
         ensures { result ≡ tests.at_member (tests.may_report outcome) (facts_by self.now) number }
     {
@@ -363,7 +363,7 @@ impl Rows {
         }
     }
 
-    /// Whether nothing below the action is left to wait for.
+    /// Returns whether the action may end: it is Closing or Cancelling, and nothing below it is left to wait for.
     pub(crate) fn is_settled(&self, number: u64) -> bool
         ensures { result ≡ tests.at_action (λ x. x.settled) (facts_by self.now) number }
     {
@@ -373,7 +373,7 @@ impl Rows {
         }
     }
 
-    /// Whether that is the status with which the action ends now.
+    /// Returns whether that is the status with which the action ends now.
     pub(crate) fn ends_as(&self, number: u64, status: ActionStatus) -> bool
         ensures { result ≡ tests.at_action (λ x. words.same_status status x.right_end) (facts_by self.now) number }
     {

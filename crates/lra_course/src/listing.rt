@@ -46,14 +46,14 @@ impl Listing {
         Listing { rows }
     }
 
-    /// How many actions there are.
+    /// Returns the number of actions.
     pub fn action_count(&self) -> u64
         ensures { result ≡ length self.now.actions }
     {
         self.rows.count_actions()
     }
 
-    /// How many members there are.
+    /// Returns the number of members.
     pub fn member_count(&self) -> u64
         ensures { result ≡ length self.now.members }
     {
@@ -85,7 +85,7 @@ impl Listing {
     }
 }
 
-/// What is said of a journal: who takes part in its history, or what is at fault.
+/// The account of a journal: the listing of its history, or its first fault.
 #[derive(Debug, Drop)]
 pub enum Account {
     /// The history is legal.

@@ -28,7 +28,7 @@ fn is_path_byte(b: u8) -> bool
     is_name_byte(b) || (65 <= b && b <= 90) || b == 46 || b == 95 || b == 126
 }
 
-/// Whether these are names, of which each begins with a letter, with single dots between them.
+/// Returns whether these are names, of which each begins with a letter, with single dots between them.
 #[tactic(auto, unfolding(crate::specs::inner::Plain::is_host))]
 fn is_host(bytes: &[u8]) -> bool
     ensures { result ≡ is_host true bytes.now }
@@ -48,7 +48,7 @@ fn is_host(bytes: &[u8]) -> bool
     !fresh
 }
 
-/// Whether these are segments of a path behind its first slash, of which none begins with a dot.
+/// Returns whether these are segments of a path behind its first slash, of which none begins with a dot.
 #[tactic(auto, unfolding(crate::specs::inner::Plain::is_path))]
 fn is_path(bytes: &[u8]) -> bool
     ensures { result ≡ is_path true bytes.now }
@@ -70,14 +70,14 @@ fn is_path(bytes: &[u8]) -> bool
     true
 }
 
-/// What stands behind the scheme.
+/// Returns what stands behind the scheme.
 fn after_scheme(text: &[u8]) -> Option<&[u8]>
     ensures { MatchOption result ((rest : List ℕ) → text.now ≢ codes "http://" ++ rest) (λ rest. text.now ≡ codes "http://" ++ rest.now) }
 {
     text.strip_prefix(b"http://")
 }
 
-/// Whether digits are those of a port other than 80, which is the scheme's own.
+/// Returns whether digits are those of a port other than 80, which is the scheme's own.
 fn is_port(digits: &[u8]) -> bool
     ensures { result ≡ true → (n : ℕ) × (digits.now ≡ decimal n) × IsPort (Some n) }
 {
@@ -87,7 +87,7 @@ fn is_port(digits: &[u8]) -> bool
     }
 }
 
-/// Whether these are a host, and a colon and a port where there is one.
+/// Returns whether these are a host, and a colon and a port where there is one.
 fn is_authority(bytes: &[u8]) -> bool
     ensures { result ≡ true → IsAuthority bytes.now }
 {
@@ -97,7 +97,7 @@ fn is_authority(bytes: &[u8]) -> bool
     }
 }
 
-/// Whether a text is an address in the plain form: `http://`, a host and a port, and a path.
+/// Returns whether a text is an address in the plain form: `http://`, a host and a port, and a path.
 pub(crate) fn is_plain_address(text: &[u8]) -> bool
     ensures { result ≡ true → is_address text.now ≡ true }
 {

@@ -12,14 +12,14 @@ use std::alloc::Global;
 use std::collections::HashMap;
 use std::marker::Model;
 
-/// What the auditor keeps of a history.
+/// The auditor's state of a history.
 #[derive(Debug, Drop)]
 pub(crate) struct Rows {
     /// The moment of the last entry.
     pub(crate) moment: u64,
-    /// How many clerks are enrolled.
+    /// The number of enrolled clerks.
     pub(crate) clerks: u64,
-    /// How many asks were made.
+    /// The number of asks that were made.
     pub(crate) asks: u64,
     /// Asks up to this number are void.
     pub(crate) void: u64,

@@ -48,7 +48,7 @@ fn parent_of(actions: &[ActionState], number: u64) -> Option<u64>
     }
 }
 
-/// Whether a member stays and has failed.
+/// Returns whether a member stays and has failed.
 fn has_failed_here(row: &MemberState) -> bool
     ensures { result ≡ has_failed_here row.now }
 {
@@ -75,7 +75,7 @@ fn mark(least: &mut Vec<Option<u64>>, number: u64, member: u64)
     }
 }
 
-/// Whether the parent of an action of that number has a lesser number, or there is none.
+/// Returns whether the parent of an action of that number has a lesser number, or there is none.
 fn parent_is_less(row: &ActionState, number: u64) -> bool
     ensures { result ≡ option_map_or (λ b. nat_lt b number) row.now.parent true }
 {
@@ -85,7 +85,7 @@ fn parent_is_less(row: &ActionState, number: u64) -> bool
     }
 }
 
-/// Whether each parent's number is less than that of its action, as it is in the rows of a legal history.
+/// Returns whether each parent's number is less than that of its action, as it is in the rows of a legal history.
 fn parents_are_less(actions: &[ActionState]) -> bool
     ensures all { result ≡ true → (a b : ℕ) → option_map_or (λ r. r.parent) (row_at actions.now a) None ≡ Some b → b < a }
     ensures not_all { result ≡ false → (a : ℕ) × (b : ℕ) × (option_map_or (λ r. r.parent) (row_at actions.now a) None ≡ Some b) × (a ≤ b) }

@@ -1,4 +1,4 @@
-//! What an audit answers.
+//! The answer of an audit.
 
 ghost use Rattle.std.specs.Prelude.{◌≡◌};
 
@@ -66,7 +66,7 @@ pub struct Summary {
     pub failed: FailedEnds,
 }
 
-/// What an audit answers.
+/// The answer of an audit.
 #[derive(Debug, Drop)]
 pub enum Verdict {
     /// The history is legal.

@@ -22,7 +22,8 @@ pub enum SmallFault {
     Memory,
 }
 
-/// Whether others than its owner may read or write a file. That of which it isn't told counts as theirs.
+/// Returns whether the mode of a file allows anything to others than its owner. A file whose mode can't be had counts
+/// as shared.
 pub fn is_shared(file: &File) -> bool {
     match file.metadata() {
         Ok(metadata) => metadata.permissions().mode() & OTHERS != 0,

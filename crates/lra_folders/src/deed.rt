@@ -1,4 +1,4 @@
-//! What is told of one journal of a folder.
+//! The line that is printed of one journal of a folder.
 
 ghost use Rattle.std.specs.Prelude.{◌≡◌, ◌++◌, List, ℕ, Some, IfOk};
 ghost use Rattle.lra_folders.specs.Folders.{behind, Tells};
@@ -10,7 +10,7 @@ use lra_reports::show_run;
 use std::alloc::Global;
 use std::io::Read;
 
-/// What is done with each journal.
+/// The deed that is done with each journal.
 #[derive(Clone, Copy)]
 pub enum Deed {
     /// Its report stands behind its name.
@@ -19,17 +19,17 @@ pub enum Deed {
     Show,
 }
 
-/// What is printed of a journal, and its status: 0 where it is sound, else 1.
+/// The text that is printed of a journal, and its status: 0 where it is sound, else 1.
 #[derive(Drop)]
 pub struct Line {
     pub status: u8,
     pub text: Vec<u8>,
 }
 
-/// What is printed of a journal; or nothing where it can't be read.
+/// The line that is printed of a journal; or nothing where it can't be read.
 pub(crate) type Told = Result<Option<Line>, RunFault>;
 
-/// What stands between a journal's name and what is told of it.
+/// Returns what stands between a journal's name and what is told of it.
 fn behind(deed: Deed) -> &'static [u8]
     ensures { result.now ≡ behind deed }
 {
@@ -65,7 +65,7 @@ fn add<F: Read + Drop>(
     }
 }
 
-/// What is told of a journal of this name; nothing where there is no file, or it can't be read.
+/// Returns what is told of a journal of this name; nothing where there is no file, or it can't be read.
 pub(crate) fn told_of<F: Read + Drop>(
     alloc: Global,
     deed: Deed,

@@ -26,11 +26,11 @@ pub const GIVEN_UP: &str = "given-up";
 pub struct Found {
     /// The journals, in the order of their names.
     pub journals: Vec<String>,
-    /// What is no journal.
+    /// The names of what is no journal.
     pub others: Vec<String>,
 }
 
-/// Whether a name is that of a folder.
+/// Returns whether a name is that of a folder.
 pub fn is_folder<R: Files>(rt: &R, name: &str) -> bool {
     match fs::metadata(rt, name) {
         Ok(about) => about.is_dir(),
@@ -52,7 +52,8 @@ pub fn stray_line(alloc: Global, folder: &str, name: &str) -> Result<String, All
     Ok(line)
 }
 
-/// Whether a name is that of what a service keeps in its folder beside the journals: those that were put away, what it notes, and what is being made ready.
+/// Returns whether a name is that of what a service keeps in its folder beside the journals: those that were archived,
+/// what it notes, and what is being made ready.
 pub fn is_kept(name: &str) -> bool {
     is_noted(name) || name == ENDED || name.ends_with(".next")
 }
@@ -62,7 +63,7 @@ fn is_noted(name: &str) -> bool {
     name == NEWEST || name == BASE || name == RESTORED || name == GIVEN_UP
 }
 
-/// Whether a name in a folder is that of a file, or of what can't be looked at: a pipe would be read for ever.
+/// Returns whether a name in a folder is that of a file, or of what can't be looked at: a pipe would be read for ever.
 fn may_be_file<R: AllocGlobal + Files>(
     rt: &R,
     folder: &str,
@@ -132,7 +133,7 @@ fn add_names<R: AllocGlobal + Files + Clone + Drop>(
     Ok(())
 }
 
-/// What a folder has, and in it a folder `ended`.
+/// Finds the names of what a folder has, and of what a folder `ended` in it has.
 pub fn find<R: AllocGlobal + Files + Clone + Drop>(
     rt: &R,
     folder: &str,

@@ -17,7 +17,7 @@ use std::io::{Read, Write};
 use std::marker::{Send, Sync};
 use std::thread::Threads;
 
-/// How many journals are sound, how many aren't, and how many can't be read.
+/// The numbers of journals that are sound, that aren't, and that can't be read.
 #[derive(Clone, Copy, Debug, PartialEq, Eq)]
 pub struct Tally {
     pub sound: u64,
@@ -25,12 +25,12 @@ pub struct Tally {
     pub unread: u64,
 }
 
-/// What an audit of a folder comes to.
+/// The result of an audit of a folder.
 #[derive(Debug, Drop)]
 pub struct FolderAudit {
     /// The program's status: 2 where a journal can't be read, else 1 where one isn't sound, else 0.
     pub status: u8,
-    /// What is told on standard error.
+    /// The text for standard error.
     pub told: String,
 }
 
@@ -107,7 +107,7 @@ fn write_each<W: Write>(
     Ok(())
 }
 
-/// How many journals were audited, as the first half of the last line.
+/// Returns how many journals were audited, as the first half of the last line.
 fn verdicts_text(alloc: Global, tally: Tally) -> Result<String, Memory>
     ensures { IfOk result (λ text. string_bytes text ≡ verdicts_counted tally) }
 {

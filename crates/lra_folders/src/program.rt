@@ -1,4 +1,4 @@
-//! What a program does on a system, where a folder may stand in a file's place.
+//! The program on a system, where a folder may stand in a file's place.
 
 use crate::deed::Deed;
 use crate::finding::{find, is_folder, stray_line};

@@ -15,10 +15,10 @@ use std::marker::{Send, Sync};
 use std::thread;
 use std::thread::{Threads, available_parallelism};
 
-/// How many threads there are where the system doesn't say how many it runs side by side.
+/// The number of threads where the system doesn't say how many it runs side by side.
 const THREADS: usize = 4;
 
-/// How many journals are gone through side by side.
+/// Returns the number of journals that are gone through side by side.
 pub fn width<R: Threads>(rt: &R) -> usize
     ensures { 0 < result }
 {
@@ -66,7 +66,7 @@ pub fn open_each<F: Read + Drop, S: Sources<File = F>>(
     Ok(jobs)
 }
 
-/// What is told of each, in a thread of its own where one can be started.
+/// Reads each journal, in a thread of its own where one can be started, and returns what is told of each.
 fn tell_jobs<R: Threads + Sync, F: Read + Send + Drop>(
     rt: &R,
     alloc: Global,
@@ -86,7 +86,7 @@ fn tell_jobs<R: Threads + Sync, F: Read + Send + Drop>(
     )
 }
 
-/// What is told of each of these names in a folder, or of as many as can be open at once.
+/// Returns what is told of each of these names in a folder, or of as many as can be open at once.
 pub(crate) fn tell_names<R: Threads + Sync, F: Read + Send + Drop, S: Sources<File = F>>(
     rt: &R,
     alloc: Global,

@@ -99,7 +99,7 @@ impl Address {
         self.url.slice(Position::BeforePath, Position::AfterQuery)
     }
 
-    /// Whether the address can be a base, to which the paths of identifiers are appended.
+    /// Returns whether the address can be a base, to which the paths of identifiers are appended.
     pub fn is_base(&self) -> bool
         ensures { result ≡ spec.is_base self.now }
     {

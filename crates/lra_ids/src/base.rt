@@ -24,7 +24,7 @@ fn address_in(alloc: Global, text: &str) -> Result<Option<Address>, Memory>
     }
 }
 
-/// Whether an address is that text, and can be a base.
+/// Returns whether an address is that text, and can be a base.
 fn is_base_at(own: &Address, text: &str) -> bool
     ensures { result ≡ (bytes_eq own.now text.now && is_base own.now) }
 {

@@ -16,8 +16,8 @@ use std::alloc::Global;
 use std::marker::Model;
 use url::Url;
 
-/// What the URIs of a coordinator's actions and members begin with: an address that can be a base, or an `http` or `https` URL of a proxy's, with
-/// whatever path the coordinator has there. A contract sees its text.
+/// The text that the URIs of a coordinator's actions and members begin with: an address that can be a base, or an
+/// `http` or `https` URL of a proxy's, with whatever path the coordinator has there. A contract sees its text.
 #[derive(Debug, Drop)]
 pub struct Base {
     text: String,
@@ -31,7 +31,7 @@ impl Model for Base {
     ghost view = { λ b. string_bytes b.text };
 }
 
-/// Whether a URL is one of the web, and names no user.
+/// Returns whether a URL is one of the web, and names no user.
 fn is_web(url: &Url) -> bool
     ensures { result ≡ is_web url.now }
 {
@@ -41,14 +41,14 @@ fn is_web(url: &Url) -> bool
         && is_graphic(url.as_str().as_bytes())
 }
 
-/// Whether the paths of identifiers can be appended to a text.
+/// Returns whether the paths of identifiers can be appended to a text.
 fn is_stem(text: &[u8]) -> bool
     ensures { result ≡ is_stem text.now }
 {
     ends_in_slash(text) && !has_tail(text) && text.len() <= LONGEST_BASE
 }
 
-/// Whether a URL can be what the URIs of a coordinator begin with.
+/// Returns whether the URIs of a coordinator can begin with a URL.
 fn is_base_url(url: &Url) -> bool
     ensures { result ≡ (is_web url.now && is_stem (serialize url.now)) }
 {

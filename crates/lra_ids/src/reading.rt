@@ -46,7 +46,7 @@ pub fn address(alloc: Global, text: &str) -> Result<Address, UriFault>
     Ok(Address::of_url(url))
 }
 
-/// Whether a text is an address as it stands: the one that [`address`] gives for it.
+/// Returns whether a text is an address as it stands: the one that [`address`] gives for it.
 pub fn is_address_text(alloc: Global, text: &[u8]) -> Result<bool, Memory>
     ensures { IfOk result (λ own. own ≡ is_address text.now) }
 {

@@ -6,7 +6,7 @@ ghost use Rattle.lra_instances.specs.Bearing as spec;
 use lra_ids::Instance;
 use uuid::Uuid;
 
-/// How many characters the text of an identifier has.
+/// The number of characters in the text of an identifier.
 const ID_LENGTH: usize = 36;
 
 /// The instance that a text bears, where it is a UUID in any of its forms. Whether it is spelled as an identifier isn't looked at.

@@ -13,7 +13,7 @@ pub enum Order {
     GreatestFirst,
 }
 
-/// How many numbers have a leaf of the tree together.
+/// The count of numbers that have a leaf of the tree together.
 const BLOCK: usize = 8;
 
 /// Which of the numbers 1, 2, .. up to a last one are marked.
@@ -22,7 +22,7 @@ const BLOCK: usize = 8;
 #[derive(Drop)]
 pub struct Marks {
     order: Order,
-    /// Whether each number is marked, the number 1 at place 0.
+    /// The flag of each number: whether it is marked, the number 1 at place 0.
     flags: Vec<bool>,
     /// The first marked number of each block; the last deadline where none of them is.
     leaves: Tournament,
@@ -48,7 +48,7 @@ fn block_of(place: usize) -> usize
     place / BLOCK
 }
 
-/// How many blocks so many numbers have.
+/// Returns the number of blocks that so many numbers have.
 fn count_blocks(numbers: usize) -> usize
     requires { numbers < 2 ^ 63 }
     ensures enough { numbers ≤ 8 * result }
@@ -57,7 +57,7 @@ fn count_blocks(numbers: usize) -> usize
     numbers.div_ceil(BLOCK)
 }
 
-/// What comes earlier has less of it.
+/// Returns the key of a number, which is less for one that comes earlier.
 fn key(order: Order, number: u64) -> u64
     ensures { result ≡ key order number }
 {
@@ -73,7 +73,7 @@ fn is_mark(deadline: Deadline) -> bool
     deadline.number < u64::MAX
 }
 
-/// Whether the number at a place is marked.
+/// Returns whether the number at a place is marked.
 fn flag(flags: &[bool], place: usize) -> bool
     ensures { result ≡ flag flags.now place }
 {
@@ -120,7 +120,7 @@ impl Marks {
         }
     }
 
-    /// How many numbers there are.
+    /// Returns how many numbers there are.
     pub fn len(&self) -> usize
         ensures { result ≡ length self.now.marked }
     {

@@ -1,11 +1,11 @@
-//! What members are asked, what they answer, and why actions are closed or cancelled.
+//! The kinds and outcomes of asks to members, and the causes for which actions are closed or cancelled.
 
 ghost use Rattle.std.specs.Prelude.{◌≡◌, IfSome, Some};
 ghost use Rattle.lra_model.specs.Words.{outcome_suits};
 
 use crate::naming::{Named, find_by_name};
 
-/// What a member is asked for.
+/// The kind of an ask to a member.
 #[derive(Clone, Copy, Debug, PartialEq, Eq)]
 pub enum AskKind {
     Complete,
@@ -23,7 +23,7 @@ pub enum Direction {
     Neither,
 }
 
-/// What came of an ask.
+/// The outcome of an ask.
 #[derive(Clone, Copy, Debug, PartialEq, Eq)]
 pub enum Outcome {
     Done,
@@ -32,7 +32,7 @@ pub enum Outcome {
     Silent,
 }
 
-/// Who closed or cancelled an action.
+/// The cause that closed or cancelled an action.
 #[derive(Clone, Copy, Debug, PartialEq, Eq)]
 pub enum Cause {
     Client,
@@ -150,7 +150,7 @@ impl Outcome {
         find_by_name(&values, text)
     }
 
-    /// Whether it settles a direction.
+    /// Returns whether it settles a direction.
     pub const fn is_decisive(self) -> bool
         ensures { result ≡ is_decisive self }
     {
@@ -202,8 +202,8 @@ impl Named for Cause {
     }
 }
 
-/// Whether an ask of this kind may have this outcome: all may for complete, compensate and status, and for forget and
-/// after Done and Silent alone.
+/// Returns whether an ask of this kind may have this outcome: all may for complete, compensate and status, and for
+/// forget and after Done and Silent alone.
 pub fn suits(kind: AskKind, outcome: Outcome) -> bool
     ensures { result ≡ outcome_suits kind outcome }
 {

@@ -2,7 +2,7 @@
 
 ghost use Rattle.std.specs.Prelude.{◌≡◌, List, ℕ, find, bytes_eq, IfSome, Some};
 
-/// What has a name.
+/// A type of values that have names.
 pub trait Named: Copy {
     // Its name, as bytes.
     ghost name_of: { Self → List ℕ };

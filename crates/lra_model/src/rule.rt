@@ -15,7 +15,7 @@ pub enum Rule {
     Clerk,
     /// Moments don't fall.
     Moment,
-    /// What begins has the next number of its kind.
+    /// An action, a member or an ask that begins has the next number of its kind.
     Number,
     /// The action is there.
     Action,

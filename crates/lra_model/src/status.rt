@@ -29,7 +29,7 @@ pub enum MemberStatus {
     Left,
 }
 
-/// How a member ended, as it reports it.
+/// The end of a member, as it reports it.
 #[derive(Clone, Copy, Debug, PartialEq, Eq)]
 pub enum Ending {
     Completed,
@@ -74,35 +74,35 @@ impl ActionStatus {
         find_by_name(&values, text)
     }
 
-    /// Whether it may still be closed or cancelled by its client.
+    /// Returns whether it may still be closed or cancelled by its client.
     pub const fn is_active(self) -> bool
         ensures { result ≡ words.is_active self }
     {
         matches!(self, ActionStatus::Active)
     }
 
-    /// Whether its members are being completed.
+    /// Returns whether its members are being completed.
     pub const fn is_closing(self) -> bool
         ensures { result ≡ words.is_closing self }
     {
         matches!(self, ActionStatus::Closing)
     }
 
-    /// Whether its members are being compensated.
+    /// Returns whether its members are being compensated.
     pub const fn is_cancelling(self) -> bool
         ensures { result ≡ words.is_cancelling self }
     {
         matches!(self, ActionStatus::Cancelling)
     }
 
-    /// Whether it closed well.
+    /// Returns whether it closed well.
     pub const fn is_closed(self) -> bool
         ensures { result ≡ words.is_closed self }
     {
         matches!(self, ActionStatus::Closed)
     }
 
-    /// Whether it has ended, well or in failure.
+    /// Returns whether it has ended, well or in failure.
     pub const fn has_ended(self) -> bool
         ensures { result ≡ words.has_ended self }
     {
@@ -115,7 +115,7 @@ impl ActionStatus {
         }
     }
 
-    /// Whether it has ended in failure.
+    /// Returns whether it has ended in failure.
     pub const fn has_failed(self) -> bool
         ensures { result ≡ words.has_failed self }
     {
@@ -125,7 +125,7 @@ impl ActionStatus {
         )
     }
 
-    /// Whether a Cancelling parent cancels it.
+    /// Returns whether a Cancelling parent cancels it.
     pub const fn is_cancellable(self) -> bool
         ensures { result ≡ words.is_cancellable self }
     {
@@ -135,7 +135,7 @@ impl ActionStatus {
         )
     }
 
-    /// Whether it is that status.
+    /// Returns whether it is that status.
     pub const fn is_same(self, other: ActionStatus) -> bool
         ensures { result ≡ words.same_status self other }
     {
@@ -199,7 +199,7 @@ impl MemberStatus {
         find_by_name(&values, text)
     }
 
-    /// Whether it was asked nothing yet.
+    /// Returns whether it was asked nothing yet.
     pub const fn is_untouched(self) -> bool
         ensures { result ≡ words.is_untouched self }
     {
@@ -224,7 +224,7 @@ impl MemberStatus {
         matches!(self, MemberStatus::Compensating)
     }
 
-    /// Whether it has failed, either way.
+    /// Returns whether it has failed, either way.
     pub const fn has_failed(self) -> bool
         ensures { result ≡ words.member_has_failed self }
     {
@@ -234,7 +234,7 @@ impl MemberStatus {
         )
     }
 
-    /// Whether it has left its action.
+    /// Returns whether it has left its action.
     pub const fn has_gone(self) -> bool
         ensures { result ≡ words.has_gone self }
     {

@@ -1,4 +1,4 @@
-//! What a program names on standard error: the input of a run, and the way to what is sound of it.
+//! The texts in which a program names, on standard error, the input of a run, and the way to what is sound of it.
 
 ghost use Rattle.std.specs.Prelude.{◌≡◌, IfOk, string_bytes};
 ghost use Rattle.lra_reports.specs.Invoked.{input_name};

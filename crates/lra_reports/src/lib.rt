@@ -1,5 +1,5 @@
-//! What reads an input and reports on it, over any reader and writer: an audit of a journal, a listing of its actions and members, its
-//! upgrade, and what is sound of it; and what the words of a command line ask of these.
+//! The runs that read an input and report on it, over any reader and writer: an audit of a journal, a listing of its
+//! actions and members, its upgrade, and what is sound of it; and what the words of a command line ask of these.
 #![tactic(auto)]
 
 mod dispatch;

@@ -1,4 +1,4 @@
-//! What a program does on a system: it answers a question on standard output, by its status.
+//! The program on a system, which answers a question on standard output, and by its status.
 
 ghost use Rattle.std.specs.Prelude.{◌≡◌, IfSome, IfNone};
 

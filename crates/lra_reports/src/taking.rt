@@ -1,4 +1,4 @@
-//! What an input is given to beside an auditor, piece by piece.
+//! The takers that an input is given to beside an auditor, piece by piece.
 
 ghost use Rattle.std.specs.Prelude.{◌≡◌, ◌+◌, ◌<◌, ◌^◌, ◌++◌, length, OnOk, IfErr};
 

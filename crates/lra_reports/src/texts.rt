@@ -1,6 +1,6 @@
-//! What the programs say of themselves.
+//! The texts that the programs print of themselves.
 
-/// How they are called.
+/// The calls of the programs.
 pub const HELP: &str = "\
 lra                               audits standard input
 lra audit FILE                    audits a journal, or all that a folder has

@@ -21,14 +21,14 @@ pub enum Invocation<'a> {
     Upgrade { file: &'a str },
 }
 
-/// What a program that reads and reports is asked.
+/// The question to a program that reads and reports.
 #[derive(Clone, Copy, Debug)]
 pub enum Question<'a> {
-    /// What a run on an input comes to.
+    /// The answer of a run on an input.
     Run(Invocation<'a>),
-    /// What is sound of a file's journal.
+    /// The sound front of a file's journal.
     Salvage { file: &'a str },
-    /// How it is called.
+    /// The calls of the programs.
     Help,
     /// Which version it is.
     Version,
@@ -47,7 +47,7 @@ fn invocation_on<'a>(verb: &str, file: &'a str) -> Result<Invocation<'a>, Usage>
     }
 }
 
-/// What a verb asks of a file.
+/// Returns the question that a verb asks of a file.
 fn question_on<'a>(verb: &str, file: &'a str) -> Result<Question<'a>, Usage>
     ensures question { IfOk result (IsQuestion (verb.now ∷ file.now ∷ [])) }
     ensures usage { IfErr result (λ _. (question : Question) → IsQuestion (verb.now ∷ file.now ∷ []) question → ⊥) }
@@ -61,7 +61,7 @@ fn question_on<'a>(verb: &str, file: &'a str) -> Result<Question<'a>, Usage>
     }
 }
 
-/// What a word alone asks.
+/// Returns the question that a word alone asks.
 fn question_of<'a>(word: &str) -> Result<Question<'a>, Usage>
     ensures question { IfOk result (IsQuestion (word.now ∷ [])) }
     ensures usage { IfErr result (λ _. (question : Question) → IsQuestion (word.now ∷ []) question → ⊥) }
@@ -73,7 +73,7 @@ fn question_of<'a>(word: &str) -> Result<Question<'a>, Usage>
     }
 }
 
-/// What these words ask, without the program's own name.
+/// Returns the question that these words ask, without the program's own name.
 pub fn read_question(words: &[String]) -> Result<Question<'_>, Usage>
     ensures question { IfOk result (IsQuestion (texts words.now)) }
     ensures usage { IfErr result (λ _. (question : Question) → IsQuestion (texts words.now) question → ⊥) }

@@ -6,10 +6,10 @@ use thiserror::Error;
 /// Why a text is no rule.
 #[derive(Clone, Copy, Debug, PartialEq, Eq, Error)]
 pub enum RuleFault {
-    /// What stands before the port, or all of it, is `*`, no name, no address and no network.
+    /// The text before the port, or all of it where there is none, is neither `*` nor a name, an address or a network.
     #[error("no host, address or network")]
     NotHosts,
-    /// What stands behind the last colon is no number up to 65535.
+    /// The text behind the last colon is no number up to 65535.
     #[error("no port")]
     NotPort,
     /// A growth was refused.

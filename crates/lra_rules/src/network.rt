@@ -107,7 +107,7 @@ pub(crate) fn inside(ip: IpAddr) -> IpAddr
     }
 }
 
-/// How many bits an address has.
+/// Returns the number of bits that an address has.
 fn width_of(ip: IpAddr) -> u16
     ensures { result ≡ spec.width_of ip }
 {
@@ -145,7 +145,7 @@ fn first_bits(bits: u16, octet: u8) -> u32
     u32::from(octet) >> 8u16.saturating_sub(bits)
 }
 
-/// Whether two addresses have as many octets, and the same first bits.
+/// Returns whether two addresses have as many octets, and the same first bits.
 fn agree(bits: u16, first: &[u8], other: &[u8]) -> bool
     ensures { result ≡ spec.agree bits first.now other.now }
 {
@@ -162,7 +162,7 @@ fn agree(bits: u16, first: &[u8], other: &[u8]) -> bool
     true
 }
 
-/// Whether an address has these first bits.
+/// Returns whether an address has these first bits.
 fn begins(bits: u16, first: &[u8], ip: IpAddr) -> bool
     ensures { result ≡ spec.agree bits first.now (spec.octets_of ip) }
 {
@@ -173,7 +173,7 @@ fn begins(bits: u16, first: &[u8], ip: IpAddr) -> bool
 }
 
 impl Network {
-    /// Whether an address is one of the network.
+    /// Returns whether an address is one of the network.
     #[tactic(auto, unfolding(crate::specs::Networks::holds))]
     pub(crate) fn holds(self, ip: IpAddr) -> bool
         ensures { result ≡ spec.holds self ip }
@@ -205,7 +205,8 @@ impl Network {
     }
 }
 
-/// Whether an address is one that a rule has to name: this machine's own, one of the link, or one at which a cloud tells its machines who they are.
+/// Returns whether an address is one that a rule has to name: this machine's own, one of the link, or one at which a
+/// cloud tells its machines who they are.
 #[tactic(auto, unfolding(crate::specs::Networks::is_special))]
 pub(crate) fn is_special(ip: IpAddr) -> bool
     ensures { result ≡ spec.is_special ip }

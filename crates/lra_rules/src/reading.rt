@@ -1,4 +1,4 @@
-//! What a text says that is a rule.
+//! The reading of a text that is a rule.
 
 ghost use Rattle.std.specs.Prelude.{◌≡◌};
 ghost use Rattle.lra_rules.specs.Rules as spec;
@@ -45,7 +45,7 @@ fn hosts_in(alloc: Global, text: &[u8]) -> Result<Hosts<Vec<u8>>, RuleFault>
     Ok(Hosts::Named(text.to_ascii_lowercase(alloc)?))
 }
 
-/// What two texts say, of hosts and of a port.
+/// Reads two texts, of hosts and of a port.
 fn with_port(alloc: Global, hosts: &[u8], port: &[u8]) -> Result<Reading<Vec<u8>>, RuleFault>
     ensures { Gives seen result (spec.with_port hosts.now port.now) }
 {
@@ -58,7 +58,7 @@ fn with_port(alloc: Global, hosts: &[u8], port: &[u8]) -> Result<Reading<Vec<u8>
     })
 }
 
-/// What a text says that has no port.
+/// Reads a text that has no port.
 fn without_port(alloc: Global, text: &[u8]) -> Result<Reading<Vec<u8>>, RuleFault>
     ensures { Gives seen result (spec.without_port text.now) }
 {
@@ -68,7 +68,7 @@ fn without_port(alloc: Global, text: &[u8]) -> Result<Reading<Vec<u8>>, RuleFaul
     })
 }
 
-/// What a text says.
+/// Reads the text of a rule.
 #[tactic(auto, unfolding(crate::specs::Rules::reading_of))]
 pub(crate) fn reading_of(alloc: Global, text: &[u8]) -> Result<Reading<Vec<u8>>, RuleFault>
     ensures { Gives seen result (spec.reading_of text.now) }
@@ -86,7 +86,7 @@ pub(crate) fn reading_of(alloc: Global, text: &[u8]) -> Result<Reading<Vec<u8>>,
 }
 
 impl Hosts<Vec<u8>> {
-    /// Whether a host is one of these by its name, or is any.
+    /// Returns whether a host is one of these by its name, or these are any.
     pub(crate) fn has_host(&self, host: &[u8]) -> bool
         ensures { result ≡ spec.has_host (seen_hosts self.now) host.now }
     {
@@ -97,7 +97,7 @@ impl Hosts<Vec<u8>> {
         }
     }
 
-    /// Whether an address is one of a network of these.
+    /// Returns whether an address is one of a network of these.
     pub(crate) fn has_address(&self, ip: IpAddr) -> bool
         ensures { result ≡ spec.has_address (seen_hosts self.now) ip }
     {
@@ -108,7 +108,7 @@ impl Hosts<Vec<u8>> {
     }
 }
 
-/// Whether a host has a name, or one that ends so.
+/// Returns whether a host has a name, or one that ends so.
 fn is_named(name: &[u8], host: &[u8]) -> bool
     ensures { result ≡ spec.is_named name.now host.now }
 {

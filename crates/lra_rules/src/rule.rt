@@ -28,7 +28,7 @@ impl Model for Rule {
     ghost invariant = { λ r. reading_of (string_bytes r.text) ≡ Ok (seen r.reading) };
 }
 
-/// Whether a rule that is for this port, or for all, is for that one.
+/// Returns whether a rule that is for this port, or for all, is for that one.
 fn is_for(own: Option<u16>, port: u16) -> bool
     ensures { result ≡ spec.is_for own port }
 {
@@ -61,7 +61,7 @@ impl Rule {
         self.text.as_str()
     }
 
-    /// Whether it lets a host at a port, whatever that comes to that isn't special.
+    /// Returns whether it lets a host at a port, at whatever address it comes to that isn't special.
     #[tactic(auto, unfolding(crate::specs::Rules::lets))]
     pub(crate) fn lets(&self, host: &[u8], port: u16) -> bool
         ensures { result ≡ spec.lets host.now port self.now }
@@ -69,7 +69,7 @@ impl Rule {
         is_for(self.reading.port, port) && self.reading.hosts.has_host(host)
     }
 
-    /// Whether it names an address at a port.
+    /// Returns whether it names an address at a port.
     #[tactic(auto, unfolding(crate::specs::Rules::names))]
     pub(crate) fn names(&self, ip: IpAddr, port: u16) -> bool
         ensures { result ≡ spec.names ip port self.now }

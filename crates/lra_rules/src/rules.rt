@@ -47,35 +47,36 @@ impl Rules {
         self.rules.as_slice()
     }
 
-    /// Whether there is none.
+    /// Returns whether there is none.
     pub fn is_empty(&self) -> bool
         ensures { result ≡ (length self.now == 0) }
     {
         self.rules.as_slice().is_empty()
     }
 
-    /// Whether some rule lets a host at a port, whatever that comes to that isn't special.
+    /// Returns whether some rule lets a host at a port, at whatever address it comes to that isn't special.
     fn some_lets(&self, host: &[u8], port: u16) -> bool
         ensures { result ≡ spec.some_lets self.now host.now port }
     {
         self.as_slice().iter().any(|rule| rule.lets(host, port))
     }
 
-    /// Whether some rule names an address at a port.
+    /// Returns whether some rule names an address at a port.
     fn some_names(&self, ip: IpAddr, port: u16) -> bool
         ensures { result ≡ spec.some_names self.now ip port }
     {
         self.as_slice().iter().any(|rule| rule.names(ip, port))
     }
 
-    /// Whether some rule lets a host or names an address, at a port.
+    /// Returns whether some rule lets a host or names an address, at a port.
     fn some_has(&self, host: &[u8], ip: IpAddr, port: u16) -> bool
         ensures { result ≡ spec.some_has self.now host.now ip port }
     {
         self.some_names(ip, port) || self.some_lets(host, port)
     }
 
-    /// Whether a host may be called at a port and an address that it comes to. An address that has an IPv4 address inside, to which what is sent there goes, is called only where that one may be.
+    /// Returns whether a host may be called at a port and an address that it comes to. An address that has an IPv4
+    /// address inside, to which what is sent there goes, is called only where that one may be.
     #[tactic(auto, unfolding(crate::specs::Rules::let_address))]
     pub fn let_address(&self, host: &[u8], ip: IpAddr, port: u16) -> bool
         ensures { result ≡ spec.let_address self.now host.now ip port }
@@ -86,7 +87,8 @@ impl Rules {
             || (self.some_has(host, ip, port) && !is_special(there))
     }
 
-    /// Whether a host at a port may be a member's, as far as its text tells: one in numbers where its address may be called.
+    /// Returns whether a host at a port may be a member's, as far as its text tells: one in numbers where its address
+    /// may be called.
     #[tactic(auto, unfolding(crate::specs::Rules::let_host))]
     pub fn let_host(&self, host: &[u8], port: u16) -> bool
         ensures { result ≡ spec.let_host self.now host.now port }
@@ -97,7 +99,7 @@ impl Rules {
         }
     }
 
-    /// Whether a host and port may be called at an address that they come to.
+    /// Returns whether a host and port may be called at an address that they come to.
     pub fn let_socket(&self, socket: &[u8], to: SocketAddr) -> bool
         ensures { result ≡ spec.let_address self.now (host_in socket.now) (socket_ip to) (socket_port to) }
     {

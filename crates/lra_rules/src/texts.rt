@@ -5,7 +5,7 @@ ghost use Rattle.std.specs.List.{list_all};
 ghost use Rattle.std.specs.Char.{is_ascii_digit};
 ghost use Rattle.lra_rules.specs.Texts as spec;
 
-/// What stands before the last such byte and behind it, where there is one.
+/// Returns what stands before the last such byte and behind it, where there is one.
 pub(crate) fn at_last(text: &[u8], byte: u8) -> Option<(&[u8], &[u8])>
     ensures { option_map (λ parts. (parts.0.now, parts.1.now)) result ≡ spec.at_last byte text.now }
 {
@@ -25,7 +25,7 @@ pub fn host_in(socket: &[u8]) -> &[u8]
     }
 }
 
-/// What stands behind the last point, or all of what has none.
+/// Returns what stands behind the last point, or all of what has none.
 fn last_label(name: &[u8]) -> &[u8]
     ensures { result.now ≡ spec.last_label name.now }
 {
@@ -82,7 +82,7 @@ fn has_digits_alone(text: &[u8]) -> bool
     text.iter().all(|byte| byte.is_ascii_digit())
 }
 
-/// Whether a text is a host's name: one that ends in a number is none.
+/// Returns whether a text is a host's name: one that ends in a number is none.
 #[tactic(auto, unfolding(crate::specs::Texts::is_name))]
 pub(crate) fn is_name(text: &[u8]) -> bool
     ensures { result ≡ spec.is_name text.now }

@@ -51,7 +51,7 @@ fn is_uncancelled(status: ActionStatus) -> bool
     )
 }
 
-/// Whether a member stays in its action.
+/// Returns whether a member stays in its action.
 pub fn stays(row: &MemberState) -> bool
     ensures { result ≡ (row.now.addresses.compensate && not (words.has_gone row.now.status)) }
 {
@@ -137,7 +137,7 @@ pub fn with_new_child(row: &ActionState) -> ActionState
     }
 }
 
-/// What a decisive word makes of a member.
+/// Returns a member's status after an outcome, which changes it if it is decisive and the member goes that direction.
 fn decided_as(direction: Direction, outcome: Outcome, status: MemberStatus) -> MemberStatus
     ensures { result ≡ rows.decided_as direction outcome status }
 {
@@ -224,7 +224,7 @@ fn compensation_after(direction: Direction, outcome: Outcome, row: &MemberState)
     }
 }
 
-/// What decides completion, after one more word.
+/// Returns the outcome that decides completion, after one more: the first decisive one in that direction.
 fn completed_by(way: Direction, outcome: Outcome, before: Option<Outcome>) -> Option<Outcome>
     ensures { result ≡ rows.decided_by direction.Completion way outcome before }
 {
@@ -234,7 +234,7 @@ fn completed_by(way: Direction, outcome: Outcome, before: Option<Outcome>) -> Op
     }
 }
 
-/// What decides compensation, after one more word.
+/// Returns the outcome that decides compensation, after one more: the first decisive one in that direction.
 fn compensated_by(way: Direction, outcome: Outcome, before: Option<Outcome>) -> Option<Outcome>
     ensures { result ≡ rows.decided_by direction.Compensation way outcome before }
 {
@@ -244,14 +244,14 @@ fn compensated_by(way: Direction, outcome: Outcome, before: Option<Outcome>) -> 
     }
 }
 
-/// Whether an ask to forget was answered well.
+/// Returns whether an ask to forget was answered well.
 fn forgets(kind: AskKind, outcome: Outcome) -> bool
     ensures { result ≡ (words.same_kind kind AskKind.Forget && words.is_done outcome) }
 {
     matches!(kind, AskKind::Forget) && matches!(outcome, Outcome::Done)
 }
 
-/// Whether a notice of the end was answered well.
+/// Returns whether a notice of the end was answered well.
 fn hears(kind: AskKind, outcome: Outcome) -> bool
     ensures { result ≡ (words.same_kind kind AskKind.After && words.is_done outcome) }
 {

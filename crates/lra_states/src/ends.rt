@@ -6,7 +6,7 @@ ghost use Rattle.lra_laws.specs.Ends.{settled_by, right_end_by};
 use crate::state::ActionState;
 use lra_model::ActionStatus;
 
-/// Whether an action may end, by its counts.
+/// Returns whether an action may end, by its counts.
 pub fn is_settled(row: &ActionState) -> bool
     ensures { result ≡ settled_by row.now }
 {

@@ -1,4 +1,5 @@
-//! What the rules read of an action and of a member, how one more entry changes it, and when and how an action may end.
+//! The state of an action and of a member that the rules read, how one more entry changes it, and when and how an
+//! action may end.
 #![tactic(auto)]
 
 mod changes;

@@ -1,4 +1,4 @@
-//! What the rules read of a member and of an action.
+//! The state of a member and of an action that the rules read.
 
 ghost use Rattle.std.specs.Prelude.{◌≡◌, Some, None};
 ghost use Rattle.lra_model.specs.Tests as tests;
@@ -138,9 +138,9 @@ pub struct MemberState {
     pub completion: Option<Outcome>,
     /// The last reply in compensation.
     pub compensation: Option<Outcome>,
-    /// What decided completion, done or failed.
+    /// The outcome that decided completion, done or failed.
     pub completed_as: Option<Outcome>,
-    /// What decided compensation, done or failed.
+    /// The outcome that decided compensation, done or failed.
     pub compensated_as: Option<Outcome>,
     pub has_forgotten: bool,
     pub was_told: bool,
@@ -180,7 +180,7 @@ impl Model for MemberState {
     } };
 }
 
-/// Whether a member's last reply in a direction was that it has only begun.
+/// Returns whether a member's last reply in a direction was that it has only begun.
 pub fn was_accepted(reply: Option<Outcome>) -> bool
     ensures { result ≡ tests.was_accepted reply }
 {

@@ -12,5 +12,5 @@ pub use backoff::pause;
 pub use deadline::Deadline;
 pub use tournament::Tournament;
 
-/// What a call answers that found no memory.
+/// The error of a call that found no memory.
 pub use std::alloc::AllocError as Memory;

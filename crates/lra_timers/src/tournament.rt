@@ -102,7 +102,7 @@ impl Tournament {
         }
     }
 
-    /// How many deadlines there are.
+    /// Returns the number of deadlines.
     pub fn len(&self) -> usize
         ensures items { result ≡ length self.now.items }
         ensures range { result + self.now.room < 2 ^ 63 }

@@ -1,4 +1,4 @@
-//! How a program takes its words from the system, and tells on standard error where it can't.
+//! The reading of a program's words from the system, which tells on standard error where it fails.
 
 ghost use Rattle.std.specs.Prelude.{◌≡◌, IfErr};
 
