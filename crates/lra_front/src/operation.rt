@@ -105,7 +105,7 @@ impl Place {
 }
 
 impl Operation {
-    /// All of them, in the order in which docs/HTTP.md lists them.
+    /// All of them, in the order in which docs/use/http.md lists them.
     pub const ALL: [Operation; 9] = [
         Operation::Start,
         Operation::Status,
