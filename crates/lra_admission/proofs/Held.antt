@@ -14,7 +14,8 @@ holds all text (Ok keys) is few h = (few, subst (λ t. digests_in t ≡ Ok (dige
 holds all text (Err f) is few h = tt
 
 -- what was read of a file is what it holds
-pub held : (o : Option (List ℕ)) (text : List ℕ) (r : Result Keys KeysFault) → IfSome o (λ all. IsWhole longest all text)
+pub held : (o : Option (List ℕ)) (text : List ℕ) (r : Result Keys KeysFault)
+    → IfSome o (λ all. IsWhole longest all text)
     → IfOk r (λ keys. digests_in text ≡ Ok (digests_of keys)) → IfSome o (λ all. IfOk r (Holds all))
 held None text r whole h = tt
 held (Some all) text r whole h = holds all text r whole.0 whole.1 h
@@ -26,12 +27,14 @@ holds_none all fault.File h = tt
 holds_none all fault.TooLong h = absurd h
 holds_none all fault.Shared h = absurd h
 
-none_of : (all text : List ℕ) (r : Result Keys KeysFault) → text ≡ all → IfErr r (IsWrong text) → IfErr r (HoldsNone all)
+none_of : (all text : List ℕ) (r : Result Keys KeysFault) → text ≡ all → IfErr r (IsWrong text)
+    → IfErr r (HoldsNone all)
 none_of all text (Ok keys) is h = tt
 none_of all text (Err f) is h = holds_none all f (subst (λ t. IsWrong t f) is h)
 
 -- why it holds none is what was found
-pub none_held : (o : Option (List ℕ)) (text : List ℕ) (r : Result Keys KeysFault) → IfSome o (λ all. IsWhole longest all text)
+pub none_held : (o : Option (List ℕ)) (text : List ℕ) (r : Result Keys KeysFault)
+    → IfSome o (λ all. IsWhole longest all text)
     → IfErr r (IsWrong text) → IfSome o (λ all. IfErr r (HoldsNone all))
 none_held None text r whole h = tt
 none_held (Some all) text r whole h = none_of all text r whole.0 h

@@ -15,7 +15,11 @@ pub record Rules : Type 0 where
 
 -- the same, as it lies in memory
 abbrev pub rules_of : Admission → Rules
-rules_of admission = record { keys = option_map (λ keys. digests_of keys.now) admission.keys; names = admission.names.now }
+rules_of admission = record {
+  keys = option_map (λ keys. digests_of keys.now) admission.keys;
+  names =
+      admission.names.now;
+}
 
 -- a value of Authorization, if there is one, gives a secret that is known
 abbrev pub has_key : List (List ℕ) → Option (List ℕ) → Bool

@@ -68,7 +68,8 @@ may_follow name rest = if length (behind_host name) == 0 then is_any_port rest e
 
 -- a host, with its port or without, is the one of that name, whatever the case of its letters
 abbrev pub is_named : List ℕ → List ℕ → Bool
-is_named name host = str_eq_ignore_ascii_case name (take (length name) host) && may_follow name (drop (length name) host)
+is_named name host = str_eq_ignore_ascii_case name (take (length name) host)
+    && may_follow name (drop (length name) host)
 
 -- one of the names is that of a host
 abbrev pub is_own_host : List (List ℕ) → List ℕ → Bool
@@ -92,7 +93,8 @@ before_colon text = take (length text - length (from_colon text)) text
 -- the host of an origin, with its port or without: what follows a scheme and `://`
 abbrev pub host_in : List ℕ → Option (List ℕ)
 host_in origin =
-    if is_scheme (before_colon origin) && bytes_eq (take 3 (from_colon origin)) (codes "://") then Some (drop 3 (from_colon origin))
+    if is_scheme (before_colon origin) && bytes_eq (take 3 (from_colon origin)) (codes "://") then Some
+    (drop 3 (from_colon origin))
     else None
 
 -- an origin is of one of the names

@@ -89,7 +89,8 @@ impl<A: Responder, L: Latest, H: Refused> Responder for Guarded<A, L, H> {
         self.inner.rest();
     }
 
-    ghost stays = { λ before after moment request answered h. base_stays L.looks A.responds A.base_of A.stays before after moment request answered h };
+    ghost stays = { λ before after moment request answered h. base_stays L.looks A.responds A.base_of A.stays before
+        after moment request answered h };
 
     ghost rest_stays = { λ before after h. A.rest_stays before.inner after.inner h.inner };
 }

@@ -33,7 +33,8 @@ fn has_key(keys: &Keys, authorization: &Option<Vec<u8>>) -> bool
 
 /// Returns whether keys are asked for, and a request gives none that is known.
 fn lacks_key(keys: Option<&Keys>, authorization: &Option<Vec<u8>>) -> bool
-    ensures { result ≡ spec.lacks_key (option_map (λ k. digests_of k.now) keys.entry) (option_map (λ value. value.items) authorization.now) }
+    ensures { result ≡ spec.lacks_key (option_map (λ k. digests_of k.now) keys.entry)
+        (option_map (λ value. value.items) authorization.now) }
 {
     match keys {
         Some(keys) => !has_key(keys, authorization),

@@ -11,7 +11,8 @@ pub(crate) const DIGEST: usize = 32;
 
 /// The place of the first line feed.
 fn feed_place(text: &[u8]) -> Option<usize>
-    ensures found { IfSome result (λ place. (place < length text.now) × (spec.is_feed (slice_index text.now place) ≡ true)) }
+    ensures found { IfSome result (λ place. (place < length text.now) ×
+        (spec.is_feed (slice_index text.now place) ≡ true)) }
     ensures first { IfSome result (λ place. (k : ℕ) → k < place → spec.is_feed (slice_index text.now k) ≡ false) }
     ensures none { IfNone result (All (λ b. spec.is_feed b ≡ false) text.now) }
 {

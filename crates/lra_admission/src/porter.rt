@@ -86,7 +86,11 @@ impl<R: KeyFiles + Wait, H: Renewed> Latest for Porter<'_, R, H> {
     ghost use Rattle.lra_admission.specs.Keys.{digests_of};
     ghost use Rattle.lra_admission.specs.Serving.{RenewsKeys};
 
-    ghost in_force = { λ p. record { keys = option_map (λ held. digests_of (arc_value held.keys)) p.held; names = p.names.now } };
+    ghost in_force = { λ p. record {
+      keys = option_map (λ held. digests_of (arc_value held.keys)) p.held;
+      names =
+          p.names.now;
+    } };
 
     ghost looks = { RenewsKeys };
 

@@ -34,23 +34,29 @@ one_rule v J rest r q (inr (d, x, has, next, h)) (inr (e, y, holds, comes, k)) =
 
 -- the next line of a legal history breaks none
 next_breaks_none : (v : Version) (J : History) (e : Entry) (more : History) (rest after : List ℕ) (r : Rule)
-    → All (HasLine v) (J ++ e ∷ more) → is_legal v is_address (J ++ e ∷ more) ≡ true → rest ≡ line e ++ after → Breaks v J rest r → ⊥
-next_breaks_none v J e more rest after r lines legal next (inl (_, none)) = none e after (next_line v J more e lines) next
+    → All (HasLine v) (J ++ e ∷ more) → is_legal v is_address (J ++ e ∷ more) ≡ true → rest ≡ line e ++ after
+    → Breaks v J rest r → ⊥
+next_breaks_none v J e more rest after r lines legal next (inl (_, none)) =
+    none e after (next_line v J more e lines) next
 next_breaks_none v J e more rest after r lines legal next (inr (d, others, has, comes, h)) =
     let same = (lines_apart v v d e others after has (next_line v J more e lines) (sym comes ∙ next)).0 in
     let here = sym (ap (broken v is_address J) same) ∙ h in
     false≢true (sym (is_legal-broken v is_address J e more r here) ∙ legal)
 
 -- so a legal history doesn't go on past a fault
-not_past : (v w : Version) (i : ℕ) (J K : History) (bytes rest after : List ℕ) (r : Rule) → v ≡ w → IsTextOf v i J bytes → GoesOn K rest J after → Breaks w K rest r → ⊥
+not_past : (v w : Version) (i : ℕ) (J K : History) (bytes rest after : List ℕ) (r : Rule) → v ≡ w → IsTextOf v i J bytes
+    → GoesOn K rest J after → Breaks w K rest r → ⊥
 not_past v w i J K bytes rest after r same t g breaks =
     let lines = subst (All (HasLine v)) g.entries t.spelled.lines in
     let legal = subst (λ (H : History). is_legal v is_address H ≡ true) g.entries t.legal in
-    next_breaks_none v K g.next g.more rest (flat_map line g.more ++ after) r lines legal g.follows (subst (λ (u : Version). Breaks u K rest r) (sym same) breaks)
+    next_breaks_none v K g.next g.more rest (flat_map line g.more ++ after) r lines legal g.follows
+    (subst (λ (u : Version). Breaks u K rest r) (sym same) breaks)
 
 -- bytes that begin with a text have a header
-has_header : (v : Version) (i : ℕ) (J : History) (bytes rest : List ℕ) → HasText v i J → bytes ≡ text v i J ++ rest → HasNoHeader bytes → ⊥
-has_header v i J bytes rest spelled whole none = none v i (flat_map line J ++ rest) spelled.instance (whole ∙ append_assoc (header v i) (flat_map line J) rest)
+has_header : (v : Version) (i : ℕ) (J : History) (bytes rest : List ℕ) → HasText v i J → bytes ≡ text v i J ++ rest
+    → HasNoHeader bytes → ⊥
+has_header v i J bytes rest spelled whole none = none v i (flat_map line J ++ rest) spelled.instance
+    (whole ∙ append_assoc (header v i) (flat_map line J) rest)
 
 -- bytes have one fault
 one_fault : (bytes : List ℕ) (m n : ℕ) (r q : Rule) → IsFault bytes m r → IsFault bytes n q → (m ≡ n) × (r ≡ q)
@@ -65,20 +71,27 @@ one_fault bytes m n r q (inr (v, i, J, x, h)) (inr (w, j, K, y, k)) = by_case pa
     at_one : J ≡ K → x ≡ y → Breaks v J x q
     at_one e f =
         subst (λ (u : Version). Breaks u J x q) (sym parts.0)
-        (subst (λ (H : History). Breaks w H x q) (sym e) (subst (λ (rest : List ℕ). Breaks w K rest q) (sym f) k.breaks))
+        (subst (λ (H : History). Breaks w H x q) (sym e) (subst (λ (rest : List ℕ). Breaks w K rest q) (sym f)
+        k.breaks))
 
     by_case : AreAligned J x K y → (m ≡ n) × (r ≡ q)
-    by_case (inl (e, f)) = (h.place ∙ ap (λ (H : History). length H + 2) e ∙ sym k.place, one_rule v J x r q h.breaks (at_one e f))
+    by_case (inl (e, f)) = (
+      h.place ∙ ap (λ (H : History). length H + 2) e
+          ∙ sym k.place,
+      one_rule v J x r q h.breaks (at_one e f),
+    )
     by_case (inr (inl g)) = absurd (not_past w v j K J (text w j K) x y r (sym parts.0) k.front g h.breaks)
     by_case (inr (inr g)) = absurd (not_past v w i J K (text v i J) y x q parts.0 h.front g k.breaks)
 
 -- the text of a legal history has none
-no_fault : (v : Version) (i : ℕ) (J : History) (bytes : List ℕ) (n : ℕ) (r : Rule) → IsTextOf v i J bytes → IsFault bytes n r → ⊥
+no_fault : (v : Version) (i : ℕ) (J : History) (bytes : List ℕ) (n : ℕ) (r : Rule) → IsTextOf v i J bytes
+    → IsFault bytes n r → ⊥
 no_fault v i J bytes n r t (inl h) = has_header v i J bytes [] t.spelled (t.whole ∙ sym (append-nil (text v i J))) h.2
 no_fault v i J bytes n r t (inr (w, j, K, rest, h)) = by_case parts.2
   where
     parts : (v ≡ w) × (i ≡ j) × AreAligned J [] K rest
-    parts = texts_aligned v w i j J K [] rest t.spelled h.front.spelled (append-nil (text v i J) ∙ sym t.whole ∙ h.whole)
+    parts = texts_aligned v w i j J K [] rest t.spelled h.front.spelled
+        (append-nil (text v i J) ∙ sym t.whole ∙ h.whole)
 
     by_case : AreAligned J [] K rest → ⊥
     by_case (inl (_, empty)) = let on = h.goes_on in omega (arith, ap length empty)
@@ -95,8 +108,11 @@ one_verdict bytes (Unsound m r) (Sound t) h (w, j, K, k, _) = absurd (no_fault w
 one_verdict bytes (Unsound m r) (Unsound n q) h k = let (same, rule) = one_fault bytes m n r q h k in λ x. Unsound (same x) (rule x)
 
 -- the text of a legal history has the verdict Sound
-pub legal_text_verdict : (v : Version) (i : ℕ) (J : History) → i < 2 ^ 60 → is_legal v is_address J ≡ true → IsVerdict (text v i J) (Sound (summary J))
-legal_text_verdict v i J small legal = (v, i, J, record { spelled = legal_has_text v i J small legal; legal = legal; whole = refl }, refl)
+pub legal_text_verdict : (v : Version) (i : ℕ) (J : History) → i < 2 ^ 60 → is_legal v is_address J ≡ true
+    → IsVerdict (text v i J) (Sound (summary J))
+legal_text_verdict v i J small legal =
+    (v, i, J, record { spelled = legal_has_text v i J small legal; legal = legal; whole = refl }, refl)
 
 pub legal_text_sound : LegalTextsAreSound
-legal_text_sound v i J x small legal h = one_verdict (text v i J) x (Sound (summary J)) h (legal_text_verdict v i J small legal)
+legal_text_sound v i J x small legal h = one_verdict (text v i J) x (Sound (summary J)) h
+    (legal_text_verdict v i J small legal)

@@ -45,19 +45,22 @@ abbrev closed : History
 closed = at 0 Enrol ∷ at 0 (Start 1 None 0) ∷ at 5 (Close 1 cause.Client) ∷ at 5 (End 1 action.Closed) ∷ []
 
 closed_legal : is_legal One is_address closed ≡ true
-unfolding steps clerks actions members asks last_moment parent top action_status limit_in_force children members_of staying is_settled right_end top_has_ended facts_of broken is_legal
+unfolding steps clerks actions members asks last_moment parent top action_status limit_in_force children members_of
+    staying is_settled right_end top_has_ended facts_of broken is_legal
 closed_legal = refl
 
 closed_summary : summary closed ≡ record nothing { entries = 4; actions = 1; closed = 1 }
 unfolding summary count_actions actions action_status least_failed failed_actions
 closed_summary = refl
 
-pub closed_sound : (x : Verdict) → IsVerdict (text One 7 closed) x → x ≡ Sound (record nothing { entries = 4; actions = 1; closed = 1 })
+pub closed_sound : (x : Verdict) → IsVerdict (text One 7 closed) x → x
+    ≡ Sound (record nothing { entries = 4; actions = 1; closed = 1 })
 closed_sound x h = rw (sym closed_summary) (legal_text_sound One 7 closed x (omega arith) closed_legal h)
 
 -- no bytes have no header
 pub no_bytes : (x : Verdict) → IsVerdict [] x → x ≡ Unsound 1 rule.Header
-no_bytes x h = one_verdict [] x (Unsound 1 rule.Header) h (inl (refl, refl, λ v i rest small same. not_nil (header_body v i) rest 10 (sym same)))
+no_bytes x h = one_verdict [] x (Unsound 1 rule.Header) h
+    (inl (refl, refl, λ v i rest small same. not_nil (header_body v i) rest 10 (sym same)))
 
 -- a clerk that isn't enrolled does something
 abbrev stray : Entry
@@ -77,9 +80,20 @@ stray_unsound x h =
       line stray,
       record {
         place = refl;
-        front = record { spelled = legal_has_text One 7 [] (omega arith) (legal_empty One is_address); legal = legal_empty One is_address; whole = refl };
+        front = record {
+          spelled = legal_has_text One 7 [] (omega arith) (legal_empty One is_address);
+          legal =
+              legal_empty One is_address;
+          whole = refl;
+        };
         whole = text-push One 7 [] stray;
         goes_on = omega (arith, length-append (body_of stray) (10 ∷ []));
-        breaks = inr (stray, [], record { by = omega arith; moment = omega arith; deed = omega arith }, sym (append-nil (line stray)), stray_breaks);
+        breaks = inr (
+          stray,
+          [],
+          record { by = omega arith; moment = omega arith; deed = omega arith },
+          sym (append-nil (line stray)),
+          stray_breaks,
+        );
       },
     ))

@@ -17,4 +17,5 @@ BytesHaveOneVerdict = (bytes : List ℕ) (x y : Verdict) → IsVerdict bytes x �
 -- the one verdict on the text of a legal history is that it is sound, with the history's summary
 abbrev pub LegalTextsAreSound : Type 0
 LegalTextsAreSound =
-    (v : Version) (i : ℕ) (J : History) (x : Verdict) → i < 2 ^ 60 → is_legal v is_address J ≡ true → IsVerdict (text v i J) x → x ≡ Sound (summary J)
+    (v : Version) (i : ℕ) (J : History) (x : Verdict) → i < 2 ^ 60 → is_legal v is_address J ≡ true
+    → IsVerdict (text v i J) x → x ≡ Sound (summary J)

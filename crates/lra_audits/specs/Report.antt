@@ -22,15 +22,18 @@ line_feed = 10 ∷ []
 
 -- a line for an action that ended in failure: its number, its status and its least failed member
 abbrev pub failed_line : FailedEnd → List ℕ
-failed_line f = joined (codes "failed " ∷ decimal f.action ∷ codes " " ∷ action_status_name f.status ∷ codes " " ∷ decimal f.member ∷ line_feed ∷ [])
+failed_line f = joined (codes "failed " ∷ decimal f.action ∷ codes " " ∷ action_status_name f.status ∷ codes " "
+    ∷ decimal f.member ∷ line_feed ∷ [])
 
 -- the first half of a sound journal's counts
 abbrev pub entries_counted : Summary → List ℕ
-entries_counted s = joined (codes "sound entries " ∷ decimal s.entries ∷ codes " actions " ∷ decimal s.actions ∷ codes " unended " ∷ decimal s.unended ∷ [])
+entries_counted s = joined (codes "sound entries " ∷ decimal s.entries ∷ codes " actions " ∷ decimal s.actions
+    ∷ codes " unended " ∷ decimal s.unended ∷ [])
 
 -- the second half, to the end of the line
 abbrev pub ends_counted : Summary → List ℕ
-ends_counted s = joined (codes " closed " ∷ decimal s.closed ∷ codes " cancelled " ∷ decimal s.cancelled ∷ codes " failed " ∷ decimal (length s.failed) ∷ line_feed ∷ [])
+ends_counted s = joined (codes " closed " ∷ decimal s.closed ∷ codes " cancelled " ∷ decimal s.cancelled
+    ∷ codes " failed " ∷ decimal (length s.failed) ∷ line_feed ∷ [])
 
 -- the line of the fault of an unsound one
 abbrev pub fault_line : ℕ → Rule → List ℕ

@@ -35,7 +35,8 @@ pub fn report_fault<W: Write>(
     rule: Rule,
     writer: &mut W,
 ) -> Result<u8, RunFault>
-    ensures ok { IfOk result (λ status. (input : List ℕ) → IsFault input line rule → ReportsAudit input status (W.contents writer.old) (W.contents writer.new)) }
+    ensures ok { IfOk result (λ status. (input : List ℕ) → IsFault input line rule
+        → ReportsAudit input status (W.contents writer.old) (W.contents writer.new)) }
     ensures unsound { IfOk result (λ status. status ≡ 1) }
     ensures fault { IfErr result (IsNotPut (W.contents writer.old) (W.contents writer.new)) }
 {

@@ -30,7 +30,8 @@ pub fn room(alloc: Global) -> Result<Vec<u8>, AllocError>
 /// Reads the next piece, and answers how many bytes it has: 0 at the end.
 pub fn next_piece<R: Read>(reader: &mut R, piece: &mut [u8]) -> Result<usize, RunFault>
     ensures bound { ReadsAtMost result piece.new }
-    ensures bytes { IfOk result (λ count. Consumes (R.remaining reader.old) (R.remaining reader.new) (take count piece.new)) }
+    ensures bytes { IfOk result (λ count. Consumes (R.remaining reader.old) (R.remaining reader.new)
+        (take count piece.new)) }
     ensures end { IfOk result (λ count. count ≡ 0 → 0 < length piece.new → IsAtEnd (R.remaining reader.new)) }
     ensures err { IfErr result (λ fault. fault ≡ RunFault.Read) }
 {

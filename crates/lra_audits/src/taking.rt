@@ -26,7 +26,8 @@ pub trait Taker {
     /// Takes one more piece.
     fn accept(&mut self, piece: &[u8]) -> Result<(), RunFault>
         requires { count self.old + length piece.now < 2 ^ 63 }
-        ensures took { (first : Self) (bytes : List ℕ) → took first self.old bytes → OnOk result (took first self.new (bytes ++ piece.now)) }
+        ensures took { (first : Self) (bytes : List ℕ) → took first self.old bytes
+            → OnOk result (took first self.new (bytes ++ piece.now)) }
         ensures counted { OnOk result (count self.new ≡ count self.old + length piece.now) }
         ensures lent { lent self.new ≡ lent self.old }
         ensures fault { IfErr result fails }

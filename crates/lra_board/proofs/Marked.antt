@@ -39,13 +39,20 @@ row_past rows zero past = refl
 row_past rows (suc k) past = slice_get_past rows k (let h = past (omega arith) in omega arith)
 
 no_skip : (s : State) (p : ℕ) → row_at s.members p ≡ None → may_skip_by s p ≡ false
-no_skip s p none = ap (λ (o : Option MemberRow). option_map_or (may_skip (facts_by s)) (option_map (member_by s) o) false) none
+no_skip s p none = ap (λ (o : Option MemberRow). option_map_or (may_skip (facts_by s)) (option_map (member_by s) o)
+    false) none
 
 no_turn : (s : State) (a : ℕ) → row_at s.actions a ≡ None → is_some (turn_by s a) ≡ false
-no_turn s a none = ap (λ (o : Option ActionRow). is_some (cond (option_map_or (may_close_with_parent (facts_by s)) (option_map (action_by s) o) false) (Some (Close a cause.Parent)) (cond (option_map_or (may_cancel_with_parent (facts_by s)) (option_map (action_by s) o) false) (Some (Cancel a cause.Parent)) None))) none
+no_turn s a none = ap
+    (λ (o : Option ActionRow). is_some
+    (cond (option_map_or (may_close_with_parent (facts_by s)) (option_map (action_by s) o) false)
+    (Some (Close a cause.Parent))
+    (cond (option_map_or (may_cancel_with_parent (facts_by s)) (option_map (action_by s) o) false)
+    (Some (Cancel a cause.Parent)) None))) none
 
 no_end : (s : State) (a : ℕ) → row_at s.actions a ≡ None → is_some (end_by s a) ≡ false
-no_end s a none = ap (λ (o : Option ActionRow). is_some (option_and_then (λ (x : ActionFacts). cond x.settled (Some (End a x.right_end)) None) (option_map (action_by s) o))) none
+no_end s a none = ap (λ (o : Option ActionRow). is_some (option_and_then
+    (λ (x : ActionFacts). cond x.settled (Some (End a x.right_end)) None) (option_map (action_by s) o))) none
 
 mark_past : (marked : List Bool) (n : ℕ) → (0 < n → length marked < n) → mark_at marked n ≡ false
 mark_past marked zero past = refl
@@ -54,26 +61,33 @@ mark_past marked (suc k) past = mark_at-past marked (suc k) (past (omega arith))
 -- ---- one row
 
 -- a set in which a number is marked by its test
-written : (test : ℕ → Bool) (n : ℕ) (ns : List ℕ) (before after : Marking) → after ≡ record before { marked = slice_set before.marked (n - 1) (test n) } → 0 < n → n ≤ length before.marked
-    → ((m : ℕ) → is_among (n ∷ ns) m ≡ false → mark_at before.marked m ≡ test m) → (m : ℕ) → is_among ns m ≡ false → mark_at after.marked m ≡ test m
-written test n ns before after is some there marked m g = ap (λ (x : Marking). mark_at x.marked m) is ∙ elim (cases_eq m n) [
-  | inl same ↦ ap (mark_at (slice_set before.marked (n - 1) (test n))) same ∙ mark_at-set_same before.marked n (test n) some there ∙ ap test (sym same)
-  | inr other ↦ mark_at-set_other before.marked n m (test n) some other ∙ marked m (not_among n ns m other g)
-]
+written : (test : ℕ → Bool) (n : ℕ) (ns : List ℕ) (before after : Marking) → after
+    ≡ record before { marked = slice_set before.marked (n - 1) (test n) } → 0 < n → n ≤ length before.marked
+    → ((m : ℕ) → is_among (n ∷ ns) m ≡ false → mark_at before.marked m ≡ test m) → (m : ℕ) → is_among ns m ≡ false
+    → mark_at after.marked m ≡ test m
+written test n ns before after is some there marked m g = ap (λ (x : Marking). mark_at x.marked m) is
+    ∙ elim (cases_eq m n) [
+      | inl same ↦ ap (mark_at (slice_set before.marked (n - 1) (test n))) same
+          ∙ mark_at-set_same before.marked n (test n) some there ∙ ap test (sym same)
+      | inr other ↦ mark_at-set_other before.marked n m (test n) some other ∙ marked m (not_among n ns m other g)
+    ]
 
 -- one in which there is no such number
 absent : (test : ℕ → Bool) (n : ℕ) (ns : List ℕ) (marked : List Bool) → (0 < n → length marked < n) → test n ≡ false
-    → ((m : ℕ) → is_among (n ∷ ns) m ≡ false → mark_at marked m ≡ test m) → (m : ℕ) → is_among ns m ≡ false → mark_at marked m ≡ test m
+    → ((m : ℕ) → is_among (n ∷ ns) m ≡ false → mark_at marked m ≡ test m) → (m : ℕ) → is_among ns m ≡ false
+    → mark_at marked m ≡ test m
 absent test n ns marked past none is m g = elim (cases_eq m n) [
   | inl same ↦ ap (mark_at marked) same ∙ mark_past marked n past ∙ sym none ∙ ap test (sym same)
   | inr other ↦ is m (not_among n ns m other g)
 ]
 
-length-written : (before after : Marking) (n : ℕ) (b : Bool) → after ≡ record before { marked = slice_set before.marked n b } → length after.marked ≡ length before.marked
+length-written : (before after : Marking) (n : ℕ) (b : Bool) → after ≡ record before
+    { marked = slice_set before.marked n b } → length after.marked ≡ length before.marked
 length-written before after n b is = ap (λ (x : Marking). length x.marked) is ∙ length-set before.marked n b
 
 -- a member is looked at anew
-pub member_marked : (s : State) (r : Ready) (p : ℕ) (skips : Marking) → 0 < p → p ≤ length r.skips.marked → skips ≡ record r.skips { marked = slice_set r.skips.marked (p - 1) (may_skip_by s p) }
+pub member_marked : (s : State) (r : Ready) (p : ℕ) (skips : Marking) → 0 < p → p ≤ length r.skips.marked → skips
+    ≡ record r.skips { marked = slice_set r.skips.marked (p - 1) (may_skip_by s p) }
     → (ps xs : List ℕ) → MarkedBut s r (p ∷ ps) xs → MarkedBut s (record r { skips = skips }) ps xs
 member_marked s r p skips some there is ps xs h = record {
   sized = record {
@@ -90,14 +104,17 @@ member_marked s r p skips some there is ps xs h = record {
 }
 
 -- one that isn't there needs no look
-pub member_absent : (s : State) (r : Ready) (p : ℕ) → (0 < p → length r.skips.marked < p) → (ps xs : List ℕ) → MarkedBut s r (p ∷ ps) xs → MarkedBut s r ps xs
+pub member_absent : (s : State) (r : Ready) (p : ℕ) → (0 < p → length r.skips.marked < p) → (ps xs : List ℕ)
+    → MarkedBut s r (p ∷ ps) xs → MarkedBut s r ps xs
 member_absent s r p past ps xs h =
     let size = h.sized.skips in
     record { sized = h.sized; turns = h.turns; ends = h.ends; skips = absent (may_skip_by s) p ps r.skips.marked past (no_skip s p (row_past s.members p (λ some. let g = past some in omega arith))) h.skips }
 
 -- an action is looked at anew
-pub action_marked : (s : State) (r : Ready) (a : ℕ) (turns ends : Marking) → 0 < a → a ≤ length r.turns.marked → a ≤ length r.ends.marked
-    → turns ≡ record r.turns { marked = slice_set r.turns.marked (a - 1) (is_some (turn_by s a)) } → ends ≡ record r.ends { marked = slice_set r.ends.marked (a - 1) (is_some (end_by s a)) }
+pub action_marked : (s : State) (r : Ready) (a : ℕ) (turns ends : Marking) → 0 < a → a ≤ length r.turns.marked → a
+    ≤ length r.ends.marked
+    → turns ≡ record r.turns { marked = slice_set r.turns.marked (a - 1) (is_some (turn_by s a)) } → ends
+    ≡ record r.ends { marked = slice_set r.ends.marked (a - 1) (is_some (end_by s a)) }
     → (ps xs : List ℕ) → MarkedBut s r ps (a ∷ xs) → MarkedBut s (record r { turns = turns; ends = ends }) ps xs
 action_marked s r a turns ends some turn_there end_there turn_is end_is ps xs h = record {
   sized = record {
@@ -114,11 +131,16 @@ action_marked s r a turns ends some turn_there end_there turn_is end_is ps xs h 
 }
 
 -- one that isn't there needs no look
-pub action_absent : (s : State) (r : Ready) (a : ℕ) → (0 < a → (length r.turns.marked < a) ⊎ (length r.ends.marked < a)) → (ps xs : List ℕ) → MarkedBut s r ps (a ∷ xs) → MarkedBut s r ps xs
+pub action_absent : (s : State) (r : Ready) (a : ℕ) → (0 < a → (length r.turns.marked < a) ⊎ (length r.ends.marked < a))
+    → (ps xs : List ℕ) → MarkedBut s r ps (a ∷ xs) → MarkedBut s r ps xs
 action_absent s r a past ps xs h =
     let turns = h.sized.turns in
     let ends = h.sized.ends in
-    let beyond : 0 < a → length s.actions < a = λ some. elim (past some) [ inl g ↦ omega arith | inr g ↦ omega arith ] in
+    let beyond : 0 < a → length s.actions < a = λ some. elim (past some) [
+      | inl g ↦ omega arith
+      | inr g ↦ omega
+          arith
+    ] in
     let none = row_past s.actions a beyond in
     record {
       sized = h.sized;
@@ -161,11 +183,14 @@ no_parent s K h a none = known (parent K a) refl
 
 -- a member that isn't there is in no action
 pub in_none : (s : Sheet) (K : History) → StandsFor s K → (p : ℕ) → None ≡ found_member K p → action_of K p ≡ 0
-in_none s K h p none = ap (λ (r : MemberRow). r.action) (absent_row h.version h.is_address K h.legal p (not_found (is_among (members K) p) _ none))
+in_none s K h p none = ap (λ (r : MemberRow). r.action) (absent_row h.version h.is_address K h.legal p
+    (not_found (is_among (members K) p) _ none))
 
 pub action_found : (K : History) (p : ℕ) (r : FoundMember) → Some r ≡ found_member K p → r.action ≡ action_of K p
 action_found K p r h = ap (λ (x : FoundMember). x.action) (found_there (is_among (members K) p) _ r h)
 
 -- a deed, known under another name
-pub of_deed : (s : State) (r : Ready) (K : History) (d e : Deed) → d ≡ e → MarkedBut s r (members_concerned K d) (actions_concerned K d) → MarkedBut s r (members_concerned K e) (actions_concerned K e)
+pub of_deed : (s : State) (r : Ready) (K : History) (d e : Deed) → d ≡ e
+    → MarkedBut s r (members_concerned K d) (actions_concerned K d) → MarkedBut s r (members_concerned K e)
+    (actions_concerned K e)
 of_deed s r K d e same h = subst (λ (x : Deed). MarkedBut s r (members_concerned K x) (actions_concerned K x)) same h

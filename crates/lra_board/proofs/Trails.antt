@@ -13,13 +13,19 @@ use Rattle.lra_board.specs.Boarded.{Boarded, carried, uncarried, CameBy}
 use Rattle.lra_board.specs.inner.Trail.{carried_all, IsTrail}
 
 -- one of a list with one more is one of the list, or that one
-of_more : {X : Type 0} (xs : List X) (y : X) (i : ℕ) (x : X) → slice_get (xs ++ y ∷ []) i ≡ Some x → ((i < length xs) × (slice_get xs i ≡ Some x)) ⊎ ((i ≡ length xs) × (y ≡ x))
+of_more : {X : Type 0} (xs : List X) (y : X) (i : ℕ) (x : X) → slice_get (xs ++ y ∷ []) i ≡ Some x
+    → ((i < length xs) × (slice_get xs i ≡ Some x)) ⊎ ((i ≡ length xs) × (y ≡ x))
 of_more [] y zero x h = inr (refl, cc)
 of_more [] y (suc i) x h = absurd cc
 of_more (z ∷ xs) y zero x h = inl (omega arith, h)
-of_more (z ∷ xs) y (suc i) x h = elim (of_more xs y i x h) [ inl before ↦ inl (omega (arith, before.0), before.1) | inr here ↦ inr (ap suc here.0, here.1) ]
+of_more (z ∷ xs) y (suc i) x h = elim (of_more xs y i x h) [
+  | inl before ↦ inl (omega (arith, before.0), before.1)
+  | inr
+      here ↦ inr (ap suc here.0, here.1)
+]
 
-carried_all-push : (b : Boarded) (es : List Entry) (e : Entry) → carried_all b (es ++ e ∷ []) ≡ carried e (carried_all b es)
+carried_all-push : (b : Boarded) (es : List Entry) (e : Entry) → carried_all b (es ++ e ∷ [])
+    ≡ carried e (carried_all b es)
 carried_all-push b [] e = refl
 carried_all-push b (x ∷ es) e = carried_all-push (carried x b) es e
 
@@ -29,14 +35,16 @@ take-push [] y (suc i) h = absurd (omega arith)
 take-push (x ∷ xs) y (suc i) h = ap (λ ys. x ∷ ys) (take-push xs y i (omega arith))
 
 -- one more entry
-pub trail_more : (b : Boarded) (es : List Entry) (ks : List Step) (now after : Boarded) (e : Entry) (k : Step) → IsTrail b es ks now → Follows now.rows.sheet e → after ≡ carried e now → uncarried e k after ≡ now
+pub trail_more : (b : Boarded) (es : List Entry) (ks : List Step) (now after : Boarded) (e : Entry) (k : Step)
+    → IsTrail b es ks now → Follows now.rows.sheet e → after ≡ carried e now → uncarried e k after ≡ now
     → addresses_back k after.rows ≡ addresses_joined e.deed → IsTrail b (es ++ e ∷ []) (ks ++ k ∷ []) after
 trail_more b es ks now after e k h follows is back gives = record {
   at = is ∙ ap (carried e) h.at ∙ sym (carried_all-push b es e);
   many = length-append ks (k ∷ []) ∙ (let n = h.many in omega arith) ∙ sym (length-append es (e ∷ []));
   follows = λ i x g. elim (of_more es e i x g) [
     | inl before ↦ subst (λ (xs : List Entry). Follows (carried_all b xs).rows.sheet x) (sym (take-push es e i (let l = before.0 in omega arith))) (h.follows i x before.1)
-    | inr here ↦ subst (λ (y : Entry). Follows (carried_all b (take i (es ++ e ∷ []))).rows.sheet y) here.1 (subst (λ (c : Boarded). Follows c.rows.sheet e) (sym (whole i here.0)) follows)
+    | inr here ↦ subst (λ (y : Entry). Follows (carried_all b (take i (es ++ e ∷ []))).rows.sheet y) here.1
+        (subst (λ (c : Boarded). Follows c.rows.sheet e) (sym (whole i here.0)) follows)
   ];
   back = λ i x q g f. elim (of_more es e i x g) [
     | inl before ↦
@@ -80,31 +88,50 @@ take_next {X = X} (y ∷ xs) zero x h = one y h
 take_next (y ∷ xs) (suc i) x h = ap (λ ys. y ∷ ys) (take_next xs i x h)
 
 -- the last one that is left can be taken back
-pub last_came : (b : Boarded) (es : List Entry) (ks : List Step) (last now : Boarded) (e : Entry) (k : Step) (i n : ℕ) → IsTrail b es ks last → n ≡ suc i → slice_get es i ≡ Some e → slice_get ks i ≡ Some k → now ≡ carried_all b (take n es) → CameBy e k now
+pub last_came : (b : Boarded) (es : List Entry) (ks : List Step) (last now : Boarded) (e : Entry) (k : Step) (i n : ℕ)
+    → IsTrail b es ks last → n ≡ suc i → slice_get es i ≡ Some e → slice_get ks i ≡ Some k → now
+    ≡ carried_all b (take n es) → CameBy e k now
 last_came b es ks last now e k i n h number here step is =
     let before = carried_all b (take i es) in
     let at : now ≡ carried_all b (take (suc i) es) = is ∙ ap (λ m. carried_all b (take m es)) number in
     record {
       before = before.rows;
       follows = h.follows i e here;
-      now = ap (λ (c : Boarded). c.rows.sheet) (at ∙ ap (carried_all b) (take_next es i e here) ∙ carried_all-push b (take i es) e);
+      now = ap (λ (c : Boarded). c.rows.sheet) (at ∙ ap (carried_all b) (take_next es i e here)
+          ∙ carried_all-push b (take i es) e);
       back = ap (λ (c : Boarded). c.rows) (ap (uncarried e k) at ∙ h.back i e k here step);
     }
 
-pub last_back : (b : Boarded) (es : List Entry) (ks : List Step) (last now : Boarded) (e : Entry) (k : Step) (i n : ℕ) → IsTrail b es ks last → n ≡ suc i → slice_get es i ≡ Some e → slice_get ks i ≡ Some k → now ≡ carried_all b (take n es) → uncarried e k now ≡ carried_all b (take i es)
-last_back b es ks last now e k i n h number here step is = ap (uncarried e k) (is ∙ ap (λ m. carried_all b (take m es)) number) ∙ h.back i e k here step
+pub last_back : (b : Boarded) (es : List Entry) (ks : List Step) (last now : Boarded) (e : Entry) (k : Step) (i n : ℕ)
+    → IsTrail b es ks last → n ≡ suc i → slice_get es i ≡ Some e → slice_get ks i ≡ Some k → now
+    ≡ carried_all b (take n es) → uncarried e k now ≡ carried_all b (take i es)
+last_back b es ks last now e k i n h number here step is = ap (uncarried e k)
+    (is ∙ ap (λ m. carried_all b (take m es)) number) ∙ h.back i e k here step
 
 -- and gives the addresses of the member that joined by it
-pub last_given : (b : Boarded) (es : List Entry) (ks : List Step) (last now : Boarded) (e : Entry) (k : Step) (i n : ℕ) → IsTrail b es ks last → n ≡ suc i → slice_get es i ≡ Some e → slice_get ks i ≡ Some k → now ≡ carried_all b (take n es) → addresses_back k now.rows ≡ addresses_joined e.deed
-last_given b es ks last now e k i n h number here step is = ap (λ (c : Boarded). addresses_back k c.rows) (is ∙ ap (λ m. carried_all b (take m es)) number) ∙ h.given i e k here step
+pub last_given : (b : Boarded) (es : List Entry) (ks : List Step) (last now : Boarded) (e : Entry) (k : Step) (i n : ℕ)
+    → IsTrail b es ks last → n ≡ suc i → slice_get es i ≡ Some e → slice_get ks i ≡ Some k → now
+    ≡ carried_all b (take n es) → addresses_back k now.rows ≡ addresses_joined e.deed
+last_given b es ks last now e k i n h number here step is = ap (λ (c : Boarded). addresses_back k c.rows)
+    (is ∙ ap (λ m. carried_all b (take m es)) number) ∙ h.given i e k here step
 
 -- no entry yet
 pub trail_none : (b : Boarded) (es : List Entry) (ks : List Step) → es ≡ [] → ks ≡ [] → IsTrail b es ks b
 trail_none b es ks no_entry no_step =
     subst (λ (xs : List Entry). IsTrail b xs ks b) (sym no_entry)
-    (subst (λ (qs : List Step). IsTrail b [] qs b) (sym no_step) (record { at = refl; many = refl; follows = λ i e h. absurd cc; back = λ i e k h g. absurd cc; given = λ i e k h g. absurd cc }))
+    (subst (λ (qs : List Step). IsTrail b [] qs b) (sym no_step) (record {
+      at = refl;
+      many = refl;
+      follows = λ i e h. absurd cc;
+      back = λ i e k h g. absurd cc;
+      given =
+          λ i e k h g. absurd cc;
+    }))
 
 -- the board after an entry stands for the longer history
-pub carried_stands : (s : Sheet) (b after : Boarded) (J : History) (e : Entry) (h : StandsFor s J) → allows h.version h.is_address J e ≡ true → b.rows.sheet ≡ s → after ≡ carried e b → StandsFor after.rows.sheet (J ++ e ∷ [])
+pub carried_stands : (s : Sheet) (b after : Boarded) (J : History) (e : Entry) (h : StandsFor s J)
+    → allows h.version h.is_address J e ≡ true → b.rows.sheet ≡ s → after ≡ carried e b
+    → StandsFor after.rows.sheet (J ++ e ∷ [])
 carried_stands s b after J e h k same is =
-    subst (λ (x : Sheet). StandsFor x (J ++ e ∷ [])) (ap (sheet_after e) (sym same) ∙ sym (ap (λ (c : Boarded). c.rows.sheet) is)) (StandsFor-push s J e h k)
+    subst (λ (x : Sheet). StandsFor x (J ++ e ∷ [])) (ap (sheet_after e) (sym same)
+    ∙ sym (ap (λ (c : Boarded). c.rows.sheet) is)) (StandsFor-push s J e h k)

@@ -26,7 +26,13 @@ impl Model for Board {
 
     ghost Value = { Boarded };
 
-    ghost view = { λ b. record { rows = b.rows; skips = b.ready.skips.room; turns = b.ready.turns.room; ends = b.ready.ends.room } };
+    ghost view = { λ b. record {
+      rows = b.rows;
+      skips = b.ready.skips.room;
+      turns = b.ready.turns.room;
+      ends =
+          b.ready.ends.room;
+    } };
 
     ghost invariant = { λ b. MarkedBut b.rows.sheet.state b.ready [] [] };
 }
@@ -53,7 +59,8 @@ fn ended(rows: &Rows, action: Option<u64>) -> Option<Deed>
 
 /// The skip of a member; else what its parent does to an action; else the end of an action.
 fn choose(rows: &Rows, skip: Option<u64>, turn: Option<u64>, end: Option<u64>) -> Option<Deed>
-    ensures { result ≡ option_or (option_map deeds.Skip skip) (option_or (option_and_then (turn_by rows.now.sheet.state) turn) (option_and_then (end_by rows.now.sheet.state) end)) }
+    ensures { result ≡ option_or (option_map deeds.Skip skip) (option_or
+        (option_and_then (turn_by rows.now.sheet.state) turn) (option_and_then (end_by rows.now.sheet.state) end)) }
 {
     if let Some(member) = skip {
         return Some(Deed::Skip { member });
@@ -109,7 +116,8 @@ impl Board {
         requires room { has_room entry.now self.old ≡ true }
         requires uris { uris ≡ addresses_joined entry.now.deed }
         ensures carried { self.new ≡ carried entry.now self.old }
-        ensures stands { (J : History) (h : StandsFor self.old.rows.sheet J) → allows h.version h.is_address J entry.now ≡ true → StandsFor self.new.rows.sheet (J ++ entry.now ∷ []) }
+        ensures stands { (J : History) (h : StandsFor self.old.rows.sheet J) → allows h.version h.is_address J entry.now
+            ≡ true → StandsFor self.new.rows.sheet (J ++ entry.now ∷ []) }
         ensures back { uncarried entry.now result self.new ≡ self.old }
         ensures uris { addresses_back result self.new.rows ≡ addresses_joined entry.now.deed }
     {

@@ -48,7 +48,8 @@ fn parent_of(rows: &Rows, action: u64) -> Option<u64>
 
 /// The member that was asked.
 fn member_asked(rows: &Rows, ask: u64) -> Option<u64>
-    ensures { (K : History) → StandsFor rows.now.sheet K → result ≡ option_map (λ (x : Asked). x.member) (ask_of K ask) }
+    ensures { (K : History) → StandsFor rows.now.sheet K → result ≡ option_map (λ (x : Asked). x.member)
+        (ask_of K ask) }
 {
     match rows.ask(ask) {
         Some(row) => Some(row.member),
@@ -59,7 +60,8 @@ fn member_asked(rows: &Rows, ask: u64) -> Option<u64>
 impl Ready {
     /// Looks at a member anew.
     fn mark_member(&mut self, rows: &Rows, member: u64)
-        ensures marked { (ps xs : List ℕ) → MarkedBut rows.now.sheet.state self.old (member ∷ ps) xs → MarkedBut rows.now.sheet.state self.new ps xs }
+        ensures marked { (ps xs : List ℕ) → MarkedBut rows.now.sheet.state self.old (member ∷ ps) xs
+            → MarkedBut rows.now.sheet.state self.new ps xs }
         ensures room { SameRoom self.old self.new }
     {
         if 0 < member && member <= self.skips.len() as u64 {
@@ -69,7 +71,8 @@ impl Ready {
 
     /// Looks at an action anew.
     fn mark_action(&mut self, rows: &Rows, action: u64)
-        ensures marked { (ps xs : List ℕ) → MarkedBut rows.now.sheet.state self.old ps (action ∷ xs) → MarkedBut rows.now.sheet.state self.new ps xs }
+        ensures marked { (ps xs : List ℕ) → MarkedBut rows.now.sheet.state self.old ps (action ∷ xs)
+            → MarkedBut rows.now.sheet.state self.new ps xs }
         ensures room { SameRoom self.old self.new }
     {
         if 0 < action && action <= self.turns.len() as u64 && action <= self.ends.len() as u64 {
@@ -80,7 +83,8 @@ impl Ready {
 
     /// Looks at an action anew, if there is one.
     fn mark_any(&mut self, rows: &Rows, action: Option<u64>)
-        ensures marked { (ps xs : List ℕ) → MarkedBut rows.now.sheet.state self.old ps (option_to_list action ++ xs) → MarkedBut rows.now.sheet.state self.new ps xs }
+        ensures marked { (ps xs : List ℕ) → MarkedBut rows.now.sheet.state self.old ps (option_to_list action ++ xs)
+            → MarkedBut rows.now.sheet.state self.new ps xs }
         ensures room { SameRoom self.old self.new }
     {
         if let Some(action) = action {
@@ -90,7 +94,8 @@ impl Ready {
 
     /// Looks at some members anew.
     fn mark_members(&mut self, rows: &Rows, members: &[u64])
-        ensures marked { (ps xs : List ℕ) → MarkedBut rows.now.sheet.state self.old (members.now ++ ps) xs → MarkedBut rows.now.sheet.state self.new ps xs }
+        ensures marked { (ps xs : List ℕ) → MarkedBut rows.now.sheet.state self.old (members.now ++ ps) xs
+            → MarkedBut rows.now.sheet.state self.new ps xs }
         ensures room { SameRoom self.old self.new }
     {
         for member in members {
@@ -100,7 +105,8 @@ impl Ready {
 
     /// Looks at some actions anew.
     fn mark_actions(&mut self, rows: &Rows, actions: &[u64])
-        ensures marked { (ps xs : List ℕ) → MarkedBut rows.now.sheet.state self.old ps (actions.now ++ xs) → MarkedBut rows.now.sheet.state self.new ps xs }
+        ensures marked { (ps xs : List ℕ) → MarkedBut rows.now.sheet.state self.old ps (actions.now ++ xs)
+            → MarkedBut rows.now.sheet.state self.new ps xs }
         ensures room { SameRoom self.old self.new }
     {
         for action in actions {
@@ -110,7 +116,8 @@ impl Ready {
 
     /// Looks at a member and its action anew.
     fn mark_with_action(&mut self, rows: &Rows, member: u64)
-        ensures marked { (K : History) → StandsFor rows.now.sheet K → MarkedBut rows.now.sheet.state self.old (member ∷ []) (action_of K member ∷ []) → MarkedBut rows.now.sheet.state self.new [] [] }
+        ensures marked { (K : History) → StandsFor rows.now.sheet K → MarkedBut rows.now.sheet.state self.old
+            (member ∷ []) (action_of K member ∷ []) → MarkedBut rows.now.sheet.state self.new [] [] }
         ensures room { SameRoom self.old self.new }
     {
         self.mark_member(rows, member);
@@ -121,7 +128,8 @@ impl Ready {
 
     /// Looks at an action anew, at its parent, and at all that stands in it.
     fn mark_around(&mut self, rows: &Rows, action: u64)
-        ensures marked { (K : History) → StandsFor rows.now.sheet K → MarkedBut rows.now.sheet.state self.old (members_of K action) (around K action) → MarkedBut rows.now.sheet.state self.new [] [] }
+        ensures marked { (K : History) → StandsFor rows.now.sheet K → MarkedBut rows.now.sheet.state self.old
+            (members_of K action) (around K action) → MarkedBut rows.now.sheet.state self.new [] [] }
         ensures room { SameRoom self.old self.new }
     {
         self.mark_action(rows, action);
@@ -132,7 +140,9 @@ impl Ready {
 
     /// Looks anew at all that a deed concerns.
     pub(crate) fn mark(&mut self, rows: &Rows, deed: &Deed)
-        ensures marked { (K : History) → StandsFor rows.now.sheet K → MarkedBut rows.now.sheet.state self.old (members_concerned K deed.now) (actions_concerned K deed.now) → MarkedBut rows.now.sheet.state self.new [] [] }
+        ensures marked { (K : History) → StandsFor rows.now.sheet K → MarkedBut rows.now.sheet.state self.old
+            (members_concerned K deed.now) (actions_concerned K deed.now)
+            → MarkedBut rows.now.sheet.state self.new [] [] }
         ensures room { SameRoom self.old self.new }
     {
         match deed {

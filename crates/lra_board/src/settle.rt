@@ -80,7 +80,8 @@ impl Board {
         requires steps { vec_len trail.old.steps < vec_capacity trail.old.steps }
         ensures carried { self.new ≡ carried entry self.old }
         ensures entries { trail.new.entries.items ≡ trail.old.entries.items ++ entry ∷ [] }
-        ensures trail { (b : Boarded) → IsTrail b trail.old.entries.items trail.old.steps.items self.old → IsTrail b trail.new.entries.items trail.new.steps.items self.new }
+        ensures trail { (b : Boarded) → IsTrail b trail.old.entries.items trail.old.steps.items self.old
+            → IsTrail b trail.new.entries.items trail.new.steps.items self.new }
     {
         let step = self.carry(&entry, uris);
         trail.push(entry, step);
@@ -91,7 +92,8 @@ impl Board {
     fn go_back(&mut self, trail: &Trail) -> Option<Packed>
         requires { HasTrail trail.now.entries.items trail.now.steps.items self.old }
         ensures back { (b : Boarded) → IsTrail b trail.now.entries.items trail.now.steps.items self.old → self.new ≡ b }
-        ensures uris { (e : EntryValue) → slice_get trail.now.entries.items 0 ≡ Some e → result ≡ addresses_joined e.deed }
+        ensures uris { (e : EntryValue) → slice_get trail.now.entries.items 0 ≡ Some e → result
+            ≡ addresses_joined e.deed }
     {
         let mut uris = None;
         for place in (0..trail.steps.len()).rev() {
@@ -132,9 +134,12 @@ impl Board {
         trail: &mut Trail,
     ) -> Result<(), Memory>
         requires { GoesOn self.old by moment deed }
-        ensures entries { OnOk result (trail.new.entries.items ≡ trail.old.entries.items ++ record { by = by; moment = moment; deed = deed } ∷ []) }
-        ensures goes { OnOk result ((K : History) → MayGoOn self.old K by moment → Some deed ≡ next_settling K → MayGoOn self.new (K ++ record { by = by; moment = moment; deed = deed } ∷ []) by moment) }
-        ensures trail { (b : Boarded) → IsTrail b trail.old.entries.items trail.old.steps.items self.old → IsTrail b trail.new.entries.items trail.new.steps.items self.new }
+        ensures entries { OnOk result (trail.new.entries.items ≡ trail.old.entries.items
+            ++ record { by = by; moment = moment; deed = deed } ∷ []) }
+        ensures goes { OnOk result ((K : History) → MayGoOn self.old K by moment → Some deed ≡ next_settling K
+            → MayGoOn self.new (K ++ record { by = by; moment = moment; deed = deed } ∷ []) by moment) }
+        ensures trail { (b : Boarded) → IsTrail b trail.old.entries.items trail.old.steps.items self.old
+            → IsTrail b trail.new.entries.items trail.new.steps.items self.new }
     {
         trail.reserve()?;
         self.count_one()?;
@@ -151,8 +156,10 @@ impl Board {
         trail: &mut Trail,
     ) -> Result<(), Memory>
         requires { Going self.old by moment }
-        ensures whole { OnOk result ((J : History) (whole : List EntryValue) → SettlesTo J by moment most self.old trail.old.entries.items whole → trail.new.entries.items ≡ whole) }
-        ensures trail { (b : Boarded) → IsTrail b trail.old.entries.items trail.old.steps.items self.old → IsTrail b trail.new.entries.items trail.new.steps.items self.new }
+        ensures whole { OnOk result ((J : History) (whole : List EntryValue)
+            → SettlesTo J by moment most self.old trail.old.entries.items whole → trail.new.entries.items ≡ whole) }
+        ensures trail { (b : Boarded) → IsTrail b trail.old.entries.items trail.old.steps.items self.old
+            → IsTrail b trail.new.entries.items trail.new.steps.items self.new }
     {
         for done in 0..most {
             let Some(deed) = self.next_settling() else {
@@ -165,8 +172,11 @@ impl Board {
 
     fn settle_rest(&mut self, by: u32, moment: u64, trail: &mut Trail) -> Result<(), Memory>
         requires { Going self.old by moment }
-        ensures whole { OnOk result ((J : History) (e : EntryValue) (v : Version) (t : List ℕ → Bool) → is_legal v t J ≡ true → allows v t J e ≡ true → StandsFor self.old.rows.sheet (J ++ e ∷ []) → by ≡ e.by → moment ≡ e.moment → trail.old.entries.items ≡ e ∷ [] → trail.new.entries.items ≡ with_settling J e) }
-        ensures trail { (b : Boarded) → IsTrail b trail.old.entries.items trail.old.steps.items self.old → IsTrail b trail.new.entries.items trail.new.steps.items self.new }
+        ensures whole { OnOk result ((J : History) (e : EntryValue) (v : Version) (t : List ℕ → Bool) → is_legal v t J
+            ≡ true → allows v t J e ≡ true → StandsFor self.old.rows.sheet (J ++ e ∷ []) → by ≡ e.by → moment ≡ e.moment
+            → trail.old.entries.items ≡ e ∷ [] → trail.new.entries.items ≡ with_settling J e) }
+        ensures trail { (b : Boarded) → IsTrail b trail.old.entries.items trail.old.steps.items self.old
+            → IsTrail b trail.new.entries.items trail.new.steps.items self.new }
     {
         let most = self.most_settling()?;
         self.settle_all(by, moment, most, trail)
@@ -179,7 +189,8 @@ impl Board {
         ensures same { self.new.rows.sheet ≡ self.old.rows.sheet }
         ensures kept { (e : EntryValue) → has_room e self.old ≡ true → has_room e self.new ≡ true }
         ensures room { OnOk result (has_room entry self.new ≡ true) }
-        ensures entries { IfOk result (λ a. (J : History) (h : StandsFor self.old.rows.sheet J) → allows h.version h.is_address J entry ≡ true → a.entries.items ≡ with_settling J entry) }
+        ensures entries { IfOk result (λ a. (J : History) (h : StandsFor self.old.rows.sheet J)
+            → allows h.version h.is_address J entry ≡ true → a.entries.items ≡ with_settling J entry) }
         ensures uris { IfOk result (λ a. a.uris ≡ addresses_joined entry.deed) }
     {
         let uris = copy_joined(alloc, &entry)?;

@@ -8,6 +8,8 @@ use Rattle.lra_office.specs.Enrolled.{IsEnrolled}
 use Rattle.lra_office.specs.Windows.{IsOfficeOf}
 
 -- the clerk that is enrolled is of the same origin
-pub forked : {X O : Type 0} (set : O → Setting) (o : OfficeOf X O) (v w : View O) (m n : ℕ) → IsOfficeOf (set v.origin) o → IsEnrolled (set v.origin) (newcomer v) m n w
+pub forked : {X O : Type 0} (set : O → Setting) (o : OfficeOf X O) (v w : View O) (m n : ℕ)
+    → IsOfficeOf (set v.origin) o → IsEnrolled (set v.origin) (newcomer v) m n w
     → IsOfficeOf (set w.origin) o
-forked set o v w m n made h = subst (λ (x : _). IsOfficeOf (set x) o) (sym (ap (λ (u : View _). u.origin) h.grown.after)) made
+forked set o v w m n made h = subst (λ (x : _). IsOfficeOf (set x) o) (sym
+    (ap (λ (u : View _). u.origin) h.grown.after)) made

@@ -50,7 +50,8 @@ impl<V: Serving, R: Wait + Clone + Drop> Branch<V, R> {
         ensures number { self.new.clerk.number ≡ self.old.clerk.number }
         ensures same { clerk_view self.new.clerk ≡ clerk_view self.old.clerk }
         ensures office { IfOk result (λ other. arc_value other.office ≡ arc_value self.old.office) }
-        ensures enrolled { IfOk result (λ other. IsEnrolled (V.setting (clerk_view self.old.clerk).origin) (newcomer (clerk_view self.old.clerk)) moment other.clerk.number (clerk_view other.clerk)) }
+        ensures enrolled { IfOk result (λ other. IsEnrolled (V.setting (clerk_view self.old.clerk).origin)
+            (newcomer (clerk_view self.old.clerk)) moment other.clerk.number (clerk_view other.clerk)) }
     {
         let Ok(rt) = self.rt.clone() else {
             return Err(OfficeRefusal::Refused(Refusal::Memory));
@@ -72,7 +73,8 @@ impl<V: Serving, R: Wait + Clone + Drop> Branch<V, R> {
     /// Tells its clerk what that asks, as `OfficeOf::query` does.
     pub fn query(&mut self, query: Query) -> Result<Known, OfficeRefusal>
         ensures number { self.new.clerk.number ≡ self.old.clerk.number }
-        ensures known { IsQueried (V.setting (clerk_view self.old.clerk).origin) (clerk_view self.old.clerk) query result (clerk_view self.new.clerk) }
+        ensures known { IsQueried (V.setting (clerk_view self.old.clerk).origin) (clerk_view self.old.clerk) query
+            result (clerk_view self.new.clerk) }
     {
         self.office.query(&self.rt, &mut self.clerk, query)
     }
@@ -80,7 +82,8 @@ impl<V: Serving, R: Wait + Clone + Drop> Branch<V, R> {
     /// Tells its clerk when something is due or late first, as `OfficeOf::next_moment` does.
     pub fn next_moment(&mut self) -> Result<Option<u64>, OfficeRefusal>
         ensures number { self.new.clerk.number ≡ self.old.clerk.number }
-        ensures next { IsLookedAhead (V.setting (clerk_view self.old.clerk).origin) (clerk_view self.old.clerk) result (clerk_view self.new.clerk) }
+        ensures next { IsLookedAhead (V.setting (clerk_view self.old.clerk).origin) (clerk_view self.old.clerk) result
+            (clerk_view self.new.clerk) }
     {
         self.office.next_moment(&self.rt, &mut self.clerk)
     }
@@ -95,8 +98,11 @@ impl<V: Serving, R: Wait + Clone + Drop> Branch<V, R> {
         requires none { AreFree (C.held carriage.old) }
         ensures clerk { IsClerkOf (arc_value self.office).lock V.covers result.0 }
         ensures number { result.0.number ≡ self.clerk.number }
-        ensures work { EndsCarrying V.setting C.gives K.tells (post (clerk_view self.clerk) clock.old) result.1 (post (clerk_view result.0) clock.new) }
-        ensures why { TellsWhy (G.is_shut gate.new) (G.holds gate.new) (HasStopped V.origin V.history V.lawful V.has_stopped (clerk_view result.0)) (clerk_view result.0).seen result.1 }
+        ensures work { EndsCarrying V.setting C.gives K.tells (post (clerk_view self.clerk) clock.old) result.1
+            (post (clerk_view result.0) clock.new) }
+        ensures why { TellsWhy (G.is_shut gate.new) (G.holds gate.new)
+            (HasStopped V.origin V.history V.lawful V.has_stopped (clerk_view result.0)) (clerk_view result.0).seen
+            result.1 }
         ensures held { AreHanded V.covers (clerk_view result.0).seen (C.held carriage.new) }
     {
         let Branch { rt, office, clerk } = self;

@@ -67,18 +67,28 @@ own_comes keeps instance (Some came) errand h = λ x e. record { instance = inst
 
 -- and so of some position
 pub comes_of : (keeps : ℕ → ℕ → Bool) (old mid new : List (Option Handed)) (r : Option (Asking × Outcome)) → mid ≡ old
-    → IfSome r (λ came. (n : ℕ) × Gains (errand_at new) (errand_at mid) (came.0, n) × OfGroup keeps n came.0.ask came.0.kind came.1)
-    → IfSome r (λ came. (n : ℕ) × Gains (errand_at new) (errand_at old) (came.0, n) × MayComeOf keeps came.0.ask came.0.kind came.1)
+    → IfSome r (λ came. (n : ℕ) × Gains (errand_at new) (errand_at mid) (came.0, n)
+    × OfGroup keeps n came.0.ask came.0.kind came.1)
+    → IfSome r (λ came. (n : ℕ) × Gains (errand_at new) (errand_at old) (came.0, n)
+    × MayComeOf keeps came.0.ask came.0.kind came.1)
 comes_of keeps old mid new None e h = tt
-comes_of keeps old mid new (Some came) e (n, gains, of) =
-    (n, subst (λ (errands : List (Option Handed)). Gains (errand_at new) (errand_at errands) (came.0, n)) e gains, record { position = n; of = of })
+comes_of keeps old mid new (Some came) e (n, gains, of) = (
+  n,
+  subst (λ (errands : List (Option Handed)). Gains (errand_at new) (errand_at errands) (came.0, n)) e gains,
+  record { position = n; of = of },
+)
 
 -- moving bytes changes nothing of what is asked
 pub same_of : (c : Carried) → IsOfSame c c
 same_of c = record { kind = refl; direction = refl; request = refl }
 
 pub same_on : (a b c : Carried) → IsOfSame a b → IsOfSame b c → IsOfSame a c
-same_on a b c h k = record { kind = k.kind ∙ h.kind; direction = k.direction ∙ h.direction; request = k.request ∙ h.request }
+same_on a b c h k = record {
+  kind = k.kind ∙ h.kind;
+  direction = k.direction ∙ h.direction;
+  request = k.request
+      ∙ h.request;
+}
 
 pub same_for : (old new : Carried) (errand : Option Handed) → IsOfSame old new → ForSome errand (λ h. IsFor old h.0)
     → ForSome errand (λ h. IsFor new h.0)

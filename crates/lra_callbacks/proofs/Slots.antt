@@ -47,54 +47,69 @@ module _ {X : Type 0} (of : Option X → Option Handed) where
       by true same =
           let p = eqb-true place key same in
           ap (λ (k : ℕ). errand_at (map of new) k) p
-          ∙ (at none new key ∙ (ap of free ∙ (none ∙ (sym is ∙ (ap of (sym there) ∙ (sym (at none old key) ∙ ap (λ (k : ℕ). errand_at (map of old) k) (sym p)))))))
+          ∙ (at none new key ∙ (ap of free
+          ∙ (none ∙ (sym is ∙ (ap of (sym there) ∙ (sym (at none old key)
+          ∙ ap (λ (k : ℕ). errand_at (map of old) k) (sym p)))))))
       by false other = at none new place ∙ (ap of (others place (eqb-false place key other)) ∙ sym (at none old place))
 
 module _ {X : Type 0} where
   -- a call is changed, and its errand stays
   pub kept_errands : (slots : List (Option X)) (key : ℕ) (old new : X) (f : X → Option Handed)
       → Some old ≡ slice_index_or slots key None → f new ≡ f old
-      → map (λ (slot : Option X). option_and_then f slot) (slice_set slots key (Some new)) ≡ map (λ (slot : Option X). option_and_then f slot) slots
-  kept_errands slots key old new f there same = same_errands (λ (slot : Option X). option_and_then f slot) slots key (Some new) (same ∙ ap (λ (slot : Option X). option_and_then f slot) there)
+      → map (λ (slot : Option X). option_and_then f slot) (slice_set slots key (Some new))
+      ≡ map (λ (slot : Option X). option_and_then f slot) slots
+  kept_errands slots key old new f there same = same_errands (λ (slot : Option X). option_and_then f slot) slots key
+      (Some new) (same ∙ ap (λ (slot : Option X). option_and_then f slot) there)
 
   -- a call is taken in
-  pub taken_in : (old mid new : List (Option X)) (key : ℕ) (call : X) (e : Handed) (f : X → Option Handed) (now : List (Option Handed)) → map (λ (slot : Option X). option_and_then f slot) old ≡ now → mid ≡ old
+  pub taken_in : (old mid new : List (Option X)) (key : ℕ) (call : X) (e : Handed) (f : X → Option Handed)
+      (now : List (Option Handed)) → map (λ (slot : Option X). option_and_then f slot) old ≡ now → mid ≡ old
       → slice_index_or mid key None ≡ None → slice_index_or new key None ≡ Some call
       → ((other : ℕ) → other ≢ key → slice_index_or new other None ≡ slice_index_or mid other None) → f call ≡ Some e
       → Gains (errand_at now) (errand_at (map (λ (slot : Option X). option_and_then f slot) new)) e
   taken_in old mid new key call e f now view same free here others is =
-      subst (λ (errands : List (Option Handed)). Gains (errand_at errands) (errand_at (map (λ (slot : Option X). option_and_then f slot) new)) e) view
-      (errand_gained (λ (slot : Option X). option_and_then f slot) refl old new key (Some call) e (ap (λ (s : List (Option X)). slice_index_or s key None) (sym same) ∙ free) here is
+      subst (λ (errands : List (Option Handed)). Gains (errand_at errands)
+      (errand_at (map (λ (slot : Option X). option_and_then f slot) new)) e) view
+      (errand_gained (λ (slot : Option X). option_and_then f slot) refl old new key (Some call) e
+      (ap (λ (s : List (Option X)). slice_index_or s key None) (sym same) ∙ free) here is
       (λ other apart. others other apart ∙ ap (λ (s : List (Option X)). slice_index_or s other None) same))
 
   -- a call is given back, with what came of it
-  pub given_back : (old new : List (Option X)) (key : ℕ) (call : X) (f : X → Option Handed) (now : List (Option Handed)) (r : Option (Asking × Outcome)) (Q : ℕ → Asking × Outcome → Type 0)
+  pub given_back : (old new : List (Option X)) (key : ℕ) (call : X) (f : X → Option Handed) (now : List (Option Handed))
+      (r : Option (Asking × Outcome)) (Q : ℕ → Asking × Outcome → Type 0)
       → map (λ (slot : Option X). option_and_then f slot) old ≡ now → Some call ≡ slice_index_or old key None
       → slice_index_or new key None ≡ None
       → ((other : ℕ) → other ≢ key → slice_index_or new other None ≡ slice_index_or old other None)
       → option_map (λ (came : Asking × Outcome). came.0) r ≡ option_map (λ (h : Handed). h.0) (f call)
       → IfSome r (λ came. ForSome (f call) (λ h. Q h.1 came))
-      → IfSome r (λ came. (n : ℕ) × Gains (errand_at (map (λ (slot : Option X). option_and_then f slot) new)) (errand_at now) (came.0, n) × Q n came)
+      → IfSome r (λ came. (n : ℕ) × Gains (errand_at (map (λ (slot : Option X). option_and_then f slot) new))
+      (errand_at now) (came.0, n) × Q n came)
   given_back old new key call f now None Q view there free others is q = tt
   given_back old new key call f now (Some came) Q view there free others is q = by (f call) refl
     where
       none : Some came.0 ≡ None
-          → (n : ℕ) × Gains (errand_at (map (λ (slot : Option X). option_and_then f slot) new)) (errand_at now) (came.0, n) × Q n came
+          → (n : ℕ) × Gains (errand_at (map (λ (slot : Option X). option_and_then f slot) new)) (errand_at now)
+          (came.0, n) × Q n came
       none h = absurd cc
 
       by : (o : Option Handed) → f call ≡ o
-          → (n : ℕ) × Gains (errand_at (map (λ (slot : Option X). option_and_then f slot) new)) (errand_at now) (came.0, n) × Q n came
+          → (n : ℕ) × Gains (errand_at (map (λ (slot : Option X). option_and_then f slot) new)) (errand_at now)
+          (came.0, n) × Q n came
       by None g = none (is ∙ ap (option_map (λ (h : Handed). h.0)) g)
       by (Some (a, n)) g =
           let same : came.0 ≡ a = same_Some came.0 a (is ∙ ap (option_map (λ (h : Handed). h.0)) g) in (
             n,
-            subst (λ (errands : List (Option Handed)). Gains (errand_at (map (λ (slot : Option X). option_and_then f slot) new)) (errand_at errands) (came.0, n)) view
-                (errand_gained (λ (slot : Option X). option_and_then f slot) refl new old key (Some call) (came.0, n) free (sym there) (g ∙ ap (λ (x : Asking). Some (x, n)) (sym same)) (λ other apart. sym (others other apart))),
+            subst (λ (errands : List (Option Handed)). Gains (errand_at
+                (map (λ (slot : Option X). option_and_then f slot) new)) (errand_at errands) (came.0, n)) view
+                (errand_gained (λ (slot : Option X). option_and_then f slot) refl new old key (Some call) (came.0, n)
+                free (sym there) (g ∙ ap (λ (x : Asking). Some (x, n)) (sym same))
+                (λ other apart. sym (others other apart))),
             q (a, n) g,
           )
 
   -- a call without an errand is let go of
-  pub let_go : (old new : List (Option X)) (key : ℕ) (call : X) (f : X → Option Handed) (now : List (Option Handed)) (r : Option (Asking × Outcome))
+  pub let_go : (old new : List (Option X)) (key : ℕ) (call : X) (f : X → Option Handed) (now : List (Option Handed))
+      (r : Option (Asking × Outcome))
       → map (λ (slot : Option X). option_and_then f slot) old ≡ now → Some call ≡ slice_index_or old key None
       → slice_index_or new key None ≡ None
       → ((other : ℕ) → other ≢ key → slice_index_or new other None ≡ slice_index_or old other None)
@@ -102,8 +117,10 @@ module _ {X : Type 0} where
       → IfNone r (AreSame (errand_at now) (errand_at (map (λ (slot : Option X). option_and_then f slot) new)))
   let_go old new key call f now (Some came) view there free others is = tt
   let_go old new key call f now None view there free others is =
-      subst (λ (errands : List (Option Handed)). AreSame (errand_at errands) (errand_at (map (λ (slot : Option X). option_and_then f slot) new))) view
-      (none_lost (λ (slot : Option X). option_and_then f slot) refl old new key (Some call) (sym there) (by (f call) refl) free others)
+      subst (λ (errands : List (Option Handed)). AreSame (errand_at errands)
+      (errand_at (map (λ (slot : Option X). option_and_then f slot) new))) view
+      (none_lost (λ (slot : Option X). option_and_then f slot) refl old new key (Some call) (sym there)
+      (by (f call) refl) free others)
     where
       some : (h : Handed) → None ≡ Some h.0 → f call ≡ None
       some h e = absurd cc

@@ -229,7 +229,9 @@ impl<G: SyncGroup> Call<G> {
 
 /// Begins to connect to a target that the rules let. Else tells how that ends.
 fn dial<R: Net>(rt: &R, rules: &Rules, to: Target<'_>) -> Result<TcpStream, End>
-    ensures { OnOk result (IsTrue (let_address rules.now (host_in to.entry.socket.now) (socket_ip to.entry.address) (socket_port to.entry.address))) }
+    ensures { OnOk result
+        (IsTrue (let_address rules.now (host_in to.entry.socket.now) (socket_ip to.entry.address)
+        (socket_port to.entry.address))) }
 {
     if !rules.let_socket(to.socket.as_bytes(), to.address) {
         return Err(End::NotAllowed);

@@ -53,7 +53,8 @@ impl Silences {
 
     /// From when on an errand's member may be asked, with so many milliseconds between two asks in one stage. Where it wasn't silent in that stage it may be at any time.
     pub(crate) fn until(&self, errand: &Errand, pause: u64) -> Option<u64>
-        ensures { result ≡ again (get nat_eq self.now.by_member errand.now.member) (wants.stage_of errand.now.kind errand.now.direction) pause }
+        ensures { result ≡ again (get nat_eq self.now.by_member errand.now.member)
+            (wants.stage_of errand.now.kind errand.now.direction) pause }
     {
         match self.by_member.get(&errand.member()) {
             Some(silence) if is_again(silence, stage_of(errand)) => {
@@ -66,7 +67,8 @@ impl Silences {
     /// Notes what came of an errand at a moment. Where memory is refused its member counts as one that wasn't silent.
     pub(crate) fn note(&mut self, errand: &Errand, outcome: Outcome, moment: u64)
         ensures own { Notes errand.now outcome moment (get nat_eq self.new.by_member errand.now.member) }
-        ensures others { (other : ℕ) → other ≢ errand.now.member → get nat_eq self.new.by_member other ≡ get nat_eq self.old.by_member other }
+        ensures others { (other : ℕ) → other ≢ errand.now.member → get nat_eq self.new.by_member other
+            ≡ get nat_eq self.old.by_member other }
     {
         let member = errand.member();
         if !matches!(outcome, Outcome::Silent) {

@@ -34,7 +34,8 @@ struct Anchor {
 impl Anchor {
     /// The moment once so much time has passed by the steady clock.
     fn moment_at(&self, now: Instant) -> Option<u64>
-        ensures { IfSome result (λ moment. moment ≡ self.now.moment + (instant_nanos now - instant_nanos self.now.told) / 1_000_000) }
+        ensures { IfSome result (λ moment. moment ≡ self.now.moment + (instant_nanos now - instant_nanos self.now.told)
+            / 1_000_000) }
     {
         let passed = now.saturating_duration_since(self.told);
         self.moment.checked_add(milliseconds_of(passed)?)

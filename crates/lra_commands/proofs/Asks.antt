@@ -32,29 +32,38 @@ use Rattle.lra_commands.specs.Queries.{rows_of, holds_end, known_where, is_liste
 
 -- a call is answered what a query is told, and appends nothing
 abbrev IsAsked : Terms → History → Call → Query → Type 0
-IsAsked s J c q = (answer s J c ≡ cond (is_among (clerks J) c.by) (answer_as (tell s.limits J q)) (Err refusal.NoSuchClerk)) × (block s J c ≡ [])
+IsAsked s J c q = (answer s J c ≡ cond (is_among (clerks J) c.by) (answer_as (tell s.limits J q))
+    (Err refusal.NoSuchClerk)) × (block s J c ≡ [])
 
 abbrev call : ℕ → ℕ → Command → Call
 call by m o = record { by = by; moment = m; command = o }
 
-status_asked : (s : Terms) (J : History) (by m a : ℕ) → IsAsked s J (call by m (command.Status a)) (query.ActionStatus a)
+status_asked : (s : Terms) (J : History) (by m a : ℕ) → IsAsked s J (call by m (command.Status a))
+    (query.ActionStatus a)
 unfolding answer refused block tell
 status_asked s J by m a = (cases (is_among (clerks J) by) (is_among (actions J) a), refl)
   where
     cases : (b c : Bool)
-        → option_map_or Err (first_ground ((refusal.NoSuchClerk, not b) ∷ ((refusal.NoSuchAction, not c) ∷ full_grounds s J (call by m (command.Status a))))) (Ok (told.ActionIs (status_at J a)))
-        ≡ cond b (answer_as (known_where c (known.ActionIs (status_at J a)) refusal.NoSuchAction)) (Err refusal.NoSuchClerk)
+        → option_map_or Err (first_ground ((refusal.NoSuchClerk, not b)
+        ∷ ((refusal.NoSuchAction, not c) ∷ full_grounds s J (call by m (command.Status a)))))
+        (Ok (told.ActionIs (status_at J a)))
+        ≡ cond b (answer_as (known_where c (known.ActionIs (status_at J a)) refusal.NoSuchAction))
+        (Err refusal.NoSuchClerk)
     cases true true = refl
     cases true false = refl
     cases false c = refl
 
-member_asked : (s : Terms) (J : History) (by m p : ℕ) → IsAsked s J (call by m (command.MemberStatus p)) (query.MemberStatus p)
+member_asked : (s : Terms) (J : History) (by m p : ℕ) → IsAsked s J (call by m (command.MemberStatus p))
+    (query.MemberStatus p)
 unfolding answer refused block tell
 member_asked s J by m p = (cases (is_among (clerks J) by) (is_among (members J) p), refl)
   where
     cases : (b c : Bool)
-        → option_map_or Err (first_ground ((refusal.NoSuchClerk, not b) ∷ ((refusal.NoSuchMember, not c) ∷ full_grounds s J (call by m (command.MemberStatus p))))) (Ok (told.MemberIs (member_status J p)))
-        ≡ cond b (answer_as (known_where c (known.MemberIs (member_status J p)) refusal.NoSuchMember)) (Err refusal.NoSuchClerk)
+        → option_map_or Err (first_ground ((refusal.NoSuchClerk, not b)
+        ∷ ((refusal.NoSuchMember, not c) ∷ full_grounds s J (call by m (command.MemberStatus p)))))
+        (Ok (told.MemberIs (member_status J p)))
+        ≡ cond b (answer_as (known_where c (known.MemberIs (member_status J p)) refusal.NoSuchMember))
+        (Err refusal.NoSuchClerk)
     cases true true = refl
     cases true false = refl
     cases false c = refl
@@ -84,12 +93,16 @@ queries_miss l J (query.Count x place) r h = inl (missed (is_listed J x) _ _ r h
 -- ---- what holds the end of an action
 
 -- where no row of those that are passed on by a test fails another
-none_kept : (test done : ℕ → Bool) (f : ℕ → Awaited) (h : Awaited → Bool) → ((p : ℕ) → h (f p) ≡ (test p && not (done p))) → (ps : List ℕ) → list_all done (filter test ps) ≡ not (list_any h (map f ps))
+none_kept : (test done : ℕ → Bool) (f : ℕ → Awaited) (h : Awaited → Bool)
+    → ((p : ℕ) → h (f p) ≡ (test p && not (done p))) → (ps : List ℕ) → list_all done (filter test ps)
+    ≡ not (list_any h (map f ps))
 none_kept test done f h e [] = refl
 none_kept test done f h e (p ∷ ps) =
-    first (test p) ∙ ap (λ b. (not (test p) || done p) && b) (none_kept test done f h e ps) ∙ turned (test p) (done p) (list_any h (map f ps)) ∙ ap (λ b. not (b || list_any h (map f ps))) (sym (e p))
+    first (test p) ∙ ap (λ b. (not (test p) || done p) && b) (none_kept test done f h e ps)
+    ∙ turned (test p) (done p) (list_any h (map f ps)) ∙ ap (λ b. not (b || list_any h (map f ps))) (sym (e p))
   where
-    first : (b : Bool) → list_all done (cond b (p ∷ filter test ps) (filter test ps)) ≡ ((not b || done p) && list_all done (filter test ps))
+    first : (b : Bool) → list_all done (cond b (p ∷ filter test ps) (filter test ps))
+        ≡ ((not b || done p) && list_all done (filter test ps))
     first true = refl
     first false = refl
 
@@ -99,9 +112,11 @@ none_kept test done f h e (p ∷ ps) =
     turned false d r = refl
 
 -- where none fails a test
-none_left : (done : ℕ → Bool) (f : ℕ → Awaited) (h : Awaited → Bool) → ((b : ℕ) → h (f b) ≡ not (done b)) → (bs : List ℕ) → list_all done bs ≡ not (list_any h (map f bs))
+none_left : (done : ℕ → Bool) (f : ℕ → Awaited) (h : Awaited → Bool) → ((b : ℕ) → h (f b) ≡ not (done b))
+    → (bs : List ℕ) → list_all done bs ≡ not (list_any h (map f bs))
 none_left done f h e [] = refl
-none_left done f h e (b ∷ bs) = ap (λ x. done b && x) (none_left done f h e bs) ∙ turned (done b) (list_any h (map f bs)) ∙ ap (λ x. not (x || list_any h (map f bs))) (sym (e b))
+none_left done f h e (b ∷ bs) = ap (λ x. done b && x) (none_left done f h e bs)
+    ∙ turned (done b) (list_any h (map f bs)) ∙ ap (λ x. not (x || list_any h (map f bs))) (sym (e b))
   where
     turned : (d r : Bool) → (d && not r) ≡ not (not d || r)
     turned true r = refl
@@ -112,18 +127,24 @@ neither true y = refl
 neither false y = refl
 
 -- both of them, over the rows of an action
-rows_settle : (J : History) (a : ℕ) (h : Awaited → Bool) (done well : ℕ → Bool) → ((p : ℕ) → h (awaited.Member p (outstanding_ask J p)) ≡ (stays J p && not (done p))) → ((b : ℕ) → h (awaited.Action b) ≡ not (well b))
+rows_settle : (J : History) (a : ℕ) (h : Awaited → Bool) (done well : ℕ → Bool)
+    → ((p : ℕ) → h (awaited.Member p (outstanding_ask J p)) ≡ (stays J p && not (done p)))
+    → ((b : ℕ) → h (awaited.Action b) ≡ not (well b))
     → (list_all done (staying J a) && list_all well (children J a)) ≡ not (list_any h (rows_of J a))
 unfolding rows_of staying
 rows_settle J a h done well e k =
     let f : ℕ → Awaited = λ p. awaited.Member p (outstanding_ask J p) in
-    ap (λ x. x && list_all well (children J a)) (none_kept (stays J) done f h e (members_of J a)) ∙ ap (λ x. not (list_any h (map f (members_of J a))) && x) (none_left well awaited.Action h k (children J a))
-    ∙ neither (list_any h (map f (members_of J a))) (list_any h (map awaited.Action (children J a))) ∙ ap not (sym (list_any-append h (map f (members_of J a)) (map awaited.Action (children J a))))
+    ap (λ x. x && list_all well (children J a)) (none_kept (stays J) done f h e (members_of J a))
+    ∙ ap (λ x. not (list_any h (map f (members_of J a))) && x) (none_left well awaited.Action h k (children J a))
+    ∙ neither (list_any h (map f (members_of J a))) (list_any h (map awaited.Action (children J a)))
+    ∙ ap not (sym (list_any-append h (map f (members_of J a)) (map awaited.Action (children J a))))
 
 pub rows_hold_ends : RowsHoldEnds
 rows_hold_ends J a status (inl e) =
     subst (λ (x : ActionStatus). settles (Some x) J a ≡ not (list_any (holds_end x J) (rows_of J a))) (sym e)
-    (rows_settle J a (holds_end action.Closing J) (λ p. is_done_completing (member_status J p)) (action_is has_ended J) (λ p. refl) (λ b. refl))
+    (rows_settle J a (holds_end action.Closing J) (λ p. is_done_completing (member_status J p)) (action_is has_ended J)
+    (λ p. refl) (λ b. refl))
 rows_hold_ends J a status (inr e) =
     subst (λ (x : ActionStatus). settles (Some x) J a ≡ not (list_any (holds_end x J) (rows_of J a))) (sym e)
-    (rows_settle J a (holds_end action.Cancelling J) (λ p. is_done_compensating (member_status J p)) (action_is has_finished_cancelling J) (λ p. refl) (λ b. refl))
+    (rows_settle J a (holds_end action.Cancelling J) (λ p. is_done_compensating (member_status J p))
+    (action_is has_finished_cancelling J) (λ p. refl) (λ b. refl))

@@ -40,7 +40,8 @@ unfolding encode
 character_bytes c h =
     cond_both (nat_lt c 128) (c ∷ []) _ AreBytes (λ t. let low = ltb-true c 128 t in let k : c < 256 = omega arith in one_more c [] k no_bytes) λ t.
     cond_both (nat_lt c 2048) ((192 + c / 64) ∷ next c ∷ []) _ AreBytes (λ u. let low = ltb-true c 2048 u in let k : 192 + c / 64 < 256 = omega arith in one_more (192 + c / 64) (next c ∷ []) k (more_next c [] no_bytes)) λ u.
-    cond_both (nat_lt c 65536) ((224 + c / 4096) ∷ next (c / 64) ∷ next c ∷ []) ((240 + c / 262144) ∷ next (c / 4096) ∷ next (c / 64) ∷ next c ∷ []) AreBytes
+    cond_both (nat_lt c 65536) ((224 + c / 4096) ∷ next (c / 64) ∷ next c ∷ [])
+    ((240 + c / 262144) ∷ next (c / 4096) ∷ next (c / 64) ∷ next c ∷ []) AreBytes
     (λ w. let low = ltb-true c 65536 w in let k : 224 + c / 4096 < 256 = omega arith in one_more (224 + c / 4096) (next (c / 64) ∷ next c ∷ []) k (more_next (c / 64) (next c ∷ []) (more_next c [] no_bytes)))
     λ w. let k : 240 + c / 262144 < 256 = omega arith in one_more (240 + c / 262144) (next (c / 4096) ∷ next (c / 64) ∷ next c ∷ []) k (more_next (c / 4096) (next (c / 64) ∷ next c ∷ []) (more_next (c / 64) (next c ∷ []) (more_next c [] no_bytes)))
 
@@ -78,11 +79,13 @@ stored_is None h k = refl
 stored_is (Some text) h k = by_answer (address_of text) refl k
   where
     by_answer : (r : Result (List ℕ) UriFault) → address_of text ≡ r → is_ok r ≡ true → is_address (stored text) ≡ true
-    by_answer (Ok own) g i = ap (λ (r : Result (List ℕ) UriFault). is_address (unwrap_or (result_ok r) text)) g ∙ address_is_own text own (text_bytes text h) g
+    by_answer (Ok own) g i = ap (λ (r : Result (List ℕ) UriFault). is_address (unwrap_or (result_ok r) text)) g
+        ∙ address_is_own text own (text_bytes text h) g
     by_answer (Err fault) g i = absurd cc
 
 -- six tests that hold, and what each says
-six : (p a b c d e p' a' b' c' d' e' : Bool) → p' ≡ p → (a ≡ true → a' ≡ true) → (b ≡ true → b' ≡ true) → (c ≡ true → c' ≡ true) → (d ≡ true → d' ≡ true) → (e ≡ true → e' ≡ true)
+six : (p a b c d e p' a' b' c' d' e' : Bool) → p' ≡ p → (a ≡ true → a' ≡ true) → (b ≡ true → b' ≡ true)
+    → (c ≡ true → c' ≡ true) → (d ≡ true → d' ≡ true) → (e ≡ true → e' ≡ true)
     → (p && a && b && c && d && e) ≡ true → (p' && a' && b' && c' && d' && e') ≡ true
 six p a b c d e p' a' b' c' d' e' same ia ib ic id ie h =
     let k5 = both (p && a && b && c && d) e h in
@@ -91,31 +94,42 @@ six p a b c d e p' a' b' c' d' e' same ia ib ic id ie h =
     let k2 = both (p && a) b k3.0 in
     let k1 = both p a k2.0 in
     and_intro (p' && a' && b' && c' && d') e'
-    (and_intro (p' && a' && b' && c') d' (and_intro (p' && a' && b') c' (and_intro (p' && a') b' (and_intro p' a' (same ∙ k1.0) (ia k1.1)) (ib k2.1)) (ic k3.1)) (id k4.1)) (ie k5.1)
+    (and_intro (p' && a' && b' && c') d' (and_intro (p' && a' && b') c'
+    (and_intro (p' && a') b' (and_intro p' a' (same ∙ k1.0) (ia k1.1)) (ib k2.1)) (ic k3.1)) (id k4.1)) (ie k5.1)
 
 -- which addresses there have to be
 abbrev has_enough : Bool → Bool → Bool → Bool → Bool → Bool
 has_enough compensate after complete status forget = compensate || (after && complete && status && forget)
 
-pub stored_fit : (u : Addresses) → are_texts u ≡ true → addresses_fit (λ text. is_ok (address_of text)) u ≡ true → addresses_fit is_address (stored_addresses u) ≡ true
+pub stored_fit : (u : Addresses) → are_texts u ≡ true → addresses_fit (λ text. is_ok (address_of text)) u ≡ true
+    → addresses_fit is_address (stored_addresses u) ≡ true
 stored_fit u texts h =
-    let t4 = both (is_text u.compensate && is_text u.complete && is_text u.status && is_text u.forget) (is_text u.after) texts in
+    let t4 = both (is_text u.compensate && is_text u.complete && is_text u.status && is_text u.forget) (is_text u.after)
+    texts in
     let t3 = both (is_text u.compensate && is_text u.complete && is_text u.status) (is_text u.forget) t4.0 in
     let t2 = both (is_text u.compensate && is_text u.complete) (is_text u.status) t3.0 in
     let t1 = both (is_text u.compensate) (is_text u.complete) t2.0 in
-    six enough (stands u.compensate) (stands u.complete) (stands u.status) (stands u.forget) (stands u.after) stored_enough (is_stored (option_map stored u.compensate)) (is_stored (option_map stored u.complete))
-    (is_stored (option_map stored u.status)) (is_stored (option_map stored u.forget)) (is_stored (option_map stored u.after)) same (stored_is u.compensate t1.0) (stored_is u.complete t1.1) (stored_is u.status t2.1) (stored_is u.forget t3.1)
+    six enough (stands u.compensate) (stands u.complete) (stands u.status) (stands u.forget) (stands u.after)
+    stored_enough (is_stored (option_map stored u.compensate)) (is_stored (option_map stored u.complete))
+    (is_stored (option_map stored u.status)) (is_stored (option_map stored u.forget))
+    (is_stored (option_map stored u.after)) same (stored_is u.compensate t1.0) (stored_is u.complete t1.1)
+    (stored_is u.status t2.1) (stored_is u.forget t3.1)
     (stored_is u.after t4.1) h
   where
     enough : Bool
-    enough = has_enough (is_some u.compensate) (is_some u.after) (is_none u.complete) (is_none u.status) (is_none u.forget)
+    enough = has_enough (is_some u.compensate) (is_some u.after) (is_none u.complete) (is_none u.status)
+        (is_none u.forget)
 
     stored_enough : Bool
     stored_enough =
-        has_enough (is_some (option_map stored u.compensate)) (is_some (option_map stored u.after)) (is_none (option_map stored u.complete)) (is_none (option_map stored u.status)) (is_none (option_map stored u.forget))
+        has_enough (is_some (option_map stored u.compensate)) (is_some (option_map stored u.after))
+        (is_none (option_map stored u.complete)) (is_none (option_map stored u.status))
+        (is_none (option_map stored u.forget))
 
-    five : (a b c d e a' b' c' d' e' : Bool) → a' ≡ a → b' ≡ b → c' ≡ c → d' ≡ d → e' ≡ e → has_enough a' b' c' d' e' ≡ has_enough a b c d e
+    five : (a b c d e a' b' c' d' e' : Bool) → a' ≡ a → b' ≡ b → c' ≡ c → d' ≡ d → e' ≡ e → has_enough a' b' c' d' e'
+        ≡ has_enough a b c d e
     five a b c d e a' b' c' d' e' i j k l m = cc
 
     same : stored_enough ≡ enough
-    same = five _ _ _ _ _ _ _ _ _ _ (some_stored u.compensate) (some_stored u.after) (none_stored u.complete) (none_stored u.status) (none_stored u.forget)
+    same = five _ _ _ _ _ _ _ _ _ _ (some_stored u.compensate) (some_stored u.after) (none_stored u.complete)
+        (none_stored u.status) (none_stored u.forget)

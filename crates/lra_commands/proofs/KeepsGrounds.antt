@@ -40,7 +40,8 @@ unrefused s J c h =
     record { known = k.0; fits = l.0; room = l.1 }
 
 -- where a call writes and isn't refused, the history stays within the limits
-pub within_after : (s : Terms) (J : History) (c : Call) (e : Entry) (es : List Entry) → IsUnrefused s J c → block s J c ≡ e ∷ es → IsWithin s.limits (J ++ (e ∷ es))
+pub within_after : (s : Terms) (J : History) (c : Call) (e : Entry) (es : List Entry) → IsUnrefused s J c → block s J c
+    ≡ e ∷ es → IsWithin s.limits (J ++ (e ∷ es))
 within_after s J c e es u h = record {
   clerks = ltb-false s.limits.clerks (length (clerks K)) (room resource.Clerks u.room.0);
   actions = ltb-false s.limits.actions (length (actions K)) (room resource.Actions u.room.1.0);

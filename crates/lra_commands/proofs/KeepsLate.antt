@@ -14,7 +14,8 @@ abbrev Each : (Timed → Type 0) → List Timed → Type 0
 Each P [] = Unit {0}
 Each P (x ∷ xs) = P x × Each P xs
 
-each_read : {X : Type 0} (P : Timed → Type 0) (h : X → Option Timed) → ((x : X) (y : Timed) → h x ≡ Some y → P y) → (xs : List X) → Each P (filter_map h xs)
+each_read : {X : Type 0} (P : Timed → Type 0) (h : X → Option Timed) → ((x : X) (y : Timed) → h x ≡ Some y → P y)
+    → (xs : List X) → Each P (filter_map h xs)
 each_read P h from [] = tt
 each_read {X = X} P h from (x ∷ xs) = one (h x) refl (each_read P h from xs)
   where
@@ -22,11 +23,13 @@ each_read {X = X} P h from (x ∷ xs) = one (h x) refl (each_read P h from xs)
     one None g rest = rest
     one (Some y) g rest = (from x y g, rest)
 
-each_chosen : (P : Timed → Type 0) (test : Timed → Bool) (xs : List Timed) → Each P xs → Each (λ x. P x × (test x ≡ true)) (filter_map (λ (x : Timed). when (test x) x) xs)
+each_chosen : (P : Timed → Type 0) (test : Timed → Bool) (xs : List Timed) → Each P xs
+    → Each (λ x. P x × (test x ≡ true)) (filter_map (λ (x : Timed). when (test x) x) xs)
 each_chosen P test [] h = tt
 each_chosen P test (x ∷ xs) h = one (test x) refl (each_chosen P test xs h.1)
   where
-    one : (b : Bool) → test x ≡ b → Each (λ y. P y × (test y ≡ true)) (filter_map (λ (y : Timed). when (test y) y) xs) → Each (λ y. P y × (test y ≡ true)) (cons_option (when b x) (filter_map (λ (y : Timed). when (test y) y) xs))
+    one : (b : Bool) → test x ≡ b → Each (λ y. P y × (test y ≡ true)) (filter_map (λ (y : Timed). when (test y) y) xs)
+        → Each (λ y. P y × (test y ≡ true)) (cons_option (when b x) (filter_map (λ (y : Timed). when (test y) y) xs))
     one true g rest = ((h.0, g), rest)
     one false g rest = rest
 
@@ -47,15 +50,22 @@ each_earliest P (y ∷ ys) h x g = one (earliest ys) (each_earliest P ys h.1) g
     one (Some z) rest e = two (nat_le y.moment z.moment) z (rest z refl) e
 
 -- what is due first has come
-due_has_come : (P : Timed → Type 0) (now : ℕ) (xs : List Timed) → Each P xs → (n : ℕ) → first_due now xs ≡ Some n → (x : Timed) × (P x × (nat_le x.moment now ≡ true)) × (x.number ≡ n)
+due_has_come : (P : Timed → Type 0) (now : ℕ) (xs : List Timed) → Each P xs → (n : ℕ) → first_due now xs ≡ Some n
+    → (x : Timed) × (P x × (nat_le x.moment now ≡ true)) × (x.number ≡ n)
 due_has_come P now xs h n g = one (earliest chosen) refl g
   where
     chosen : List Timed
     chosen = filter_map (λ (x : Timed). when (nat_le x.moment now) x) xs
 
-    one : (o : Option Timed) → earliest chosen ≡ o → option_map (λ (x : Timed). x.number) o ≡ Some n → (x : Timed) × (P x × (nat_le x.moment now ≡ true)) × (x.number ≡ n)
+    one : (o : Option Timed) → earliest chosen ≡ o → option_map (λ (x : Timed). x.number) o ≡ Some n → (x : Timed)
+        × (P x × (nat_le x.moment now ≡ true)) × (x.number ≡ n)
     one None e i = absurd cc
-    one (Some x) e i = (x, each_earliest (λ y. P y × (nat_le y.moment now ≡ true)) chosen (each_chosen P (λ y. nat_le y.moment now) xs h) x e, cc)
+    one (Some x) e i = (
+      x,
+      each_earliest (λ y. P y × (nat_le y.moment now ≡ true)) chosen
+          (each_chosen P (λ y. nat_le y.moment now) xs h) x e,
+      cc,
+    )
 
 -- what is known of an action that is late
 pub record IsLate (J : History) (m a : ℕ) : Type 0 where
@@ -75,7 +85,8 @@ deadline_is J a x h = one (action_is is_active J a && not ((limit_in_force J a).
     y : Timed
     y = record { number = a; moment = (limit_in_force J a).since + (limit_in_force J a).length_of }
 
-    one : (b : Bool) → (action_is is_active J a && not ((limit_in_force J a).length_of == 0)) ≡ b → when b y ≡ Some x → IsDeadline J x
+    one : (b : Bool) → (action_is is_active J a && not ((limit_in_force J a).length_of == 0)) ≡ b → when b y ≡ Some x
+        → IsDeadline J x
     one true g i =
         let k = both (action_is is_active J a) (not ((limit_in_force J a).length_of == 0)) g in
         let d : IsDeadline J y = record { active = k.0; limited = k.1; moment = refl } in
@@ -86,7 +97,13 @@ deadline_is J a x h = one (action_is is_active J a && not ((limit_in_force J a).
 pub late_is : (J : History) (m a : ℕ) → late J m ≡ Some a → IsLate J m a
 unfolding late
 late_is J m a h =
-    let r = due_has_come (IsDeadline J) m (filter_map (deadline_of J) (actions J)) (each_read (IsDeadline J) (deadline_of J) (deadline_is J) (actions J)) a h in
+    let r = due_has_come (IsDeadline J) m (filter_map (deadline_of J) (actions J))
+    (each_read (IsDeadline J) (deadline_of J) (deadline_is J) (actions J)) a h in
     let d = r.1.0 in
-    let l : IsLate J m r.0.number = record { active = d.active; limited = d.limited; passed = ap (λ (n : ℕ). nat_le n m) (sym d.moment) ∙ r.1.1 } in
+    let l : IsLate J m r.0.number = record {
+      active = d.active;
+      limited = d.limited;
+      passed =
+          ap (λ (n : ℕ). nat_le n m) (sym d.moment) ∙ r.1.1;
+    } in
     subst (λ (n : ℕ). IsLate J m n) r.2 l

@@ -19,7 +19,8 @@ is_outside refusal.Stopped = true
 is_outside refusal.Memory = true
 is_outside _ = false
 
-never_named : (s : Terms) (J : History) (by m : ℕ) (o : Command) → names is_outside (grounds s J (record { by = by; moment = m; command = o })) ≡ false
+never_named : (s : Terms) (J : History) (by m : ℕ) (o : Command) → names is_outside
+    (grounds s J (record { by = by; moment = m; command = o })) ≡ false
 never_named s J by m command.Enrol = refl
 never_named s J by m (command.Start parent limit) = refl
 never_named s J by m (command.Join a uris) = refl

@@ -50,7 +50,8 @@ grown : (s : Terms) (J : History) (c : Call) → refused s J c ≡ None → afte
 unfolding growth
 grown s J c none = rw none refl
 
-is_told : (s : Terms) (J : History) (c : Call) (t : Told) → answer s J c ≡ Ok t → IsLawful s (after_call s J c) → IsTold s J c t
+is_told : (s : Terms) (J : History) (c : Call) (t : Told) → answer s J c ≡ Ok t → IsLawful s (after_call s J c)
+    → IsTold s J c t
 unfolding answer
 is_told s J c t e left =
     let by = told_by (refused s J c) (told_of s J c) t e in
@@ -79,18 +80,21 @@ found_among : (f : ℕ → Bool) (ns : List ℕ) (n : ℕ) → find f ns ≡ Som
 found_among f [] n e = absurd cc
 found_among f (x ∷ ns) n e = by_first (f x) refl (found_among f ns n) e
   where
-    by_first : (b : Bool) → f x ≡ b → (find f ns ≡ Some n → is_among ns n ≡ true) → cond b (Some x) (find f ns) ≡ Some n → is_among (x ∷ ns) n ≡ true
+    by_first : (b : Bool) → f x ≡ b → (find f ns ≡ Some n → is_among ns n ≡ true) → cond b (Some x) (find f ns) ≡ Some n
+        → is_among (x ∷ ns) n ≡ true
     by_first true g rest h = let same : x ≡ n = ap (λ o. unwrap_or o x) h in let P : ℕ → Type 0 = λ m. is_among (x ∷ ns) m ≡ true in subst P same (among_here x ns)
     by_first false g rest h = among_there x ns n (rest h)
 
 -- a member that has joined already
-old_member : (s : Terms) (J : History) (a p : ℕ) (u : Addresses) → AreKeepable s.limits → IsLawful s J → already_member J a u ≡ Some p → IsIdentifiable p
+old_member : (s : Terms) (J : History) (a p : ℕ) (u : Addresses) → AreKeepable s.limits → IsLawful s J
+    → already_member J a u ≡ Some p → IsIdentifiable p
 unfolding already_member
 old_member s J a p u keepable lawful e =
     let here = found_among _ (members_of J a) p e in
     let chosen : is_among (filter (λ q. action_of J q == a) (members J)) p ≡ true =
     ap (λ ns. is_among ns p) (sym (members_by s.version is_address J lawful.legal a)) ∙ here in
-    let within = both (is_among (members J) p) (action_of J p == a) (sym (among_filter (λ q. action_of J q == a) (members J) p) ∙ chosen) in
+    let within = both (is_among (members J) p) (action_of J p == a) (sym
+    (among_filter (λ q. action_of J q == a) (members J) p) ∙ chosen) in
     let range = numbered_among (members J) (members_numbered s.version is_address J lawful.legal) p within.0 in
     (range.0, omega (arith, range.1, lawful.within.members, keepable.members))
 
@@ -101,7 +105,8 @@ either o true x y h k = h
 either o false x y h k = k
 
 start_told : (s : Terms) (J : History) (by m limit : ℕ) (parent : Option ℕ) → AreKeepable s.limits
-    → IsLawful s (J ++ block s J (call_of by m (order.Start parent limit))) → IsIdentifiable (length (actions (J ++ block s J (call_of by m (order.Start parent limit)))))
+    → IsLawful s (J ++ block s J (call_of by m (order.Start parent limit)))
+    → IsIdentifiable (length (actions (J ++ block s J (call_of by m (order.Start parent limit)))))
 unfolding block
 start_told s J by m limit parent keepable left =
     (some_action J _ by _ _ limit parent, omega (arith, left.within.actions, keepable.actions))
@@ -111,21 +116,29 @@ joined : (s : Terms) (J : History) (by m a : ℕ) (u : Bor Addresses) → alread
 unfolding block
 joined s J by m a u e = rw e (some_member J _ by _ _ a (stored_addresses u.now))
 
-join_told : (s : Terms) (J : History) (by m a : ℕ) (u : Bor Addresses) (o : Option ℕ) → AreKeepable s.limits → IsLawful s J
+join_told : (s : Terms) (J : History) (by m a : ℕ) (u : Bor Addresses) (o : Option ℕ) → AreKeepable s.limits
+    → IsLawful s J
     → IsLawful s (J ++ block s J (call_of by m (order.Join a u)))
     → already_member J a (stored_addresses u.now) ≡ o
-    → CanTell (order.Join a u) (option_map_or told.AlreadyMember o (told.Member (length (members (J ++ block s J (call_of by m (order.Join a u)))))))
+    → CanTell (order.Join a u)
+    (option_map_or told.AlreadyMember o
+    (told.Member (length (members (J ++ block s J (call_of by m (order.Join a u)))))))
 join_told s J by m a u (Some p) keepable lawful left e = old_member s J a p (stored_addresses u.now) keepable lawful e
-join_told s J by m a u None keepable lawful left e = (joined s J by m a u e, omega (arith, left.within.members, keepable.members))
+join_told s J by m a u None keepable lawful left e = (
+  joined s J by m a u e,
+  omega (arith, left.within.members, keepable.members),
+)
 
 tick_told : (o : Option ℕ) → CanTell order.Tick (option_map_or told.Fired o told.Idle)
 tick_told None = tt
 tick_told (Some a) = tt
 
-by_order : (s : Terms) (J : History) (by m : ℕ) (o : Order) → AreKeepable s.limits → IsLawful s J → IsLawful s (J ++ block s J (call_of by m o))
+by_order : (s : Terms) (J : History) (by m : ℕ) (o : Order) → AreKeepable s.limits → IsLawful s J
+    → IsLawful s (J ++ block s J (call_of by m o))
     → CanTell o (told_of s J (call_of by m o))
 by_order s J by m (order.Start parent limit) keepable lawful left = start_told s J by m limit parent keepable left
-by_order s J by m (order.Join a u) keepable lawful left = join_told s J by m a u (already_member J a (stored_addresses u.now)) keepable lawful left refl
+by_order s J by m (order.Join a u) keepable lawful left = join_told s J by m a u
+    (already_member J a (stored_addresses u.now)) keepable lawful left refl
 by_order s J by m (order.Leave a p) keepable lawful left = tt
 by_order s J by m (order.Close a) keepable lawful left = either (order.Close a) (is_open J a) _ _ tt tt
 by_order s J by m (order.Cancel a) keepable lawful left = either (order.Cancel a) (may_be_cancelled s J a) _ _ tt tt

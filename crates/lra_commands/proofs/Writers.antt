@@ -43,7 +43,11 @@ block_by s J c = own (own_deed s J (moment_of J c) c.command)
   where
     own : (o : Option Deed) → AreBy (writer_of J c) (option_map_or (with_settling J) (option_map (entry_of J c) o) [])
     own None = tt
-    own (Some d) = (refl, settling_by (most_settling (J ++ entry_of J c d ∷ [])) (writer_of J c) (moment_of J c) (J ++ entry_of J c d ∷ []))
+    own (Some d) = (
+      refl,
+      settling_by (most_settling (J ++ entry_of J c d ∷ [])) (writer_of J c) (moment_of J c)
+          (J ++ entry_of J c d ∷ []),
+    )
 
 -- so is what a call appends
 pub growth_by : (s : Terms) (J : History) (c : Call) → AreBy (writer_of J c) (growth s J c)
@@ -75,10 +79,12 @@ entries_under-append n a b = filter-append (λ (e : Entry). e.by == n) a b
 
 all_under : (n : ℕ) (es : History) → AreBy n es → entries_under n es ≡ es
 all_under n [] h = refl
-all_under n (e ∷ es) h = ap (λ b. cond b (e ∷ entries_under n es) (entries_under n es)) (eq-eqb e.by n h.0) ∙ ap (λ (l : History). e ∷ l) (all_under n es h.1)
+all_under n (e ∷ es) h = ap (λ b. cond b (e ∷ entries_under n es) (entries_under n es)) (eq-eqb e.by n h.0)
+    ∙ ap (λ (l : History). e ∷ l) (all_under n es h.1)
 
 -- where others wrote nothing under the number, what is added comes right after what was there
-after_others : (n : ℕ) (seen since added : History) → entries_under n since ≡ [] → AreBy n added → entries_under n ((seen ++ since) ++ added) ≡ entries_under n seen ++ added
+after_others : (n : ℕ) (seen since added : History) → entries_under n since ≡ [] → AreBy n added
+    → entries_under n ((seen ++ since) ++ added) ≡ entries_under n seen ++ added
 after_others n seen since added none all =
     entries_under-append n (seen ++ since) added
     ∙ (λ i. entries_under-append n seen since i ++ all_under n added all i)
@@ -87,27 +93,40 @@ after_others n seen since added none all =
 
 -- ---- an order
 
-given_once : (v : Sight) (m : ℕ) (o : Order) (w : Sight) (t : Told) → IsGivenSince v.setting v.seen (call_of v.number m o) (Ok t) w.seen → WritesOnce v m o (Ok t) w
+given_once : (v : Sight) (m : ℕ) (o : Order) (w : Sight) (t : Told) → IsGivenSince v.setting v.seen
+    (call_of v.number m o) (Ok t) w.seen → WritesOnce v m o (Ok t) w
 given_once v m o w t (since, none, given) =
     let c : Call = call_of v.number m o in
-    let all = subst (λ (n : ℕ). AreBy n (growth (terms_of v.setting) (v.seen ++ since) c)) (order_by (v.seen ++ since) v.number m o) (growth_by (terms_of v.setting) (v.seen ++ since) c) in
+    let all = subst (λ (n : ℕ). AreBy n (growth (terms_of v.setting) (v.seen ++ since) c))
+    (order_by (v.seen ++ since) v.number m o) (growth_by (terms_of v.setting) (v.seen ++ since) c) in
     record {
       met = v.seen ++ since;
       begins = (since, refl);
-      written = ap (entries_under v.number) given.told.1 ∙ after_others v.number v.seen since (growth (terms_of v.setting) (v.seen ++ since) c) none all;
+      written = ap (entries_under v.number) given.told.1 ∙ after_others v.number v.seen since
+          (growth (terms_of v.setting) (v.seen ++ since) c) none all;
     }
 
-refused_once : (v : Sight) (m : ℕ) (o : Order) (w : Sight) (r : Refusal) → IsGivenSince v.setting v.seen (call_of v.number m o) (Err (Refused r)) w.seen → WritesOnce v m o (Err (Refused r)) w
+refused_once : (v : Sight) (m : ℕ) (o : Order) (w : Sight) (r : Refusal)
+    → IsGivenSince v.setting v.seen (call_of v.number m o) (Err (Refused r)) w.seen
+    → WritesOnce v m o (Err (Refused r)) w
 refused_once v m o w r (since, none, given) = record {
   met = v.seen ++ since;
   begins = (since, refl);
-  written = ap (entries_under v.number) (given.told.1 ∙ sym (append-nil (v.seen ++ since))) ∙ after_others v.number v.seen since [] none tt;
+  written = ap (entries_under v.number) (given.told.1 ∙ sym (append-nil (v.seen ++ since)))
+      ∙ after_others v.number v.seen since [] none tt;
 }
 
-seen_once : (v : Sight) (m : ℕ) (o : Order) (reply : Result Told CounterFault) (w : Sight) → IsSeenAfter v.setting v.seen (call_of v.number m o) reply w.seen → WritesOnce v m o reply w
+seen_once : (v : Sight) (m : ℕ) (o : Order) (reply : Result Told CounterFault) (w : Sight)
+    → IsSeenAfter v.setting v.seen (call_of v.number m o) reply w.seen → WritesOnce v m o reply w
 seen_once v m o (Ok t) w h = given_once v m o w t h
 seen_once v m o (Err (Refused r)) w h = refused_once v m o w r h
-seen_once v m o (Err Worn) w h = record { met = v.seen; begins = ([], append-nil v.seen); written = ap (entries_under v.number) h ∙ sym (append-nil (entries_under v.number v.seen)) }
+seen_once v m o (Err Worn) w h = record {
+  met = v.seen;
+  begins = ([], append-nil v.seen);
+  written =
+      ap (entries_under v.number) h ∙ sym (append-nil (entries_under v.number v.seen));
+}
 
-pub counters_write : (v w : Sight) (m : ℕ) (o : Order) (reply : Result Told CounterFault) → KeepsHistory v m o reply w → WritesOnce v m o reply w
+pub counters_write : (v w : Sight) (m : ℕ) (o : Order) (reply : Result Told CounterFault) → KeepsHistory v m o reply w
+    → WritesOnce v m o reply w
 counters_write v w m o reply h = seen_once v m o reply w h.seen

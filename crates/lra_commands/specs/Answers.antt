@@ -22,14 +22,17 @@ use Rattle.lra_commands.specs.Refusals.{status_at, refused}
 abbrev pub tells : Terms → History → History → ℕ → Command → Told
 tells s J K m command.Enrol = told.Clerk (length (clerks K))
 tells s J K m (command.Start parent limit) = told.Action (length (actions K))
-tells s J K m (command.Join a uris) = option_map_or told.AlreadyMember (already_member J a (stored_addresses uris.now)) (told.Member (length (members K)))
+tells s J K m (command.Join a uris) = option_map_or told.AlreadyMember (already_member J a (stored_addresses uris.now))
+    (told.Member (length (members K)))
 tells s J K m (command.Leave a p) = told.Left
 tells s J K m (command.Close a) = cond (is_open J a) (told.Now (status_at K a)) (told.Already (status_at J a))
-tells s J K m (command.Cancel a) = cond (may_be_cancelled s J a) (told.Now (status_at K a)) (told.Already (status_at J a))
+tells s J K m (command.Cancel a) = cond (may_be_cancelled s J a) (told.Now (status_at K a))
+    (told.Already (status_at J a))
 tells s J K m command.Tick = option_map_or told.Fired (late J m) told.Idle
 tells s J K m command.NextAsk = cond (is_some (due s.limits J m)) (told.Asked (length (asks K))) told.Idle
 tells s J K m (command.Record errand o) = told.Recorded
-tells s J K m (command.Report p e) = cond (is_decided J p e) (told.MemberAlready (member_status J p)) (told.MemberNow (member_status K p))
+tells s J K m (command.Report p e) = cond (is_decided J p e) (told.MemberAlready (member_status J p))
+    (told.MemberNow (member_status K p))
 tells s J K m command.Restart = told.Restarted
 tells s J K m (command.Renew a limit) = told.Renewed
 tells s J K m (command.Status a) = told.ActionIs (status_at J a)

@@ -85,7 +85,8 @@ entries_under number J = filter (λ (e : Entry). e.by == number) J
 -- some history began with what was seen, since others may have written meanwhile, though nothing under the clerk's number, and the order was given
 -- at it
 abbrev pub IsGivenSince : Setting → History → Call → Result Told CounterFault → History → Type 0
-IsGivenSince s seen c reply K = (since : History) × (entries_under c.by since ≡ []) × IsGivenAt s (seen ++ since) c reply K
+IsGivenSince s seen c reply K = (since : History) × (entries_under c.by since ≡ [])
+    × IsGivenAt s (seen ++ since) c reply K
 
 -- what is seen after an order: a counter that is worn tells nothing of the history
 abbrev pub IsSeenAfter : Setting → History → Call → Result Told CounterFault → History → Type 0
@@ -134,7 +135,8 @@ CanTell _ _ = ⊥
 
 -- whatever a counter tells of an order is what such an order can be told
 abbrev pub CountersTell : Type 0
-CountersTell = (before after : Sight) (moment : ℕ) (o : Order) (t : Told) → KeepsHistory before moment o (Ok t) after → CanTell o t
+CountersTell = (before after : Sight) (moment : ℕ) (o : Order) (t : Told) → KeepsHistory before moment o (Ok t) after
+    → CanTell o t
 
 -- what an order adds to the entries under its clerk's number: what it appends where it was done, and else nothing
 abbrev pub added_by : Terms → History → Call → Result Told CounterFault → History
@@ -146,8 +148,10 @@ added_by s J c (Err fault) = []
 pub record WritesOnce (before : Sight) (moment : ℕ) (o : Order) (reply : Result Told CounterFault) (after : Sight) : Type 0 where
   pub met : History
   pub begins : IsPrefix before.seen met
-  pub written : entries_under before.number after.seen ≡ entries_under before.number before.seen ++ added_by (terms_of before.setting) met (call_of before.number moment o) reply
+  pub written : entries_under before.number after.seen ≡ entries_under before.number before.seen
+      ++ added_by (terms_of before.setting) met (call_of before.number moment o) reply
 
 -- whatever becomes of an order at a counter, it is written once at most
 abbrev pub CountersWriteOnce : Type 0
-CountersWriteOnce = (before after : Sight) (moment : ℕ) (o : Order) (reply : Result Told CounterFault) → KeepsHistory before moment o reply after → WritesOnce before moment o reply after
+CountersWriteOnce = (before after : Sight) (moment : ℕ) (o : Order) (reply : Result Told CounterFault)
+    → KeepsHistory before moment o reply after → WritesOnce before moment o reply after

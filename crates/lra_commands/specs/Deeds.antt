@@ -72,12 +72,14 @@ abbrev pub own_deed : Terms → History → ℕ → Command → Option Deed
 own_deed s J m command.Enrol = Some deed.Enrol
 own_deed s J m (command.Start parent limit) = Some (deed.Start (length (actions J) + 1) parent limit)
 own_deed s J m (command.Join a uris) =
-    cond (is_some (already_member J a (stored_addresses uris.now))) None (Some (deed.Join (length (members J) + 1) a (stored_addresses uris.now)))
+    cond (is_some (already_member J a (stored_addresses uris.now))) None
+    (Some (deed.Join (length (members J) + 1) a (stored_addresses uris.now)))
 own_deed s J m (command.Leave a p) = Some (deed.Leave p)
 own_deed s J m (command.Close a) = when (is_open J a) (deed.Close a cause.Client)
 own_deed s J m (command.Cancel a) = when (may_be_cancelled s J a) (deed.Cancel a cause.Client)
 own_deed s J m command.Tick = option_map (λ a. deed.Cancel a cause.Limit) (late J m)
-own_deed s J m command.NextAsk = option_and_then (λ p. option_map (deed.Ask (length (asks J) + 1) p) (wants J p)) (due s.limits J m)
+own_deed s J m command.NextAsk = option_and_then (λ p. option_map (deed.Ask (length (asks J) + 1) p) (wants J p))
+    (due s.limits J m)
 own_deed s J m (command.Record errand o) = Some (deed.Reply errand.now.ask o)
 own_deed s J m (command.Report p e) = when (not (is_decided J p e)) (deed.Report p (outcome_told e))
 own_deed s J m command.Restart = Some deed.Restart

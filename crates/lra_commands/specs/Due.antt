@@ -28,7 +28,8 @@ earliest (x ∷ xs) = Some (earlier x (earliest xs))
 
 -- the number whose moment is the least, of those whose moment has come; of equals the first
 abbrev pub first_due : ℕ → List Timed → Option ℕ
-first_due now xs = option_map (λ (x : Timed). x.number) (earliest (filter_map (λ (x : Timed). when (nat_le x.moment now) x) xs))
+first_due now xs = option_map (λ (x : Timed). x.number)
+    (earliest (filter_map (λ (x : Timed). when (nat_le x.moment now) x) xs))
 
 -- when a want is due that was repeated so often, the last time at that moment: at once, or after a pause
 abbrev pub due_after : Limits → ℕ → Option ℕ → ℕ
@@ -42,7 +43,11 @@ stage_wanted J p kind = stage_of kind (ask_direction J p kind)
 -- when a member wants what it wants
 abbrev pub want_of : Limits → History → ℕ → Option Timed
 want_of l J p =
-    option_map (λ (kind : AskKind). record { number = p; moment = due_after l (repeat_count J p (stage_wanted J p kind)) (last_repeat J p (stage_wanted J p kind)) }) (wants J p)
+    option_map (λ (kind : AskKind). record {
+      number = p;
+      moment = due_after l (repeat_count J p (stage_wanted J p kind))
+          (last_repeat J p (stage_wanted J p kind));
+    }) (wants J p)
 
 -- the member whose want is due: the one with the least due moment that has come, and of these the least (this project's choice)
 unfoldable pub due : Limits → History → ℕ → Option ℕ
@@ -51,7 +56,8 @@ due l J now = first_due now (filter_map (want_of l J) (members J))
 -- when the limit of an action passes, if it is Active and has one
 abbrev pub deadline_of : History → ℕ → Option Timed
 deadline_of J a =
-    when (action_is is_active J a && not ((limit_in_force J a).length_of == 0)) (record { number = a; moment = (limit_in_force J a).since + (limit_in_force J a).length_of })
+    when (action_is is_active J a && not ((limit_in_force J a).length_of == 0))
+    (record { number = a; moment = (limit_in_force J a).since + (limit_in_force J a).length_of })
 
 -- the action whose limit has passed: the one with the least deadline, and of these the least (MicroProfile LRA 2.0, timeLimit; the order is this project's choice)
 unfoldable pub late : History → ℕ → Option ℕ

@@ -51,7 +51,8 @@ none_told last xs place = cond (nat_lt (place + most_rows) (length xs)) (known.F
 
 -- what is told of rows from a place on: the first of those looked at that passes a test, with its place (this project's choice)
 abbrev pub first_from : {X : Type 0} → (X → Bool) → (ℕ → X → Known) → Known → List X → ℕ → Known
-first_from test told last xs place = option_map_or (told (place + position_or_len test (looked_at xs place))) (find test (looked_at xs place)) (none_told last xs place)
+first_from test told last xs place = option_map_or (told (place + position_or_len test (looked_at xs place)))
+    (find test (looked_at xs place)) (none_told last xs place)
 
 -- ---- what an action waits for
 
@@ -119,7 +120,8 @@ next_of rows place = when (nat_lt (place + most_rows) rows) (place + most_rows)
 
 -- how many of the rows looked at from a place on belong to a listing, and where to go on (this project's choice)
 unfoldable pub count_from : Limits → History → Listing → ℕ → Known
-count_from l J x place = known.Counted (length (filter (belongs x) (looked_at (rows_along l J x) place))) (next_of (length (rows_along l J x)) place)
+count_from l J x place = known.Counted (length (filter (belongs x) (looked_at (rows_along l J x) place)))
+    (next_of (length (rows_along l J x)) place)
 
 -- whether what a listing is of is there: its action, where it is of one
 abbrev pub is_listed : History → Listing → Bool
@@ -135,8 +137,10 @@ known_where there k r = cond there (Ok k) (Err r)
 
 -- what a query is told of a history, which nothing else decides but the pauses between asks; it changes nothing (this project's choice)
 unfoldable pub tell : Limits → History → Query → Result Known Refusal
-tell l J (query.ActionStatus a) = known_where (is_among (actions J) a) (known.ActionIs (status_at J a)) refusal.NoSuchAction
-tell l J (query.MemberStatus p) = known_where (is_among (members J) p) (known.MemberIs (member_status J p)) refusal.NoSuchMember
+tell l J (query.ActionStatus a) = known_where (is_among (actions J) a) (known.ActionIs (status_at J a))
+    refusal.NoSuchAction
+tell l J (query.MemberStatus p) = known_where (is_among (members J) p) (known.MemberIs (member_status J p))
+    refusal.NoSuchMember
 tell l J (query.Awaited a place) = known_where (is_among (actions J) a) (awaited_from J a place) refusal.NoSuchAction
 tell l J (query.Row x place) = known_where (is_listed J x) (row_from l J x place) refusal.NoSuchAction
 tell l J (query.Count x place) = known_where (is_listed J x) (count_from l J x place) refusal.NoSuchAction
@@ -163,11 +167,13 @@ answer_as (Err r) = Err r
 -- a command that only asks is answered what the query is told, where its clerk is enrolled, and appends nothing
 abbrev pub CommandsAsk : Type 0
 CommandsAsk = (s : Terms) (J : History) (c : Call) (q : Query) → asks c.command ≡ Some q
-    → (answer s J c ≡ cond (is_among (clerks J) c.by) (answer_as (tell s.limits J q)) (Err refusal.NoSuchClerk)) × (block s J c ≡ [])
+    → (answer s J c ≡ cond (is_among (clerks J) c.by) (answer_as (tell s.limits J q)) (Err refusal.NoSuchClerk))
+    × (block s J c ≡ [])
 
 -- a query is refused only since what it asks about isn't there
 abbrev pub QueriesMiss : Type 0
-QueriesMiss = (l : Limits) (J : History) (q : Query) (r : Refusal) → tell l J q ≡ Err r → (r ≡ refusal.NoSuchAction) ⊎ (r ≡ refusal.NoSuchMember)
+QueriesMiss = (l : Limits) (J : History) (q : Query) (r : Refusal) → tell l J q ≡ Err r → (r ≡ refusal.NoSuchAction)
+    ⊎ (r ≡ refusal.NoSuchMember)
 
 -- an action that is Closing or Cancelling may end exactly where no row of it holds its end
 abbrev pub RowsHoldEnds : Type 0
@@ -187,7 +193,8 @@ told_on (suc n) l J x place = rows_after (told_on n l J x) (row_from l J x place
 
 -- a listing that is asked for so is told whole: each row that belongs to it, once, in order
 abbrev pub ListingsAreToldWhole : Type 0
-ListingsAreToldWhole = (l : Limits) (J : History) (x : Listing) (n : ℕ) → length (rows_along l J x) < n → told_on n l J x 0 ≡ filter (belongs x) (rows_along l J x)
+ListingsAreToldWhole = (l : Limits) (J : History) (x : Listing) (n : ℕ) → length (rows_along l J x) < n
+    → told_on n l J x 0 ≡ filter (belongs x) (rows_along l J x)
 
 -- how many rows are counted from what one query was told on, with what is counted from where to go on
 abbrev pub counted_after : (ℕ → ℕ) → Known → ℕ
@@ -202,4 +209,5 @@ counted_on (suc n) l J x place = counted_after (counted_on n l J x) (count_from 
 
 -- a listing that is counted so is counted whole: each row that belongs to it, once
 abbrev pub ListingsAreCountedWhole : Type 0
-ListingsAreCountedWhole = (l : Limits) (J : History) (x : Listing) (n : ℕ) → length (rows_along l J x) < n → counted_on n l J x 0 ≡ length (filter (belongs x) (rows_along l J x))
+ListingsAreCountedWhole = (l : Limits) (J : History) (x : Listing) (n : ℕ) → length (rows_along l J x) < n
+    → counted_on n l J x 0 ≡ length (filter (belongs x) (rows_along l J x))

@@ -71,7 +71,8 @@ is_asked J e = is_outstanding J e.ask && option_map_or (is_of e) (ask_of J e.ask
 
 -- whether a member is being asked for the direction of the ending that it tells
 abbrev pub is_asked_for : History → ℕ → Ending → Bool
-is_asked_for J p e = cond (same_direction (direction_told e) direction.Completion) (is_completing (member_status J p)) (is_compensating (member_status J p))
+is_asked_for J p e = cond (same_direction (direction_told e) direction.Completion) (is_completing (member_status J p))
+    (is_compensating (member_status J p))
 
 -- whether a history passes a limit
 abbrev pub passes : Limits → Resource → History → Bool
@@ -92,31 +93,49 @@ overfills s J c r = is_filled (block s J c) && passes s.limits r (J ++ block s J
 -- what there may be too much of
 abbrev pub full_grounds : Terms → History → Call → List Ground
 full_grounds s J c =
-    (refusal.Full resource.Clerks, overfills s J c resource.Clerks) ∷ (refusal.Full resource.Actions, overfills s J c resource.Actions)
-    ∷ (refusal.Full resource.Members, overfills s J c resource.Members) ∷ (refusal.Full resource.Entries, overfills s J c resource.Entries) ∷ []
+    (refusal.Full resource.Clerks, overfills s J c resource.Clerks) ∷ (
+      refusal.Full resource.Actions,
+      overfills s J c resource.Actions,
+    )
+    ∷ (refusal.Full resource.Members, overfills s J c resource.Members)
+    ∷ (refusal.Full resource.Entries, overfills s J c resource.Entries) ∷ []
 
 -- the refusals that bear on a command of a clerk, in their order, but for what there may be too much of
 abbrev pub command_grounds : Terms → History → ℕ → Command → List Ground
 command_grounds s J m command.Enrol = []
 command_grounds s J m (command.Start parent limit) =
-    (refusal.NoSuchAction, not (each_parent (λ b. is_among (actions J) b) parent)) ∷ (refusal.NotActive (option_map_or (status_at J) parent action.Active), not (each_parent (is_open J) parent))
-    ∷ (refusal.LimitTooFar, not (is_moment (m + limit))) ∷ (refusal.TooDeep, nat_lt s.limits.depth (option_map_or (λ b. depth J b + 1) parent 1)) ∷ []
+    (refusal.NoSuchAction, not (each_parent (λ b. is_among (actions J) b) parent))
+    ∷ (refusal.NotActive (option_map_or (status_at J) parent action.Active), not (each_parent (is_open J) parent))
+    ∷ (refusal.LimitTooFar, not (is_moment (m + limit))) ∷ (
+      refusal.TooDeep,
+      nat_lt s.limits.depth (option_map_or (λ b. depth J b + 1) parent 1),
+    ) ∷ []
 command_grounds s J m (command.Join a uris) =
-    (refusal.NoSuchAction, no_action J a) ∷ (refusal.NotActive (status_at J a), not (is_open J a)) ∷ (refusal.BadAddresses, not (addresses_fit (λ text. is_ok (address_of text)) uris.now)) ∷ []
+    (refusal.NoSuchAction, no_action J a) ∷ (refusal.NotActive (status_at J a), not (is_open J a))
+    ∷ (refusal.BadAddresses, not (addresses_fit (λ text. is_ok (address_of text)) uris.now)) ∷ []
 command_grounds s J m (command.Leave a p) =
-    (refusal.NoSuchAction, no_action J a) ∷ (refusal.NoSuchMember, no_member J p) ∷ (refusal.WrongAction, not (action_of J p == a)) ∷ (refusal.HasLeft, has_left J p) ∷ (refusal.NotActive (status_at J a), not (is_open J a)) ∷ []
+    (refusal.NoSuchAction, no_action J a) ∷ (refusal.NoSuchMember, no_member J p)
+    ∷ (refusal.WrongAction, not (action_of J p == a)) ∷ (refusal.HasLeft, has_left J p)
+    ∷ (refusal.NotActive (status_at J a), not (is_open J a)) ∷ []
 command_grounds s J m (command.Close a) =
     (refusal.NoSuchAction, no_action J a) ∷ (refusal.NotActive (status_at J a), is_past_closing (status_at J a)) ∷ []
 command_grounds s J m (command.Cancel a) =
-    (refusal.NoSuchAction, no_action J a) ∷ (refusal.NotActive (status_at J a), is_past_cancelling (status_at J a) && not (may_be_cancelled s J a)) ∷ []
+    (refusal.NoSuchAction, no_action J a) ∷ (
+      refusal.NotActive (status_at J a),
+      is_past_cancelling (status_at J a)
+          && not (may_be_cancelled s J a),
+    ) ∷ []
 command_grounds s J m command.Tick = []
 command_grounds s J m command.NextAsk = []
 command_grounds s J m (command.Record errand o) = (refusal.NotAsked, not (is_asked J errand.now)) ∷ []
 command_grounds s J m (command.Report p e) =
-    (refusal.NoSuchMember, no_member J p) ∷ (refusal.HasLeft, has_left J p) ∷ (refusal.NotAsked, not (is_decided J p e) && not (is_asked_for J p e)) ∷ []
+    (refusal.NoSuchMember, no_member J p) ∷ (refusal.HasLeft, has_left J p)
+    ∷ (refusal.NotAsked, not (is_decided J p e) && not (is_asked_for J p e)) ∷ []
 command_grounds s J m command.Restart = []
 command_grounds s J m (command.Renew a limit) =
-    (refusal.OldJournal, is_old s.version) ∷ (refusal.NoSuchAction, no_action J a) ∷ (refusal.NotActive (status_at J a), not (is_open J a)) ∷ (refusal.LimitTooFar, not (is_moment (m + limit))) ∷ []
+    (refusal.OldJournal, is_old s.version) ∷ (refusal.NoSuchAction, no_action J a)
+    ∷ (refusal.NotActive (status_at J a), not (is_open J a)) ∷ (refusal.LimitTooFar, not (is_moment (m + limit)))
+    ∷ []
 command_grounds s J m (command.Status a) = (refusal.NoSuchAction, no_action J a) ∷ []
 command_grounds s J m (command.MemberStatus p) = (refusal.NoSuchMember, no_member J p) ∷ []
 
@@ -129,7 +148,8 @@ is_stranger J by _ = not (is_among (clerks J) by)
 -- much of comes last (this project's choice)
 abbrev pub grounds : Terms → History → Call → List Ground
 grounds s J c =
-    (refusal.NoSuchClerk, is_stranger J c.by c.command) ∷ (command_grounds s J (moment_of J c) c.command ++ full_grounds s J c)
+    (refusal.NoSuchClerk, is_stranger J c.by c.command) ∷ (command_grounds s J (moment_of J c) c.command
+    ++ full_grounds s J c)
 
 -- the first that holds
 abbrev pub first_ground : List Ground → Option Refusal

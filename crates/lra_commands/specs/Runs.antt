@@ -35,12 +35,15 @@ pub record IsLawful (s : Terms) (J : History) : Type 0 where
 
 -- whatever calls are made, by any clerks and in any order, the history stays legal and within the limits
 abbrev pub CallsKeepHistories : Type 0
-CallsKeepHistories = (s : Terms) (J : History) (cs : List Call) → AreKeepable s.limits → IsLawful s J → All IsCall cs → IsLawful s (after_calls s J cs)
+CallsKeepHistories = (s : Terms) (J : History) (cs : List Call) → AreKeepable s.limits → IsLawful s J → All IsCall cs
+    → IsLawful s (after_calls s J cs)
 
 -- from nothing, whatever calls are made, there comes a legal history within the limits
 abbrev pub CallsMakeHistories : Type 0
-CallsMakeHistories = (s : Terms) (cs : List Call) → AreKeepable s.limits → All IsCall cs → IsLawful s (after_calls s [] cs)
+CallsMakeHistories = (s : Terms) (cs : List Call) → AreKeepable s.limits → All IsCall cs
+    → IsLawful s (after_calls s [] cs)
 
 -- whatever call is made, unless it is refused, nothing is left to settle after it, if it writes
 abbrev pub CallsLeaveQuiet : Type 0
-CallsLeaveQuiet = (s : Terms) (J : History) (c : Call) → AreKeepable s.limits → IsLawful s J → IsCall c → refused s J c ≡ None → IsQuietAfter s J c
+CallsLeaveQuiet = (s : Terms) (J : History) (c : Call) → AreKeepable s.limits → IsLawful s J → IsCall c → refused s J c
+    ≡ None → IsQuietAfter s J c

@@ -18,10 +18,13 @@ abbrev pub checks_before_growth : Terms → History → Call → List Ground
 checks_before_growth s J c = by_command c.command
   where
     by_command : Command → List Ground
-    by_command (command.Join a uris) = (refusal.NoSuchAction, no_action J a) ∷ (refusal.NotActive (status_at J a), not (is_open J a)) ∷ []
+    by_command (command.Join a uris) = (refusal.NoSuchAction, no_action J a)
+        ∷ (refusal.NotActive (status_at J a), not (is_open J a)) ∷ []
     by_command o =
         command_grounds s J (moment_of J c) o
-        ++ ((refusal.Full resource.Clerks, overfills s J c resource.Clerks) ∷ (refusal.Full resource.Actions, overfills s J c resource.Actions) ∷ (refusal.Full resource.Members, overfills s J c resource.Members) ∷ [])
+        ++ ((refusal.Full resource.Clerks, overfills s J c resource.Clerks)
+        ∷ (refusal.Full resource.Actions, overfills s J c resource.Actions)
+        ∷ (refusal.Full resource.Members, overfills s J c resource.Members) ∷ [])
 
 -- the same, with that of a stranger
 abbrev pub grounds_before_growth : Terms → History → Call → List Ground

@@ -10,8 +10,12 @@ use Rattle.lra_commands.specs.declared.limits.Terms.{Terms}
 use Rattle.lra_commands.specs.Runs.{IsLawful}
 
 -- the entry of a plan may come, where the history stays legal with all of it
-pub planned_allowed : (s : Terms) (J : History) (e : Entry) (es : List Entry) → IsLawful s (J ++ es) → es ≡ with_settling J e → allows s.version is_address J e ≡ true
+pub planned_allowed : (s : Terms) (J : History) (e : Entry) (es : List Entry) → IsLawful s (J ++ es) → es
+    ≡ with_settling J e → allows s.version is_address J e ≡ true
 planned_allowed s J e es l h =
     let rest : List Entry = settling e.by e.moment (J ++ e ∷ []) in
-    let whole : is_legal s.version is_address ((J ++ e ∷ []) ++ rest) ≡ true = ap (is_legal s.version is_address) (append_assoc J (e ∷ []) rest ∙ ap (λ (ds : List Entry). J ++ ds) (sym h)) ∙ l.legal in
-    allows_from s.version is_address J e (legal_push s.version is_address J e (legal_begins s.version is_address (J ++ e ∷ []) rest whole)).1
+    let whole : is_legal s.version is_address ((J ++ e ∷ []) ++ rest) ≡ true =
+    ap (is_legal s.version is_address) (append_assoc J (e ∷ []) rest ∙ ap (λ (ds : List Entry). J ++ ds) (sym h))
+    ∙ l.legal in
+    allows_from s.version is_address J e (legal_push s.version is_address J e
+    (legal_begins s.version is_address (J ++ e ∷ []) rest whole)).1

@@ -22,10 +22,12 @@ abbrev answers_to : ℕ → History → ℕ
 answers_to n J = count_by (λ (e : Entry). is_reply_to n e.deed) J
 
 -- one more entry
-answers_push : (n : ℕ) (J : History) (e : Entry) → answers_to n (J ++ e ∷ []) ≡ answers_to n J + cond (is_reply_to n e.deed) 1 0
+answers_push : (n : ℕ) (J : History) (e : Entry) → answers_to n (J ++ e ∷ []) ≡ answers_to n J
+    + cond (is_reply_to n e.deed) 1 0
 answers_push n J e =
     let one = sum_by-cons (λ (x : Entry). cond (is_reply_to n x.deed) 1 0) e [] in
-    sum_by-append (λ (x : Entry). cond (is_reply_to n x.deed) 1 0) J (e ∷ []) ∙ ap (λ (k : ℕ). answers_to n J + k) (one ∙ zero_more (cond (is_reply_to n e.deed) 1 0))
+    sum_by-append (λ (x : Entry). cond (is_reply_to n x.deed) 1 0) J (e ∷ [])
+    ∙ ap (λ (k : ℕ). answers_to n J + k) (one ∙ zero_more (cond (is_reply_to n e.deed) 1 0))
   where
     zero_more : (k : ℕ) → k + 0 ≡ k
     zero_more k = omega arith
@@ -37,10 +39,13 @@ record IsOnce (n : ℕ) (J : History) : Type 0 where
   pub unmade : length (asks J) < n → answers_to n J ≡ 0
 
 -- an entry that is no reply to it
-no_reply : (n : ℕ) (J : History) (e : Entry) → is_reply_to n e.deed ≡ false → IsOnce n J → (is_outstanding (J ++ e ∷ []) n ≡ true → answers_to n J ≡ 0) → IsOnce n (J ++ e ∷ [])
+no_reply : (n : ℕ) (J : History) (e : Entry) → is_reply_to n e.deed ≡ false → IsOnce n J
+    → (is_outstanding (J ++ e ∷ []) n ≡ true → answers_to n J ≡ 0) → IsOnce n (J ++ e ∷ [])
 no_reply n J e h k s =
-    let same : answers_to n (J ++ e ∷ []) ≡ answers_to n J = answers_push n J e ∙ ap (λ (b : Bool). answers_to n J + cond b 1 0) h ∙ plain (answers_to n J) in
-    let more = ap (λ (ns : List ℕ). length ns) (asks_push J e) ∙ length-append (asks J) (option_to_list (asked_by e.deed)) in
+    let same : answers_to n (J ++ e ∷ []) ≡ answers_to n J = answers_push n J e
+    ∙ ap (λ (b : Bool). answers_to n J + cond b 1 0) h ∙ plain (answers_to n J) in
+    let more = ap (λ (ns : List ℕ). length ns) (asks_push J e) ∙ length-append (asks J)
+    (option_to_list (asked_by e.deed)) in
     record {
       most = subst (λ (i : ℕ). i ≤ 1) (sym same) k.most;
       standing = λ g. same ∙ s g;
@@ -50,7 +55,9 @@ no_reply n J e h k s =
     plain : (i : ℕ) → i + 0 ≡ i
     plain i = omega arith
 
-answered : (v : Version) (n : ℕ) (J : History) (by m : ℕ) (d : Deed) → is_legal v is_address J ≡ true → Allowed v is_address J (record { by = by; moment = m; deed = d }) → IsOnce n J → IsOnce n (J ++ record { by = by; moment = m; deed = d } ∷ [])
+answered : (v : Version) (n : ℕ) (J : History) (by m : ℕ) (d : Deed) → is_legal v is_address J ≡ true
+    → Allowed v is_address J (record { by = by; moment = m; deed = d }) → IsOnce n J
+    → IsOnce n (J ++ record { by = by; moment = m; deed = d } ∷ [])
 unfolding facts_of
 answered v n J by m (deed.Reply i o) l k h = one (i == n) refl
   where
@@ -61,14 +68,17 @@ answered v n J by m (deed.Reply i o) l k h = one (i == n) refl
     after = is_outstanding_push J e n
 
     one : (b : Bool) → (i == n) ≡ b → IsOnce n (J ++ e ∷ [])
-    one false g = no_reply n J e g h (λ x. h.standing (sym (after ∙ ap (λ (b : Bool). unwrap_or (when b false) (is_outstanding J n)) g) ∙ x))
+    one false g = no_reply n J e g h
+        (λ x. h.standing (sym (after ∙ ap (λ (b : Bool). unwrap_or (when b false) (is_outstanding J n)) g) ∙ x))
     one true g =
         let is : i ≡ n = eqb-true i n g in
-        let fits = reply_answers J i o (reply_kept v is_address (facts_of J) m i o (entry_kept v is_address (facts_of J) e k.unbroken).deed).may in
+        let fits = reply_answers J i o (reply_kept v is_address (facts_of J) m i o
+        (entry_kept v is_address (facts_of J) e k.unbroken).deed).may in
         let stood : is_outstanding J n ≡ true = ap (is_outstanding J) (sym is) ∙ fits.stands in
         let none = h.standing stood in
         let made = numbered_among (asks J) (asks_numbered v is_address J l) n (outstanding_there J n stood) in
-        let count : answers_to n (J ++ e ∷ []) ≡ answers_to n J + 1 = answers_push n J e ∙ ap (λ (b : Bool). answers_to n J + cond b 1 0) g in
+        let count : answers_to n (J ++ e ∷ []) ≡ answers_to n J + 1 = answers_push n J e
+        ∙ ap (λ (b : Bool). answers_to n J + cond b 1 0) g in
         let more = ap (λ (ns : List ℕ). length ns) (asks_push J e) ∙ length-append (asks J) [] in
         record {
           most = omega (arith, count, none);
@@ -90,11 +100,14 @@ answered v n J by m (deed.Ask i p kind) l k h =
 answered v n J by m deed.Restart l k h =
     let e : Entry = record { by = by; moment = m; deed = deed.Restart } in
     no_reply n J e refl h (λ x. let bad = sym (is_outstanding_push J e n) ∙ x in absurd cc)
-answered v n J by m d l k h = no_reply n J (record { by = by; moment = m; deed = d }) refl h (λ x. h.standing (sym (is_outstanding_push J (record { by = by; moment = m; deed = d }) n) ∙ x))
+answered v n J by m d l k h = no_reply n J (record { by = by; moment = m; deed = d }) refl h
+    (λ x. h.standing (sym (is_outstanding_push J (record { by = by; moment = m; deed = d }) n) ∙ x))
 
 once : (v : Version) (n : ℕ) (J : History) → is_legal v is_address J ≡ true → IsOnce n J
 unfolding asks is_outstanding
-once v n = legal_induction v is_address (IsOnce n) (record { most = omega arith; standing = λ x. absurd cc; unmade = λ x. refl }) (λ J e l k h. answered v n J e.by e.moment e.deed l k h)
+once v n = legal_induction v is_address (IsOnce n)
+    (record { most = omega arith; standing = λ x. absurd cc; unmade = λ x. refl })
+    (λ J e l k h. answered v n J e.by e.moment e.deed l k h)
 
 pub answered_once : AsksAreAnsweredOnce
 answered_once v J n l = (once v n J l).most

@@ -15,14 +15,16 @@ use Rattle.lra_core.specs.inner.Kept.{IsKept}
 abbrev pub IsIdentifier : ℕ → Type 0
 IsIdentifier n = (1 ≤ n) × (n < 2 ^ 62)
 
-pub action_number : (s : Terms) (J : History) (a : ℕ) → AreKeepable s.limits → IsLawful s J → is_among (actions J) a ≡ true → IsIdentifier a
+pub action_number : (s : Terms) (J : History) (a : ℕ) → AreKeepable s.limits → IsLawful s J → is_among (actions J) a
+    ≡ true → IsIdentifier a
 action_number s J a k l h =
     let n = numbered_among (actions J) (actions_numbered s.version is_address J l.legal) a h in
     let few = l.within.actions in
     let low = k.actions in
     (n.0, omega arith)
 
-pub member_number : (s : Terms) (J : History) (p : ℕ) → AreKeepable s.limits → IsLawful s J → is_among (members J) p ≡ true → IsIdentifier p
+pub member_number : (s : Terms) (J : History) (p : ℕ) → AreKeepable s.limits → IsLawful s J → is_among (members J) p
+    ≡ true → IsIdentifier p
 member_number s J p k l h =
     let n = numbered_among (members J) (members_numbered s.version is_address J l.legal) p h in
     let few = l.within.members in

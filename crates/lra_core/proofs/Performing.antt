@@ -40,13 +40,17 @@ nothing_own s J c h = none (own_entry s J c) h
 nothing_given : (g : Setting) (J : History) (c : Call) → block (terms_of g) J c ≡ [] → errand_of g J c ≡ None
 nothing_given g J c h = ap (λ (o : Option Entry). option_and_then (errand_for g J) o) (nothing_own (terms_of g) J c h)
 
-pub told_done : (before after : Shape) (c : Call) (t : Told) → IsSame before after → answer (terms_of after.setting) after.history c ≡ Ok t → block (terms_of after.setting) after.history c ≡ []
+pub told_done : (before after : Shape) (c : Call) (t : Told) → IsSame before after
+    → answer (terms_of after.setting) after.history c ≡ Ok t → block (terms_of after.setting) after.history c ≡ []
     → IsCommitted before c after (record { told = t; errand = None })
 told_done before after c t h answered nothing =
-    let told : answer (terms_of before.setting) before.history c ≡ Ok t = (λ i. answer (terms_of (sym h.setting i)) (sym h.history i) c) ∙ answered in
-    let none : block (terms_of before.setting) before.history c ≡ [] = (λ i. block (terms_of (sym h.setting i)) (sym h.history i) c) ∙ nothing in
+    let told : answer (terms_of before.setting) before.history c ≡ Ok t =
+    (λ i. answer (terms_of (sym h.setting i)) (sym h.history i) c) ∙ answered in
+    let none : block (terms_of before.setting) before.history c ≡ [] =
+    (λ i. block (terms_of (sym h.setting i)) (sym h.history i) c) ∙ nothing in
     let stays : after_call (terms_of before.setting) before.history c ≡ before.history =
-    ap (λ (es : List Entry). before.history ++ es) (grows (terms_of before.setting) before.history c t told ∙ none) ∙ append-nil before.history in
+    ap (λ (es : List Entry). before.history ++ es) (grows (terms_of before.setting) before.history c t told ∙ none)
+    ∙ append-nil before.history in
     record {
       done = record {
         answered = told;
@@ -57,22 +61,28 @@ told_done before after c t h answered nothing =
       asked = tt;
     }
 
-pub block_done : (before between after : Shape) (c : Call) (b : Written) (x : Committed) → IsSame before between → IsBlockOf between.setting between.history c b → IsGrown between after (between.history ++ b.entries)
+pub block_done : (before between after : Shape) (c : Call) (b : Written) (x : Committed) → IsSame before between
+    → IsBlockOf between.setting between.history c b → IsGrown between after (between.history ++ b.entries)
     → IsAtRest after → x.told ≡ b.told → x.errand ≡ b.errand → IsCoordinator between → IsCommitted before c after x
 block_done before between after c b x h is g rest told errand k =
-    let written : after.history ≡ after_call (terms_of between.setting) between.history c = g.history ∙ sym (after_block between.setting between.history b c is) in
+    let written : after.history ≡ after_call (terms_of between.setting) between.history c = g.history
+    ∙ sym (after_block between.setting between.history b c is) in
     let at : after.history ≡ after_call (terms_of before.setting) before.history c =
     written ∙ (λ i. after_call (terms_of (h.setting i)) (h.history i) c) in
     record {
       done = record {
         answered = (λ i. answer (terms_of (sym h.setting i)) (sym h.history i) c) ∙ is.answered ∙ ap Ok (sym told);
         grown = record { setting = g.setting ∙ h.setting; history = at };
-        quiet = λ filled. subst (λ (J : History). IsQuiet before.setting.version is_address J) at (subst (λ (y : Setting). IsQuiet y.version is_address after.history) (g.setting ∙ h.setting) rest);
+        quiet = λ filled. subst (λ (J : History). IsQuiet before.setting.version is_address J) at
+            (subst (λ (y : Setting). IsQuiet y.version is_address after.history) (g.setting ∙ h.setting) rest);
       };
       errand = errand ∙ is.errand ∙ (λ i. errand_of (h.setting i) (h.history i) c);
-      asked = subst (λ (J : History). IfSome x.errand (IsOfAsk J)) (sym written) (carried x.errand (errand ∙ is.errand));
+      asked = subst (λ (J : History). IfSome x.errand (IsOfAsk J)) (sym written)
+          (carried x.errand (errand ∙ is.errand));
     }
   where
-    carried : (o : Option Asking) → o ≡ errand_of between.setting between.history c → IfSome o (IsOfAsk (after_call (terms_of between.setting) between.history c))
+    carried : (o : Option Asking) → o ≡ errand_of between.setting between.history c
+        → IfSome o (IsOfAsk (after_call (terms_of between.setting) between.history c))
     carried None e = tt
-    carried (Some y) e = errand_carried between.setting between.history c b.told y k.limits k.history is.call is.answered (sym e)
+    carried (Some y) e = errand_carried between.setting between.history c b.told y k.limits k.history is.call
+        is.answered (sym e)

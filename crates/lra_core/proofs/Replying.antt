@@ -32,11 +32,13 @@ order_suited (order.MemberStatus member) = refl
 
 -- ---- what is given
 
-given : (before after : Shape) (c : Call) (result : Result Told Refusal) → Performs before c after result → IsToldAt (terms_of before.setting) before.history c (replied result) after.history
+given : (before after : Shape) (c : Call) (result : Result Told Refusal) → Performs before c after result
+    → IsToldAt (terms_of before.setting) before.history c (replied result) after.history
 given before after c (Ok told) h = (h.answered, h.grown.history)
 given before after c (Err r) h = (refused_at (terms_of before.setting) before.history c r h.refusal, h.same.history)
 
-same_setting : (before after : Shape) (c : Call) (result : Result Told Refusal) → Performs before c after result → after.setting ≡ before.setting
+same_setting : (before after : Shape) (c : Call) (result : Result Told Refusal) → Performs before c after result
+    → after.setting ≡ before.setting
 same_setting before after c (Ok told) h = h.grown.setting
 same_setting before after c (Err r) h = h.same.setting
 
@@ -44,8 +46,10 @@ not_worn : (result : Result Told Refusal) → replied result ≢ Err Worn
 not_worn (Ok told) h = absurd cc
 not_worn (Err r) h = absurd cc
 
-pub bench_gives : (before after : Benched) (moment : ℕ) (o : Order) (result : Result Told Refusal) → after.number ≡ before.number → IsCoordinator before.coordinator → IsCoordinator after.coordinator
-    → Performs before.coordinator (call_of before.number moment o) after.coordinator result → OwnsHistory (sight_of before) moment o (replied result) (sight_of after)
+pub bench_gives : (before after : Benched) (moment : ℕ) (o : Order) (result : Result Told Refusal) → after.number
+    ≡ before.number → IsCoordinator before.coordinator → IsCoordinator after.coordinator
+    → Performs before.coordinator (call_of before.number moment o) after.coordinator result
+    → OwnsHistory (sight_of before) moment o (replied result) (sight_of after)
 bench_gives before after moment o result number k l h =
     let same = same_setting before.coordinator after.coordinator (call_of before.number moment o) result h in
     record {

@@ -11,7 +11,8 @@ use Rattle.lra_commands.proofs.Keeps.{calls_keep}
 use Rattle.lra_core.specs.Texts.{IsSoundAlone, CallsMakeSoundTexts}
 
 -- the text of a legal history is sound, and nothing else
-pub sound_alone : (v : Version) (i : ℕ) (J : History) → i < 2 ^ 60 → is_legal v is_address J ≡ true → IsSoundAlone (text v i J) J
+pub sound_alone : (v : Version) (i : ℕ) (J : History) → i < 2 ^ 60 → is_legal v is_address J ≡ true
+    → IsSoundAlone (text v i J) J
 sound_alone v i J h l = record {
   sound = (v, i, J, record { spelled = legal_has_text v i J h l; legal = l; whole = refl }, refl);
   alone = λ x k. legal_text_sound v i J x h l k;

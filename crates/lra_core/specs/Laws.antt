@@ -19,7 +19,8 @@ use Rattle.lra_commands.specs.Given.{errand_of, IsOfAsk}
 -- each errand that a call gives is of an ask in the history after it
 abbrev pub ErrandsAreOfAsks : Type 0
 ErrandsAreOfAsks =
-    (g : Setting) (J : History) (c : Call) (t : Told) (e : Asking) → AreKeepable g.limits → IsLawful (terms_of g) J → IsCall c → answer (terms_of g) J c ≡ Ok t → errand_of g J c ≡ Some e → IsOfAsk (after_call (terms_of g) J c) e
+    (g : Setting) (J : History) (c : Call) (t : Told) (e : Asking) → AreKeepable g.limits → IsLawful (terms_of g) J
+    → IsCall c → answer (terms_of g) J c ≡ Ok t → errand_of g J c ≡ Some e → IsOfAsk (after_call (terms_of g) J c) e
 
 -- whether a deed is the reply to an ask
 abbrev pub is_reply_to : ℕ → Deed → Bool
@@ -28,4 +29,5 @@ is_reply_to n _ = false
 
 -- in a legal history each ask has at most one reply
 abbrev pub AsksAreAnsweredOnce : Type 0
-AsksAreAnsweredOnce = (v : Version) (J : History) (n : ℕ) → is_legal v is_address J ≡ true → count_by (λ (e : Entry). is_reply_to n e.deed) J ≤ 1
+AsksAreAnsweredOnce = (v : Version) (J : History) (n : ℕ) → is_legal v is_address J ≡ true
+    → count_by (λ (e : Entry). is_reply_to n e.deed) J ≤ 1

@@ -52,4 +52,5 @@ pub record RecordsAs (c : Call) (clerk at : ℕ) (e : Asking) (o : Outcome) : Ty
 -- what came of an ask is recorded, or the errand is given back
 abbrev pub PerformsRecord : Shape → ℕ → ℕ → Asking → Outcome → Shape → Result Told (Refusal × Asking) → Type 0
 PerformsRecord before by moment e o after result =
-    (c : Call) × RecordsAs c by moment e o × MatchResult result (IsDone before c after) (λ x. IsRefused before c after x.0 × (x.1 ≡ e))
+    (c : Call) × RecordsAs c by moment e o × MatchResult result (IsDone before c after)
+    (λ x. IsRefused before c after x.0 × (x.1 ≡ e))

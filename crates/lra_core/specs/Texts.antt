@@ -20,4 +20,5 @@ pub record IsSoundAlone (bytes : List ℕ) (J : History) : Type 0 where
 -- instance
 abbrev pub CallsMakeSoundTexts : Type 0
 CallsMakeSoundTexts =
-    (s : Terms) (i : ℕ) (J : History) (cs : List Call) → i < 2 ^ 60 → AreKeepable s.limits → IsLawful s J → All IsCall cs → IsSoundAlone (text s.version i (after_calls s J cs)) (after_calls s J cs)
+    (s : Terms) (i : ℕ) (J : History) (cs : List Call) → i < 2 ^ 60 → AreKeepable s.limits → IsLawful s J
+    → All IsCall cs → IsSoundAlone (text s.version i (after_calls s J cs)) (after_calls s J cs)

@@ -32,7 +32,8 @@ impl<P: Past> CoordinatorOf<P> {
 
     /// Returns what a clerk's command is told that only asks.
     pub(crate) fn ask(&self, by: u32, query: Query) -> Result<Told, Refusal>
-        ensures { (c : Call) → c.by ≡ by → asks c.command ≡ Some query → result ≡ answer (terms_of self.now.setting) self.now.history c }
+        ensures { (c : Call) → c.by ≡ by → asks c.command ≡ Some query → result
+            ≡ answer (terms_of self.now.setting) self.now.history c }
     {
         if !self.tables.is_clerk(by) {
             return Err(Refusal::NoSuchClerk);

@@ -25,7 +25,8 @@ use Rattle.lra_courier.specs.inner.Told.{TellsSoFar, TellsAtEnd, Looks}
 -- ---- what is found
 
 -- what holds whatever follows holds of the stream
-pub replies_ahead : (closed failed : Bool) (kind : AskKind) (direction : Direction) (bytes : List ℕ) (told : Result Outcome WireFault)
+pub replies_ahead : (closed failed : Bool) (kind : AskKind) (direction : Direction) (bytes : List ℕ)
+    (told : Result Outcome WireFault)
     → TellsSoFar kind direction bytes (Ok (Some told)) → Replies closed failed kind direction bytes told
 replies_ahead closed failed kind direction bytes (Ok outcome) h = λ more end. h more
 replies_ahead closed failed kind direction bytes (Err BadHead) h = λ more end. h.1 more
@@ -40,47 +41,81 @@ replies_ahead closed failed kind direction bytes (Err Io) h = absurd h.1
 only : (bytes more : List ℕ) (P : List ℕ → Type 0) → more ≡ [] → P bytes → P (bytes ++ more)
 only bytes more P none p = subst P (sym (append-nil bytes) ∙ ap (λ bs. bytes ++ bs) (sym none)) p
 
-pub replies_at_end : (failed : Bool) (kind : AskKind) (direction : Direction) (bytes : List ℕ) (told : Result Outcome WireFault)
+pub replies_at_end : (failed : Bool) (kind : AskKind) (direction : Direction) (bytes : List ℕ)
+    (told : Result Outcome WireFault)
     → TellsAtEnd kind direction bytes (Ok told) → Replies true failed kind direction bytes told
-replies_at_end failed kind direction bytes (Ok outcome) h = λ more end. only bytes more (λ stream. (rest : List ℕ) × IsReply kind direction stream rest outcome) (end refl) h
-replies_at_end failed kind direction bytes (Err BadHead) h = λ more end. only bytes more (λ stream. RefusesResponse stream BadHead) (end refl) h.2
-replies_at_end failed kind direction bytes (Err Chunked) h = λ more end. only bytes more (λ stream. RefusesResponse stream Chunked) (end refl) h.2
-replies_at_end failed kind direction bytes (Err BadLength) h = λ more end. only bytes more (λ stream. RefusesResponse stream BadLength) (end refl) h.2
-replies_at_end failed kind direction bytes (Err TooLarge) h = λ more end. only bytes more (λ stream. RefusesResponse stream TooLarge) (end refl) h.2
-replies_at_end failed kind direction bytes (Err Cut) h = λ more end. only bytes more (λ stream. RefusesResponse stream Cut) (end refl) h.2
+replies_at_end failed kind direction bytes (Ok outcome) h = λ more end. only bytes more
+    (λ stream. (rest : List ℕ) × IsReply kind direction stream rest outcome) (end refl) h
+replies_at_end failed kind direction bytes (Err BadHead) h = λ more end. only bytes more
+    (λ stream. RefusesResponse stream BadHead) (end refl) h.2
+replies_at_end failed kind direction bytes (Err Chunked) h = λ more end. only bytes more
+    (λ stream. RefusesResponse stream Chunked) (end refl) h.2
+replies_at_end failed kind direction bytes (Err BadLength) h = λ more end. only bytes more
+    (λ stream. RefusesResponse stream BadLength) (end refl) h.2
+replies_at_end failed kind direction bytes (Err TooLarge) h = λ more end. only bytes more
+    (λ stream. RefusesResponse stream TooLarge) (end refl) h.2
+replies_at_end failed kind direction bytes (Err Cut) h = λ more end. only bytes more
+    (λ stream. RefusesResponse stream Cut) (end refl) h.2
 replies_at_end failed kind direction bytes (Err Memory) h = absurd (h.0 refl)
 replies_at_end failed kind direction bytes (Err Io) h = absurd (h.1 refl)
 
 -- a response that is whole comes to this, whatever follows
-pub whole_replies : (kind : AskKind) (direction : Direction) (bytes : List ℕ) (code : ℕ) (body : List ℕ) (len : ℕ) (outcome : Outcome) → IsWhole bytes code body len
-    → outcome ≡ classify kind direction code body → IsTrue (outcome_suits kind outcome) → (more : List ℕ) → (rest : List ℕ) × IsReply kind direction (bytes ++ more) rest outcome
-whole_replies kind direction bytes code body len outcome whole class suits more =
-    (drop len bytes ++ more, record { code = code; body = body; response = whole.stays more; class = class; suits = suits })
+pub whole_replies : (kind : AskKind) (direction : Direction) (bytes : List ℕ) (code : ℕ) (body : List ℕ) (len : ℕ)
+    (outcome : Outcome) → IsWhole bytes code body len
+    → outcome ≡ classify kind direction code body → IsTrue (outcome_suits kind outcome) → (more : List ℕ)
+    → (rest : List ℕ) × IsReply kind direction (bytes ++ more) rest outcome
+whole_replies kind direction bytes code body len outcome whole class suits more = (
+  drop len bytes ++ more,
+  record {
+    code = code;
+    body = body;
+    response = whole.stays more;
+    class = class;
+    suits =
+        suits;
+  },
+)
 
 -- the same at the end of the stream
-pub end_replies : (kind : AskKind) (direction : Direction) (bytes : List ℕ) (old new : Option (List ℕ)) (code : ℕ) (body : List ℕ) (outcome : Outcome) → old ≡ Some bytes
-    → IfBothKnown old new (λ all rest. IsResponse all code body rest) → outcome ≡ classify kind direction code body → IsTrue (outcome_suits kind outcome)
+pub end_replies : (kind : AskKind) (direction : Direction) (bytes : List ℕ) (old new : Option (List ℕ)) (code : ℕ)
+    (body : List ℕ) (outcome : Outcome) → old ≡ Some bytes
+    → IfBothKnown old new (λ all rest. IsResponse all code body rest) → outcome ≡ classify kind direction code body
+    → IsTrue (outcome_suits kind outcome)
     → (rest : List ℕ) × IsReply kind direction bytes rest outcome
 end_replies kind direction bytes None new code body outcome e h class suits = absurd cc
 end_replies kind direction bytes (Some all) None code body outcome e h class suits = absurd h
 end_replies kind direction bytes (Some all) (Some rest) code body outcome e h class suits =
-    let same : all ≡ bytes = cc in (rest, record { code = code; body = body; response = subst (λ (bs : List ℕ). IsResponse bs code body rest) same h; class = class; suits = suits })
+    let same : all ≡ bytes =
+    cc in (
+      rest,
+      record {
+        code = code;
+        body = body;
+        response = subst
+            (λ (bs : List ℕ). IsResponse bs code body rest) same h;
+        class = class;
+        suits = suits;
+      },
+    )
 
-pub end_refuses : (bytes : List ℕ) (old : Option (List ℕ)) (fault : WireFault) → old ≡ Some bytes → IfSome old (λ all. RefusesResponse all fault) → RefusesResponse bytes fault
+pub end_refuses : (bytes : List ℕ) (old : Option (List ℕ)) (fault : WireFault) → old ≡ Some bytes
+    → IfSome old (λ all. RefusesResponse all fault) → RefusesResponse bytes fault
 end_refuses bytes None fault e h = absurd cc
 end_refuses bytes (Some all) fault e h = let same : all ≡ bytes = cc in subst (λ (bs : List ℕ). RefusesResponse bs fault) same h
 
 -- what is open awaits more
 pub open_here : (bytes : List ℕ) (wanted : ℕ) → IsOpen bytes wanted → AwaitsResponse bytes × (length bytes < 1048576)
 open_here bytes wanted o = (
-  subst AwaitsResponse (append-nil bytes) (o.awaits [] (subst (λ (bs : List ℕ). length bs < wanted) (sym (append-nil bytes)) o.few)),
+  subst AwaitsResponse (append-nil bytes)
+      (o.awaits [] (subst (λ (bs : List ℕ). length bs < wanted) (sym (append-nil bytes)) o.few)),
   omega (arith, o.few, o.bound),
 )
 
 -- ---- what it came to stays
 
 -- of what is later, no less is known
-replies_on : (closed later failed broken : Bool) (kind : AskKind) (direction : Direction) (bytes : List ℕ) (told : Result Outcome WireFault) → (IsTrue closed → IsTrue later) → (IsTrue failed → IsTrue broken)
+replies_on : (closed later failed broken : Bool) (kind : AskKind) (direction : Direction) (bytes : List ℕ)
+    (told : Result Outcome WireFault) → (IsTrue closed → IsTrue later) → (IsTrue failed → IsTrue broken)
     → Replies closed failed kind direction bytes told → Replies later broken kind direction bytes told
 replies_on closed later failed broken kind direction bytes (Ok outcome) c f h = λ more end. h more (λ e. end (c e))
 replies_on closed later failed broken kind direction bytes (Err BadHead) c f h = λ more end. h more (λ e. end (c e))
@@ -100,10 +135,12 @@ pub record Follows (old new : Carried) : Type 0 where
   pub closed : IsTrue old.closed → IsTrue new.closed
   pub failed : IsTrue old.failed → IsTrue new.failed
 
-same_replies : (old new : Carried) (told : Result Outcome WireFault) → Follows old new → Replies old.closed old.failed old.kind old.direction old.taken told
+same_replies : (old new : Carried) (told : Result Outcome WireFault) → Follows old new
+    → Replies old.closed old.failed old.kind old.direction old.taken told
     → Replies new.closed new.failed new.kind new.direction new.taken told
 same_replies old new told f h =
-    let later = replies_on old.closed new.closed old.failed new.failed old.kind old.direction old.taken told f.closed f.failed h in
+    let later = replies_on old.closed new.closed old.failed new.failed old.kind old.direction old.taken told f.closed
+    f.failed h in
     subst (λ (k : AskKind). Replies new.closed new.failed k new.direction new.taken told) (sym f.kind)
     (subst (λ (d : Direction). Replies new.closed new.failed old.kind d new.taken told) (sym f.direction)
     (subst (λ (bs : List ℕ). Replies new.closed new.failed old.kind old.direction bs told) (sym f.taken) later))
@@ -114,7 +151,8 @@ comes_on old new (Err (Reply fault)) f h = (f.sent h.0, same_replies old new (Er
 comes_on old new (Err (Send fault)) f h = (h.0, f.failed h.1)
 comes_on old new (Err Unreached) f h = h
 
-pub came_on : (old new : Carried) (came : Option (Result Outcome CallFault)) → Follows old new → IfSome came (Comes old) → IfSome came (Comes new)
+pub came_on : (old new : Carried) (came : Option (Result Outcome CallFault)) → Follows old new → IfSome came (Comes old)
+    → IfSome came (Comes new)
 came_on old new None f h = tt
 came_on old new (Some told) f h = comes_on old new told f h
 
@@ -129,11 +167,13 @@ no_bytes : (bytes : List ℕ) → length bytes ≡ 0 → bytes ≡ []
 no_bytes [] e = refl
 no_bytes (b ∷ bytes) e = absurd (omega (arith, e))
 
-pub came_took : (h : Carried) (bytes : List ℕ) (came : Option (Result Outcome CallFault)) → h.came ≡ came → length bytes ≤ room_of h → IfSome came (Comes h) → IfSome came (Comes (took h bytes))
+pub came_took : (h : Carried) (bytes : List ℕ) (came : Option (Result Outcome CallFault)) → h.came ≡ came → length bytes
+    ≤ room_of h → IfSome came (Comes h) → IfSome came (Comes (took h bytes))
 came_took h bytes None e fits c = tt
 came_took h bytes (Some told) e fits c =
     let none : bytes ≡ [] = no_bytes bytes (no_room h.closed h.failed (1048576 - length h.taken) (length bytes)
-    (subst (λ (o : Option (Result Outcome CallFault)). length bytes ≤ (if h.closed || h.failed || is_some o then 0 else 1048576 - length h.taken)) e fits)) in
+    (subst (λ (o : Option (Result Outcome CallFault)). length bytes ≤ (if h.closed || h.failed
+    || is_some o then 0 else 1048576 - length h.taken)) e fits)) in
     comes_on h (took h bytes) told (record {
       kind = refl;
       direction = refl;
@@ -146,7 +186,12 @@ came_took h bytes (Some told) e fits c =
 pub carried_took : (h : Carried) (bytes : List ℕ) → IsCarried h → length bytes ≤ room_of h → IsCarried (took h bytes)
 carried_took h bytes c fits = record {
   within = c.within;
-  bound = omega (arith, length-append h.taken bytes, room_fits h.closed h.failed (is_some h.came) (length h.taken) (length bytes) c.bound fits);
+  bound = omega (
+    arith,
+    length-append h.taken bytes,
+    room_fits h.closed h.failed (is_some h.came) (length h.taken)
+        (length bytes) c.bound fits,
+  );
   came = came_took h bytes h.came refl fits c.came;
 }
   where
@@ -156,10 +201,12 @@ carried_took h bytes c fits = record {
     room_fits false false true n m bound h = omega (arith, bound, h)
     room_fits false false false n m bound h = omega (arith, bound, h)
 
-pub gone_fits : (h : Carried) (count : ℕ) → IsCarried h → count ≤ length (drop h.gone h.request) → h.gone + count ≤ length h.request
+pub gone_fits : (h : Carried) (count : ℕ) → IsCarried h → count ≤ length (drop h.gone h.request) → h.gone + count
+    ≤ length h.request
 gone_fits h count c fits = omega (arith, c.within, fits, length-drop h.gone h.request)
 
-pub carried_went : (h : Carried) (count : ℕ) → IsCarried h → count ≤ length (drop h.gone h.request) → IsCarried (went h count)
+pub carried_went : (h : Carried) (count : ℕ) → IsCarried h → count ≤ length (drop h.gone h.request)
+    → IsCarried (went h count)
 carried_went h count c fits = record {
   within = gone_fits h count c fits;
   bound = c.bound;
@@ -201,7 +248,8 @@ carried_broken h c = record {
   }) c.came;
 }
 
-pub carried_tells : (h : Carried) (told : Result Outcome CallFault) → IsCarried h → Comes h told → IsCarried (tells h told)
+pub carried_tells : (h : Carried) (told : Result Outcome CallFault) → IsCarried h → Comes h told
+    → IsCarried (tells h told)
 carried_tells h told c comes = record {
   within = c.within;
   bound = c.bound;
@@ -216,8 +264,15 @@ carried_tells h told c comes = record {
 }
 
 -- what a response comes to is an answer
-pub reply_answers : (calling : Calling) (bytes rest : List ℕ) (outcome : Outcome) → IsReply calling.kind calling.direction bytes rest outcome → IsAnswer calling bytes rest outcome
-reply_answers calling bytes rest outcome r = record { code = r.code; body = r.body; response = r.response; class = r.class }
+pub reply_answers : (calling : Calling) (bytes rest : List ℕ) (outcome : Outcome)
+    → IsReply calling.kind calling.direction bytes rest outcome → IsAnswer calling bytes rest outcome
+reply_answers calling bytes rest outcome r = record {
+  code = r.code;
+  body = r.body;
+  response = r.response;
+  class =
+      r.class;
+}
 
 -- and suits the kind
 silent_suits : (kind : AskKind) → IsTrue (outcome_suits kind Silent)
@@ -227,13 +282,16 @@ silent_suits ask.Status = refl
 silent_suits ask.Forget = refl
 silent_suits ask.After = refl
 
-pub comes_suits : (h : Carried) (told : Result Outcome CallFault) → Comes h told → IsTrue (outcome_suits h.kind (result_unwrap_or told Silent))
+pub comes_suits : (h : Carried) (told : Result Outcome CallFault) → Comes h told
+    → IsTrue (outcome_suits h.kind (result_unwrap_or told Silent))
 comes_suits h (Ok outcome) c = (c.1 [] (λ e. refl)).1.suits
 comes_suits h (Err fault) c = silent_suits h.kind
 
 -- a response that was found
-pub look_comes : (h : Carried) (bytes : List ℕ) (found : Option (Result Outcome WireFault)) (outcome : Outcome) → IsSent h → bytes ≡ h.taken
+pub look_comes : (h : Carried) (bytes : List ℕ) (found : Option (Result Outcome WireFault)) (outcome : Outcome)
+    → IsSent h → bytes ≡ h.taken
     → Looks h.closed h.failed h.kind h.direction bytes (Ok found) → found ≡ Some (Ok outcome) → Comes h (Ok outcome)
 look_comes h bytes found outcome sent same looks is =
-    let here = subst (λ (o : Option (Result Outcome WireFault)). Looks h.closed h.failed h.kind h.direction bytes (Ok o)) is looks in
+    let here = subst (λ (o : Option (Result Outcome WireFault)). Looks h.closed h.failed h.kind h.direction bytes
+    (Ok o)) is looks in
     (sent, subst (λ (bs : List ℕ). Replies h.closed h.failed h.kind h.direction bs (Ok outcome)) same here)

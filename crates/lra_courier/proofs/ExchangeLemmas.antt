@@ -13,17 +13,24 @@ use Rattle.lra_courier.specs.Callbacks.{Calling, request_bytes}
 use Rattle.lra_courier.specs.Exchanges.{IsAnswer, AppendsSome, Exchanges, Answers, Converses}
 
 -- the answer is that of the bytes that had to come, whatever is left of them
-pub answered : (c : Calling) (outcome : Outcome) (kept after : Option (List ℕ)) → IfBothKnown kept after (λ bytes rest. IsAnswer c bytes rest outcome)
+pub answered : (c : Calling) (outcome : Outcome) (kept after : Option (List ℕ))
+    → IfBothKnown kept after (λ bytes rest. IsAnswer c bytes rest outcome)
     → IfSome kept (λ bytes. (rest : List ℕ) × IsAnswer c bytes rest outcome)
 answered c outcome None after h = tt
 answered c outcome (Some bytes) None h = absurd h
 answered c outcome (Some bytes) (Some rest) h = (rest, h)
 
 -- a request that went out, and what the bytes of an inbox over the stream came to
-pub conversed : (old new stream kept : Option (List ℕ)) (c : Calling) (told : Result Outcome CallFault) → Appends old new (request_bytes c) → kept ≡ stream
+pub conversed : (old new stream kept : Option (List ℕ)) (c : Calling) (told : Result Outcome CallFault)
+    → Appends old new (request_bytes c) → kept ≡ stream
     → Answers kept c told → Converses old new stream c told
-conversed old new stream kept c (Ok outcome) sent e h = (sent, subst (λ (known : Option (List ℕ)). Answers known c (Ok outcome)) e h)
-conversed old new stream kept c (Err (Reply fault)) sent e h = (sent, subst (λ (known : Option (List ℕ)). Answers known c (Err (Reply fault))) e h)
+conversed old new stream kept c (Ok outcome) sent e h =
+    (sent, subst (λ (known : Option (List ℕ)). Answers known c (Ok outcome)) e h)
+conversed old new stream kept c (Err (Reply fault)) sent e h = (
+  sent,
+  subst
+      (λ (known : Option (List ℕ)). Answers known c (Err (Reply fault))) e h,
+)
 conversed old new stream kept c (Err (Send fault)) sent e h = absurd h
 conversed old new stream kept c (Err Unreached) sent e h = absurd h
 
@@ -41,7 +48,8 @@ all_of old new text sent = (text, [], sym (append-nil text), sent)
 none_of : (old new : Option (List ℕ)) (text : List ℕ) → Keeps old new → AppendsSome old new text
 none_of old new text kept = ([], text, refl, grown_by_none old new kept)
 
-silent : (old new stream : Option (List ℕ)) (c : Calling) → AppendsSome old new (request_bytes c) → Exchanges old new stream c Silent
+silent : (old new stream : Option (List ℕ)) (c : Calling) → AppendsSome old new (request_bytes c)
+    → Exchanges old new stream c Silent
 silent old new stream c front = record {
   front = front;
   whole = λ loud. absurd (loud refl);
@@ -49,7 +57,8 @@ silent old new stream c front = record {
 }
 
 -- where a fault counts as silence, some front of the request went out, and an answer came of all of it alone
-pub exchanged : (old new stream : Option (List ℕ)) (c : Calling) (told : Result Outcome CallFault) → Converses old new stream c told
+pub exchanged : (old new stream : Option (List ℕ)) (c : Calling) (told : Result Outcome CallFault)
+    → Converses old new stream c told
     → Exchanges old new stream c (result_unwrap_or told Silent)
 exchanged old new stream c (Ok outcome) h = record {
   front = all_of old new (request_bytes c) h.0;

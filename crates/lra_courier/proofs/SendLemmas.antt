@@ -20,24 +20,28 @@ unfolding is_address
 refused_is_none text fault e = ap (is_own text) e
 
 -- nor is one that stands for another
-pub other_is_none : (text own shown : List ℕ) → address_of text ≡ Ok own → shown ≡ own → bytes_eq shown text ≡ false → is_address text ≡ false
+pub other_is_none : (text own shown : List ℕ) → address_of text ≡ Ok own → shown ≡ own → bytes_eq shown text ≡ false
+    → is_address text ≡ false
 unfolding is_address
 other_is_none text own shown e f h = ap (is_own text) e ∙ ap (λ bytes. bytes_eq bytes text) (sym f) ∙ h
 
 -- one that stands for itself is an address
-pub own_is_one : (text own shown : List ℕ) → address_of text ≡ Ok own → shown ≡ own → bytes_eq shown text ≡ true → is_address text ≡ true
+pub own_is_one : (text own shown : List ℕ) → address_of text ≡ Ok own → shown ≡ own → bytes_eq shown text ≡ true
+    → is_address text ≡ true
 unfolding is_address
 own_is_one text own shown e f h = ap (is_own text) e ∙ ap (λ bytes. bytes_eq bytes text) (sym f) ∙ h
 
 -- where an address isn't read, there is no connection to its socket
-pub unread : {D S : Type 0} (gives : Giving D S) (d : D) (text address : List ℕ) (fault : SendFault) → text ≡ address → fault ≢ Io
+pub unread : {D S : Type 0} (gives : Giving D S) (d : D) (text address : List ℕ) (fault : SendFault) → text ≡ address
+    → fault ≢ Io
     → (fault ≡ BadAddress → is_address text ≡ false) → Lacks gives d address (Send fault)
 unread gives d text address BadAddress e other none = ap is_address (sym e) ∙ none refl
 unread gives d text address Memory e other none = tt
 unread gives d text address Io e other none = absurd (other refl)
 
 -- and nothing is written
-pub unwritten : (known : Option (List ℕ)) (text : List ℕ) (c : Calling) (fault : SendFault) → text ≡ c.address → fault ≢ Io
+pub unwritten : (known : Option (List ℕ)) (text : List ℕ) (c : Calling) (fault : SendFault) → text ≡ c.address → fault
+    ≢ Io
     → (fault ≡ BadAddress → is_address text ≡ false) → Posts known known c (Err fault)
 unwritten known text c BadAddress e other none = (Keeps-refl known, ap is_address (sym e) ∙ none refl)
 unwritten known text c Memory e other none = Keeps-refl known
@@ -45,13 +49,15 @@ unwritten known text c Io e other none = absurd (other refl)
 
 -- where the texts of fields lie says nothing of their lines
 lines_seen : (fields : List (Bor (List ℕ) × Bor (List ℕ)))
-    → flat_map field_line fields ≡ flat_map field_line (map (λ (field : Field). (lent field.0, lent field.1)) (seen fields))
+    → flat_map field_line fields ≡ flat_map field_line (map (λ (field : Field). (lent field.0, lent field.1))
+    (seen fields))
 lines_seen [] = refl
 lines_seen (field ∷ fields) = ap (λ text. field_line field ++ text) (lines_seen fields)
 
 -- a request of these parts is the callback's
 pub parts_are : (method target body : List ℕ) (fields : List (Bor (List ℕ) × Bor (List ℕ))) (c : Calling)
-    → method ≡ method_of c.kind → target ≡ target_of c.address → seen fields ≡ fields_of c → body ≡ body_of c.kind c.ended
+    → method ≡ method_of c.kind → target ≡ target_of c.address → seen fields ≡ fields_of c → body
+    ≡ body_of c.kind c.ended
     → message_text (method ++ (codes " " ++ (target ++ codes " HTTP/1.1"))) fields body ≡ request_bytes c
 unfolding request_bytes
 parts_are method target body fields c m t f b = rw (m, t, b, lines_seen fields, f) refl

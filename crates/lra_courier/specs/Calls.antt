@@ -36,9 +36,11 @@ pub record CallsOver {D S : Type 0} (gives : Giving D S) (contents remaining : S
   pub converses : Converses (contents stream) (contents sent) (remaining sent) c told
 
 -- what a call came to: why no connection was had, or what came of the one that was
-abbrev pub Calls : {D S : Type 0} → Giving D S → (S → Option (List ℕ)) → (S → Option (List ℕ)) → D → Calling → Result Outcome CallFault → Type 0
+abbrev pub Calls : {D S : Type 0} → Giving D S → (S → Option (List ℕ)) → (S → Option (List ℕ)) → D → Calling
+    → Result Outcome CallFault → Type 0
 Calls gives contents remaining d c told =
-    ((fault : CallFault) × (told ≡ Err fault) × Lacks gives d c.address fault) ⊎ CallsOver gives contents remaining d c told
+    ((fault : CallFault) × (told ≡ Err fault) × Lacks gives d c.address fault)
+    ⊎ CallsOver gives contents remaining d c told
 
 -- an outcome for an ask of this number and kind: it suits the kind, and came of a call for an errand of that ask
 pub record Carries {D S : Type 0} (gives : Giving D S) (contents remaining : S → Option (List ℕ)) (ask : ℕ) (kind : AskKind) (outcome : Outcome) : Type 0 where

@@ -42,11 +42,16 @@ OfStream closed bytes P = (more : List ℕ) → (IsTrue closed → more ≡ []) 
 
 -- What a stream that is behind a request comes to: the outcome of the response that it begins with, or why it begins with none, or that it has failed.
 abbrev pub Replies : Bool → Bool → AskKind → Direction → List ℕ → Result Outcome WireFault → Type 0
-Replies closed failed kind direction bytes (Ok outcome) = OfStream closed bytes (λ stream. (rest : List ℕ) × IsReply kind direction stream rest outcome)
-Replies closed failed kind direction bytes (Err BadHead) = OfStream closed bytes (λ stream. RefusesResponse stream BadHead)
-Replies closed failed kind direction bytes (Err Chunked) = OfStream closed bytes (λ stream. RefusesResponse stream Chunked)
-Replies closed failed kind direction bytes (Err BadLength) = OfStream closed bytes (λ stream. RefusesResponse stream BadLength)
-Replies closed failed kind direction bytes (Err TooLarge) = OfStream closed bytes (λ stream. RefusesResponse stream TooLarge)
+Replies closed failed kind direction bytes (Ok outcome) = OfStream closed bytes
+    (λ stream. (rest : List ℕ) × IsReply kind direction stream rest outcome)
+Replies closed failed kind direction bytes (Err BadHead) = OfStream closed bytes
+    (λ stream. RefusesResponse stream BadHead)
+Replies closed failed kind direction bytes (Err Chunked) = OfStream closed bytes
+    (λ stream. RefusesResponse stream Chunked)
+Replies closed failed kind direction bytes (Err BadLength) = OfStream closed bytes
+    (λ stream. RefusesResponse stream BadLength)
+Replies closed failed kind direction bytes (Err TooLarge) = OfStream closed bytes
+    (λ stream. RefusesResponse stream TooLarge)
 Replies closed failed kind direction bytes (Err Cut) = OfStream closed bytes (λ stream. RefusesResponse stream Cut)
 Replies closed failed kind direction bytes (Err Io) = IsTrue failed
 Replies closed failed kind direction bytes (Err Memory) = ⊥

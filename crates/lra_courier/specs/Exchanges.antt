@@ -48,7 +48,8 @@ Answers stream c (Err Unreached) = ⊥
 -- What a request and its response came to, over streams that may be known: why the request wasn't sent, or once all of it went out, what the bytes behind it come to.
 abbrev pub Converses : Option (List ℕ) → Option (List ℕ) → Option (List ℕ) → Calling → Result Outcome CallFault → Type 0
 Converses old new stream c (Ok outcome) = Appends old new (request_bytes c) × Answers stream c (Ok outcome)
-Converses old new stream c (Err (Reply fault)) = Appends old new (request_bytes c) × Answers stream c (Err (Reply fault))
+Converses old new stream c (Err (Reply fault)) = Appends old new (request_bytes c)
+    × Answers stream c (Err (Reply fault))
 Converses old new stream c (Err (Send fault)) = Posts old new c (Err fault)
 Converses old new stream c (Err Unreached) = ⊥
 

@@ -41,7 +41,8 @@ text_in body = unquoted (trimmed body)
 
 -- the states that a body can name: a member that has left is asked nothing (MicroProfile LRA 2.0, ParticipantStatus)
 abbrev pub states : List MemberStatus
-states = member.Active ∷ member.Completing ∷ member.Completed ∷ member.FailedToComplete ∷ member.Compensating ∷ member.Compensated ∷ member.FailedToCompensate ∷ []
+states = member.Active ∷ member.Completing ∷ member.Completed ∷ member.FailedToComplete ∷ member.Compensating
+    ∷ member.Compensated ∷ member.FailedToCompensate ∷ []
 
 -- the state that a text names
 abbrev pub state_named : List ℕ → Option MemberStatus

@@ -9,7 +9,8 @@ use Rattle.lra_courier.specs.Carried.{Carried, IsSent, Comes, room_of, took, tel
 -- What a step says of all before it, and what it changes: more bytes are wanted only where those that came are no whole response; and what a callback came to stays.
 abbrev pub StepsTo : Step → Carried → Carried → Type 0
 StepsTo Sends old new = (old.came ≡ None) × IsFalse old.failed × (old.gone < length old.request) × (new ≡ old)
-StepsTo Wants old new = (old.came ≡ None) × IsFalse old.failed × IsFalse old.closed × IsSent old × AwaitsResponse old.taken × (length old.taken < 1048576) × (new ≡ old)
+StepsTo Wants old new = (old.came ≡ None) × IsFalse old.failed × IsFalse old.closed × IsSent old
+    × AwaitsResponse old.taken × (length old.taken < 1048576) × (new ≡ old)
 StepsTo (Came told) old new = ((old.came ≡ None) ⊎ (old.came ≡ Some told)) × Comes old told × (new ≡ tells old told)
 
 -- where memory is refused nothing changes

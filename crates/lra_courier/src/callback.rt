@@ -102,7 +102,8 @@ fn push_parent<'a>(
     fields: &mut Vec<(&'a str, &'a str)>,
     parent_uri: Option<&'a str>,
 ) -> Result<(), AllocError>
-    ensures { OnOk result (seen fields.new.items ≡ seen fields.old.items ++ spec.parent_fields (option_map (λ uri. uri.now) parent_uri.entry)) }
+    ensures { OnOk result (seen fields.new.items ≡ seen fields.old.items
+        ++ spec.parent_fields (option_map (λ uri. uri.now) parent_uri.entry)) }
 {
     match parent_uri {
         Some(uri) => push(fields, "Long-Running-Action-Parent", uri),

@@ -57,7 +57,8 @@ impl<D: Dialler> DiallingCourier<D> {
 
     /// The same, where any fault is [`Outcome::Silent`].
     pub fn call(&self, callback: &Callback<'_>) -> Outcome
-        ensures calls { ComesOf (Calls D.gives D.Stream.contents D.Stream.remaining self.now.dialler callback.now) result }
+        ensures calls { ComesOf (Calls D.gives D.Stream.contents D.Stream.remaining self.now.dialler callback.now)
+            result }
         ensures suits { IsTrue (outcome_suits callback.now.kind result) }
     {
         match self.try_call(callback) {

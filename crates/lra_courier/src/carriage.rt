@@ -41,7 +41,8 @@ pub trait Carriage {
         ensures none { IfNone result (AreSame (held self.old) (held self.new)) };
 
     // Whatever comes suits the kind.
-    ghost suits: { (ask : ℕ) (kind : AskKind) (outcome : Outcome) → gives ask kind outcome → outcome_suits kind outcome ≡ true };
+    ghost suits: { (ask : ℕ) (kind : AskKind) (outcome : Outcome) → gives ask kind outcome → outcome_suits kind outcome
+        ≡ true };
 
     // Of each ask nothing may come.
     ghost silent: { (ask : ℕ) (kind : AskKind) → gives ask kind Silent };

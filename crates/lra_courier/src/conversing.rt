@@ -50,7 +50,8 @@ impl<'a> Callback<'a> {
         stream: S,
     ) -> Result<Outcome, CallFault>
         requires { to.now ≡ self.now.address }
-        ensures converses { (sent : S) × Converses (S.contents stream) (S.contents sent) (S.remaining sent) self.now result }
+        ensures converses { (sent : S) × Converses (S.contents stream) (S.contents sent) (S.remaining sent) self.now
+            result }
         ensures suits { IfOk result (λ outcome. IsTrue (outcome_suits self.now.kind outcome)) }
     {
         let mut stream = stream;
@@ -66,7 +67,8 @@ impl<'a> Callback<'a> {
         alloc: Global,
         stream: S,
     ) -> Result<Outcome, CallFault>
-        ensures converses { (sent : S) × Converses (S.contents stream) (S.contents sent) (S.remaining sent) self.now result }
+        ensures converses { (sent : S) × Converses (S.contents stream) (S.contents sent) (S.remaining sent) self.now
+            result }
         ensures suits { IfOk result (λ outcome. IsTrue (outcome_suits self.now.kind outcome)) }
     {
         let to = match self.to(alloc) {

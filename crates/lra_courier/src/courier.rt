@@ -18,5 +18,6 @@ pub trait Courier {
         ensures { gives errand.now.ask errand.now.kind result };
 
     // Whatever it answers suits the kind.
-    ghost suits: { (ask : ℕ) (kind : AskKind) (outcome : Outcome) → gives ask kind outcome → outcome_suits kind outcome ≡ true };
+    ghost suits: { (ask : ℕ) (kind : AskKind) (outcome : Outcome) → gives ask kind outcome → outcome_suits kind outcome
+        ≡ true };
 }

@@ -24,7 +24,8 @@ impl<'a> Callback<'a> {
         reader: R,
         writer: &mut W,
     ) -> Result<Outcome, CallFault>
-        ensures converses { Converses (W.contents writer.old) (W.contents writer.new) (R.remaining reader) self.now result }
+        ensures converses { Converses (W.contents writer.old) (W.contents writer.new) (R.remaining reader) self.now
+            result }
         ensures suits { IfOk result (λ outcome. IsTrue (outcome_suits self.now.kind outcome)) }
     {
         let Ok(mut inbox) = Inbox::new(alloc, reader) else {
@@ -43,8 +44,10 @@ impl<'a> Callback<'a> {
         reader: R,
         writer: &mut W,
     ) -> Outcome
-        ensures exchanges { Exchanges (W.contents writer.old) (W.contents writer.new) (R.remaining reader) self.now result }
-        ensures told { ComesOf (Converses (W.contents writer.old) (W.contents writer.new) (R.remaining reader) self.now) result }
+        ensures exchanges { Exchanges (W.contents writer.old) (W.contents writer.new) (R.remaining reader) self.now
+            result }
+        ensures told { ComesOf (Converses (W.contents writer.old) (W.contents writer.new) (R.remaining reader) self.now)
+            result }
         ensures suits { IsTrue (outcome_suits self.now.kind result) }
     {
         match self.try_exchange(alloc, reader, writer) {
@@ -63,7 +66,8 @@ pub fn send<W: Write>(alloc: Global, writer: &mut W, errand: &Errand) -> Result<
 
 /// Reads the response to an errand's request, and says what it comes to: any fault is [`Outcome::Silent`].
 pub fn receive<R: Read + Drop>(alloc: Global, inbox: &mut Inbox<R>, errand: &Errand) -> Outcome
-    ensures answer { (result ≡ Outcome.Silent) ⊎ IfBothKnown (stream_of R.remaining inbox.old) (stream_of R.remaining inbox.new)
+    ensures answer { (result ≡ Outcome.Silent) ⊎ IfBothKnown (stream_of R.remaining inbox.old)
+        (stream_of R.remaining inbox.new)
         (λ bytes rest. IsAnswer (calling_of errand.now) bytes rest result) }
     ensures suits { IsTrue (outcome_suits errand.now.kind result) }
 {
@@ -80,8 +84,10 @@ pub fn exchange<R: Read + Drop, W: Write>(
     writer: &mut W,
     errand: &Errand,
 ) -> Outcome
-    ensures exchanges { Exchanges (W.contents writer.old) (W.contents writer.new) (R.remaining reader) (calling_of errand.now) result }
-    ensures told { ComesOf (Converses (W.contents writer.old) (W.contents writer.new) (R.remaining reader) (calling_of errand.now)) result }
+    ensures exchanges { Exchanges (W.contents writer.old) (W.contents writer.new) (R.remaining reader)
+        (calling_of errand.now) result }
+    ensures told { ComesOf (Converses (W.contents writer.old) (W.contents writer.new) (R.remaining reader)
+        (calling_of errand.now)) result }
     ensures suits { IsTrue (outcome_suits errand.now.kind result) }
 {
     Callback::of(errand).exchange(alloc, reader, writer)

@@ -14,7 +14,8 @@ use Rattle.lra_course.specs.Verdicts.{ended_cancelled}
 -- whether an action is t or stands below it, by the parents in the rows
 abbrev pub is_within_by : ℕ → List ActionRow → ℕ → ℕ → Bool
 is_within_by zero rows t a = a == t
-is_within_by (suc n) rows t a = (a == t) || option_map_or (is_within_by n rows t) (option_map_or (λ (r : ActionRow). r.parent) (row_at rows a) None) false
+is_within_by (suc n) rows t a = (a == t) || option_map_or (is_within_by n rows t)
+    (option_map_or (λ (r : ActionRow). r.parent) (row_at rows a) None) false
 
 -- a member that stays and has failed
 abbrev pub has_failed_here : MemberRow → Bool
@@ -27,12 +28,14 @@ number_of_first test n (r ∷ rows) = cond (test r) (Some n) (number_of_first te
 
 -- the least member that stays in an action or below it and has failed
 abbrev pub least_failed_by : State → ℕ → Option ℕ
-least_failed_by s t = number_of_first (λ (r : MemberRow). has_failed_here r && is_within_by r.action s.actions t r.action) 1 s.members
+least_failed_by s t = number_of_first (λ (r : MemberRow). has_failed_here r
+    && is_within_by r.action s.actions t r.action) 1 s.members
 
 -- the failed ends from the row of number n on
 abbrev pub failed_ends_from : (ℕ → Option ℕ) → ℕ → List ActionRow → List FailedEnd
 failed_ends_from least n [] = []
-failed_ends_from least n (r ∷ rows) = onto (option_map (λ p. record { action = n; status = r.status; member = p }) (cond (has_failed r.status) (least n) None)) (failed_ends_from least (n + 1) rows)
+failed_ends_from least n (r ∷ rows) = onto (option_map (λ p. record { action = n; status = r.status; member = p })
+    (cond (has_failed r.status) (least n) None)) (failed_ends_from least (n + 1) rows)
   where
     onto : Option FailedEnd → List FailedEnd → List FailedEnd
     onto None ends = ends

@@ -19,7 +19,8 @@ use Rattle.lra_course.specs.declared.verdict.Verdict.TheVariants.{Sound, Unsound
 
 -- an action that ended in failure, with the least member that failed and stays in it or below it; a legal history has one for each
 abbrev pub failed_end : History → ℕ → Option FailedEnd
-failed_end J a = option_map (λ p. record { action = a; status = unwrap_or (action_status J a) action.Active; member = p }) (least_failed J a)
+failed_end J a = option_map
+    (λ p. record { action = a; status = unwrap_or (action_status J a) action.Active; member = p }) (least_failed J a)
 
 -- an action that ended cancelled, and not in failure
 abbrev pub ended_cancelled : ActionStatus → Bool

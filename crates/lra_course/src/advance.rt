@@ -23,7 +23,8 @@ use std::collections::HashMap;
 
 /// Returns whether a member counts in its action as before.
 fn counts_same(before: &MemberState, now: &MemberState) -> bool
-    ensures { result ≡ true → (before.now.status ≡ now.now.status) × (before.now.addresses.compensate ≡ now.now.addresses.compensate) }
+    ensures { result ≡ true → (before.now.status ≡ now.now.status) × (before.now.addresses.compensate
+        ≡ now.now.addresses.compensate) }
 {
     before.status == now.status && before.addresses.compensate == now.addresses.compensate
 }
@@ -68,7 +69,9 @@ fn push_action(
     row: ActionState,
 ) -> Result<(), Memory>
     requires { AllCanCount actions.old.items }
-    ensures ok { OnOk result (actions.new.items ≡ option_map_or (λ b. change_row rows.with_new_child b actions.old.items) parent actions.old.items ++ row ∷ []) }
+    ensures ok { OnOk result
+        (actions.new.items ≡ option_map_or (λ b. change_row rows.with_new_child b actions.old.items) parent
+        actions.old.items ++ row ∷ []) }
     ensures err { OnErr result (actions.new.items ≡ actions.old.items) }
 {
     let Some(number) = parent else {
@@ -111,7 +114,8 @@ fn index_ask(
     member: u64,
     before: &MemberState,
 ) -> Result<(), Memory>
-    ensures ok { OnOk result ((q : ℕ) → get nat_eq holders.new q ≡ cond (rows.stands_as q before.now) None (cond (number == q) (Some member) (get nat_eq holders.old q))) }
+    ensures ok { OnOk result ((q : ℕ) → get nat_eq holders.new q ≡ cond (rows.stands_as q before.now) None
+        (cond (number == q) (Some member) (get nat_eq holders.old q))) }
     ensures err { OnErr result ((q : ℕ) → get nat_eq holders.new q ≡ get nat_eq holders.old q) }
 {
     holders.insert(number, member)?;
@@ -166,7 +170,8 @@ impl Rows {
     fn ask(&mut self, number: u64, member: u64, kind: AskKind) -> Result<(), Memory>
         requires counts { AllCanCount self.old.actions }
         requires next { number ≡ self.old.asks + 1 }
-        ensures ok { OnOk result (self.new ≡ change_member (rows.with_ask number kind) member (record self.old { asks = self.old.asks + 1 })) }
+        ensures ok { OnOk result (self.new ≡ change_member (rows.with_ask number kind) member
+            (record self.old { asks = self.old.asks + 1 })) }
         ensures err { OnErr result (self.new.actions ≡ self.old.actions) }
     {
         let Some(before) = self.member(member) else {

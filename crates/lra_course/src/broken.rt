@@ -47,7 +47,8 @@ impl Rows {
         parent: Option<u64>,
         limit: u64,
     ) -> Option<Rule>
-        ensures { (v : Version) → result ≡ rules.first_broken (rules.deed_rules v is_address (facts_by self.now) moment (deeds.Start action parent limit)) }
+        ensures { (v : Version) → result ≡ rules.first_broken (rules.deed_rules v is_address (facts_by self.now) moment
+            (deeds.Start action parent limit)) }
     {
         let (is_there, is_active) = match parent {
             Some(parent) => (self.is_action(parent), self.is_active_action(parent)),
@@ -68,7 +69,9 @@ impl Rows {
         action: u64,
         uris: &UrisRef<'_>,
     ) -> Result<Option<Rule>, Memory>
-        ensures { (v : Version) (m : ℕ) → IfOk result (λ broken. broken ≡ rules.first_broken (rules.deed_rules v is_address (facts_by self.now) m (deeds.Join member action uris.now))) }
+        ensures { (v : Version) (m : ℕ) → IfOk result (λ broken. broken
+            ≡ rules.first_broken (rules.deed_rules v is_address (facts_by self.now) m
+            (deeds.Join member action uris.now))) }
     {
         let broken = first_broken(&[
             (Rule::Number, is_next(member, self.count_members())),
@@ -83,7 +86,8 @@ impl Rows {
 
     /// The first rule that isn't kept where a member does something: it is there, hasn't left, and that rule.
     fn broken_by_member(&self, member: u64, rule: Rule, kept: bool) -> Option<Rule>
-        ensures { result ≡ rules.first_broken ((Rule.Member, rules.is_member (facts_by self.now) member) ∷ (Rule.Left, rules.is_here (facts_by self.now) member) ∷ (rule, kept) ∷ []) }
+        ensures { result ≡ rules.first_broken ((Rule.Member, rules.is_member (facts_by self.now) member)
+            ∷ (Rule.Left, rules.is_here (facts_by self.now) member) ∷ (rule, kept) ∷ []) }
     {
         first_broken(&[
             (Rule::Member, self.is_member(member)),
@@ -94,7 +98,8 @@ impl Rows {
 
     /// The first rule that isn't kept where an action is closed or cancelled: it is there, and may be so.
     fn broken_by_decision(&self, action: u64, allowed: bool) -> Option<Rule>
-        ensures { result ≡ rules.first_broken ((Rule.Action, rules.is_action (facts_by self.now) action) ∷ (Rule.Cause, allowed) ∷ []) }
+        ensures { result ≡ rules.first_broken ((Rule.Action, rules.is_action (facts_by self.now) action)
+            ∷ (Rule.Cause, allowed) ∷ []) }
     {
         first_broken(&[
             (Rule::Action, self.is_action(action)),
@@ -109,7 +114,9 @@ impl Rows {
         moment: u64,
         deed: &DeedRef<'_>,
     ) -> Result<Option<Rule>, Memory>
-        ensures { IfOk result (λ broken. broken ≡ rules.first_broken (rules.deed_rules version is_address (facts_by self.now) moment (deed_seen deed.now))) }
+        ensures { IfOk result
+            (λ broken. broken ≡ rules.first_broken (rules.deed_rules version is_address (facts_by self.now) moment
+            (deed_seen deed.now))) }
     {
         Ok(match deed {
             DeedRef::Enrol | DeedRef::Restart => None,
@@ -168,7 +175,9 @@ impl Rows {
         version: Version,
         entry: &EntryRef<'_>,
     ) -> Result<Option<Rule>, Memory>
-        ensures { IfOk result (λ broken. broken ≡ rules.first_broken (rules.rules_on version is_address (facts_by self.now) (entry_seen entry.now))) }
+        ensures { IfOk result
+            (λ broken. broken ≡ rules.first_broken (rules.rules_on version is_address (facts_by self.now)
+            (entry_seen entry.now))) }
     {
         let broken = first_broken(&[
             (Rule::Grammar, has_deed(version, &entry.deed)),

@@ -80,7 +80,8 @@ fn is_absent_or_address(alloc: Global, text: Option<&str>) -> Result<bool, Memor
 }
 
 fn has_compensate_or_after_alone(uris: &UrisRef<'_>) -> bool
-    ensures { result ≡ (is_some uris.now.compensate || (is_some uris.now.after && is_none uris.now.complete && is_none uris.now.status && is_none uris.now.forget)) }
+    ensures { result ≡ (is_some uris.now.compensate || (is_some uris.now.after && is_none uris.now.complete
+        && is_none uris.now.status && is_none uris.now.forget)) }
 {
     uris.compensate.is_some()
         || (uris.after.is_some()
@@ -169,7 +170,8 @@ impl Rows {
 
     /// Returns whether the member's action is Active.
     pub(crate) fn is_in_active_action(&self, number: u64) -> bool
-        ensures { result ≡ tests.at_member (λ x. tests.status_is words.is_active (facts_by self.now) x.action) (facts_by self.now) number }
+        ensures { result ≡ tests.at_member (λ x. tests.status_is words.is_active (facts_by self.now) x.action)
+            (facts_by self.now) number }
     {
         match self.member(number) {
             Some(row) => self.is_active_action(row.action),
@@ -235,7 +237,8 @@ impl Rows {
         number: u64,
         cause: Cause,
     ) -> bool
-        ensures { result ≡ tests.at_action (tests.may_cancel version moment cause (facts_by self.now)) (facts_by self.now) number }
+        ensures { result ≡ tests.at_action (tests.may_cancel version moment cause (facts_by self.now))
+            (facts_by self.now) number }
     {
         let Some(row) = self.action(number) else {
             return false;

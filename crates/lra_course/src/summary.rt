@@ -87,8 +87,10 @@ fn parent_is_less(row: &ActionState, number: u64) -> bool
 
 /// Returns whether each parent's number is less than that of its action, as it is in the rows of a legal history.
 fn parents_are_less(actions: &[ActionState]) -> bool
-    ensures all { result ≡ true → (a b : ℕ) → option_map_or (λ r. r.parent) (row_at actions.now a) None ≡ Some b → b < a }
-    ensures not_all { result ≡ false → (a : ℕ) × (b : ℕ) × (option_map_or (λ r. r.parent) (row_at actions.now a) None ≡ Some b) × (a ≤ b) }
+    ensures all { result ≡ true → (a b : ℕ) → option_map_or (λ r. r.parent) (row_at actions.now a) None ≡ Some b → b
+        < a }
+    ensures not_all { result ≡ false → (a : ℕ) × (b : ℕ) × (option_map_or (λ r. r.parent) (row_at actions.now a) None
+        ≡ Some b) × (a ≤ b) }
 {
     for (place, row) in actions.iter().enumerate() {
         if !parent_is_less(row, place as u64 + 1) {
@@ -107,10 +109,14 @@ fn mark_up(
     action: u64,
     member: u64,
 )
-    requires less { are_less ≡ true → (a b : ℕ) → option_map_or (λ r. r.parent) (row_at actions.now a) None ≡ Some b → b < a }
-    requires closed { are_less ≡ true → (a b : ℕ) → option_map_or (λ r. r.parent) (row_at actions.now a) None ≡ Some b → row_at least.old.items b ≡ Some None → row_at least.old.items a ≡ Some None }
-    ensures marks { (t : ℕ) → row_at least.new.items t ≡ option_map (λ o. cond (is_within_by action actions.now t action) (option_or o (Some member)) o) (row_at least.old.items t) }
-    ensures closed { are_less ≡ true → (a b : ℕ) → option_map_or (λ r. r.parent) (row_at actions.now a) None ≡ Some b → row_at least.new.items b ≡ Some None → row_at least.new.items a ≡ Some None }
+    requires less { are_less ≡ true → (a b : ℕ) → option_map_or (λ r. r.parent) (row_at actions.now a) None ≡ Some b → b
+        < a }
+    requires closed { are_less ≡ true → (a b : ℕ) → option_map_or (λ r. r.parent) (row_at actions.now a) None ≡ Some b
+        → row_at least.old.items b ≡ Some None → row_at least.old.items a ≡ Some None }
+    ensures marks { (t : ℕ) → row_at least.new.items t ≡ option_map (λ o. cond
+        (is_within_by action actions.now t action) (option_or o (Some member)) o) (row_at least.old.items t) }
+    ensures closed { are_less ≡ true → (a b : ℕ) → option_map_or (λ r. r.parent) (row_at actions.now a) None ≡ Some b
+        → row_at least.new.items b ≡ Some None → row_at least.new.items a ≡ Some None }
 {
     let mut above = action;
     for _step in 0..action {
@@ -128,7 +134,8 @@ fn mark_up(
 
 /// For each action the least member that stays in it or below it and has failed.
 fn least_failed(alloc: Global, rows: &Rows) -> Result<Vec<Option<u64>>, Memory>
-    ensures { IfOk result (λ least. (t : ℕ) → row_at least.items t ≡ option_map (λ r. least_failed_by rows.now t) (row_at rows.now.actions t)) }
+    ensures { IfOk result (λ least. (t : ℕ) → row_at least.items t ≡ option_map (λ r. least_failed_by rows.now t)
+        (row_at rows.now.actions t)) }
 {
     let actions = rows.actions.as_slice();
     let members = rows.members.as_slice();

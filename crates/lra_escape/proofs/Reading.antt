@@ -8,7 +8,8 @@ use Rattle.lra_escape.specs.Escapes.{spelled, escaped, unescaped_in, ReadsBack}
 abbrev Reads : List ℕ → ℕ → Type 0
 Reads rest b = unescaped_in None (spelled b ++ rest) ≡ option_map (λ text. b ∷ text) (unescaped_in None rest)
 
-reads_plain : (b : ℕ) (rest : List ℕ) → (b == 60) ≡ false → (b == 62) ≡ false → (b == 38) ≡ false → (b == 34) ≡ false → (b == 39) ≡ false → Reads rest b
+reads_plain : (b : ℕ) (rest : List ℕ) → (b == 60) ≡ false → (b == 62) ≡ false → (b == 38) ≡ false → (b == 34) ≡ false
+    → (b == 39) ≡ false → Reads rest b
 reads_plain b rest p q r s t = grind arith
 
 reads_byte : (b : ℕ) (rest : List ℕ) → Reads rest b

@@ -39,11 +39,14 @@ module _ {S : Type 0} (name : S → ℕ) where
   pub instances-put : (i : ℕ) (t : S) (ss : List S) → name t ≡ i → map name (put name i t ss) ≡ map name ss
   instances-put i t [] e = refl
   instances-put i t (s ∷ ss) e = elim (eqb_tells (name s) i) [
-    | inl h ↦ ap (map name) (test_yes (name s) i (t ∷ ss) (s ∷ put name i t ss) h.1) ∙ ap (λ n. n ∷ map name ss) (e ∙ sym h.1)
-    | inr h ↦ ap (map name) (test_no (name s) i (t ∷ ss) (s ∷ put name i t ss) h.1) ∙ ap (λ ns. name s ∷ ns) (instances-put i t ss e)
+    | inl h ↦ ap (map name) (test_yes (name s) i (t ∷ ss) (s ∷ put name i t ss) h.1)
+        ∙ ap (λ n. n ∷ map name ss) (e ∙ sym h.1)
+    | inr h ↦ ap (map name) (test_no (name s) i (t ∷ ss) (s ∷ put name i t ss) h.1)
+        ∙ ap (λ ns. name s ∷ ns) (instances-put i t ss e)
   ]
 
-  pub put_here : (i : ℕ) (s t : S) (ss : List S) → member name i ss ≡ Some s → name t ≡ i → member name i (put name i t ss) ≡ Some t
+  pub put_here : (i : ℕ) (s t : S) (ss : List S) → member name i ss ≡ Some s → name t ≡ i
+      → member name i (put name i t ss) ≡ Some t
   put_here i s t [] h e = absurd cc
   put_here i s t (u ∷ ss) h e = elim (eqb_tells (name u) i) [
     | inl k ↦ ap (member name i) (test_yes (name u) i (t ∷ ss) (u ∷ put name i t ss) k.1) ∙ member-here name i t ss e
@@ -52,7 +55,8 @@ module _ {S : Type 0} (name : S → ℕ) where
         ∙ put_here i s t ss (sym (member-there name i u ss k.1) ∙ h) e
   ]
 
-  pub put_elsewhere : (i j : ℕ) (t : S) (ss : List S) → name t ≡ i → j ≢ i → member name j (put name i t ss) ≡ member name j ss
+  pub put_elsewhere : (i j : ℕ) (t : S) (ss : List S) → name t ≡ i → j ≢ i → member name j (put name i t ss)
+      ≡ member name j ss
   put_elsewhere i j t [] e d = refl
   put_elsewhere i j t (u ∷ ss) e d = elim (eqb_tells (name u) i) [
     | inl k ↦ ap (member name j) (test_yes (name u) i (t ∷ ss) (u ∷ put name i t ss) k.1)
@@ -61,7 +65,8 @@ module _ {S : Type 0} (name : S → ℕ) where
     | inr k ↦ ap (member name j) (test_no (name u) i (t ∷ ss) (u ∷ put name i t ss) k.1)
         ∙ elim (eqb_tells (name u) j) [
           | inl h ↦ member-here name j u (put name i t ss) h.1 ∙ sym (member-here name j u ss h.1)
-          | inr h ↦ member-there name j u (put name i t ss) h.1 ∙ put_elsewhere i j t ss e d ∙ sym (member-there name j u ss h.1)
+          | inr h ↦ member-there name j u (put name i t ss) h.1 ∙ put_elsewhere i j t ss e d
+              ∙ sym (member-there name j u ss h.1)
         ]
   ]
 
@@ -73,25 +78,31 @@ module _ {S : Type 0} (name : S → ℕ) where
   pub newest-join : (ss : List S) (s : S) → newest name (ss ++ s ∷ []) ≡ name s
   newest-join ss s = ap (last_after 0) (instances-join ss s) ∙ last-append 0 (map name ss) (name s)
 
-  pub family-join : (ss : List S) (s : S) → IsFamily (map name ss) → newest name ss < name s → IsFamily (map name (ss ++ s ∷ []))
-  family-join ss s h k = subst IsFamily (sym (instances-join ss s)) (family-append (map name ss) (name s ∷ []) h (k, tt))
+  pub family-join : (ss : List S) (s : S) → IsFamily (map name ss) → newest name ss < name s
+      → IsFamily (map name (ss ++ s ∷ []))
+  family-join ss s h k = subst IsFamily (sym (instances-join ss s)) (family-append (map name ss) (name s ∷ []) h
+      (k, tt))
 
   -- ---- a member leaves
 
   above-without : (n i : ℕ) (ss : List S) → IsAbove n (map name ss) → IsAbove n (map name (without name i ss))
   above-without n i [] h = tt
   above-without n i (s ∷ ss) h = elim (eqb_tells (name s) i) [
-    | inl k ↦ subst (λ us. IsAbove n (map name us)) (sym (test_yes (name s) i ss (s ∷ without name i ss) k.1)) (above_less n (name s) (map name ss) h.0 h.1)
-    | inr k ↦ subst (λ us. IsAbove n (map name us)) (sym (test_no (name s) i ss (s ∷ without name i ss) k.1)) (h.0, above-without (name s) i ss h.1)
+    | inl k ↦ subst (λ us. IsAbove n (map name us)) (sym (test_yes (name s) i ss (s ∷ without name i ss) k.1))
+        (above_less n (name s) (map name ss) h.0 h.1)
+    | inr k ↦ subst (λ us. IsAbove n (map name us)) (sym (test_no (name s) i ss (s ∷ without name i ss) k.1))
+        (h.0, above-without (name s) i ss h.1)
   ]
 
   -- the last stays, unless it is the one that leaves
-  last-without : (n i : ℕ) (ss : List S) → i ≢ last_after n (map name ss) → last_after n (map name (without name i ss)) ≡ last_after n (map name ss)
+  last-without : (n i : ℕ) (ss : List S) → i ≢ last_after n (map name ss) → last_after n (map name (without name i ss))
+      ≡ last_after n (map name ss)
   last-without n i [] d = refl
   last-without n i (s ∷ []) d = ap (λ us. last_after n (map name us)) (test_no (name s) i [] (s ∷ []) (λ e. d (sym e)))
   last-without n i (s ∷ t ∷ ss) d = elim (eqb_tells (name s) i) [
     | inl k ↦ ap (λ us. last_after n (map name us)) (test_yes (name s) i (t ∷ ss) (s ∷ without name i (t ∷ ss)) k.1)
-    | inr k ↦ ap (λ us. last_after n (map name us)) (test_no (name s) i (t ∷ ss) (s ∷ without name i (t ∷ ss)) k.1) ∙ last-without (name s) i (t ∷ ss) d
+    | inr k ↦ ap (λ us. last_after n (map name us)) (test_no (name s) i (t ∷ ss) (s ∷ without name i (t ∷ ss)) k.1)
+        ∙ last-without (name s) i (t ∷ ss) d
   ]
 
   pub newest-leave : (i : ℕ) (ss : List S) → i ≢ newest name ss → newest name (without name i ss) ≡ newest name ss
@@ -101,7 +112,8 @@ module _ {S : Type 0} (name : S → ℕ) where
   family_of_above n [] h k = absurd (omega (arith, k))
   family_of_above n (m ∷ ms) h k = h.1
 
-  pub family-leave : (i : ℕ) (ss : List S) → IsFamily (map name ss) → i ≢ newest name ss → IsFamily (map name (without name i ss))
+  pub family-leave : (i : ℕ) (ss : List S) → IsFamily (map name ss) → i ≢ newest name ss
+      → IsFamily (map name (without name i ss))
   family-leave i [] h d = absurd h
   family-leave i (s ∷ ss) h d = elim (eqb_tells (name s) i) [
     | inl k ↦ subst (λ us. IsFamily (map name us)) (sym (test_yes (name s) i ss (s ∷ without name i ss) k.1))
@@ -109,17 +121,20 @@ module _ {S : Type 0} (name : S → ℕ) where
         (let le = last_above (name s) (map name ss) h in
         let ne : name s ≢ last_after (name s) (map name ss) = λ e. d (sym k.1 ∙ e) in
         omega (arith, le, ne)))
-    | inr k ↦ subst (λ us. IsFamily (map name us)) (sym (test_no (name s) i ss (s ∷ without name i ss) k.1)) (above-without (name s) i ss h)
+    | inr k ↦ subst (λ us. IsFamily (map name us)) (sym (test_no (name s) i ss (s ∷ without name i ss) k.1))
+        (above-without (name s) i ss h)
   ]
 
   pub leave_elsewhere : (i j : ℕ) (ss : List S) → j ≢ i → member name j (without name i ss) ≡ member name j ss
   leave_elsewhere i j [] d = refl
   leave_elsewhere i j (s ∷ ss) d = elim (eqb_tells (name s) i) [
-    | inl k ↦ ap (member name j) (test_yes (name s) i ss (s ∷ without name i ss) k.1) ∙ sym (member-there name j s ss (λ h. d (sym h ∙ k.1)))
+    | inl k ↦ ap (member name j) (test_yes (name s) i ss (s ∷ without name i ss) k.1)
+        ∙ sym (member-there name j s ss (λ h. d (sym h ∙ k.1)))
     | inr k ↦ ap (member name j) (test_no (name s) i ss (s ∷ without name i ss) k.1)
         ∙ elim (eqb_tells (name s) j) [
           | inl h ↦ member-here name j s (without name i ss) h.1 ∙ sym (member-here name j s ss h.1)
-          | inr h ↦ member-there name j s (without name i ss) h.1 ∙ leave_elsewhere i j ss d ∙ sym (member-there name j s ss h.1)
+          | inr h ↦ member-there name j s (without name i ss) h.1 ∙ leave_elsewhere i j ss d
+              ∙ sym (member-there name j s ss h.1)
         ]
   ]
 
@@ -127,25 +142,31 @@ module _ {S : Type 0} (name : S → ℕ) where
   not_below : (i n : ℕ) (ss : List S) → i ≤ n → IsAbove n (map name ss) → member name i ss ≡ None
   not_below i n [] le h = refl
   not_below i n (s ∷ ss) le h =
-      member-there name i s ss (λ e. absurd (omega (arith, e, le, h.0))) ∙ not_below i (name s) ss (omega (arith, le, h.0)) h.1
+      member-there name i s ss (λ e. absurd (omega (arith, e, le, h.0)))
+      ∙ not_below i (name s) ss (omega (arith, le, h.0)) h.1
 
   gone_above : (i n : ℕ) (ss : List S) → IsAbove n (map name ss) → member name i (without name i ss) ≡ None
   gone_above i n [] h = refl
   gone_above i n (s ∷ ss) h = elim (eqb_tells (name s) i) [
-    | inl k ↦ ap (member name i) (test_yes (name s) i ss (s ∷ without name i ss) k.1) ∙ not_below i (name s) ss (omega (arith, k.1)) h.1
-    | inr k ↦ ap (member name i) (test_no (name s) i ss (s ∷ without name i ss) k.1) ∙ member-there name i s (without name i ss) k.1 ∙ gone_above i (name s) ss h.1
+    | inl k ↦ ap (member name i) (test_yes (name s) i ss (s ∷ without name i ss) k.1)
+        ∙ not_below i (name s) ss (omega (arith, k.1)) h.1
+    | inr k ↦ ap (member name i) (test_no (name s) i ss (s ∷ without name i ss) k.1)
+        ∙ member-there name i s (without name i ss) k.1 ∙ gone_above i (name s) ss h.1
   ]
 
   -- who left isn't there
   pub leave_here : (i : ℕ) (ss : List S) → IsFamily (map name ss) → member name i (without name i ss) ≡ None
   leave_here i [] h = absurd h
   leave_here i (s ∷ ss) h = elim (eqb_tells (name s) i) [
-    | inl k ↦ ap (member name i) (test_yes (name s) i ss (s ∷ without name i ss) k.1) ∙ not_below i (name s) ss (omega (arith, k.1)) h
-    | inr k ↦ ap (member name i) (test_no (name s) i ss (s ∷ without name i ss) k.1) ∙ member-there name i s (without name i ss) k.1 ∙ gone_above i (name s) ss h
+    | inl k ↦ ap (member name i) (test_yes (name s) i ss (s ∷ without name i ss) k.1)
+        ∙ not_below i (name s) ss (omega (arith, k.1)) h
+    | inr k ↦ ap (member name i) (test_no (name s) i ss (s ∷ without name i ss) k.1)
+        ∙ member-there name i s (without name i ss) k.1 ∙ gone_above i (name s) ss h
   ]
 
   -- who is there is no greater than the newest
-  pub there_below : (i n : ℕ) (ss : List S) (s : S) → IsAbove n (map name ss) → member name i ss ≡ Some s → i ≤ last_after n (map name ss)
+  pub there_below : (i n : ℕ) (ss : List S) (s : S) → IsAbove n (map name ss) → member name i ss ≡ Some s → i
+      ≤ last_after n (map name ss)
   there_below i n [] s h k = absurd cc
   there_below i n (t ∷ ss) s h k = elim (eqb_tells (name t) i) [
     | inl e ↦ (let le = last_above (name t) (map name ss) h.1 in omega (arith, e.1, le))

@@ -35,7 +35,8 @@ module _ {S : Type 0} (name : S → ℕ) where
   member-there i s ss e = test_no (name s) i (Some s) (member name i ss) e
 
   -- who isn't in a list isn't its first
-  pub not_first : (i : ℕ) (s : S) (ss : List S) → member name i (s ∷ ss) ≡ None → (name s ≢ i) × (member name i ss ≡ None)
+  pub not_first : (i : ℕ) (s : S) (ss : List S) → member name i (s ∷ ss) ≡ None → (name s ≢ i)
+      × (member name i ss ≡ None)
   not_first i s ss h = elim (eqb_tells (name s) i) [
     | inl e ↦ absurd (let k : Some s ≡ None = sym (member-here i s ss e.1) ∙ h in cc)
     | inr e ↦ (e.1, sym (member-there i s ss e.1) ∙ h)
@@ -56,12 +57,14 @@ module _ {S : Type 0} (name : S → ℕ) where
         let same : u ≡ s = cc in
         test_yes (name u) i (s ∷ ss) (u ∷ put name i s ss) e.1 ∙ ap (λ v. v ∷ ss) (sym same)
         )
-    | inr e ↦ test_no (name u) i (s ∷ ss) (u ∷ put name i s ss) e.1 ∙ ap (λ us. u ∷ us) (put_same i ss s (sym (member-there i u ss e.1) ∙ h))
+    | inr e ↦ test_no (name u) i (s ∷ ss) (u ∷ put name i s ss) e.1 ∙ ap (λ us. u ∷ us)
+        (put_same i ss s (sym (member-there i u ss e.1) ∙ h))
   ]
 
   -- ---- members by their places
 
-  pub stands : (i p : ℕ) (ss : List S) (s : S) → member name i (take p ss) ≡ None → p < length ss → s ≡ get_or ss p s → name s ≡ i → StandsAt name i p ss
+  pub stands : (i p : ℕ) (ss : List S) (s : S) → member name i (take p ss) ≡ None → p < length ss → s ≡ get_or ss p s
+      → name s ≡ i → StandsAt name i p ss
   stands i p [] s fresh below at e = absurd (omega (arith, below))
   stands i zero (t ∷ ss) s fresh below at e = ap name (sym at) ∙ e
   stands i (suc p) (t ∷ ss) s fresh below at e =
@@ -73,7 +76,8 @@ module _ {S : Type 0} (name : S → ℕ) where
   stands_below i zero (s ∷ ss) h = omega arith
   stands_below i (suc p) (s ∷ ss) h = let k = stands_below i p ss h.1 in omega (arith, k)
 
-  pub stands_member : (i p : ℕ) (ss : List S) (s : S) → StandsAt name i p ss → s ≡ get_or ss p s → member name i ss ≡ Some s
+  pub stands_member : (i p : ℕ) (ss : List S) (s : S) → StandsAt name i p ss → s ≡ get_or ss p s → member name i ss
+      ≡ Some s
   stands_member i p [] s h at = absurd h
   stands_member i zero (t ∷ ss) s h at = member-here i t ss h ∙ ap Some (sym at)
   stands_member i (suc p) (t ∷ ss) s h at = member-there i t ss h.0 ∙ stands_member i p ss s h.1 at
@@ -81,9 +85,11 @@ module _ {S : Type 0} (name : S → ℕ) where
   pub stands_put : (i p : ℕ) (ss : List S) (t : S) → StandsAt name i p ss → put name i t ss ≡ set ss p t
   stands_put i p [] t h = absurd h
   stands_put i zero (s ∷ ss) t h = test_yes (name s) i (t ∷ ss) (s ∷ put name i t ss) h
-  stands_put i (suc p) (s ∷ ss) t h = test_no (name s) i (t ∷ ss) (s ∷ put name i t ss) h.0 ∙ ap (λ us. s ∷ us) (stands_put i p ss t h.1)
+  stands_put i (suc p) (s ∷ ss) t h = test_no (name s) i (t ∷ ss) (s ∷ put name i t ss) h.0
+      ∙ ap (λ us. s ∷ us) (stands_put i p ss t h.1)
 
   pub stands_without : (i p : ℕ) (ss : List S) → StandsAt name i p ss → without name i ss ≡ remove ss p
   stands_without i p [] h = absurd h
   stands_without i zero (s ∷ ss) h = test_yes (name s) i ss (s ∷ without name i ss) h
-  stands_without i (suc p) (s ∷ ss) h = test_no (name s) i ss (s ∷ without name i ss) h.0 ∙ ap (λ us. s ∷ us) (stands_without i p ss h.1)
+  stands_without i (suc p) (s ∷ ss) h = test_no (name s) i ss (s ∷ without name i ss) h.0
+      ∙ ap (λ us. s ∷ us) (stands_without i p ss h.1)

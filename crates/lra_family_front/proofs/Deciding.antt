@@ -48,7 +48,8 @@ module _ {C : Type 0} (sight : C → Sight) (covers : C → ℕ → Bool) (gives
   missed : (i moment : ℕ) (request : Request) (r : Option Answered) (ss ts : List Sight) → r ≡ None → Visits sight
       covers gives i moment request r ss ts → Missed i ss ts
   missed i moment request r ss ts none h = by (member name i ss) refl h where
-    by : (o : Option Sight) → member name i ss ≡ o → MatchOption o ((r ≡ None) × (ts ≡ ss)) (λ s. (t : Sight) × Done moment request r s t × (ts ≡ put name i t ss)) → Missed i ss ts
+    by : (o : Option Sight) → member name i ss ≡ o → MatchOption o ((r ≡ None) × (ts ≡ ss))
+        (λ s. (t : Sight) × Done moment request r s t × (ts ≡ put name i t ss)) → Missed i ss ts
     by None is k = record { there = is; same = k.1 }
     by (Some s) is k = absurd (subst (λ q. Done moment request q s k.0) none k.1)
 
@@ -58,7 +59,14 @@ module _ {C : Type 0} (sight : C → Sight) (covers : C → ℕ → Bool) (gives
     by : (o : Option Sight) → member name i ss ≡ o → MatchOption o ((r ≡ None) × (ts ≡ ss)) (λ s. (t : Sight) × Done
         turn.moment turn.request r s t × (ts ≡ put name i t ss)) → Hit i turn ss ts
     by None is k = absurd (let never : Some turn.answered ≡ None = sym some ∙ k.0 in cc)
-    by (Some s) is k = record { old = s; new = k.0; there = is; done = subst (λ q. Done turn.moment turn.request q s k.0) some k.1; after = k.2 }
+    by (Some s) is k = record {
+      old = s;
+      new = k.0;
+      there = is;
+      done =
+          subst (λ q. Done turn.moment turn.request q s k.0) some k.1;
+      after = k.2;
+    }
 
   -- ---- who is named answers
 
@@ -85,7 +93,8 @@ module _ {C : Type 0} (sight : C → Sight) (covers : C → ℕ → Bool) (gives
   -- ---- the newest denies what it doesn't know
 
   -- what comes of a wish that is denied
-  denied_is : (s t : Sight) (moment : ℕ) (w : Result Wish Denial) (d : Denial) (a : Answer) → w ≡ Err d → DoesOne gives s moment w t a → (a ≡ Denied d) × (t ≡ s)
+  denied_is : (s t : Sight) (moment : ℕ) (w : Result Wish Denial) (d : Denial) (a : Answer) → w ≡ Err d
+      → DoesOne gives s moment w t a → (a ≡ Denied d) × (t ≡ s)
   denied_is s t moment w d a e h = subst (λ v. DoesOne gives s moment v t a) e h
 
   none_of : (p : Option ℕ) → is_some p ≡ false → p ≡ None
@@ -174,6 +183,8 @@ module _ {C : Type 0} (sight : C → Sight) (covers : C → ℕ → Bool) (gives
 
 module _ (gives : Sight → ℕ → Order → Result Told CounterFault → Sight → Type 0) where
   -- a turn leaves its counter's instance
-  pub keeps_name : ((before after : Sight) (moment : ℕ) (o : Order) (reply : Result Told CounterFault) → gives before moment o reply after → KeepsHistory before moment o reply after)
+  pub keeps_name : ((before after : Sight) (moment : ℕ) (o : Order) (reply : Result Told CounterFault)
+      → gives before moment o reply after → KeepsHistory before moment o reply after)
       → (s : Sight) (turn : Turn) (t : Sight) → Does gives s turn t → name t ≡ name s
-  keeps_name keeps s turn t h = ap (λ c. c.instance) (responds_stays gives keeps s t turn.moment turn.request turn.answer h)
+  keeps_name keeps s turn t h = ap (λ c. c.instance) (responds_stays gives keeps s t turn.moment turn.request
+      turn.answer h)

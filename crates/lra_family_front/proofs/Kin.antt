@@ -23,7 +23,8 @@ use Rattle.lra_family_front.specs.Households.{AreTurns, HaveBase, HouseholdsRest
 pub moved_none : (ss : List Sight) → Moved ss ss
 moved_none ss = ([], refl)
 
-moves_on : (ss us ts : List Sight) (xs ys : List (Event Sight Turn)) → Moves ss xs us → Moves us ys ts → Moves ss (xs ++ ys) ts
+moves_on : (ss us ts : List Sight) (xs ys : List (Event Sight Turn)) → Moves ss xs us → Moves us ys ts
+    → Moves ss (xs ++ ys) ts
 moves_on ss us ts [] ys h k = subst (λ (vs : List Sight). Moves vs ys ts) h k
 moves_on ss us ts (OneTurn turn ∷ xs) ys h k = absurd h
 moves_on ss us ts (Join s ∷ xs) ys h k = (h.0, h.1, moves_on h.0 us ts xs ys h.2 k)
@@ -52,11 +53,13 @@ keeps_on ss us ts h k base b = k base (h base b)
 pub keeps_same : (ss ts : List Sight) → ts ≡ ss → KeepsBase ss ts
 keeps_same ss ts e base h = subst (HaveBase base) (sym e) h
 
-have_more : (base : List ℕ) (ss : List Sight) (s : Sight) → HaveBase base ss → s.setting.base ≡ base → HaveBase base (ss ++ s ∷ [])
+have_more : (base : List ℕ) (ss : List Sight) (s : Sight) → HaveBase base ss → s.setting.base ≡ base
+    → HaveBase base (ss ++ s ∷ [])
 have_more base [] s h e = (e, tt)
 have_more base (m ∷ ms) s h e = (h.0, have_more base ms s h.1 e)
 
-pub keeps_join : (ss ts : List Sight) (s : Sight) → Joins name ss s ts → ((base : List ℕ) → HaveBase base ss → s.setting.base ≡ base) → KeepsBase ss ts
+pub keeps_join : (ss ts : List Sight) (s : Sight) → Joins name ss s ts
+    → ((base : List ℕ) → HaveBase base ss → s.setting.base ≡ base) → KeepsBase ss ts
 keeps_join ss ts s h kin base b = subst (HaveBase base) (sym h.joined) (have_more base ss s b (kin base b))
 
 have_less : (base : List ℕ) (i : ℕ) (ss : List Sight) → HaveBase base ss → HaveBase base (without name i ss)
@@ -73,10 +76,12 @@ some_same : (x y : Sight) → Some x ≡ Some y → x ≡ y
 some_same x y e = cc
 
 -- a member has that base
-pub member_base : (base : List ℕ) (i : ℕ) (ss : List Sight) (s : Sight) → HaveBase base ss → member name i ss ≡ Some s → s.setting.base ≡ base
+pub member_base : (base : List ℕ) (i : ℕ) (ss : List Sight) (s : Sight) → HaveBase base ss → member name i ss ≡ Some s
+    → s.setting.base ≡ base
 member_base base i [] s h e = absurd cc
 member_base base i (m ∷ ms) s h e = by (name m == i) (member_base base i ms s h.1) e where
-  by : (b : Bool) → (member name i ms ≡ Some s → s.setting.base ≡ base) → (if b then Some m else member name i ms) ≡ Some s → s.setting.base ≡ base
+  by : (b : Bool) → (member name i ms ≡ Some s → s.setting.base ≡ base) → (if b then Some m else member name i ms)
+      ≡ Some s → s.setting.base ≡ base
   by true more e = ap (λ (u : Sight). u.setting.base) (sym (some_same m s e)) ∙ h.0
   by false more e = more e
 
@@ -101,10 +106,12 @@ none_moved (Join s ∷ xs) ss h = absurd (joined_some ss s (sym h.1.joined ∙ n
   joined_some : (ms : List Sight) (m : Sight) → ms ++ m ∷ [] ≡ [] → ⊥
   joined_some [] m e = absurd cc
   joined_some (n ∷ ms) m e = absurd cc
-none_moved (Leave s ∷ xs) ss h = absurd (leaves_some ss s (subst (λ (us : List Sight). Leaves name ss s us) (none_moved xs h.0 h.2) h.1))
+none_moved (Leave s ∷ xs) ss h =
+    absurd (leaves_some ss s (subst (λ (us : List Sight). Leaves name ss s us) (none_moved xs h.0 h.2) h.1))
 
 -- joins and leaves after which all URIs begin as they did, where these begin alike
-pub rested_base : (ss ts : List Sight) → Moved ss ts → KeepsBase ss ts → HaveBase (base_of ss) ss → HaveBase (base_of ts) ts × (base_of ts ≡ base_of ss)
+pub rested_base : (ss ts : List Sight) → Moved ss ts → KeepsBase ss ts → HaveBase (base_of ss) ss
+    → HaveBase (base_of ts) ts × (base_of ts ≡ base_of ss)
 rested_base ss [] moved keeps h = (tt, ap base_of (sym (none_moved moved.0 ss moved.1)))
 rested_base ss (t ∷ ts) moved keeps h =
     let k = keeps (base_of ss) h in
@@ -113,10 +120,14 @@ rested_base ss (t ∷ ts) moved keeps h =
 -- ---- what is taken out
 
 -- it leaves, or all stay
-pub retired_moved : {T : Type 0} (sight : T → Sight) (i : ℕ) (r : Option T) (ss ts : List Sight) → IfSome r (λ c. (name (sight c) ≡ i) × Leaves name ss (sight c) ts)
+pub retired_moved : {T : Type 0} (sight : T → Sight) (i : ℕ) (r : Option T) (ss ts : List Sight)
+    → IfSome r (λ c. (name (sight c) ≡ i) × Leaves name ss (sight c) ts)
     → IfNone r (((member name i ss ≡ None) ⊎ (i ≡ newest name ss)) × (ts ≡ ss)) → Moved ss ts × KeepsBase ss ts
 retired_moved sight i None ss ts some none = (moved_same ss ts none.1, keeps_same ss ts none.1)
-retired_moved sight i (Some c) ss ts some none = (moved_leave ss ts (sight c) some.1, keeps_leave ss ts (sight c) some.1)
+retired_moved sight i (Some c) ss ts some none = (
+  moved_leave ss ts (sight c) some.1,
+  keeps_leave ss ts (sight c) some.1,
+)
 
 -- ---- a turn
 
@@ -128,14 +139,16 @@ begin_family : (base : List ℕ) (ss : List Sight) → IsFamily (map name ss) �
 begin_family base [] f h = absurd f
 begin_family base (s ∷ ss) f h = (h, h.0)
 
-have_put : (base : List ℕ) (i : ℕ) (t : Sight) (ss : List Sight) → t.setting.base ≡ base → HaveBase base ss → HaveBase base (put name i t ss)
+have_put : (base : List ℕ) (i : ℕ) (t : Sight) (ss : List Sight) → t.setting.base ≡ base → HaveBase base ss
+    → HaveBase base (put name i t ss)
 have_put base i t [] e h = tt
 have_put base i t (s ∷ ss) e h = by (name s == i) (have_put base i t ss e h.1) where
   by : (b : Bool) → HaveBase base (put name i t ss) → HaveBase base (if b then t ∷ ss else s ∷ put name i t ss)
   by true rest = (e, h.1)
   by false rest = (h.0, rest)
 
-begin_put : (base : List ℕ) (i : ℕ) (t : Sight) (ss : List Sight) → t.setting.base ≡ base → Begin base ss → Begin base (put name i t ss)
+begin_put : (base : List ℕ) (i : ℕ) (t : Sight) (ss : List Sight) → t.setting.base ≡ base → Begin base ss
+    → Begin base (put name i t ss)
 begin_put base i t [] e h = h
 begin_put base i t (s ∷ ss) e h = (have_put base i t (s ∷ ss) e h.0, by (name s == i)) where
   by : (b : Bool) → base_of (if b then t ∷ ss else s ∷ put name i t ss) ≡ base
@@ -145,7 +158,8 @@ begin_put base i t (s ∷ ss) e h = (have_put base i t (s ∷ ss) e h.0, by (nam
 module _ (gives : Sight → ℕ → Order → Result Told CounterFault → Sight → Type 0)
     (keeps : (before after : Sight) (moment : ℕ) (o : Order) (reply : Result Told CounterFault) → gives before moment o reply after → KeepsHistory before moment o reply after) where
   -- the URIs go on to begin so
-  pub serves_base : (base : List ℕ) (before after : List Sight) (turn : Turn) → IsFamily (map name before) → HaveBase base before → Serves gives before turn after
+  pub serves_base : (base : List ℕ) (before after : List Sight) (turn : Turn) → IsFamily (map name before)
+      → HaveBase base before → Serves gives before turn after
       → HaveBase base after × (base_of after ≡ base)
   serves_base base before after turn f h serves = by (member name i before) refl serves where
     i : ℕ
@@ -155,12 +169,14 @@ module _ (gives : Sight → ℕ → Order → Result Told CounterFault → Sight
     begun = begin_family base before f h
 
     by : (o : Option Sight) → member name i before ≡ o
-        → MatchOption o (Lacks turn × (after ≡ before)) (λ s. (t : Sight) × Does gives s turn t × (after ≡ put name i t before)) → Begin base after
+        → MatchOption o (Lacks turn × (after ≡ before)) (λ s. (t : Sight) × Does gives s turn t
+        × (after ≡ put name i t before)) → Begin base after
     by None is k = subst (Begin base) (sym k.1) begun
     by (Some s) is k =
         subst (Begin base) (sym k.2)
         (begin_put base i k.0 before
-        (ap (λ (c : Setting). c.base) (responds_stays gives keeps s k.0 turn.moment turn.request turn.answer k.1) ∙ member_base base i before s h is) begun)
+        (ap (λ (c : Setting). c.base) (responds_stays gives keeps s k.0 turn.moment turn.request turn.answer k.1)
+        ∙ member_base base i before s h is) begun)
 
 -- a turn whose answer has its position, without that
 serves_plain : {C : Type 0} (sight : C → Sight) (covers : C → ℕ → Bool) (gives : Sight → ℕ → Order → Result Told
@@ -197,21 +213,24 @@ outcome_base sight covers gives keeps tells base before after moment request ans
 -- ---- a run
 
 -- joins and leaves have no turns
-moves_turns : (ss us : List Sight) (xs ys : List (Event Sight Turn)) → Moves ss xs us → turns_of (xs ++ ys) ≡ turns_of ys
+moves_turns : (ss us : List Sight) (xs ys : List (Event Sight Turn)) → Moves ss xs us → turns_of (xs ++ ys)
+    ≡ turns_of ys
 moves_turns ss us [] ys h = refl
 moves_turns ss us (OneTurn turn ∷ xs) ys h = absurd h
 moves_turns ss us (Join s ∷ xs) ys h = moves_turns h.0 us xs ys h.2
 moves_turns ss us (Leave s ∷ xs) ys h = moves_turns h.0 us xs ys h.2
 
 -- what is put off is refused
-refused : (lacks : Option ℕ → Bool → Type 0) (ss : List Sight) (request : Request) (answered : Answered) → IsPutOff lacks ss request answered → IsRefused answered.answer
+refused : (lacks : Option ℕ → Bool → Type 0) (ss : List Sight) (request : Request) (answered : Answered)
+    → IsPutOff lacks ss request answered → IsRefused answered.answer
 refused lacks ss request answered (inl h) = inl h.answer
 refused lacks ss request answered (inr h) = inr h.1
 
 module _ {K C : Type 0} (lacks : Option ℕ → Bool → Type 0) (sight : C → Sight) (covers : C → ℕ → Bool)
     (gives : Sight → ℕ → Order → Result Told CounterFault → Sight → Type 0) (tells : K → ℕ → K → Type 0) where
   -- joins and leaves, and what happens then
-  moves_then : (ss us ts : List Sight) (xs ys : List (Event Sight Turn)) → Moves ss xs us → Run name names (Does gives) Lacks us ys ts → Run name names (Does gives) Lacks ss (xs ++ ys) ts
+  moves_then : (ss us ts : List Sight) (xs ys : List (Event Sight Turn)) → Moves ss xs us
+      → Run name names (Does gives) Lacks us ys ts → Run name names (Does gives) Lacks ss (xs ++ ys) ts
   moves_then ss us ts [] ys h r = subst (λ (vs : List Sight). Run name names (Does gives) Lacks vs ys ts) h r
   moves_then ss us ts (OneTurn turn ∷ xs) ys h r = absurd h
   moves_then ss us ts (Join s ∷ xs) ys h r = (h.0, h.1, moves_then h.0 us ts xs ys h.2 r)
@@ -219,7 +238,8 @@ module _ {K C : Type 0} (lacks : Option ℕ → Bool → Type 0) (sight : C → 
 
   -- what happens from a family on, to one, that has those turns
   abbrev Happening : List Sight → List ConnectionTurn → List Sight → Type 0
-  Happening ss turns ts = (xs : List (Event Sight Turn)) × Run name names (Does gives) Lacks ss xs ts × AreTurns (turns_of xs) turns
+  Happening ss turns ts = (xs : List (Event Sight Turn)) × Run name names (Does gives) Lacks ss xs ts
+      × AreTurns (turns_of xs) turns
 
   -- a response, and what happens then
   respond_then : (ss us ts : List Sight) (turn : ConnectionTurn) (turns : List ConnectionTurn) → Responds lacks sight
@@ -232,21 +252,26 @@ module _ {K C : Type 0} (lacks : Option ℕ → Bool → Type 0) (sight : C → 
         let ys : List (Event Sight Turn) = OneTurn (turn_of turn) ∷ more.0 in (
           r.moved.0 ++ ys,
           moves_then ss r.met ts r.moved.0 ys r.moved.1 (us, serves_plain sight covers gives r.met us turn h.1, more.1),
-          subst (λ (es : List Turn). AreTurns es (turn ∷ turns)) (sym (moves_turns ss r.met r.moved.0 ys r.moved.1)) (inl (turns_of more.0, refl, more.2)),
+          subst (λ (es : List Turn). AreTurns es (turn ∷ turns)) (sym (moves_turns ss r.met r.moved.0 ys r.moved.1))
+              (inl (turns_of more.0, refl, more.2)),
         )
     by (inr h) = (
       r.moved.0 ++ more.0,
-      moves_then ss r.met ts r.moved.0 more.0 r.moved.1 (subst (λ (vs : List Sight). Run name names (Does gives) Lacks vs more.0 ts) h.1 more.1),
-      subst (λ (es : List Turn). AreTurns es (turn ∷ turns)) (sym (moves_turns ss r.met r.moved.0 more.0 r.moved.1)) (inr (refused lacks r.met turn.request turn.answered h.0, more.2)),
+      moves_then ss r.met ts r.moved.0 more.0 r.moved.1
+          (subst (λ (vs : List Sight). Run name names (Does gives) Lacks vs more.0 ts) h.1 more.1),
+      subst (λ (es : List Turn). AreTurns es (turn ∷ turns)) (sym (moves_turns ss r.met r.moved.0 more.0 r.moved.1))
+          (inr (refused lacks r.met turn.request turn.answered h.0, more.2)),
     )
 
   pub households_run : HouseholdsRun lacks sight covers gives tells
   households_run ss ts k l [] c = ([], c.0, refl)
-  households_run ss ts k l (turn ∷ turns) c = respond_then ss c.0 ts turn turns c.3 (households_run c.0 ts c.1 l turns c.4)
+  households_run ss ts k l (turn ∷ turns) c = respond_then ss c.0 ts turn turns c.3
+      (households_run c.0 ts c.1 l turns c.4)
 
   pub households_rest : HouseholdsRest lacks sight covers gives tells
   households_rest ss ts k l [] c = ([], c.0, refl)
-  households_rest ss ts k l (Some turn ∷ xs) c = respond_then ss c.0 ts turn (turns_in xs) c.3 (households_rest c.0 ts c.1 l xs c.4)
+  households_rest ss ts k l (Some turn ∷ xs) c = respond_then ss c.0 ts turn (turns_in xs) c.3
+      (households_rest c.0 ts c.1 l xs c.4)
   households_rest ss ts k l (None ∷ xs) c =
       let moved = c.1.moved in
       let more = households_rest c.0 ts k l xs c.2 in (

@@ -11,7 +11,8 @@ use Rattle.lra_front.specs.Bodies.{object_in}
 use Rattle.lra_family_front.specs.Naming.{parent_of, parent_in}
 
 -- what is found of it, step by step
-pub parent_found : (d : Data) → option_and_then instance_at_end (option_and_then as_str (get (codes "parent") d)) ≡ parent_of (as_object d)
+pub parent_found : (d : Data) → option_and_then instance_at_end (option_and_then as_str (get (codes "parent") d))
+    ≡ parent_of (as_object d)
 parent_found null = refl
 parent_found (boolean b) = refl
 parent_found (number n) = refl
@@ -24,12 +25,14 @@ unfolding parent_in
 empty_parent [] e = refl
 empty_parent (b ∷ rest) e = absurd (omega (arith, e))
 
-pub read_parent : (body : List ℕ) (d : Data) (o : Option ℕ) → 0 < length body → IsUtf8 body → read body ≡ Some d → o ≡ parent_of (as_object d) → o ≡ parent_in body
+pub read_parent : (body : List ℕ) (d : Data) (o : Option ℕ) → 0 < length body → IsUtf8 body → read body ≡ Some d → o
+    ≡ parent_of (as_object d) → o ≡ parent_in body
 unfolding parent_in
 read_parent [] d o some text e is = absurd (omega (arith, some))
 read_parent (b ∷ rest) d o some text e is = rw (is_utf8-from_IsUtf8 (b ∷ rest) text, e) is
 
-unread_by : (b : ℕ) (rest : List ℕ) (t : Bool) → is_utf8 (b ∷ rest) ≡ t → (IsUtf8 (b ∷ rest) → read (b ∷ rest) ≡ None) → object_in (b ∷ rest) ≡ None
+unread_by : (b : ℕ) (rest : List ℕ) (t : Bool) → is_utf8 (b ∷ rest) ≡ t → (IsUtf8 (b ∷ rest) → read (b ∷ rest) ≡ None)
+    → object_in (b ∷ rest) ≡ None
 unread_by b rest true e h = rw (e, h (IsUtf8-from_is_utf8 (b ∷ rest) e)) refl
 unread_by b rest false e h = rw e refl
 

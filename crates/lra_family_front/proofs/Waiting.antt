@@ -15,8 +15,10 @@ use Rattle.lra_family_front.specs.Naming.{instance_of}
 use Rattle.lra_family_front.specs.Waiting.{IsPutOff}
 
 -- who is put off is told whose that would be, unless memory was refused
-pub put_off_whose : (tells : Option ℕ → Bool → Type 0) (ss : List Sight) (request : Request) (answered : Answered) → IsPutOff tells ss request answered
-    → answered.answer ≢ Denied (Refused refusal.Memory) → answered.instance ≡ unwrap_or (instance_of request) (newest name ss)
+pub put_off_whose : (tells : Option ℕ → Bool → Type 0) (ss : List Sight) (request : Request) (answered : Answered)
+    → IsPutOff tells ss request answered
+    → answered.answer ≢ Denied (Refused refusal.Memory) → answered.instance
+    ≡ unwrap_or (instance_of request) (newest name ss)
 put_off_whose tells ss request answered (inl h) other = h.whose
 put_off_whose tells ss request answered (inr h) other = absurd (other h.1)
 
@@ -32,6 +34,7 @@ put_off_journal tells ss request answered (inl h) some = h.whose
 put_off_journal tells ss request answered (inr h) some = absurd (none_some answered.position h.2 some)
 
 -- an answer that refuses bears no number
-pub put_off_bears : (tells : Option ℕ → Bool → Type 0) (ss : List Sight) (request : Request) (answered : Answered) → IsPutOff tells ss request answered → HasIdentifiers answered.answer
+pub put_off_bears : (tells : Option ℕ → Bool → Type 0) (ss : List Sight) (request : Request) (answered : Answered)
+    → IsPutOff tells ss request answered → HasIdentifiers answered.answer
 put_off_bears tells ss request answered (inl h) = subst (λ (a : Answer). HasIdentifiers a) (sym h.answer) tt
 put_off_bears tells ss request answered (inr h) = subst (λ (a : Answer). HasIdentifiers a) (sym h.1) tt

@@ -87,7 +87,8 @@ turns_of (Leave s ∷ xs) = turns_of xs
 -- turns of a family are those of a connection, in order, but for some that are refused
 abbrev pub AreTurns : List Turn → List ConnectionTurn → Type 0
 AreTurns es [] = es ≡ []
-AreTurns es (turn ∷ turns) = ((fs : List Turn) × (es ≡ turn_of turn ∷ fs) × AreTurns fs turns) ⊎ (IsRefused turn.answered.answer × AreTurns es turns)
+AreTurns es (turn ∷ turns) = ((fs : List Turn) × (es ≡ turn_of turn ∷ fs) × AreTurns fs turns)
+    ⊎ (IsRefused turn.answered.answer × AreTurns es turns)
 
 module _ {K C : Type 0} (lacks : Option ℕ → Bool → Type 0) (sight : C → Sight) (covers : C → ℕ → Bool)
     (gives : Sight → ℕ → Order → Result Told CounterFault → Sight → Type 0) (tells : K → ℕ → K → Type 0) where

@@ -45,21 +45,27 @@ pub record HasParent (request : Request) (i : ℕ) : Type 0 where
 
 -- Whose identifier stands in the path or is the parent is named.
 abbrev pub IdentifiersName : Type 0
-IdentifiersName = (request : Request) (i : ℕ) → HasIdentifier request i ⊎ HasParent request i → instance_of request ≡ Some i
+IdentifiersName = (request : Request) (i : ℕ) → HasIdentifier request i ⊎ HasParent request i → instance_of request
+    ≡ Some i
 
 -- A coordinator that isn't the one which a request names denies it, whatever its base: as an identifier that isn't its own.
 abbrev pub StrangersDeny : Type 0
-StrangersDeny = (i j : ℕ) (base : List ℕ) (request : Request) (w : Result Wish Denial) → i < 2 ^ 60 → instance_of request ≡ Some j → i ≢ j
+StrangersDeny = (i j : ℕ) (base : List ℕ) (request : Request) (w : Result Wish Denial) → i < 2 ^ 60
+    → instance_of request ≡ Some j → i ≢ j
     → MayAsk i base request w → (d : Denial) × IsUnknown request d × (w ≡ Err d)
 
 -- A member leaves by a recovery URI of another instance than that of the coordinator which is asked: it is refused as one that isn't its own, after the
 -- identifier of the path.
 abbrev pub TwoAreRefused : Type 0
-TwoAreRefused = (i : ℕ) (base : List ℕ) (request : Request) (members : Members) (uri : List ℕ) (w : Result Wish Denial) → i < 2 ^ 60
-    → operation_of request.method request.target ≡ Ok operation.Remove → body_of operation.Remove request.body ≡ Some members
+TwoAreRefused = (i : ℕ) (base : List ℕ) (request : Request) (members : Members) (uri : List ℕ) (w : Result Wish Denial)
+    → i < 2 ^ 60
+    → operation_of request.method request.target ≡ Ok operation.Remove → body_of operation.Remove request.body
+    ≡ Some members
     → text_under (codes "recovery") members ≡ Some uri → instance_at_end uri ≢ Some i → MayAsk i base request w
-    → ((w ≡ Err (Refused refusal.Memory)) × LacksMemory request) ⊎ IsNamed (id_text i) (id_in request.target) no_action (λ action v. v ≡ Err no_member) w
+    → ((w ≡ Err (Refused refusal.Memory)) × LacksMemory request) ⊎ IsNamed (id_text i) (id_in request.target) no_action
+    (λ action v. v ≡ Err no_member) w
 
 -- What is done for one request is one turn of a run.
 abbrev pub AnswersAreTurns : (Sight → ℕ → Order → Result Told CounterFault → Sight → Type 0) → Type 0
-AnswersAreTurns gives = (before after : List Sight) (turn : Turn) → Serves gives before turn after → Happens name names (Does gives) Lacks before (OneTurn turn) after
+AnswersAreTurns gives = (before after : List Sight) (turn : Turn) → Serves gives before turn after
+    → Happens name names (Does gives) Lacks before (OneTurn turn) after

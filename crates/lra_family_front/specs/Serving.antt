@@ -42,7 +42,8 @@ unknown_at _ = no_action
 -- How a request is denied whose identifier is of no journal that is there: as each counter denies one that isn't its own. What is wrong with the
 -- body is said first, and memory may be refused in reading it.
 abbrev pub IsUnknown : Request → Denial → Type 0
-IsUnknown request d = ((d ≡ Refused refusal.Memory) × LacksMemory request) ⊎ MatchResult (operation_of request.method request.target)
+IsUnknown request d = ((d ≡ Refused refusal.Memory) × LacksMemory request)
+    ⊎ MatchResult (operation_of request.method request.target)
     (λ r. MatchOption (body_of r request.body) (d ≡ BadBody) (λ members. d ≡ unknown_at r))
     (λ e. d ≡ e)
 
@@ -57,7 +58,8 @@ module _ (gives : Sight → ℕ → Order → Result Told CounterFault → Sight
 
   -- what a turn does in a family
   abbrev pub Serves : List Sight → Turn → List Sight → Type 0
-  Serves before turn after = MovesAt name (names (newest name before) turn) before (λ s t. Does s turn t) (Lacks turn) after
+  Serves before turn after = MovesAt name (names (newest name before) turn) before (λ s t. Does s turn t) (Lacks turn)
+      after
 
 -- a turn of a connection, without whose its answer is and what it rests on
 abbrev pub turn_of : ConnectionTurn → Turn

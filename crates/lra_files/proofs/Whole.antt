@@ -10,7 +10,8 @@ whole n all text is within =
     (is ∙ take_all (n + 1) all (omega (arith, few)), few)
 
 -- the same of a reader of which it may be known what it has
-pub read : (n : ℕ) (o : Option (List ℕ)) (text : List ℕ) → IfSome (option_map (take (n + 1)) o) (λ xs. text ≡ [] ++ xs) → length text ≤ n
+pub read : (n : ℕ) (o : Option (List ℕ)) (text : List ℕ) → IfSome (option_map (take (n + 1)) o) (λ xs. text ≡ [] ++ xs)
+    → length text ≤ n
     → IfSome o (λ all. IsWhole n all text)
 read n None text is within = tt
 read n (Some all) text is within = whole n all text is within

@@ -36,15 +36,18 @@ at_first written = record { written = written; told = []; tally = record { sound
 -- one journal more, of these bytes: it has this verdict, and its name and its report were written; or it can't be read, which is told
 abbrev pub AuditsNext : List ℕ → List ℕ → List ℕ → Option Verdict → Progress → Progress → Type 0
 AuditsNext bytes path name (Some verdict) p q =
-    IsVerdict bytes verdict × Appends p.written q.written (joined (name ∷ codes " " ∷ report_of verdict ∷ [])) × (q.told ≡ p.told) × (q.tally ≡ counted verdict p.tally)
+    IsVerdict bytes verdict × Appends p.written q.written (joined (name ∷ codes " " ∷ report_of verdict ∷ []))
+    × (q.told ≡ p.told) × (q.tally ≡ counted verdict p.tally)
 AuditsNext bytes path name None p q =
-    (q.written ≡ p.written) × (q.told ≡ p.told ++ error_line Read path) × (q.tally ≡ record p.tally { unread = p.tally.unread + 1 })
+    (q.written ≡ p.written) × (q.told ≡ p.told ++ error_line Read path)
+    × (q.tally ≡ record p.tally { unread = p.tally.unread + 1 })
 
 -- the journals of these names were audited, one after another
 abbrev pub AuditsEach : (List ℕ → List ℕ) → List ℕ → List (List ℕ) → Progress → Progress → Type 0
 AuditsEach bytes folder [] p q = q ≡ p
 AuditsEach bytes folder (name ∷ names) p q =
-    (verdict : Option Verdict) × (r : Progress) × AuditsNext (bytes (path_of folder name)) (path_of folder name) name verdict p r × AuditsEach bytes folder names r q
+    (verdict : Option Verdict) × (r : Progress) × AuditsNext (bytes (path_of folder name)) (path_of folder name) name
+    verdict p r × AuditsEach bytes folder names r q
 
 -- the first half of the last line: how many journals are sound, and how many unsound
 abbrev pub verdicts_counted : Tally → List ℕ
@@ -83,15 +86,18 @@ counted_as status t = if nat_eq status 0 then record t { sound = t.sound + 1 } e
 -- one journal more, of these bytes: what is told of it, of this status and with this text, was written; or it can't be read, which is told
 abbrev pub TellsNext : Deed → List ℕ → List ℕ → List ℕ → Option (ℕ × List ℕ) → Progress → Progress → Type 0
 TellsNext deed bytes path name (Some (status, text)) p q =
-    Tells deed bytes status (Some (name ++ behind deed)) (Some text) × Appends p.written q.written text × (q.told ≡ p.told) × (q.tally ≡ counted_as status p.tally)
+    Tells deed bytes status (Some (name ++ behind deed)) (Some text) × Appends p.written q.written text
+    × (q.told ≡ p.told) × (q.tally ≡ counted_as status p.tally)
 TellsNext deed bytes path name None p q =
-    (q.written ≡ p.written) × (q.told ≡ p.told ++ error_line Read path) × (q.tally ≡ record p.tally { unread = p.tally.unread + 1 })
+    (q.written ≡ p.written) × (q.told ≡ p.told ++ error_line Read path)
+    × (q.tally ≡ record p.tally { unread = p.tally.unread + 1 })
 
 -- what is told of the journals of these names was written, one after another
 abbrev pub TellsEach : Deed → (List ℕ → List ℕ) → List ℕ → List (List ℕ) → Progress → Progress → Type 0
 TellsEach deed bytes folder [] p q = q ≡ p
 TellsEach deed bytes folder (name ∷ names) p q =
-    (line : Option (ℕ × List ℕ)) × (r : Progress) × TellsNext deed (bytes (path_of folder name)) (path_of folder name) name line p r × TellsEach deed bytes folder names r q
+    (line : Option (ℕ × List ℕ)) × (r : Progress) × TellsNext deed (bytes (path_of folder name)) (path_of folder name)
+    name line p r × TellsEach deed bytes folder names r q
 
 -- what is told of the journals of these names, whose bytes are those, was written one after another; then the counts were
 pub record TellsAll (deed : Deed) (bytes : List ℕ → List ℕ) (folder : List ℕ) (names : List (List ℕ)) (before after : Option (List ℕ)) (told : List ℕ) (status : ℕ) : Type 0 where
@@ -104,4 +110,5 @@ pub record TellsAll (deed : Deed) (bytes : List ℕ → List ℕ) (folder : List
 -- a name in a folder, and its file, if that could be opened
 abbrev pub IsOpened : {F : Type 0}
     → (List ℕ → Option (List ℕ)) → (F → Option (List ℕ)) → List ℕ → List ℕ → String Global × Option F → Type 0
-IsOpened named remaining folder name job = (string_bytes job.0 ≡ name) × IfSome job.1 (λ file. IfSome (named (path_of folder name)) (λ all. remaining file ≡ Some all))
+IsOpened named remaining folder name job = (string_bytes job.0 ≡ name)
+    × IfSome job.1 (λ file. IfSome (named (path_of folder name)) (λ all. remaining file ≡ Some all))

@@ -45,7 +45,8 @@ pub(crate) fn path_in(alloc: Global, folder: &str, name: &str) -> Result<String,
 fn count(tally: &mut Tally, status: u8)
     requires { tally.old.sound + tally.old.unsound + tally.old.unread < 2 ^ 64 - 1 }
     ensures counted { tally.new ≡ counted_as status tally.old }
-    ensures more { tally.new.sound + tally.new.unsound + tally.new.unread ≡ tally.old.sound + tally.old.unsound + tally.old.unread + 1 }
+    ensures more { tally.new.sound + tally.new.unsound + tally.new.unread ≡ tally.old.sound + tally.old.unsound
+        + tally.old.unread + 1 }
 {
     if status == 0 {
         tally.sound += 1;
@@ -64,10 +65,12 @@ fn write_next<W: Write>(
     tally: &mut Tally,
 ) -> Result<(), RunFault>
     requires { tally.old.sound + tally.old.unsound + tally.old.unread < 2 ^ 64 - 1 }
-    ensures next { (deed : Deed) (bytes name : List ℕ) → IsTold deed bytes (name ++ behind deed) journal.now → OnOk result ((line : Option (ℕ × List ℕ)) × TellsNext deed bytes path.now name line
+    ensures next { (deed : Deed) (bytes name : List ℕ) → IsTold deed bytes (name ++ behind deed) journal.now
+        → OnOk result ((line : Option (ℕ × List ℕ)) × TellsNext deed bytes path.now name line
         (record { written = W.contents writer.old; told = string_bytes told.old; tally = tally.old })
         (record { written = W.contents writer.new; told = string_bytes told.new; tally = tally.new })) }
-    ensures more { OnOk result (tally.new.sound + tally.new.unsound + tally.new.unread ≡ tally.old.sound + tally.old.unsound + tally.old.unread + 1) }
+    ensures more { OnOk result (tally.new.sound + tally.new.unsound + tally.new.unread ≡ tally.old.sound
+        + tally.old.unsound + tally.old.unread + 1) }
 {
     match journal {
         Ok(Some(line)) => {
@@ -95,10 +98,12 @@ fn write_each<W: Write>(
 ) -> Result<(), RunFault>
     requires all { length journals.now ≡ length names.now }
     requires room { tally.old.sound + tally.old.unsound + tally.old.unread + length names.now < 2 ^ 64 }
-    ensures each { (deed : Deed) (bytes : List ℕ → List ℕ) → AllTold deed bytes folder.now names.now (length names.now) journals.now → OnOk result (TellsEach deed bytes folder.now (texts names.now)
+    ensures each { (deed : Deed) (bytes : List ℕ → List ℕ) → AllTold deed bytes folder.now names.now (length names.now)
+        journals.now → OnOk result (TellsEach deed bytes folder.now (texts names.now)
         (record { written = W.contents writer.old; told = string_bytes told.old; tally = tally.old })
         (record { written = W.contents writer.new; told = string_bytes told.new; tally = tally.new })) }
-    ensures more { OnOk result (tally.new.sound + tally.new.unsound + tally.new.unread ≡ tally.old.sound + tally.old.unsound + tally.old.unread + length names.now) }
+    ensures more { OnOk result (tally.new.sound + tally.new.unsound + tally.new.unread ≡ tally.old.sound
+        + tally.old.unsound + tally.old.unread + length names.now) }
 {
     for (place, name) in names.iter().enumerate() {
         let path = path_in(alloc, folder, name.as_str())?;
@@ -153,7 +158,12 @@ fn tell_each<R: Threads + Sync, F: Read + Send + Drop, S: Sources<File = F>, W: 
 ) -> Result<Tally, RunFault>
     ensures { (bytes : List ℕ → List ℕ) → ((path : List ℕ) → S.named sources.now path ≡ Some (bytes path))
         → IfOk result (λ tally. TellsEach deed bytes folder.now (texts names.now)
-        (record { written = W.contents writer.old; told = string_bytes told.old; tally = record { sound = 0; unsound = 0; unread = 0 } })
+        (record {
+          written = W.contents writer.old;
+          told = string_bytes told.old;
+          tally =
+              record { sound = 0; unsound = 0; unread = 0 };
+        })
         (record { written = W.contents writer.new; told = string_bytes told.new; tally = tally })) }
 {
     let width = width(rt);
@@ -185,7 +195,8 @@ fn tell_journals<R: Threads + Sync, F: Read + Send + Drop, S: Sources<File = F>,
     writer: &mut W,
 ) -> Result<FolderAudit, RunFault>
     ensures { (bytes : List ℕ → List ℕ) → ((path : List ℕ) → S.named sources.now path ≡ Some (bytes path))
-        → IfOk result (λ audit. TellsAll deed bytes folder.now (texts names.now) (W.contents writer.old) (W.contents writer.new) (string_bytes audit.told) audit.status) }
+        → IfOk result (λ audit. TellsAll deed bytes folder.now (texts names.now) (W.contents writer.old)
+        (W.contents writer.new) (string_bytes audit.told) audit.status) }
 {
     let mut told = String::new(alloc);
     let tally = tell_each(rt, alloc, deed, sources, folder, names, writer, &mut told)?;
@@ -209,7 +220,8 @@ pub fn audit_journals<R: Threads + Sync, F: Read + Send + Drop, S: Sources<File 
 ) -> Result<FolderAudit, RunFault>
     // Of a source that is known to have these bytes at each path.
     ensures ok { (bytes : List ℕ → List ℕ) → ((path : List ℕ) → S.named sources.now path ≡ Some (bytes path))
-        → IfOk result (λ audit. AuditsAll bytes folder.now (texts names.now) (W.contents writer.old) (W.contents writer.new) (string_bytes audit.told) audit.status) }
+        → IfOk result (λ audit. AuditsAll bytes folder.now (texts names.now) (W.contents writer.old)
+        (W.contents writer.new) (string_bytes audit.told) audit.status) }
 {
     tell_journals(rt, alloc, Deed::Audit, sources, folder, names, writer)
 }
@@ -226,7 +238,8 @@ pub fn list_journals<R: Threads + Sync, F: Read + Send + Drop, S: Sources<File =
 ) -> Result<FolderAudit, RunFault>
     // Of a source that is known to have these bytes at each path.
     ensures ok { (bytes : List ℕ → List ℕ) → ((path : List ℕ) → S.named sources.now path ≡ Some (bytes path))
-        → IfOk result (λ audit. TellsAll deeds.Show bytes folder.now (texts names.now) (W.contents writer.old) (W.contents writer.new) (string_bytes audit.told) audit.status) }
+        → IfOk result (λ audit. TellsAll deeds.Show bytes folder.now (texts names.now) (W.contents writer.old)
+        (W.contents writer.new) (string_bytes audit.told) audit.status) }
 {
     tell_journals(rt, alloc, Deed::Show, sources, folder, names, writer)
 }

@@ -53,7 +53,8 @@ pub fn open_each<F: Read + Drop, S: Sources<File = F>>(
     ensures some { IfOk result (λ jobs. 0 < length names.now → 0 < vec_len jobs) }
     ensures most { IfOk result (λ jobs. vec_len jobs ≤ length names.now) }
     ensures each { IfOk result (λ jobs. (i : ℕ) (w : String Global) (d : _) → i < vec_len jobs
-        → IsOpened (S.named sources.now) F.remaining folder.now (string_bytes (get_or names.now i w)) (slice_index_or jobs.items i d)) }
+        → IsOpened (S.named sources.now) F.remaining folder.now (string_bytes (get_or names.now i w))
+        (slice_index_or jobs.items i d)) }
 {
     let mut jobs = Vec::new(alloc);
     for name in names {

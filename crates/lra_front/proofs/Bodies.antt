@@ -23,22 +23,26 @@ itself ending.FailedToComplete = refl
 itself ending.Compensated = refl
 itself ending.FailedToCompensate = refl
 
-none_named : (text : List ℕ) (o : Option Ending) → IfSome o (λ e. text ≡ ending_name e) → ((e : Ending) → text ≡ ending_name e → None ≡ Some e) → None ≡ o
+none_named : (text : List ℕ) (o : Option Ending) → IfSome o (λ e. text ≡ ending_name e)
+    → ((e : Ending) → text ≡ ending_name e → None ≡ Some e) → None ≡ o
 none_named text None found only = refl
 none_named text (Some e) found only = only e found
 
-pub ending_is : (text : List ℕ) (r : Option Ending) → IfSome r (λ e. text ≡ ending_name e) → ((e : Ending) → text ≡ ending_name e → r ≡ Some e)
+pub ending_is : (text : List ℕ) (r : Option Ending) → IfSome r (λ e. text ≡ ending_name e)
+    → ((e : Ending) → text ≡ ending_name e → r ≡ Some e)
     → r ≡ ending_named text
 ending_is text (Some e) found only = let P : List ℕ → Type 0 = λ t. Some e ≡ ending_named t in subst P (sym found) (itself e)
 ending_is text None found only = none_named text (ending_named text) (found_by_name ending_name endings text) only
 
 -- ---- the object that a body is
 
-object_ok : (body : List ℕ) (d : Data) → 0 < length body → IsUtf8 body → read body ≡ Some d → object_in body ≡ as_object d
+object_ok : (body : List ℕ) (d : Data) → 0 < length body → IsUtf8 body → read body ≡ Some d → object_in body
+    ≡ as_object d
 object_ok [] d some text e = absurd (omega arith)
 object_ok (b ∷ rest) d some text e = rw (is_utf8-from_IsUtf8 (b ∷ rest) text, e) refl
 
-object_by : (b : ℕ) (rest : List ℕ) (t : Bool) → is_utf8 (b ∷ rest) ≡ t → (IsUtf8 (b ∷ rest) → read (b ∷ rest) ≡ None) → object_in (b ∷ rest) ≡ None
+object_by : (b : ℕ) (rest : List ℕ) (t : Bool) → is_utf8 (b ∷ rest) ≡ t → (IsUtf8 (b ∷ rest) → read (b ∷ rest) ≡ None)
+    → object_in (b ∷ rest) ≡ None
 object_by b rest true e h = rw (e, h (IsUtf8-from_is_utf8 (b ∷ rest) e)) refl
 object_by b rest false e h = rw e refl
 
@@ -52,45 +56,53 @@ body_unread : (r : Operation) (b : List ℕ) → reads_body r ≡ false → body
 unfolding body_of
 body_unread r b e = rw e refl
 
-body_read : (r : Operation) (b : List ℕ) (o : Option Members) → reads_body r ≡ true → object_in b ≡ o → body_of r b ≡ option_and_then (fitting r) o
+body_read : (r : Operation) (b : List ℕ) (o : Option Members) → reads_body r ≡ true → object_in b ≡ o → body_of r b
+    ≡ option_and_then (fitting r) o
 unfolding body_of
 body_read r b o e is = rw (e, is) refl
 
-body_fits : (r : Operation) (o : Option Members) (t : Bool) → IsSome o → IfSome o (λ m. t ≡ (members_fit r m && has_needed r m)) → t ≡ true
+body_fits : (r : Operation) (o : Option Members) (t : Bool) → IsSome o
+    → IfSome o (λ m. t ≡ (members_fit r m && has_needed r m)) → t ≡ true
     → option_and_then (fitting r) o ≡ o
 body_fits r None t found h does = absurd (true≢false (sym found))
 body_fits r (Some m) t found h does = rw (sym h ∙ does) refl
 
-body_unfit : (r : Operation) (o : Option Members) (t : Bool) → IfSome o (λ m. t ≡ (members_fit r m && has_needed r m)) → t ≡ false
+body_unfit : (r : Operation) (o : Option Members) (t : Bool) → IfSome o (λ m. t ≡ (members_fit r m && has_needed r m))
+    → t ≡ false
     → option_and_then (fitting r) o ≡ None
 body_unfit r None t h fails = refl
 body_unfit r (Some m) t h fails = rw (sym h ∙ fails) refl
 
 -- ---- what reading comes to
 
-pub found_empty : (body : List ℕ) (d : Data) → length body ≡ 0 → d ≡ object no_members → (object_in body ≡ as_object d) × IsSome (object_in body)
+pub found_empty : (body : List ℕ) (d : Data) → length body ≡ 0 → d ≡ object no_members → (object_in body ≡ as_object d)
+    × IsSome (object_in body)
 found_empty [] d e is = (rw is refl, refl)
 found_empty (b ∷ rest) d e is = absurd (omega arith)
 
 some_of : {A : Type 0} (o p : Option A) → o ≡ p → is_some p ≡ true → IsSome o
 some_of o p e h = ap is_some e ∙ h
 
-pub found_object : (body : List ℕ) (d : Data) → 0 < length body → IsUtf8 body → read body ≡ Some d → is_some (as_object d) ≡ true
+pub found_object : (body : List ℕ) (d : Data) → 0 < length body → IsUtf8 body → read body ≡ Some d
+    → is_some (as_object d) ≡ true
     → (object_in body ≡ as_object d) × IsSome (object_in body)
 found_object body d some text e is =
     let found = object_ok body d some text e in (found, some_of (object_in body) (as_object d) found is)
 
-pub found_other : (body : List ℕ) (d : Data) → 0 < length body → IsUtf8 body → read body ≡ Some d → is_some (as_object d) ≡ false → object_in body ≡ None
+pub found_other : (body : List ℕ) (d : Data) → 0 < length body → IsUtf8 body → read body ≡ Some d
+    → is_some (as_object d) ≡ false → object_in body ≡ None
 found_other body d some text e is = object_ok body d some text e ∙ none_of (as_object d) is
   where
     none_of : (o : Option Members) → is_some o ≡ false → o ≡ None
     none_of None h = refl
     none_of (Some m) h = absurd (true≢false h)
 
-pub unread : (r : Operation) (b : List ℕ) (v : Value) → reads_body r ≡ false → view v ≡ object no_members → ReadsBody r b (Ok v)
+pub unread : (r : Operation) (b : List ℕ) (v : Value) → reads_body r ≡ false → view v ≡ object no_members
+    → ReadsBody r b (Ok v)
 unread r b v e is = let blank = body_unread r b e in (blank ∙ rw is refl, some_of (body_of r b) (Some no_members) blank refl)
 
-pub read_denied : (r : Operation) (b : List ℕ) (d : Denial) → reads_body r ≡ true → ReadsObject b (Err d) → ReadsBody r b (Err d)
+pub read_denied : (r : Operation) (b : List ℕ) (d : Denial) → reads_body r ≡ true → ReadsObject b (Err d)
+    → ReadsBody r b (Err d)
 read_denied r b d e (inl memory) = inl (e, memory)
 read_denied r b d e (inr (bad, none)) = inr (bad, body_read r b None e none)
 
@@ -102,6 +114,7 @@ read_fits r b v t e (is, found) h does =
     (whole, some_of (body_of r b) (as_object (view v)) whole there)
 
 pub read_unfit : (r : Operation) (b : List ℕ) (v : Value) (t : Bool) → reads_body r ≡ true → ReadsObject b (Ok v)
-    → IfSome (as_object (view v)) (λ m. t ≡ (members_fit r m && has_needed r m)) → t ≡ false → ReadsBody r b (Err BadBody)
+    → IfSome (as_object (view v)) (λ m. t ≡ (members_fit r m && has_needed r m)) → t ≡ false
+    → ReadsBody r b (Err BadBody)
 read_unfit r b v t e (is, found) h fails =
     inr (refl, body_read r b (as_object (view v)) e is ∙ body_unfit r (as_object (view v)) t h fails)

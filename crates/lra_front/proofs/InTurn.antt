@@ -12,21 +12,38 @@ use Rattle.lra_front.specs.declared.wish.Wish.{Wish}
 use Rattle.lra_front.specs.Serving.{Does}
 use Rattle.lra_front.specs.Transcripts.{Turn, Chain, IsAdded, AreAdded, AreWrittenInTurn}
 
-module _ (K : Type 0) (gives : Sight → ℕ → Order → Result Told CounterFault → Sight → Type 0) (tells : K → ℕ → K → Type 0)
+module _ (K : Type 0) (gives : Sight → ℕ → Order → Result Told CounterFault → Sight → Type 0)
+    (tells : K → ℕ → K → Type 0)
     (keeps : (before after : Sight) (moment : ℕ) (o : Order) (reply : Result Told CounterFault) → gives before moment o reply after → KeepsHistory before moment o reply after) where
   -- what one request adds, and that its clerk keeps its number
   one_added : (v : Sight) (moment : ℕ) (w : Result Wish Denial) (u : Sight) (a : Answer) (h : Does gives v moment w u a)
-      → (added : History) × IsAdded gives tells v moment w u a h added × (u.number ≡ v.number) × (entries_under v.number u.seen ≡ entries_under v.number v.seen ++ added)
+      → (added : History) × IsAdded gives tells v moment w u a h added × (u.number ≡ v.number)
+      × (entries_under v.number u.seen ≡ entries_under v.number v.seen ++ added)
   one_added v moment (Ok wish) u a h =
       let kept = keeps v u moment h.order h.reply h.given in
-      let once = counters_write v u moment h.order h.reply kept in
-      (added_by (terms_of v.setting) once.met (call_of v.number moment h.order) h.reply, (once.met, once.begins, refl), kept.same.number, once.written)
-  one_added v moment (Err denial) u a h =
-      ([], refl, ap (λ (x : Sight). x.number) h.1, ap (λ (x : Sight). entries_under v.number x.seen) h.1 ∙ sym (append-nil (entries_under v.number v.seen)))
+      let once = counters_write v u moment h.order h.reply kept in (
+        added_by (terms_of v.setting) once.met (call_of v.number moment h.order) h.reply,
+        (once.met, once.begins, refl),
+        kept.same.number,
+        once.written,
+      )
+  one_added v moment (Err denial) u a h = (
+    [],
+    refl,
+    ap (λ (x : Sight). x.number) h.1,
+    ap (λ (x : Sight). entries_under v.number x.seen) h.1
+        ∙ sym (append-nil (entries_under v.number v.seen)),
+  )
 
   in_turn : (v w : Sight) (k l : K) (turns : List Turn) (chain : Chain gives tells v k turns w l)
-      → (added : History) × AreAdded gives tells v k turns w l chain added × (entries_under v.number w.seen ≡ entries_under v.number v.seen ++ added)
-  in_turn v w k l [] chain = ([], refl, ap (λ (x : Sight). entries_under v.number x.seen) chain.0 ∙ sym (append-nil (entries_under v.number v.seen)))
+      → (added : History) × AreAdded gives tells v k turns w l chain added
+      × (entries_under v.number w.seen ≡ entries_under v.number v.seen ++ added)
+  in_turn v w k l [] chain = (
+    [],
+    refl,
+    ap (λ (x : Sight). entries_under v.number x.seen) chain.0
+        ∙ sym (append-nil (entries_under v.number v.seen)),
+  )
   in_turn v w k l (turn ∷ turns) chain =
       let u : Sight = chain.0 in
       let one = one_added v turn.moment chain.3.0 u turn.answer chain.3.2 in
@@ -38,7 +55,9 @@ module _ (K : Type 0) (gives : Sight → ℕ → Order → Result Told CounterFa
       )
 
 -- a stream's orders are written in turn
-pub written_in_turn : (K : Type 0) (gives : Sight → ℕ → Order → Result Told CounterFault → Sight → Type 0) (tells : K → ℕ → K → Type 0)
-    → ((before after : Sight) (moment : ℕ) (o : Order) (reply : Result Told CounterFault) → gives before moment o reply after → KeepsHistory before moment o reply after)
+pub written_in_turn : (K : Type 0) (gives : Sight → ℕ → Order → Result Told CounterFault → Sight → Type 0)
+    (tells : K → ℕ → K → Type 0)
+    → ((before after : Sight) (moment : ℕ) (o : Order) (reply : Result Told CounterFault)
+    → gives before moment o reply after → KeepsHistory before moment o reply after)
     → AreWrittenInTurn gives tells
 written_in_turn K gives tells keeps v w k l turns chain = in_turn K gives tells keeps v w k l turns chain

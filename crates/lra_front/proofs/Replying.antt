@@ -12,16 +12,19 @@ use denote.Ref.{Bor}
 
 -- ---- the text
 
-lines_seen : (fields : List (Bor (List ℕ) × Bor (List ℕ))) → flat_map wire.field_line fields ≡ flat_map line_of (map seen fields)
+lines_seen : (fields : List (Bor (List ℕ) × Bor (List ℕ))) → flat_map wire.field_line fields
+    ≡ flat_map line_of (map seen fields)
 lines_seen [] = refl
 lines_seen (f ∷ rest) = ap (λ zs. line_of (seen f) ++ zs) (lines_seen rest)
 
 -- what is written of the parts is the reply
-pub same_text : (i : ℕ) (base : List ℕ) (a : Answer) (head close : Bool) (code : ℕ) (phrase : List ℕ) (fields : List (Bor (List ℕ) × Bor (List ℕ))) (body : List ℕ)
+pub same_text : (i : ℕ) (base : List ℕ) (a : Answer) (head close : Bool) (code : ℕ) (phrase : List ℕ)
+    (fields : List (Bor (List ℕ) × Bor (List ℕ))) (body : List ℕ)
     → code ≡ code_of a → phrase ≡ phrase_of (code_of a)
     → map seen fields ≡ fields_of (uri_of i base a) a (compact_text (body_of (uri_of i base a) a)) close
     → body ≡ (if head then [] else compact_text (body_of (uri_of i base a) a))
-    → wire.message_text (codes "HTTP/1.1 " ++ (decimal code ++ (codes " " ++ phrase))) fields body ≡ reply_bytes i base a head close
+    → wire.message_text (codes "HTTP/1.1 " ++ (decimal code ++ (codes " " ++ phrase))) fields body
+    ≡ reply_bytes i base a head close
 unfolding reply_bytes
 same_text i base a head close code phrase fields body is_code is_phrase is_fields is_body =
     rw (lines_seen fields, is_code, is_phrase, is_fields, is_body) refl
@@ -34,4 +37,5 @@ reply_long i base a head close = omega arith
 
 pub none_sent : (known : Option (List ℕ)) (i : ℕ) (base : List ℕ) (a : Answer) (head close : Bool)
     → wire.Sends known known (reply_bytes i base a head close) (Err Memory)
-none_sent known i base a head close = (tt, ([], reply_bytes i base a head close, refl, reply_long i base a head close, Appends-nil known))
+none_sent known i base a head close =
+    (tt, ([], reply_bytes i base a head close, refl, reply_long i base a head close, Appends-nil known))

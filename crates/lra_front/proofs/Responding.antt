@@ -49,27 +49,42 @@ by_name spelled text none Next w next (inl (n, is, h)) = next n (is.0, is.1) h
 by_name spelled text none Next w next (inr (other, e)) = absurd cc
 
 by_start : (i : ℕ) (base : List ℕ) (ms : Members) (o : Option (List ℕ)) (limit : ℕ) (w : Wish)
-    → MatchOption o (Same (Ok w) (Ok (wish.Start None limit))) (λ uri. IsNamed (action_uri i base) uri no_action (λ parent v. v ≡ Ok (wish.Start (Some parent) limit)) (Ok w)) → HasNumber w
+    → MatchOption o (Same (Ok w) (Ok (wish.Start None limit))) (λ uri. IsNamed (action_uri i base) uri no_action
+    (λ parent v. v ≡ Ok (wish.Start (Some parent) limit)) (Ok w)) → HasNumber w
 by_start i base ms None limit w h = numbered (wish.Start None limit) w h tt
-by_start i base ms (Some uri) limit w h = by_name (action_uri i base) uri no_action (λ parent v. Same v (Ok (wish.Start (Some parent) limit))) w (λ n k e. numbered (wish.Start (Some n) limit) w e tt) h
+by_start i base ms (Some uri) limit w h = by_name (action_uri i base) uri no_action
+    (λ parent v. Same v (Ok (wish.Start (Some parent) limit))) w (λ n k e. numbered (wish.Start (Some n) limit) w e tt)
+    h
 
-by_operation : (i : ℕ) (base id : List ℕ) (ms : Members) (r : Operation) (w : Wish) → IsWish i base id ms r (Ok w) → HasNumber w
+by_operation : (i : ℕ) (base id : List ℕ) (ms : Members) (r : Operation) (w : Wish) → IsWish i base id ms r (Ok w)
+    → HasNumber w
 by_operation i base id ms operation.Start w h = by_start i base ms (text_under (codes "parent") ms) (limit_in ms) w h
-by_operation i base id ms operation.Status w h = by_name (id_text i) id no_action (IsOfAction i base ms operation.Status) w (λ n k e. numbered (wish.Status n) w e k) h
-by_operation i base id ms operation.Join w h = by_name (id_text i) id no_action (IsOfAction i base ms operation.Join) w (λ n k e. numbered _ w e tt) h
-by_operation i base id ms operation.Close w h = by_name (id_text i) id no_action (IsOfAction i base ms operation.Close) w (λ n k e. numbered _ w e tt) h
-by_operation i base id ms operation.Cancel w h = by_name (id_text i) id no_action (IsOfAction i base ms operation.Cancel) w (λ n k e. numbered _ w e tt) h
-by_operation i base id ms operation.Renew w h = by_name (id_text i) id no_action (IsOfAction i base ms operation.Renew) w (λ n k e. numbered _ w e tt) h
-by_operation i base id ms operation.Remove w h = by_name (id_text i) id no_action (IsOfAction i base ms operation.Remove) w (λ n k. by_name (recovery_uri i base) _ no_member (λ m v. Same v (Ok (wish.Leave n m))) w (λ m j e. numbered _ w e tt)) h
-by_operation i base id ms operation.MemberStatus w h = by_name (id_text i) id no_member (IsOfMember ms operation.MemberStatus) w (λ n k e. numbered _ w e tt) h
-by_operation i base id ms operation.Report w h = by_name (id_text i) id no_member (IsOfMember ms operation.Report) w (λ n k e. numbered _ w e tt) h
+by_operation i base id ms operation.Status w h = by_name (id_text i) id no_action
+    (IsOfAction i base ms operation.Status) w (λ n k e. numbered (wish.Status n) w e k) h
+by_operation i base id ms operation.Join w h = by_name (id_text i) id no_action (IsOfAction i base ms operation.Join) w
+    (λ n k e. numbered _ w e tt) h
+by_operation i base id ms operation.Close w h = by_name (id_text i) id no_action (IsOfAction i base ms operation.Close)
+    w (λ n k e. numbered _ w e tt) h
+by_operation i base id ms operation.Cancel w h = by_name (id_text i) id no_action
+    (IsOfAction i base ms operation.Cancel) w (λ n k e. numbered _ w e tt) h
+by_operation i base id ms operation.Renew w h = by_name (id_text i) id no_action (IsOfAction i base ms operation.Renew)
+    w (λ n k e. numbered _ w e tt) h
+by_operation i base id ms operation.Remove w h = by_name (id_text i) id no_action
+    (IsOfAction i base ms operation.Remove) w (λ n k. by_name (recovery_uri i base) _ no_member
+    (λ m v. Same v (Ok (wish.Leave n m))) w (λ m j e. numbered _ w e tt)) h
+by_operation i base id ms operation.MemberStatus w h = by_name (id_text i) id no_member
+    (IsOfMember ms operation.MemberStatus) w (λ n k e. numbered _ w e tt) h
+by_operation i base id ms operation.Report w h = by_name (id_text i) id no_member (IsOfMember ms operation.Report) w
+    (λ n k e. numbered _ w e tt) h
 
-by_body : (i : ℕ) (base id : List ℕ) (r : Operation) (o : Option Members) (w : Wish) → MatchOption o (Same (Ok w) (Err BadBody)) (λ ms. IsWish i base id ms r (Ok w)) → HasNumber w
+by_body : (i : ℕ) (base id : List ℕ) (r : Operation) (o : Option Members) (w : Wish)
+    → MatchOption o (Same (Ok w) (Err BadBody)) (λ ms. IsWish i base id ms r (Ok w)) → HasNumber w
 by_body i base id r None w h = absurd cc
 by_body i base id r (Some ms) w h = by_operation i base id ms r w h
 
 by_path : (i : ℕ) (base : List ℕ) (request : Request) (o : Result Operation Denial) (w : Wish)
-    → MatchResult o (λ r. MatchOption (body_of r request.body) (Same (Ok w) (Err BadBody)) (λ ms. IsWish i base (id_in request.target) ms r (Ok w))) (λ d. Same (Ok w) (Err d)) → HasNumber w
+    → MatchResult o (λ r. MatchOption (body_of r request.body) (Same (Ok w) (Err BadBody))
+    (λ ms. IsWish i base (id_in request.target) ms r (Ok w))) (λ d. Same (Ok w) (Err d)) → HasNumber w
 by_path i base request (Ok r) w h = by_body i base (id_in request.target) r (body_of r request.body) w h
 by_path i base request (Err d) w h = absurd cc
 
@@ -83,7 +98,8 @@ start_tells : (p : Option ℕ) (l : ℕ) (t : Told) → CanTell (order.Start p l
 start_tells p l (told.Action n) h = h
 start_tells p l _ h = absurd h
 
-join_tells : (a b : ℕ) (given : Bor Addresses) (u : Addresses) (t : Told) → CanTell (order.Join b given) t → IsTellable (wish.Join a u) t
+join_tells : (a b : ℕ) (given : Bor Addresses) (u : Addresses) (t : Told) → CanTell (order.Join b given) t
+    → IsTellable (wish.Join a u) t
 join_tells a b given u (told.Member n) h = h
 join_tells a b given u (told.AlreadyMember n) h = h
 join_tells a b given u _ h = absurd h
@@ -132,8 +148,11 @@ tells o (wish.Report p f) t e k h = report_tells p f t (subst (λ x. CanTell x t
 tells o (wish.MemberStatus p) t e k h = member_tells p t (subst (λ x. CanTell x t) e h)
 
 -- a counter's reply can be answered
-pub answerable : (before after : Sight) (moment : ℕ) (request : Request) (o : Order) (w : Wish) (reply : Result Told CounterFault)
-    → MayAsk before.setting.instance before.setting.base request (Ok w) → IsOrder w o → KeepsHistory before moment o reply after → IsAnswerable w reply
+pub answerable : (before after : Sight) (moment : ℕ) (request : Request) (o : Order) (w : Wish)
+    (reply : Result Told CounterFault)
+    → MayAsk before.setting.instance before.setting.base request (Ok w) → IsOrder w o
+    → KeepsHistory before moment o reply after → IsAnswerable w reply
 answerable before after moment request o w (Ok t) asks is keeps =
-    tells o w t is (asked_number before.setting.instance before.setting.base request w asks) (counters_tell before after moment o t keeps)
+    tells o w t is (asked_number before.setting.instance before.setting.base request w asks)
+    (counters_tell before after moment o t keeps)
 answerable before after moment request o w (Err fault) asks is keeps = tt

@@ -11,7 +11,9 @@ passed : (f : Operation → Bool) (o : Operation) (os : List Operation) → f o 
 passed f o os fails = rw fails refl
 
 -- one operation that isn't the one
-pub none_yet : (f : Operation → Bool) (os : List Operation) (i : ℕ) (d : Operation) (all : Option Operation) → i < length os → find f (drop i os) ≡ all
+pub none_yet : (f : Operation → Bool) (os : List Operation) (i : ℕ) (d : Operation) (all : Option Operation) → i
+    < length os → find f (drop i os) ≡ all
     → f (get_or os i d) ≡ false → find f (drop (i + 1) os) ≡ all
 none_yet f os i d all h e fails =
-    sym (passed f (get_or os i d) (drop (i + 1) os) fails) ∙ subst (λ (qs : List Operation). find f qs ≡ all) (drop_first os i d h) e
+    sym (passed f (get_or os i d) (drop (i + 1) os) fails) ∙ subst (λ (qs : List Operation). find f qs ≡ all)
+    (drop_first os i d h) e

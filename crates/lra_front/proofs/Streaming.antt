@@ -21,16 +21,53 @@ use Rattle.lra_front.specs.inner.Sending.{Denies, Exchanges}
 
 -- ---- one request
 
-pub exchanged : {K : Type 0} (gives : Sight → ℕ → Order → Result Told CounterFault → Sight → Type 0) (tells : K → ℕ → K → Type 0) (last : Bool) (request : Request)
+pub exchanged : {K : Type 0} (gives : Sight → ℕ → Order → Result Told CounterFault → Sight → Type 0)
+    (tells : K → ℕ → K → Type 0) (last : Bool) (request : Request)
     (xs ys : Option (List ℕ)) (before after : Sight) (k l : K) (old new : Option (List ℕ)) (served : Served)
-    → IfBothKnown xs ys (λ bytes rest. IsRequest bytes request rest) → Exchanges gives tells last request before after k l old new served
+    → IfBothKnown xs ys (λ bytes rest. IsRequest bytes request rest) → Exchanges gives tells last request before after k
+    l old new served
     → Serves gives tells last (standing xs before k old) served (standing ys after l new)
 exchanged gives tells last request xs ys before after k l old new Going read h =
-    record { request = request; answer = h.answer; exchange = record { read = read; moment = h.moment; clocked = h.clocked; responds = h.responds }; closes = h.sent.0; wrote = h.sent.1 }
+    record {
+      request = request;
+      answer = h.answer;
+      exchange = record {
+        read = read;
+        moment = h.moment;
+        clocked =
+            h.clocked;
+        responds = h.responds;
+      };
+      closes = h.sent.0;
+      wrote = h.sent.1;
+    }
 exchanged gives tells last request xs ys before after k l old new (Ended Done) read h =
-    inr (record { request = request; answer = h.answer; exchange = record { read = read; moment = h.moment; clocked = h.clocked; responds = h.responds }; closes = h.sent.0; wrote = h.sent.1 })
+    inr (record {
+      request = request;
+      answer = h.answer;
+      exchange = record {
+        read = read;
+        moment = h.moment;
+        clocked =
+            h.clocked;
+        responds = h.responds;
+      };
+      closes = h.sent.0;
+      wrote = h.sent.1;
+    })
 exchanged gives tells last request xs ys before after k l old new (Ended WriteFault) read h =
-    inl (record { request = request; answer = h.answer; exchange = record { read = read; moment = h.moment; clocked = h.clocked; responds = h.responds }; wrote = h.sent })
+    inl (record {
+      request = request;
+      answer = h.answer;
+      exchange = record {
+        read = read;
+        moment = h.moment;
+        clocked =
+            h.clocked;
+        responds = h.responds;
+      };
+      wrote = h.sent;
+    })
 exchanged gives tells last request xs ys before after k l old new (Ended (Refused fault)) read h = absurd h.sent
 
 -- a stream that was cut is left without a reply
@@ -44,7 +81,8 @@ cut_by v old new WriteFault (front, rest, whole, long, wrote) =
 abbrev Same : Result (Option RequestRead) WireFault → Result (Option RequestRead) WireFault → Type 0
 Same x y = x ≡ y
 
-pub cut_ends : (v : Sight) (old new : Option (List ℕ)) (end : StreamEnd) (fault : WireFault) → Same (Err fault) (Err Cut) → Denies v fault old new end
+pub cut_ends : (v : Sight) (old new : Option (List ℕ)) (end : StreamEnd) (fault : WireFault)
+    → Same (Err fault) (Err Cut) → Denies v fault old new end
     → Ended end ≡ Ended (Refused Cut)
 cut_ends v old new end fault e h =
     let same : fault ≡ Cut = ap (λ r. unwrap_or (result_err r) Cut) e in
@@ -54,12 +92,14 @@ cut_ends v old new end fault e h =
 -- ---- one request after another
 
 module _ {K : Type 0} (gives : Sight → ℕ → Order → Result Told CounterFault → Sight → Type 0) (tells : K → ℕ → K → Type 0) where
-  pub ends_now : (n : ℕ) (s t : Standing K) (end : StreamEnd) → 0 < n → EndsAt gives tells false s end t → ServesUpTo gives tells n s end t
+  pub ends_now : (n : ℕ) (s t : Standing K) (end : StreamEnd) → 0 < n → EndsAt gives tells false s end t
+      → ServesUpTo gives tells n s end t
   unfolding ServesUpTo
   ends_now zero s t end some h = absurd (omega arith)
   ends_now (suc n) s t end some h = inl h
 
-  pub goes_on : (n : ℕ) (s u t : Standing K) (end : StreamEnd) → 0 < n → Replied gives tells false false s u → ServesUpTo gives tells (n - 1) u end t
+  pub goes_on : (n : ℕ) (s u t : Standing K) (end : StreamEnd) → 0 < n → Replied gives tells false false s u
+      → ServesUpTo gives tells (n - 1) u end t
       → ServesUpTo gives tells n s end t
   unfolding ServesUpTo
   goes_on zero s u t end some h rest = absurd (omega arith)
@@ -68,7 +108,8 @@ module _ {K : Type 0} (gives : Sight → ℕ → Order → Result Told CounterFa
       let P : ℕ → Type 0 = λ m. ServesUpTo gives tells m u end t in
       inr (u, h, subst P e rest)
 
-  pub ends_last : (n : ℕ) (s t : Standing K) (end : StreamEnd) → n ≡ 0 → EndsAt gives tells true s end t → ServesUpTo gives tells n s end t
+  pub ends_last : (n : ℕ) (s t : Standing K) (end : StreamEnd) → n ≡ 0 → EndsAt gives tells true s end t
+      → ServesUpTo gives tells n s end t
   unfolding ServesUpTo
   ends_last zero s t end none h = h
   ends_last (suc n) s t end none h = absurd (omega (arith, none))

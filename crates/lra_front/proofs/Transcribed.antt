@@ -20,7 +20,8 @@ use Rattle.lra_front.specs.Transcripts.{Turn, turn_text, replies, fault_bytes, S
 same_bytes : (xs ys : List ℕ) → Some xs ≡ Some ys → xs ≡ ys
 same_bytes xs ys e = ap (λ o. unwrap_or o xs) e
 
-known_next : (o p : Option (List ℕ)) (bytes : List ℕ) (P : List ℕ → List ℕ → Type 0) → o ≡ Some bytes → IfBothKnown o p P → (ys : List ℕ) × (p ≡ Some ys) × P bytes ys
+known_next : (o p : Option (List ℕ)) (bytes : List ℕ) (P : List ℕ → List ℕ → Type 0) → o ≡ Some bytes
+    → IfBothKnown o p P → (ys : List ℕ) × (p ≡ Some ys) × P bytes ys
 known_next None p bytes P e h = absurd cc
 known_next (Some xs) None bytes P e h = absurd h
 known_next (Some xs) (Some ys) bytes P e h = let Q : List ℕ → Type 0 = λ zs. P zs ys in (ys, refl, subst Q (same_bytes xs bytes e) h)
@@ -46,24 +47,28 @@ one_reply : (c : Setting) (n : ℕ) (turn : Turn) → turn_text c (last_of n) tu
 one_reply c zero turn = sym (append-nil (turn_text c true turn))
 one_reply c (suc n) turn = sym (append-nil (turn_text c false turn))
 
-one_text : (c : Setting) (v : Sight) (n : ℕ) (turn : Turn) → v.setting ≡ c → reply_to v (last_of n) turn.request turn.answer ≡ replies c n (turn ∷ [])
+one_text : (c : Setting) (v : Sight) (n : ℕ) (turn : Turn) → v.setting ≡ c
+    → reply_to v (last_of n) turn.request turn.answer ≡ replies c n (turn ∷ [])
 one_text c v n turn same = ap (λ z. turn_text z (last_of n) turn) same ∙ one_reply c n turn
 
 closes_one : (n : ℕ) (turn : Turn) → closes_after (last_of n) turn.request ≡ true → ClosesLast n (turn ∷ [])
 closes_one zero turn h = tt
 closes_one (suc n) turn h = h
 
-pub closes_more : (n : ℕ) (turn : Turn) (turns : List Turn) → closes_after false turn.request ≡ false → ClosesLast n turns → ClosesLast (suc n) (turn ∷ turns)
+pub closes_more : (n : ℕ) (turn : Turn) (turns : List Turn) → closes_after false turn.request ≡ false
+    → ClosesLast n turns → ClosesLast (suc n) (turn ∷ turns)
 closes_more n turn [] goes h = absurd h
 closes_more n turn (next ∷ turns) goes h = (goes, h)
 
-pub before_more : (n : ℕ) (turn : Turn) (turns : List Turn) → closes_after false turn.request ≡ false → StaysOpenBefore n turns → StaysOpenBefore (suc n) (turn ∷ turns)
+pub before_more : (n : ℕ) (turn : Turn) (turns : List Turn) → closes_after false turn.request ≡ false
+    → StaysOpenBefore n turns → StaysOpenBefore (suc n) (turn ∷ turns)
 before_more n turn [] goes h = absurd h
 before_more n turn (next ∷ turns) goes h = (goes, h)
 
 -- ---- the setting stays
 
-module _ (K : Type 0) (gives : Sight → ℕ → Order → Result Told CounterFault → Sight → Type 0) (tells : K → ℕ → K → Type 0)
+module _ (K : Type 0) (gives : Sight → ℕ → Order → Result Told CounterFault → Sight → Type 0)
+    (tells : K → ℕ → K → Type 0)
     (keeps : (before after : Sight) (moment : ℕ) (o : Order) (reply : Result Told CounterFault) → gives before moment o reply after → KeepsHistory before moment o reply after) where
   pub same_setting : (v u : Sight) (m : ℕ) (r : Request) (a : Answer) → Responds gives v m r u a → u.setting ≡ v.setting
   same_setting v u m r a (Ok w, asks, h) = (keeps v u m h.order h.reply h.given).same.setting
@@ -140,19 +145,41 @@ module _ (K : Type 0) (gives : Sight → ℕ → Order → Result Told CounterFa
 
   -- ---- one request more
 
-  more_ends : (c : Setting) (n : ℕ) (turn : Turn) (turns : List Turn) (rest out text : List ℕ) (end : StreamEnd) → text ≡ turn_text c false turn
-      → closes_after false turn.request ≡ false → EndsAfter c n turns rest out end → EndsAfter c (suc n) (turn ∷ turns) rest (text ++ out) end
-  more_ends c n turn turns rest out text Done is goes (whole, inl (none, stays)) = (λ i. is i ++ whole i, inl (none, (goes, stays)))
-  more_ends c n turn turns rest out text Done is goes (whole, inr closes) = (λ i. is i ++ whole i, inr (closes_more n turn turns goes closes))
-  more_ends c n turn turns rest out text (Refused fault) is goes (whole, refuses, stays) =
-      ((λ i. is i ++ whole i) ∙ sym (append_assoc (turn_text c false turn) (replies c n turns) (fault_bytes c fault)), refuses, (goes, stays))
+  more_ends : (c : Setting) (n : ℕ) (turn : Turn) (turns : List Turn) (rest out text : List ℕ) (end : StreamEnd) → text
+      ≡ turn_text c false turn
+      → closes_after false turn.request ≡ false → EndsAfter c n turns rest out end
+      → EndsAfter c (suc n) (turn ∷ turns) rest (text ++ out) end
+  more_ends c n turn turns rest out text Done is goes (whole, inl (none, stays)) =
+      (λ i. is i ++ whole i, inl (none, (goes, stays)))
+  more_ends c n turn turns rest out text Done is goes (whole, inr closes) =
+      (λ i. is i ++ whole i, inr (closes_more n turn turns goes closes))
+  more_ends c n turn turns rest out text (Refused fault) is goes (whole, refuses, stays) = (
+    (λ i. is i ++ whole i) ∙ sym (append_assoc (turn_text c false turn) (replies c n turns) (fault_bytes c fault)),
+    refuses,
+    (goes, stays),
+  )
   more_ends c n turn turns rest out text WriteFault is goes (inl ((more, whole, long), stays)) =
-      inl ((more, (λ i. sym is i ++ whole i) ∙ sym (append_assoc text out more), long), before_more n turn turns goes stays)
+      inl (
+        (more, (λ i. sym is i ++ whole i) ∙ sym (append_assoc text out more), long),
+        before_more n turn turns goes stays,
+      )
   more_ends c n turn turns rest out text WriteFault is goes (inr (fault, (more, whole, long), refuses, stays)) =
-      inr (fault, (more, append_assoc (turn_text c false turn) (replies c n turns) (fault_bytes c fault) ∙ (λ i. sym is i ++ whole i) ∙ sym (append_assoc text out more), long), refuses, (goes, stays))
+      inr (
+        fault,
+        (
+          more,
+          append_assoc (turn_text c false turn) (replies c n turns) (fault_bytes c fault)
+              ∙ (λ i. sym is i ++ whole i) ∙ sym (append_assoc text out more),
+          long,
+        ),
+        refuses,
+        (goes, stays),
+      )
 
-  one_more : (n : ℕ) (bytes old : List ℕ) (s u t : Standing K) (end : StreamEnd) → s.bytes ≡ Some bytes → s.out ≡ Some old → Replied gives tells false false s u
-      → ((ys zs : List ℕ) → u.bytes ≡ Some ys → u.out ≡ Some zs → Transcript gives tells n ys zs u end t) → Transcript gives tells (suc n) bytes old s end t
+  one_more : (n : ℕ) (bytes old : List ℕ) (s u t : Standing K) (end : StreamEnd) → s.bytes ≡ Some bytes → s.out
+      ≡ Some old → Replied gives tells false false s u
+      → ((ys zs : List ℕ) → u.bytes ≡ Some ys → u.out ≡ Some zs → Transcript gives tells n ys zs u end t)
+      → Transcript gives tells (suc n) bytes old s end t
   one_more n bytes old s u t end eb eo r next =
       let known = known_next s.bytes u.bytes bytes (λ xs ys. IsRequest xs r.request ys) eb r.exchange.read in
       let turn : Turn = turn_of s u r.request r.answer r.exchange in
@@ -167,10 +194,12 @@ module _ (K : Type 0) (gives : Sight → ℕ → Order → Result Told CounterFa
         spelled = (known.0, known.2, h.spelled);
         chain = (u.sight, u.clock, r.exchange.clocked, r.exchange.responds, h.chain);
         written = h.written ∙ ap Some (append_assoc old text h.out);
-        ends = more_ends s.sight.setting n turn h.turns h.rest h.out text end (ap (λ c. turn_text c false turn) same) r.closes (subst P same h.ends);
+        ends = more_ends s.sight.setting n turn h.turns h.rest h.out text end (ap (λ c. turn_text c false turn) same)
+            r.closes (subst P same h.ends);
       }
 
-  transcript : (n : ℕ) (bytes old : List ℕ) (s t : Standing K) (end : StreamEnd) → s.bytes ≡ Some bytes → s.out ≡ Some old
+  transcript : (n : ℕ) (bytes old : List ℕ) (s t : Standing K) (end : StreamEnd) → s.bytes ≡ Some bytes → s.out
+      ≡ Some old
       → ServesUpTo gives tells n s end t → Transcript gives tells n bytes old s end t
   unfolding ServesUpTo
   transcript zero bytes old s t end eb eo h = ends zero bytes old s t end eb eo h
@@ -179,7 +208,10 @@ module _ (K : Type 0) (gives : Sight → ℕ → Order → Result Told CounterFa
       one_more n bytes old s u t end eb eo r (λ ys zs ey ez. transcript n ys zs u t end ey ez rest)
 
 -- what a stream does is its transcript
-pub are_transcripts : (K : Type 0) (gives : Sight → ℕ → Order → Result Told CounterFault → Sight → Type 0) (tells : K → ℕ → K → Type 0)
-    → ((before after : Sight) (moment : ℕ) (o : Order) (reply : Result Told CounterFault) → gives before moment o reply after → KeepsHistory before moment o reply after)
+pub are_transcripts : (K : Type 0) (gives : Sight → ℕ → Order → Result Told CounterFault → Sight → Type 0)
+    (tells : K → ℕ → K → Type 0)
+    → ((before after : Sight) (moment : ℕ) (o : Order) (reply : Result Told CounterFault)
+    → gives before moment o reply after → KeepsHistory before moment o reply after)
     → AreTranscripts gives tells
-are_transcripts K gives tells keeps n bytes old s t end eb eo h = transcript K gives tells keeps n bytes old s t end eb eo h
+are_transcripts K gives tells keeps n bytes old s t end eb eo h = transcript K gives tells keeps n bytes old s t end eb
+    eo h

@@ -9,7 +9,8 @@ use Rattle.lra_front.specs.declared.wish.Wish.{Wish}
 use Rattle.lra_front.specs.Wishes.{no_action, IsNamed, IsOfAction, IsWish}
 use Rattle.lra_front.specs.inner.Finds.{is_of_action, OrMemory}
 
-named_action : (i : ℕ) (base id : List ℕ) (ms : Members) (r : Operation) (w : Result Wish Denial) → is_of_action r ≡ true
+named_action : (i : ℕ) (base id : List ℕ) (ms : Members) (r : Operation) (w : Result Wish Denial) → is_of_action r
+    ≡ true
     → IsNamed (id_text i) id no_action (IsOfAction i base ms r) w → IsWish i base id ms r w
 named_action i base id ms operation.Start w of h = absurd (true≢false (sym of))
 named_action i base id ms operation.MemberStatus w of h = absurd (true≢false (sym of))
@@ -21,12 +22,15 @@ named_action i base id ms operation.Cancel w of h = h
 named_action i base id ms operation.Remove w of h = h
 named_action i base id ms operation.Renew w of h = h
 
-or_named : (i : ℕ) (base id : List ℕ) (ms : Members) (r : Operation) (a : ℕ) (w : Result Wish Denial) → is_of_action r ≡ true
+or_named : (i : ℕ) (base id : List ℕ) (ms : Members) (r : Operation) (a : ℕ) (w : Result Wish Denial) → is_of_action r
+    ≡ true
     → IsSpelling (id_text i) id a → OrMemory r (IsOfAction i base ms r a) w → OrMemory r (IsWish i base id ms r) w
 or_named i base id ms r a w of is (inl memory) = inl memory
 or_named i base id ms r a w of is (inr h) = inr (named_action i base id ms r w of (inl (a, is, h)))
 
-pub wish_of_action : (i : ℕ) (base id : List ℕ) (o : Option Members) (r : Operation) (a : ℕ) (w : Result Wish Denial) → is_of_action r ≡ true
-    → IsSpelling (id_text i) id a → IfSome o (λ ms. OrMemory r (IsOfAction i base ms r a) w) → IfSome o (λ ms. OrMemory r (IsWish i base id ms r) w)
+pub wish_of_action : (i : ℕ) (base id : List ℕ) (o : Option Members) (r : Operation) (a : ℕ) (w : Result Wish Denial)
+    → is_of_action r ≡ true
+    → IsSpelling (id_text i) id a → IfSome o (λ ms. OrMemory r (IsOfAction i base ms r a) w)
+    → IfSome o (λ ms. OrMemory r (IsWish i base id ms r) w)
 wish_of_action i base id None r a w of is h = tt
 wish_of_action i base id (Some ms) r a w of is h = or_named i base id ms r a w of is h

@@ -29,8 +29,10 @@ use Rattle.lra_front.specs.Listed.{has_code}
 
 unfoldable targets : List (List ℕ)
 targets =
-    codes "/lra-coordinator" ∷ codes "/lra-coordinator/close" ∷ codes "/lra-coordinator/x/close" ∷ codes "/lra-recovery/x"
-    ∷ codes "/lra-coordinator/" ∷ codes "/lra-coordinator?x=1" ∷ codes "/lra-recovery/x?" ∷ codes "/lra-coordinator/x?y/close" ∷ []
+    codes "/lra-coordinator" ∷ codes "/lra-coordinator/close" ∷ codes "/lra-coordinator/x/close"
+    ∷ codes "/lra-recovery/x"
+    ∷ codes "/lra-coordinator/" ∷ codes "/lra-coordinator?x=1" ∷ codes "/lra-recovery/x?"
+    ∷ codes "/lra-coordinator/x?y/close" ∷ []
 
 -- no ID, and a query at the end, after the ID, and amid the path
 named : map place_of targets
@@ -118,7 +120,8 @@ report_codes s J by m p e = refl
 -- ---- replies
 
 not_found : reply_bytes 7 (codes "http://h/") (answer.Denied denial.NoSuchPath) false false
-    ≡ codes "HTTP/1.1 404 Not Found" ++ line_end ++ codes "Content-Type: application/json" ++ line_end ++ codes "Content-Length: 22" ++ line_end
+    ≡ codes "HTTP/1.1 404 Not Found" ++ line_end ++ codes "Content-Type: application/json" ++ line_end
+    ++ codes "Content-Length: 22" ++ line_end
     ++ line_end ++ codes "{\"error\":\"NoSuchPath\"}"
 unfolding reply_bytes digits serde_json_on_literals
 not_found = refl

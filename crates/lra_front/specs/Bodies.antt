@@ -20,7 +20,8 @@ use Rattle.lra_front.specs.declared.body.Kind.TheVariants.{Text, Number}
 abbrev pub keys : Operation → List (List ℕ × Kind)
 keys operation.Start = (codes "parent", Text) ∷ (codes "limit", Number) ∷ []
 keys operation.Join =
-    (codes "compensate", Text) ∷ (codes "complete", Text) ∷ (codes "status", Text) ∷ (codes "forget", Text) ∷ (codes "after", Text) ∷ []
+    (codes "compensate", Text) ∷ (codes "complete", Text) ∷ (codes "status", Text) ∷ (codes "forget", Text)
+    ∷ (codes "after", Text) ∷ []
 keys operation.Remove = (codes "recovery", Text) ∷ []
 keys operation.Renew = (codes "limit", Number) ∷ []
 keys operation.Report = (codes "status", Text) ∷ []

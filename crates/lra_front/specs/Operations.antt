@@ -9,7 +9,8 @@ use Rattle.lra_front.specs.declared.operation.Operation.TheVariants as operation
 -- the operations, in the order in which they are listed
 abbrev pub operations : List Operation
 operations =
-    operation.Start ∷ operation.Status ∷ operation.Join ∷ operation.Close ∷ operation.Cancel ∷ operation.Remove ∷ operation.Renew
+    operation.Start ∷ operation.Status ∷ operation.Join ∷ operation.Close ∷ operation.Cancel ∷ operation.Remove
+    ∷ operation.Renew
     ∷ operation.MemberStatus ∷ operation.Report ∷ []
 
 -- what an operation's path names

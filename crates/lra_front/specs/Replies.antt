@@ -97,7 +97,8 @@ two_texts key text other more = object (member key (string text) (member other (
 
 -- the body of a refusal: its word, with the action's status, or with what there is too much of
 abbrev pub refusal_body : Refusal → Data
-refusal_body (refusal.NotActive status) = two_texts (codes "error") (codes "NotActive") (codes "status") (action_status_name status)
+refusal_body (refusal.NotActive status) = two_texts (codes "error") (codes "NotActive") (codes "status")
+    (action_status_name status)
 refusal_body (refusal.Full resource) = two_texts (codes "error") (codes "Full") (codes "which") (resource_name resource)
 refusal_body r = one_text (codes "error") (refusal_name r)
 
@@ -151,7 +152,8 @@ closing_fields false = []
 -- all fields of a reply with a body of that text, in their order
 abbrev pub fields_of : List ℕ → Answer → List ℕ → Bool → List Field
 fields_of uri a text close =
-    (codes "Content-Type", codes "application/json") ∷ (codes "Content-Length", decimal (length text)) ∷ (own_fields uri a ++ closing_fields close)
+    (codes "Content-Type", codes "application/json") ∷ (codes "Content-Length", decimal (length text))
+    ∷ (own_fields uri a ++ closing_fields close)
 
 -- ---- texts
 

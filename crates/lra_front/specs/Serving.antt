@@ -55,9 +55,11 @@ module _ (gives : Sight → ℕ → Order → Result Told CounterFault → Sight
   -- what a request does at a moment: one order at most, and its answer
   abbrev pub Responds : Sight → ℕ → Request → Sight → Answer → Type 0
   Responds before moment request after a =
-      (w : Result Wish Denial) × MayAsk before.setting.instance before.setting.base request w × Does before moment w after a
+      (w : Result Wish Denial) × MayAsk before.setting.instance before.setting.base request w
+      × Does before moment w after a
 
   -- the same, and whether an order was given: it was for what may be asked, and wasn't for what is denied
   abbrev pub Orders : Sight → ℕ → Request → Sight → Answer → Bool → Type 0
   Orders before moment request after a is_ordered = (w : Result Wish Denial)
-      × MayAsk before.setting.instance before.setting.base request w × Does before moment w after a × (is_ordered ≡ is_ok w)
+      × MayAsk before.setting.instance before.setting.base request w × Does before moment w after a
+      × (is_ordered ≡ is_ok w)

@@ -45,7 +45,8 @@ fault_answer wire.Memory = Some (Denied (denial.Refused refusal.Memory))
 
 -- the reply to a fault of reading, which closes the stream
 abbrev pub fault_text : Sight → WireFault → List ℕ
-fault_text v fault = option_map_or (λ a. reply_bytes v.setting.instance v.setting.base a false true) (fault_answer fault) []
+fault_text v fault = option_map_or (λ a. reply_bytes v.setting.instance v.setting.base a false true)
+    (fault_answer fault) []
 
 -- the head of a reply alone is asked for (RFC 9110, section 9.3.2)
 abbrev pub is_head : Request → Bool
@@ -57,7 +58,8 @@ closes_after last request = request.close || last
 
 -- the reply to a request
 abbrev pub reply_to : Sight → Bool → Request → Answer → List ℕ
-reply_to v last request a = reply_bytes v.setting.instance v.setting.base a (is_head request) (closes_after last request)
+reply_to v last request a = reply_bytes v.setting.instance v.setting.base a (is_head request)
+    (closes_after last request)
 
 module _ {K : Type 0} (gives : Sight → ℕ → Order → Result Told CounterFault → Sight → Type 0) (tells : K → ℕ → K → Type 0) where
   -- a request is read, the clock tells the moment, and one order at most is given; whatever becomes of the reply
@@ -113,7 +115,8 @@ module _ {K : Type 0} (gives : Sight → ℕ → Order → Result Told CounterFa
   -- What a stream does, of which so many requests are taken and one more: the next one, and then the rest.
   unfoldable pub ServesUpTo : ℕ → Standing K → StreamEnd → Standing K → Type 0
   ServesUpTo zero s end t = EndsAt true s end t
-  ServesUpTo (suc n) s end t = EndsAt false s end t ⊎ ((u : Standing K) × Replied false false s u × ServesUpTo n u end t)
+  ServesUpTo (suc n) s end t = EndsAt false s end t ⊎ ((u : Standing K) × Replied false false s u
+      × ServesUpTo n u end t)
 
   -- Memory was refused before anything was read, and nothing is done.
   pub record NotBegun (s : Standing K) (end : StreamEnd) (t : Standing K) : Type 0 where

@@ -31,7 +31,8 @@ Spells bytes (turn ∷ turns) rest = (more : List ℕ) × IsRequest bytes turn.r
 
 -- the reply to a request, the last that is taken or not
 abbrev pub turn_text : Setting → Bool → Turn → List ℕ
-turn_text c last turn = reply_bytes c.instance c.base turn.answer (is_head turn.request) (closes_after last turn.request)
+turn_text c last turn = reply_bytes c.instance c.base turn.answer (is_head turn.request)
+    (closes_after last turn.request)
 
 -- the replies to requests, one after another, of which so many are taken and one more
 abbrev pub replies : Setting → ℕ → List Turn → List ℕ
@@ -54,7 +55,8 @@ abbrev pub StaysOpenBefore : ℕ → List Turn → Type 0
 StaysOpenBefore n [] = ⊥
 StaysOpenBefore n (turn ∷ []) = ⊤
 StaysOpenBefore zero (turn ∷ next ∷ turns) = ⊥
-StaysOpenBefore (suc n) (turn ∷ next ∷ turns) = (closes_after false turn.request ≡ false) × StaysOpenBefore n (next ∷ turns)
+StaysOpenBefore (suc n) (turn ∷ next ∷ turns) = (closes_after false turn.request ≡ false)
+    × StaysOpenBefore n (next ∷ turns)
 
 -- the stream is closed after the last request, and not before
 abbrev pub ClosesLast : ℕ → List Turn → Type 0
@@ -71,17 +73,20 @@ IsFront front text = (more : List ℕ) × (text ≡ front ++ more) × (0 < lengt
 -- why a stream ended after these turns, where the rest was still to be read, and what went out by then
 abbrev pub EndsAfter : Setting → ℕ → List Turn → List ℕ → List ℕ → StreamEnd → Type 0
 EndsAfter c n turns rest out Done = (out ≡ replies c n turns) × (((rest ≡ []) × StaysOpen n turns) ⊎ ClosesLast n turns)
-EndsAfter c n turns rest out (Refused fault) = (out ≡ replies c n turns ++ fault_bytes c fault) × RefusesRequest rest fault × StaysOpen n turns
+EndsAfter c n turns rest out (Refused fault) = (out ≡ replies c n turns ++ fault_bytes c fault)
+    × RefusesRequest rest fault × StaysOpen n turns
 EndsAfter c n turns rest out WriteFault =
     (IsFront out (replies c n turns) × StaysOpenBefore n turns)
-    ⊎ ((fault : WireFault) × IsFront out (replies c n turns ++ fault_bytes c fault) × RefusesRequest rest fault × StaysOpen n turns)
+    ⊎ ((fault : WireFault) × IsFront out (replies c n turns ++ fault_bytes c fault) × RefusesRequest rest fault
+    × StaysOpen n turns)
 
 module _ {K : Type 0} (gives : Sight → ℕ → Order → Result Told CounterFault → Sight → Type 0) (tells : K → ℕ → K → Type 0) where
   -- one turn after another: the clock tells its moment, and its request does what it does at the counter
   abbrev pub Chain : Sight → K → List Turn → Sight → K → Type 0
   Chain v k [] w l = (w ≡ v) × (l ≡ k)
   Chain v k (turn ∷ turns) w l =
-      (u : Sight) × (j : K) × tells k turn.moment j × Responds gives v turn.moment turn.request u turn.answer × Chain u j turns w l
+      (u : Sight) × (j : K) × tells k turn.moment j × Responds gives v turn.moment turn.request u turn.answer
+      × Chain u j turns w l
 
   -- a stream of these bytes, as lists
   pub record Transcript (n : ℕ) (bytes old : List ℕ) (s : Standing K) (end : StreamEnd) (t : Standing K) : Type 0 where
@@ -95,22 +100,28 @@ module _ {K : Type 0} (gives : Sight → ℕ → Order → Result Told CounterFa
 
   -- What a stream does, where its bytes and those that went out are known, is its transcript.
   abbrev pub AreTranscripts : Type 0
-  AreTranscripts = (n : ℕ) (bytes old : List ℕ) (s t : Standing K) (end : StreamEnd) → s.bytes ≡ Some bytes → s.out ≡ Some old
+  AreTranscripts = (n : ℕ) (bytes old : List ℕ) (s t : Standing K) (end : StreamEnd) → s.bytes ≡ Some bytes → s.out
+      ≡ Some old
       → ServesUpTo gives tells n s end t → Transcript n bytes old s end t
 
   -- what a request adds to the entries under its clerk's number: what its one order adds, at a history that begins with all that was seen, and nothing
   -- where it is denied
-  abbrev pub IsAdded : (v : Sight) (moment : ℕ) (w : Result Wish Denial) (u : Sight) (a : Answer) → Does gives v moment w u a → History → Type 0
-  IsAdded v moment (Ok wish) u a given added = (met : History) × IsPrefix v.seen met × (added ≡ added_by (terms_of v.setting) met (call_of v.number moment given.order) given.reply)
+  abbrev pub IsAdded : (v : Sight) (moment : ℕ) (w : Result Wish Denial) (u : Sight) (a : Answer)
+      → Does gives v moment w u a → History → Type 0
+  IsAdded v moment (Ok wish) u a given added = (met : History) × IsPrefix v.seen met
+      × (added ≡ added_by (terms_of v.setting) met (call_of v.number moment given.order) given.reply)
   IsAdded v moment (Err denial) u a given added = added ≡ []
 
   -- what turns add, one after another
-  abbrev pub AreAdded : (v : Sight) (k : K) (turns : List Turn) (w : Sight) (l : K) → Chain v k turns w l → History → Type 0
+  abbrev pub AreAdded : (v : Sight) (k : K) (turns : List Turn) (w : Sight) (l : K) → Chain v k turns w l → History
+      → Type 0
   AreAdded v k [] w l chain added = added ≡ []
   AreAdded v k (turn ∷ turns) w l chain added =
-      (first : History) × (more : History) × IsAdded v turn.moment chain.3.0 chain.0 turn.answer chain.3.2 first × AreAdded chain.0 chain.1 turns w l chain.4 more × (added ≡ first ++ more)
+      (first : History) × (more : History) × IsAdded v turn.moment chain.3.0 chain.0 turn.answer chain.3.2 first
+      × AreAdded chain.0 chain.1 turns w l chain.4 more × (added ≡ first ++ more)
 
   -- The entries under the clerk's number are those from before, and then what its orders add, in their order, each once.
   abbrev pub AreWrittenInTurn : Type 0
-  AreWrittenInTurn = (v w : Sight) (k l : K) (turns : List Turn) (chain : Chain v k turns w l) → (added : History) × AreAdded v k turns w l chain added
+  AreWrittenInTurn = (v w : Sight) (k l : K) (turns : List Turn) (chain : Chain v k turns w l) → (added : History)
+      × AreAdded v k turns w l chain added
       × (entries_under v.number w.seen ≡ entries_under v.number v.seen ++ added)

@@ -53,7 +53,8 @@ IsOfAction i base ms operation.Close action w = w ≡ Ok (wish.Close action)
 IsOfAction i base ms operation.Cancel action w = w ≡ Ok (wish.Cancel action)
 IsOfAction i base ms operation.Renew action w = w ≡ Ok (wish.Renew action (limit_in ms))
 IsOfAction i base ms operation.Remove action w =
-    IsNamed (recovery_uri i base) (unwrap_or (text_under (codes "recovery") ms) []) no_member (λ m v. v ≡ Ok (wish.Leave action m)) w
+    IsNamed (recovery_uri i base) (unwrap_or (text_under (codes "recovery") ms) []) no_member
+    (λ m v. v ≡ Ok (wish.Leave action m)) w
 IsOfAction i base ms _ action w = ⊥
 
 -- what an operation asks for of a member

@@ -201,7 +201,8 @@ impl Answer {
     fn add_fields<'a>(self, uri: &'a str, fields: &mut Vec<(&'a str, &'a str)>)
         requires { vec_len fields.old + 2 ≤ vec_capacity fields.old }
         ensures fields { map seen fields.new.items ≡ map seen fields.old.items ++ spec.own_fields uri.now self }
-        ensures room { (vec_len fields.new ≤ vec_len fields.old + 2) × (vec_capacity fields.new ≡ vec_capacity fields.old) }
+        ensures room { (vec_len fields.new ≤ vec_len fields.old + 2) ×
+            (vec_capacity fields.new ≡ vec_capacity fields.old) }
     {
         match self {
             Answer::Started(_) => {
@@ -263,7 +264,8 @@ impl Answer {
         close: bool,
     ) -> Result<(), WireFault>
         requires numbers { spec.HasIdentifiers self }
-        ensures text { Sends (W.contents writer.old) (W.contents writer.new) (spec.reply_bytes instance base.now self head close) result }
+        ensures text { Sends (W.contents writer.old) (W.contents writer.new)
+            (spec.reply_bytes instance base.now self head close) result }
         // No memory, and nothing went out.
         ensures memory { result ≡ Err WireFault.Memory → Keeps (W.contents writer.old) (W.contents writer.new) }
     {

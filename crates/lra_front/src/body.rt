@@ -108,7 +108,8 @@ fn is_address(key: &str) -> bool
 
 /// The text under a key of a body.
 pub(crate) fn text_under<'b>(body: &'b Value, key: &str) -> Option<&'b str>
-    ensures { IfSome (as_object (view body.now)) (λ members. option_map (λ text. text.now) result ≡ spec.text_under key.now members) }
+    ensures { IfSome (as_object (view body.now)) (λ members. option_map (λ text. text.now) result
+        ≡ spec.text_under key.now members) }
 {
     body.get(key)?.as_str()
 }
@@ -173,7 +174,8 @@ impl Operation {
 
     /// Returns whether its body may be this object.
     fn fits(self, body: &Value) -> bool
-        ensures { IfSome (as_object (view body.now)) (λ members. result ≡ (spec.members_fit self members && spec.has_needed self members)) }
+        ensures { IfSome (as_object (view body.now)) (λ members. result
+            ≡ (spec.members_fit self members && spec.has_needed self members)) }
     {
         match body.as_object() {
             Some(members) => self.members_fit(members) && self.has_needed(body),

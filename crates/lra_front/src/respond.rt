@@ -60,7 +60,8 @@ impl Routes {
         moment: u64,
         request: &RequestRead,
     ) -> Answer
-        ensures responds { Responds C.gives (C.sight counter.old) moment (request_of request.now) (C.sight counter.new) result }
+        ensures responds { Responds C.gives (C.sight counter.old) moment (request_of request.now) (C.sight counter.new)
+            result }
         // Its numbers are those that identifiers can have.
         ensures identifiers { HasIdentifiers result }
     {

@@ -93,7 +93,8 @@ fn exchange<W: Write, C: Counter, K: Clock>(
     request: &RequestRead,
     last: bool,
 ) -> Served
-    ensures { Exchanges C.gives K.tells last (request_of request.now) (C.sight counter.old) (C.sight counter.new) clock.old clock.new (W.contents writer.old) (W.contents writer.new) result }
+    ensures { Exchanges C.gives K.tells last (request_of request.now) (C.sight counter.old) (C.sight counter.new)
+        clock.old clock.new (W.contents writer.old) (W.contents writer.new) result }
 {
     let close = closes_after(request, last);
     let head = request.method.as_str() == Method::HEAD.as_str();

@@ -157,7 +157,8 @@ fn start(instance: Instance, base: &Base, body: &Value) -> Result<Wish, Denial>
 
 /// The member leaves of which the body has the recovery URI.
 fn leave(instance: Instance, base: &Base, action: u64, body: &Value) -> Result<Wish, Denial>
-    ensures { IfSome (as_object (view body.now)) (λ members. spec.IsOfAction instance base.now members Operation.Remove action result) }
+    ensures { IfSome (as_object (view body.now)) (λ members. spec.IsOfAction instance base.now members Operation.Remove
+        action result) }
 {
     let uri = text_under(body, "recovery").unwrap_or("");
     match base.read_recovery(uri, instance) {
@@ -177,7 +178,8 @@ impl Operation {
         body: &Value,
     ) -> Result<Wish, Denial>
         requires { IsTrue (is_of_action self) }
-        ensures { IfSome (as_object (view body.now)) (λ members. OrMemory self (spec.IsOfAction instance base.now members self action) result) }
+        ensures { IfSome (as_object (view body.now)) (λ members. OrMemory self
+            (spec.IsOfAction instance base.now members self action) result) }
     {
         match self {
             Operation::Status => Ok(Wish::Status { action }),
@@ -219,7 +221,8 @@ impl Operation {
         id: &str,
         body: &Value,
     ) -> Result<Wish, Denial>
-        ensures { IfSome (as_object (view body.now)) (λ members. OrMemory self (spec.IsWish instance base.now id.now members self) result) }
+        ensures { IfSome (as_object (view body.now)) (λ members. OrMemory self
+            (spec.IsWish instance base.now id.now members self) result) }
     {
         match self {
             Operation::Start => start(instance, base, body),

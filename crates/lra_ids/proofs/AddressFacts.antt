@@ -36,20 +36,28 @@ longer scheme rest colon = omega (arith, length-append scheme (colon ∷ rest))
 -- the text of a URL begins with its scheme and a colon
 serialize-long : (url : Parts) → length url.scheme + 1 ≤ length (serialize url)
 serialize-long url =
-    cond_both (has_authority url) (codes "://") (codes ":") (λ colon. length url.scheme + 1 ≤ length (concat (url.scheme ∷ colon ∷ drop 2 (pieces url))))
+    cond_both (has_authority url) (codes "://") (codes ":") (λ colon. length url.scheme + 1
+    ≤ length (concat (url.scheme ∷ colon ∷ drop 2 (pieces url))))
     (λ _. longer url.scheme _ 58) (λ _. longer url.scheme _ 58)
 
 -- a text that is the address of a URL fits, then of what a parser gave, then of itself
 own_url : (text : List ℕ) (url : Parts) → is_own text (address_of_url url) ≡ true → IsFit text
 own_url text url =
     cond_both (not (is_http url)) (Err NotHttp) _ (λ r. is_own text r ≡ true → IsFit text) (λ _ h. cc) λ http.
-    cond_both (nat_lt 512 (length (serialize url))) (Err TooLong) (Ok (serialize url)) (λ r. is_own text r ≡ true → IsFit text) (λ _ h. cc) λ short h.
+    cond_both (nat_lt 512 (length (serialize url))) (Err TooLong) (Ok (serialize url))
+    (λ r. is_own text r ≡ true → IsFit text) (λ _ h. cc) λ short h.
     let same = (bytes_eq-Decides (serialize url) text).0 h in
     let (scheme, graphic) = and_parts (bytes_eq url.scheme (codes "http")) _ (not-false _ http) in
     let four : length url.scheme ≡ 4 = ap length ((bytes_eq-Decides url.scheme (codes "http")).0 scheme) in
-    subst IsFit same (record { graphic = graphic; long = omega (arith, four, serialize-long url); short = ltb-false _ _ short })
+    subst IsFit same (record {
+      graphic = graphic;
+      long = omega (arith, four, serialize-long url);
+      short =
+          ltb-false _ _ short;
+    })
 
-own_parsed : (text : List ℕ) (parsed : Result Parts ParseError) → is_own text (address_of_parsed parsed) ≡ true → IsFit text
+own_parsed : (text : List ℕ) (parsed : Result Parts ParseError) → is_own text (address_of_parsed parsed) ≡ true
+    → IsFit text
 own_parsed text (Ok url) h = own_url text url h
 own_parsed text (Err error) h = cc
 
@@ -75,18 +83,21 @@ unfolding address_of
 address_of-read text short =
     let within : nat_lt 512 (length text) ≡ false = grind (arith, nat_tests) in cond-false _ _ _ within
 
-pub address_of-url : (text : List ℕ) (url : Parts) → length text ≤ 512 → parse_url None text ≡ Ok url → address_of text ≡ address_of_url url
+pub address_of-url : (text : List ℕ) (url : Parts) → length text ≤ 512 → parse_url None text ≡ Ok url → address_of text
+    ≡ address_of_url url
 address_of-url text url short read = address_of-read text short ∙ ap address_of_parsed read
 
 pub address_of_url-other : (url : Parts) → is_http url ≡ false → address_of_url url ≡ Err NotHttp
 address_of_url-other url other = cond-true _ _ _ (not_from_false _ other)
 
-pub address_of_url-long : (url : Parts) → is_http url ≡ true → 512 < length (serialize url) → address_of_url url ≡ Err TooLong
+pub address_of_url-long : (url : Parts) → is_http url ≡ true → 512 < length (serialize url) → address_of_url url
+    ≡ Err TooLong
 address_of_url-long url http long =
     let beyond : nat_lt 512 (length (serialize url)) ≡ true = grind (arith, nat_tests) in
     cond-false _ _ _ (not_from_true _ http) ∙ cond-true _ _ _ beyond
 
-pub address_of_url-own : (url : Parts) → is_http url ≡ true → length (serialize url) ≤ 512 → address_of_url url ≡ Ok (serialize url)
+pub address_of_url-own : (url : Parts) → is_http url ≡ true → length (serialize url) ≤ 512 → address_of_url url
+    ≡ Ok (serialize url)
 address_of_url-own url http short =
     let within : nat_lt 512 (length (serialize url)) ≡ false = grind (arith, nat_tests) in
     cond-false _ _ _ (not_from_true _ http) ∙ cond-false _ _ _ within
@@ -103,7 +114,8 @@ memory_from_room error (inl e) = ap fault_of e
 memory_from_room error (inr e) = ap fault_of e
 
 -- the fault that an error of the parser comes to
-pub address_of-refused : (text : List ℕ) (error : ParseError) → length text ≤ 512 → (parse_url None text ≡ Err error) ⊎ IsOutOfRoom error → fault_of error ≢ Memory → address_of text ≡ Err (fault_of error)
+pub address_of-refused : (text : List ℕ) (error : ParseError) → length text ≤ 512 → (parse_url None text ≡ Err error)
+    ⊎ IsOutOfRoom error → fault_of error ≢ Memory → address_of text ≡ Err (fault_of error)
 address_of-refused text error short (inl read) other =
     address_of-read text short ∙ ap address_of_parsed read ∙ ap Err (sym (not_url error other))
 address_of-refused text error short (inr room) other = absurd (other (memory_from_room error room))
@@ -116,7 +128,8 @@ url_is_address url valid http short =
     record {
       scheme = scheme;
       own
-          = ap (is_own (serialize url)) (address_of-url _ url short (parse_url-own url valid scheme) ∙ address_of_url-own url http short)
+          = ap (is_own (serialize url)) (address_of-url _ url short (parse_url-own url valid scheme)
+          ∙ address_of_url-own url http short)
           ∙ (bytes_eq-Decides (serialize url) (serialize url)).1 refl;
     }
 
@@ -134,28 +147,35 @@ is_address-fault text fault e = ap (is_own text) e
 -- an address is UTF-8, being ASCII
 is_address-utf8 : (text : List ℕ) → is_address text ≡ true → IsUtf8 text
 is_address-utf8 text own =
-    IsUtf8-from_ascii text (IsAscii-from_all text (All-weaker (Passes is_ascii_graphic) (λ b. b < 128) (λ b graphic. grind (arith, nat_tests)) text (All_from_list_all is_ascii_graphic text (is_address-fit text own).graphic)))
+    IsUtf8-from_ascii text
+    (IsAscii-from_all text (All-weaker (Passes is_ascii_graphic) (λ b. b < 128)
+    (λ b graphic. grind (arith, nat_tests)) text (All_from_list_all is_ascii_graphic text
+    (is_address-fit text own).graphic)))
 
 pub is_address-not_utf8 : (text : List ℕ) → ¬ (IsUtf8 text) → is_address text ≡ false
 is_address-not_utf8 text other =
     false_from_ne_true (is_address text) (λ own. other (is_address-utf8 text own))
 
 -- the address that a text of bytes stands for is an address
-own_of_url : (url : Parts) (own : List ℕ) → (url.scheme ≡ codes "http" → IsValid url) → address_of_url url ≡ Ok own → is_address own ≡ true
+own_of_url : (url : Parts) (own : List ℕ) → (url.scheme ≡ codes "http" → IsValid url) → address_of_url url ≡ Ok own
+    → is_address own ≡ true
 own_of_url url own valid =
     cond_both (not (is_http url)) (Err NotHttp) _ (λ r. r ≡ Ok own → is_address own ≡ true) (λ _ e. cc) λ other.
-    cond_both (nat_lt 512 (length (serialize url))) (Err TooLong) (Ok (serialize url)) (λ r. r ≡ Ok own → is_address own ≡ true) (λ _ e. cc) λ short e.
+    cond_both (nat_lt 512 (length (serialize url))) (Err TooLong) (Ok (serialize url))
+    (λ r. r ≡ Ok own → is_address own ≡ true) (λ _ e. cc) λ short e.
     let http = not-false _ other in
     let scheme = (bytes_eq-Decides _ _).0 (and_parts (bytes_eq url.scheme (codes "http")) _ http).0 in
     let same : serialize url ≡ own = cc in
     subst (λ text. is_address text ≡ true) same (url_is_address url (valid scheme) http (ltb-false _ _ short)).own
 
-own_of_parsed : (parsed : Result Parts ParseError) (own : List ℕ) → ((url : Parts) → parsed ≡ Ok url → url.scheme ≡ codes "http" → IsValid url) → address_of_parsed parsed ≡ Ok own → is_address own ≡ true
+own_of_parsed : (parsed : Result Parts ParseError) (own : List ℕ) → ((url : Parts) → parsed ≡ Ok url → url.scheme
+    ≡ codes "http" → IsValid url) → address_of_parsed parsed ≡ Ok own → is_address own ≡ true
 own_of_parsed (Ok url) own valid e = own_of_url url own (valid url refl) e
 own_of_parsed (Err error) own valid e = cc
 
 pub address_is_own : (text own : List ℕ) → All (λ b. b < 256) text → address_of text ≡ Ok own → is_address own ≡ true
 unfolding address_of
 address_is_own text own fit =
-    cond_both (nat_lt 512 (length text)) (Err TooLong) (address_of_parsed (parse_url None text)) (λ r. r ≡ Ok own → is_address own ≡ true) (λ _ e. cc)
+    cond_both (nat_lt 512 (length text)) (Err TooLong) (address_of_parsed (parse_url None text))
+    (λ r. r ≡ Ok own → is_address own ≡ true) (λ _ e. cc)
     λ _ e. own_of_parsed (parse_url None text) own (λ url read http. parse_url-valid text url fit read http) e

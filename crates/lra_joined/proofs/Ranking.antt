@@ -18,8 +18,10 @@ past ns i h =
     ]
 
 -- two lists of the numbers under a digest have one length
-pub one_length : (m : Numbers) (digest : ℕ) (ns ms : List ℕ) → IsList m digest ns → IsList m digest ms → length ns ≤ length ms
-one_length m digest ns ms h k = past ns (length ms) (sym (h (length ms)) ∙ k (length ms) ∙ slice_get_past ms (length ms) (omega arith))
+pub one_length : (m : Numbers) (digest : ℕ) (ns ms : List ℕ) → IsList m digest ns → IsList m digest ms → length ns
+    ≤ length ms
+one_length m digest ns ms h k = past ns (length ms) (sym (h (length ms)) ∙ k (length ms)
+    ∙ slice_get_past ms (length ms) (omega arith))
 
 -- ---- one more
 
@@ -35,17 +37,23 @@ push_other [] x (suc i) h = refl
 push_other (n ∷ ns) x zero h = refl
 push_other (n ∷ ns) x (suc i) h = push_other ns x i (λ e. h (omega arith))
 
-pub added : (old new : Numbers) (digest number k : ℕ) → Updates same_rank old new (digest, k) (Some number) → ((ns : List ℕ) → IsList old digest ns → k ≡ length ns)
+pub added : (old new : Numbers) (digest number k : ℕ) → Updates same_rank old new (digest, k) (Some number)
+    → ((ns : List ℕ) → IsList old digest ns → k ≡ length ns)
     → (other : ℕ) (ns : List ℕ) → IsList old other ns → IsList new other (cond (digest == other) (ns ++ number ∷ []) ns)
-added old new digest number k updates counted other ns listed rank = updates.0 (other, rank) ∙ by_digest (digest == other) refl
+added old new digest number k updates counted other ns listed rank = updates.0 (other, rank)
+    ∙ by_digest (digest == other) refl
   where
-    by_digest : (b : Bool) → (digest == other) ≡ b → cond (b && nat_eq k rank) (Some number) (at old other rank) ≡ slice_get (cond b (ns ++ number ∷ []) ns) rank
+    by_digest : (b : Bool) → (digest == other) ≡ b → cond (b && nat_eq k rank) (Some number) (at old other rank)
+        ≡ slice_get (cond b (ns ++ number ∷ []) ns) rank
     by_digest false e = listed rank
     by_digest true e =
-        let last : k ≡ length ns = counted ns (subst (λ (d : ℕ). IsList old d ns) (sym (eqb-true digest other e)) listed) in
+        let last : k ≡ length ns = counted ns (subst (λ (d : ℕ). IsList old d ns) (sym (eqb-true digest other e))
+        listed) in
         elim (cases_eq k rank) [
-          | inl same ↦ ap (λ (b : Bool). cond b (Some number) (at old other rank)) (eq-eqb k rank same) ∙ sym (push_here ns number rank (sym same ∙ last))
-          | inr apart ↦ ap (λ (b : Bool). cond b (Some number) (at old other rank)) (ne_eqb k rank apart) ∙ listed rank ∙ sym (push_other ns number rank (λ e. apart (last ∙ sym e)))
+          | inl same ↦ ap (λ (b : Bool). cond b (Some number) (at old other rank)) (eq-eqb k rank same)
+              ∙ sym (push_here ns number rank (sym same ∙ last))
+          | inr apart ↦ ap (λ (b : Bool). cond b (Some number) (at old other rank)) (ne_eqb k rank apart) ∙ listed rank
+              ∙ sym (push_other ns number rank (λ e. apart (last ∙ sym e)))
         ]
 
 -- ---- one less
@@ -55,19 +63,24 @@ abbrev pub moved : ℕ → ℕ → (ℕ → Option ℕ) → ℕ → Option ℕ
 moved r p f i = cond (nat_le r i && nat_lt i p) (f (i + 1)) (f i)
 
 -- what is left at the end
-pub moved_all : (r p : ℕ) (f : ℕ → Option ℕ) (ns : List ℕ) (i : ℕ) → r ≤ p → f (p + 1) ≡ None → ((j : ℕ) → f j ≡ slice_get ns j) → cond (nat_eq p i) None (moved r p f i) ≡ cond (nat_le r i) (slice_get ns (i + 1)) (slice_get ns i)
+pub moved_all : (r p : ℕ) (f : ℕ → Option ℕ) (ns : List ℕ) (i : ℕ) → r ≤ p → f (p + 1) ≡ None
+    → ((j : ℕ) → f j ≡ slice_get ns j) → cond (nat_eq p i) None (moved r p f i)
+    ≡ cond (nat_le r i) (slice_get ns (i + 1)) (slice_get ns i)
 moved_all r p f ns i later none listed =
     elim (cases_eq p i) [
       | inl same ↦
           ap (λ (b : Bool). cond b None (moved r p f i)) (eq-eqb p i same)
-          ∙ sym (ap (λ (b : Bool). cond b (slice_get ns (i + 1)) (slice_get ns i)) (le-leb r i (omega arith)) ∙ sym (listed (i + 1)) ∙ ap (λ (j : ℕ). f (j + 1)) (sym same) ∙ none)
-      | inr apart ↦ ap (λ (b : Bool). cond b None (moved r p f i)) (ne_eqb p i apart) ∙ by_order apart (nat_le r i) refl (nat_lt i p) refl
+          ∙ sym (ap (λ (b : Bool). cond b (slice_get ns (i + 1)) (slice_get ns i)) (le-leb r i (omega arith))
+          ∙ sym (listed (i + 1)) ∙ ap (λ (j : ℕ). f (j + 1)) (sym same) ∙ none)
+      | inr apart ↦ ap (λ (b : Bool). cond b None (moved r p f i)) (ne_eqb p i apart)
+          ∙ by_order apart (nat_le r i) refl (nat_lt i p) refl
     ]
   where
     short : length ns ≤ p + 1
     short = past ns (p + 1) (sym (listed (p + 1)) ∙ none)
 
-    by_order : p ≢ i → (b : Bool) → nat_le r i ≡ b → (d : Bool) → nat_lt i p ≡ d → cond (b && d) (f (i + 1)) (f i) ≡ cond b (slice_get ns (i + 1)) (slice_get ns i)
+    by_order : p ≢ i → (b : Bool) → nat_le r i ≡ b → (d : Bool) → nat_lt i p ≡ d → cond (b && d) (f (i + 1)) (f i)
+        ≡ cond b (slice_get ns (i + 1)) (slice_get ns i)
     by_order apart false e d g = listed i
     by_order apart true e true g = listed (i + 1)
     by_order apart true e false g =
@@ -79,7 +92,9 @@ le_suc : (r i : ℕ) → nat_le (suc r) (suc i) ≡ nat_le r i
 le_suc r i = grind (arith, nat_tests)
 
 -- a list closed at the first rank of a number is that without it
-pub closed_at : (ns : List ℕ) (number r : ℕ) → slice_get ns r ≡ Some number → ((i : ℕ) → i < r → slice_get ns i ≡ Some number → ⊥) → (i : ℕ) → cond (nat_le r i) (slice_get ns (i + 1)) (slice_get ns i) ≡ slice_get (without number ns) i
+pub closed_at : (ns : List ℕ) (number r : ℕ) → slice_get ns r ≡ Some number
+    → ((i : ℕ) → i < r → slice_get ns i ≡ Some number → ⊥) → (i : ℕ) → cond (nat_le r i) (slice_get ns (i + 1))
+    (slice_get ns i) ≡ slice_get (without number ns) i
 closed_at [] number r here first i = absurd cc
 closed_at (n ∷ ns) number zero here first i =
     let same : n ≡ number = cc in
@@ -88,10 +103,12 @@ closed_at (n ∷ ns) number zero here first i =
     ∙ sym (ap (λ (b : Bool). slice_get (cond b ns (n ∷ without number ns)) i) (eq-eqb n number same))
 closed_at (n ∷ ns) number (suc r) here first i =
     at_rank (closed_at ns number r here (λ j h. first (suc j) (omega arith))) i
-    ∙ sym (ap (λ (b : Bool). slice_get (cond b ns (n ∷ without number ns)) i) (ne_eqb n number (λ e. first 0 (omega arith) (ap (λ (x : ℕ). Some x) e))))
+    ∙ sym (ap (λ (b : Bool). slice_get (cond b ns (n ∷ without number ns)) i)
+    (ne_eqb n number (λ e. first 0 (omega arith) (ap (λ (x : ℕ). Some x) e))))
   where
     at_rank : ((j : ℕ) → cond (nat_le r j) (slice_get ns (j + 1)) (slice_get ns j) ≡ slice_get (without number ns) j)
-        → (j : ℕ) → cond (nat_le (suc r) j) (slice_get (n ∷ ns) (j + 1)) (slice_get (n ∷ ns) j) ≡ slice_get (n ∷ without number ns) j
+        → (j : ℕ) → cond (nat_le (suc r) j) (slice_get (n ∷ ns) (j + 1)) (slice_get (n ∷ ns) j)
+        ≡ slice_get (n ∷ without number ns) j
     at_rank rest zero = ap (λ (b : Bool). cond b (slice_get (n ∷ ns) (0 + 1)) (Some n)) (let e : nat_le (suc r) 0 ≡ false = grind (arith, nat_tests) in e)
     at_rank rest (suc j) =
         ap (λ (k : ℕ). cond (nat_le (suc r) (suc j)) (slice_get (n ∷ ns) k) (slice_get ns j)) (let e : suc j + 1 ≡ suc (j + 1) = omega arith in e)
@@ -101,7 +118,9 @@ closed_at (n ∷ ns) number (suc r) here first i =
 -- a list without a number that isn't there
 pub without_missing : (ns : List ℕ) (number : ℕ) → ((i : ℕ) → slice_get ns i ≡ Some number → ⊥) → without number ns ≡ ns
 without_missing [] number h = refl
-without_missing (n ∷ ns) number h = ap (λ (b : Bool). cond b ns (n ∷ without number ns)) (ne_eqb n number (λ e. h 0 (ap (λ (x : ℕ). Some x) e))) ∙ ap (λ (ms : List ℕ). n ∷ ms) (without_missing ns number (λ i. h (suc i)))
+without_missing (n ∷ ns) number h = ap (λ (b : Bool). cond b ns (n ∷ without number ns))
+    (ne_eqb n number (λ e. h 0 (ap (λ (x : ℕ). Some x) e))) ∙ ap (λ (ms : List ℕ). n ∷ ms)
+    (without_missing ns number (λ i. h (suc i)))
 
 -- ---- as the code has it
 
@@ -120,8 +139,10 @@ pub unmoved : (r p : ℕ) (f : ℕ → Option ℕ) → moved r p f (p + 1) ≡ f
 unmoved r p f = ap (λ (b : Bool). cond (nat_le r (p + 1) && b) (f (p + 1 + 1)) (f (p + 1))) (let e : nat_lt (p + 1) p ≡ false = grind (arith, nat_tests) in e) ∙ ap (λ (b : Bool). cond b (f (p + 1 + 1)) (f (p + 1))) (and-false (nat_le r (p + 1)))
 
 -- the last of those that moved is taken away
-pub taken : (m : Numbers) (new : Numbers) (digest r p : ℕ) (f : ℕ → Option ℕ) → r ≤ p → Updates same_rank m new (digest, p) None → ((i : ℕ) → at m digest i ≡ moved r p f i) → None ≡ at m digest (p + 1)
-    → (ns : List ℕ) → ((j : ℕ) → f j ≡ slice_get ns j) → (i : ℕ) → at new digest i ≡ cond (nat_le r i) (slice_get ns (i + 1)) (slice_get ns i)
+pub taken : (m : Numbers) (new : Numbers) (digest r p : ℕ) (f : ℕ → Option ℕ) → r ≤ p
+    → Updates same_rank m new (digest, p) None → ((i : ℕ) → at m digest i ≡ moved r p f i) → None ≡ at m digest (p + 1)
+    → (ns : List ℕ) → ((j : ℕ) → f j ≡ slice_get ns j) → (i : ℕ) → at new digest i
+    ≡ cond (nat_le r i) (slice_get ns (i + 1)) (slice_get ns i)
 taken m new digest r p f later updates so_far none ns listed i =
     updates.0 (digest, i)
     ∙ ap (λ (b : Bool). cond (b && nat_eq p i) None (at m digest i)) (eq-eqb digest digest refl)
@@ -129,7 +150,8 @@ taken m new digest r p f later updates so_far none ns listed i =
     ∙ moved_all r p f ns i later (sym (none ∙ so_far (p + 1) ∙ unmoved r p f)) listed
 
 -- a list without a number that was found
-pub removed : (old new : Numbers) (digest number r : ℕ) → IsFirstRank old digest number r → ((ns : List ℕ) → IsList old digest ns → IsClosed new digest r ns)
+pub removed : (old new : Numbers) (digest number r : ℕ) → IsFirstRank old digest number r
+    → ((ns : List ℕ) → IsList old digest ns → IsClosed new digest r ns)
     → ((other i : ℕ) → (digest == other) ≡ false → at new other i ≡ at old other i)
     → (other : ℕ) (ns : List ℕ) → IsList old other ns → IsList new other (cond (digest == other) (without number ns) ns)
 removed old new digest number r found closed others other ns listed i = by_digest (digest == other) refl
@@ -143,10 +165,12 @@ removed old new digest number r found closed others other ns listed i = by_diges
         ∙ closed_at ns number r (sym (list r) ∙ found.here) (λ j lt g. found.first j lt (list j ∙ g)) i
 
 -- one without a number that wasn't there
-pub left : (m : Numbers) (digest number : ℕ) → IsMissing m digest number → (other : ℕ) (ns : List ℕ) → IsList m other ns → IsList m other (cond (digest == other) (without number ns) ns)
+pub left : (m : Numbers) (digest number : ℕ) → IsMissing m digest number → (other : ℕ) (ns : List ℕ) → IsList m other ns
+    → IsList m other (cond (digest == other) (without number ns) ns)
 left m digest number missing other ns listed i = by_digest (digest == other) refl
   where
     by_digest : (b : Bool) → (digest == other) ≡ b → at m other i ≡ slice_get (cond b (without number ns) ns) i
     by_digest false e = listed i
     by_digest true e =
-        listed i ∙ sym (ap (λ (ms : List ℕ). slice_get ms i) (without_missing ns number (λ j g. missing j (ap (λ (d : ℕ). at m d j) (eqb-true digest other e) ∙ listed j ∙ g))))
+        listed i ∙ sym (ap (λ (ms : List ℕ). slice_get ms i) (without_missing ns number
+        (λ j g. missing j (ap (λ (d : ℕ). at m d j) (eqb-true digest other e) ∙ listed j ∙ g))))

@@ -13,4 +13,6 @@ fed (Some text) s = write (write (write s (1 ∷ [])) text) (255 ∷ [])
 -- the digest of an action and five addresses under a key: SipHash-1-3 of them all, the key first (this project's choice)
 unfoldable pub digest_of : ℕ → ℕ → Addresses → ℕ
 digest_of key action u =
-    finish (fed u.after (fed u.forget (fed u.status (fed u.complete (fed u.compensate (write (write initial (le_bytes 16 key)) (le_bytes 8 action)))))))
+    finish (fed u.after (fed u.forget
+    (fed u.status (fed u.complete
+    (fed u.compensate (write (write initial (le_bytes 16 key)) (le_bytes 8 action)))))))

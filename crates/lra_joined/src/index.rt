@@ -148,7 +148,8 @@ impl Index {
         requires room { 0 < self.old.room }
         requires counted { IsCounted self.old digest }
         ensures key { self.new.key ≡ self.old.key }
-        ensures listed { (other : ℕ) (ns : List ℕ) → IsListed self.old other ns → IsListed self.new other (cond (digest == other) (ns ++ number ∷ []) ns) }
+        ensures listed { (other : ℕ) (ns : List ℕ) → IsListed self.old other ns
+            → IsListed self.new other (cond (digest == other) (ns ++ number ∷ []) ns) }
         ensures room { self.old.room ≤ self.new.room + 1 }
     {
         let rank = count(&self.numbers, digest);
@@ -159,7 +160,8 @@ impl Index {
     pub fn remove(&mut self, digest: u64, number: u64)
         requires { IsCounted self.old digest }
         ensures key { self.new.key ≡ self.old.key }
-        ensures listed { (other : ℕ) (ns : List ℕ) → IsListed self.old other ns → IsListed self.new other (cond (digest == other) (without number ns) ns) }
+        ensures listed { (other : ℕ) (ns : List ℕ) → IsListed self.old other ns
+            → IsListed self.new other (cond (digest == other) (without number ns) ns) }
         ensures room { self.old.room ≤ self.new.room }
     {
         match rank_of(&self.numbers, digest, number) {

@@ -22,13 +22,15 @@ use Rattle.lra_judge.specs.inner.Judged as judged
 use Rattle.lra_judge.specs.inner.Judged.{◌>>=◌}
 use Rattle.lra_judge.proofs.Passing.{call}
 
-pub ask_decides : (s : Terms) (J : History) (by h : ℕ) (o : Command) (q : Query) → asks o ≡ Some q → IsDecided s J (call by h o) (judged.ask s.limits J by q)
+pub ask_decides : (s : Terms) (J : History) (by h : ℕ) (o : Command) (q : Query) → asks o ≡ Some q
+    → IsDecided s J (call by h o) (judged.ask s.limits J by q)
 ask_decides s J by h o q e = let k = commands_ask s J c q e in one (is_among (clerks J) by) (tell s.limits J q) k.0 k.1
   where
     c : Call
     c = call by h o
 
-    one : (known : Bool) (x : Result Known Refusal) → answer s J c ≡ cond known (answer_as x) (Err refusal.NoSuchClerk) → block s J c ≡ []
+    one : (known : Bool) (x : Result Known Refusal) → answer s J c ≡ cond known (answer_as x) (Err refusal.NoSuchClerk)
+        → block s J c ≡ []
         → IsDecided s J c (judged.required known refusal.NoSuchClerk >>= λ _. x >>= λ k. judged.told_so (told_as k))
     one true (Ok k) a n = record { answered = a; nothing = n }
     one true (Err r) a n = inl a
@@ -36,22 +38,27 @@ ask_decides s J by h o q e = let k = commands_ask s J c q e in one (is_among (cl
 
 -- ---- what each query is told
 
-pub tell_status : (l : Limits) (J : History) (a : ℕ) → tell l J (query.ActionStatus a) ≡ known_where (is_among (actions J) a) (known.ActionIs (status_at J a)) refusal.NoSuchAction
+pub tell_status : (l : Limits) (J : History) (a : ℕ) → tell l J (query.ActionStatus a)
+    ≡ known_where (is_among (actions J) a) (known.ActionIs (status_at J a)) refusal.NoSuchAction
 unfolding tell
 tell_status l J a = refl
 
-pub tell_member : (l : Limits) (J : History) (p : ℕ) → tell l J (query.MemberStatus p) ≡ known_where (is_among (members J) p) (known.MemberIs (member_status J p)) refusal.NoSuchMember
+pub tell_member : (l : Limits) (J : History) (p : ℕ) → tell l J (query.MemberStatus p)
+    ≡ known_where (is_among (members J) p) (known.MemberIs (member_status J p)) refusal.NoSuchMember
 unfolding tell
 tell_member l J p = refl
 
-pub tell_awaited : (l : Limits) (J : History) (a place : ℕ) → tell l J (query.Awaited a place) ≡ known_where (is_among (actions J) a) (awaited_from J a place) refusal.NoSuchAction
+pub tell_awaited : (l : Limits) (J : History) (a place : ℕ) → tell l J (query.Awaited a place)
+    ≡ known_where (is_among (actions J) a) (awaited_from J a place) refusal.NoSuchAction
 unfolding tell
 tell_awaited l J a place = refl
 
-pub tell_row : (l : Limits) (J : History) (x : Listing) (place : ℕ) → tell l J (query.Row x place) ≡ known_where (is_listed J x) (row_from l J x place) refusal.NoSuchAction
+pub tell_row : (l : Limits) (J : History) (x : Listing) (place : ℕ) → tell l J (query.Row x place)
+    ≡ known_where (is_listed J x) (row_from l J x place) refusal.NoSuchAction
 unfolding tell
 tell_row l J x place = refl
 
-pub tell_count : (l : Limits) (J : History) (x : Listing) (place : ℕ) → tell l J (query.Count x place) ≡ known_where (is_listed J x) (count_from l J x place) refusal.NoSuchAction
+pub tell_count : (l : Limits) (J : History) (x : Listing) (place : ℕ) → tell l J (query.Count x place)
+    ≡ known_where (is_listed J x) (count_from l J x place) refusal.NoSuchAction
 unfolding tell
 tell_count l J x place = refl

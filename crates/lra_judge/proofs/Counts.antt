@@ -53,9 +53,11 @@ unfolding next_settling
 next_settles J d h =
     ap (λ (o : Option Deed). option_map_or is_settling o true) (sym h)
     ∙ either (option_map Skip (find (may_be_skipped J) (members J))) _ (skips (find (may_be_skipped J) (members J)))
-    (either (first (filter_map (by_parent J) (actions J))) _ (turns (actions J)) (ends (last (filter_map (λ a. cond (is_settled J a) (Some a) None) (actions J)))))
+    (either (first (filter_map (by_parent J) (actions J))) _ (turns (actions J))
+    (ends (last (filter_map (λ a. cond (is_settled J a) (Some a) None) (actions J)))))
   where
-    either : (o n : Option Deed) → option_map_or is_settling o true ≡ true → option_map_or is_settling n true ≡ true → option_map_or is_settling (option_or o n) true ≡ true
+    either : (o n : Option Deed) → option_map_or is_settling o true ≡ true → option_map_or is_settling n true ≡ true
+        → option_map_or is_settling (option_or o n) true ≡ true
     either None n f g = g
     either (Some x) n f g = f
 
@@ -67,21 +69,27 @@ next_settles J d h =
     ends None = refl
     ends (Some a) = refl
 
-    turned : (close cancel : Bool) (a : ℕ) → option_map_or is_settling (cond close (Some (Close a cause.Parent)) (cond cancel (Some (Cancel a cause.Parent)) None)) true ≡ true
+    turned : (close cancel : Bool) (a : ℕ) → option_map_or is_settling
+        (cond close (Some (Close a cause.Parent)) (cond cancel (Some (Cancel a cause.Parent)) None)) true ≡ true
     turned true cancel a = refl
     turned false true a = refl
     turned false false a = refl
 
-    one : (o : Option Deed) (ds : List Deed) → option_map_or is_settling o true ≡ true → option_map_or is_settling (first ds) true ≡ true → option_map_or is_settling (first (cons_option o ds)) true ≡ true
+    one : (o : Option Deed) (ds : List Deed) → option_map_or is_settling o true ≡ true
+        → option_map_or is_settling (first ds) true ≡ true → option_map_or is_settling (first (cons_option o ds)) true
+        ≡ true
     one None ds f g = g
     one (Some x) ds f g = f
 
     turns : (ns : List ℕ) → option_map_or is_settling (first (filter_map (by_parent J) ns)) true ≡ true
     turns [] = refl
-    turns (n ∷ ns) = one (by_parent J n) (filter_map (by_parent J) ns) (turned (at_action (may_close_with_parent (facts_of J)) (facts_of J) n) (at_action (may_cancel_with_parent (facts_of J)) (facts_of J) n) n) (turns ns)
+    turns (n ∷ ns) = one (by_parent J n) (filter_map (by_parent J) ns)
+        (turned (at_action (may_close_with_parent (facts_of J)) (facts_of J) n)
+        (at_action (may_cancel_with_parent (facts_of J)) (facts_of J) n) n) (turns ns)
 
 -- what every entry that settles keeps, all that settle a history keep
-pub settling_keeps : (P : History → Type 0) → ((K : History) (by m : ℕ) (d : Deed) → is_settling d ≡ true → P K → P (K ++ record { by = by; moment = m; deed = d } ∷ [])) → (n by m : ℕ) (J : History) → P J
+pub settling_keeps : (P : History → Type 0) → ((K : History) (by m : ℕ) (d : Deed) → is_settling d ≡ true → P K
+    → P (K ++ record { by = by; moment = m; deed = d } ∷ [])) → (n by m : ℕ) (J : History) → P J
     → P (J ++ settling_within n by m J)
 settling_keeps P step zero by m J h = subst P (sym (append-nil J)) h
 settling_keeps P step (suc n) by m J h = next (next_settling J) refl (λ K. settling_keeps P step n by m K)
@@ -91,19 +99,27 @@ settling_keeps P step (suc n) by m J h = next (next_settling J) refl (λ K. sett
     next None g rest = subst P (sym (append-nil J)) h
     next (Some d) g rest =
         let e : Entry = record { by = by; moment = m; deed = d } in
-        subst P (append_assoc J (e ∷ []) (settling_within n by m (J ++ e ∷ []))) (rest (J ++ e ∷ []) (step J by m d (next_settles J d g) h))
+        subst P (append_assoc J (e ∷ []) (settling_within n by m (J ++ e ∷ [])))
+        (rest (J ++ e ∷ []) (step J by m d (next_settles J d g) h))
 
 same_on : (J K L : History) → SameCounts J K → SameCounts K L → SameCounts J L
-same_on J K L h k = record { clerks = k.clerks ∙ h.clerks; actions = k.actions ∙ h.actions; members = k.members ∙ h.members }
+same_on J K L h k = record {
+  clerks = k.clerks ∙ h.clerks;
+  actions = k.actions ∙ h.actions;
+  members = k.members
+      ∙ h.members;
+}
 
 -- they add no clerk, no action and no member
 pub settling_same : (n by m : ℕ) (J : History) → SameCounts J (J ++ settling_within n by m J)
 settling_same n by m J =
-    settling_keeps (SameCounts J) (λ K b t d s h. same_on J K _ h (push_same K _ (settling_adds_none b t d s))) n by m J (record { clerks = refl; actions = refl; members = refl })
+    settling_keeps (SameCounts J) (λ K b t d s h. same_on J K _ h (push_same K _ (settling_adds_none b t d s))) n by m J
+    (record { clerks = refl; actions = refl; members = refl })
 
 -- and no ask
 pub settling_asks : (n by m : ℕ) (J : History) → asks (J ++ settling_within n by m J) ≡ asks J
-settling_asks n by m J = settling_keeps (λ K. asks K ≡ asks J) (λ K b t d s h. asks_push K _ ∙ nothing_more (asks K) (asked_by d) (asks_none d s) ∙ h) n by m J refl
+settling_asks n by m J = settling_keeps (λ K. asks K ≡ asks J) (λ K b t d s h. asks_push K _
+    ∙ nothing_more (asks K) (asked_by d) (asks_none d s) ∙ h) n by m J refl
   where
     asks_none : (d : Deed) → is_settling d ≡ true → asked_by d ≡ None
     asks_none (Close a cause.Parent) h = refl

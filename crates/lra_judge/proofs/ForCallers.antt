@@ -30,5 +30,17 @@ spoken_as_it_is (command.Status a) = refl
 spoken_as_it_is (command.MemberStatus p) = refl
 
 -- an entry that is to be written may be planned
-pub written_follows : (s : Terms) (t : Sheet) (J : History) (c : Call) (e : Entry) → StandsFor t J → IsLawful s J → IsWritten s J c e → Follows t e
-written_follows s t J c e h k w = record { history = J; stands = record { version = s.version; is_address = is_address; legal = k.legal; sheet = h.sheet }; allowed = w.allowed }
+pub written_follows : (s : Terms) (t : Sheet) (J : History) (c : Call) (e : Entry) → StandsFor t J → IsLawful s J
+    → IsWritten s J c e → Follows t e
+written_follows s t J c e h k w =
+    record {
+      history = J;
+      stands = record {
+        version = s.version;
+        is_address = is_address;
+        legal = k.legal;
+        sheet =
+            h.sheet;
+      };
+      allowed = w.allowed;
+    }

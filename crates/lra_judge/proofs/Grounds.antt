@@ -54,17 +54,25 @@ pub answers_ok : (s : Terms) (J : History) (c : Call) → refused s J c ≡ None
 unfolding answer
 answers_ok s J c h = ap (λ (o : Option Refusal). option_map_or Err o (Ok (told_of s J c))) h
 
-pub stranger : (s : Terms) (J : History) (c : Call) → is_stranger J c.by c.command ≡ true → IsDecided s J c (Err refusal.NoSuchClerk)
+pub stranger : (s : Terms) (J : History) (c : Call) → is_stranger J c.by c.command ≡ true
+    → IsDecided s J c (Err refusal.NoSuchClerk)
 unfolding refused
-stranger s J c h = inl (answers_err s J c refusal.NoSuchClerk (holds refusal.NoSuchClerk (is_stranger J c.by c.command) (command_grounds s J (moment_of J c) c.command ++ full_grounds s J c) h))
+stranger s J c h = inl
+    (answers_err s J c refusal.NoSuchClerk (holds refusal.NoSuchClerk (is_stranger J c.by c.command)
+    (command_grounds s J (moment_of J c) c.command ++ full_grounds s J c) h))
 
-known : (s : Terms) (J : History) (c : Call) → is_stranger J c.by c.command ≡ false → refused s J c ≡ first_ground (command_grounds s J (moment_of J c) c.command ++ full_grounds s J c)
+known : (s : Terms) (J : History) (c : Call) → is_stranger J c.by c.command ≡ false → refused s J c
+    ≡ first_ground (command_grounds s J (moment_of J c) c.command ++ full_grounds s J c)
 unfolding refused
-known s J c h = fails refusal.NoSuchClerk (is_stranger J c.by c.command) (command_grounds s J (moment_of J c) c.command ++ full_grounds s J c) h
+known s J c h = fails refusal.NoSuchClerk (is_stranger J c.by c.command)
+    (command_grounds s J (moment_of J c) c.command ++ full_grounds s J c) h
 
 -- a ground of the command holds
-pub held : (s : Terms) (J : History) (c : Call) (r : Refusal) → is_stranger J c.by c.command ≡ false → first_ground (command_grounds s J (moment_of J c) c.command) ≡ Some r → IsDecided s J c (Err r)
-held s J c r here h = inl (answers_err s J c r (known s J c here ∙ first_of_both (command_grounds s J (moment_of J c) c.command) (full_grounds s J c) r h))
+pub held : (s : Terms) (J : History) (c : Call) (r : Refusal) → is_stranger J c.by c.command ≡ false
+    → first_ground (command_grounds s J (moment_of J c) c.command) ≡ Some r → IsDecided s J c (Err r)
+held s J c r here h =
+    inl (answers_err s J c r (known s J c here ∙ first_of_both (command_grounds s J (moment_of J c) c.command)
+    (full_grounds s J c) r h))
 
 -- the ground of that place is the first that holds
 abbrev pub IsFirst : ℕ → List Ground → Refusal → Type 0
@@ -81,7 +89,8 @@ first_is (suc n) ((r, true) ∷ gs) q h = let k = h.0 in absurd cc
 first_is (suc n) ((r, false) ∷ gs) q h = first_is n gs q h.1
 
 -- it decides
-pub first_decides : (s : Terms) (J : History) (c : Call) (n : ℕ) (r : Refusal) → is_stranger J c.by c.command ≡ false → IsFirst n (command_grounds s J (moment_of J c) c.command) r → IsDecided s J c (Err r)
+pub first_decides : (s : Terms) (J : History) (c : Call) (n : ℕ) (r : Refusal) → is_stranger J c.by c.command ≡ false
+    → IsFirst n (command_grounds s J (moment_of J c) c.command) r → IsDecided s J c (Err r)
 first_decides s J c n r here h = held s J c r here (first_is n (command_grounds s J (moment_of J c) c.command) r h)
 
 -- no ground holds but what there may be too much of
@@ -90,24 +99,30 @@ pub record IsFree (s : Terms) (J : History) (c : Call) : Type 0 where
   pub free : first_ground (command_grounds s J (moment_of J c) c.command) ≡ None
 
 only_full : (s : Terms) (J : History) (c : Call) → IsFree s J c → refused s J c ≡ first_ground (full_grounds s J c)
-only_full s J c f = known s J c f.here ∙ first_past (command_grounds s J (moment_of J c) c.command) (full_grounds s J c) f.free
+only_full s J c f = known s J c f.here ∙ first_past (command_grounds s J (moment_of J c) c.command) (full_grounds s J c)
+    f.free
 
 -- ---- nothing is written
 
-pub block_of : (s : Terms) (J : History) (c : Call) (o : Option Deed) → own_deed s J (moment_of J c) c.command ≡ o → block s J c ≡ option_map_or (with_settling J) (option_map (entry_of J c) o) []
+pub block_of : (s : Terms) (J : History) (c : Call) (o : Option Deed) → own_deed s J (moment_of J c) c.command ≡ o
+    → block s J c ≡ option_map_or (with_settling J) (option_map (entry_of J c) o) []
 unfolding block
 block_of s J c o h = ap (λ (x : Option Deed). option_map_or (with_settling J) (option_map (entry_of J c) x) []) h
 
 -- what there may be too much of, where these entries are appended
 abbrev grounds_after : Limits → History → List Entry → List Ground
 grounds_after l J es =
-    (refusal.Full resource.Clerks, is_filled es && passes l resource.Clerks (J ++ es)) ∷ (refusal.Full resource.Actions, is_filled es && passes l resource.Actions (J ++ es))
-    ∷ (refusal.Full resource.Members, is_filled es && passes l resource.Members (J ++ es)) ∷ (refusal.Full resource.Entries, is_filled es && passes l resource.Entries (J ++ es)) ∷ []
+    (refusal.Full resource.Clerks, is_filled es && passes l resource.Clerks (J ++ es))
+    ∷ (refusal.Full resource.Actions, is_filled es && passes l resource.Actions (J ++ es))
+    ∷ (refusal.Full resource.Members, is_filled es && passes l resource.Members (J ++ es))
+    ∷ (refusal.Full resource.Entries, is_filled es && passes l resource.Entries (J ++ es)) ∷ []
 
-pub only_told : (s : Terms) (J : History) (c : Call) (t : Told) → IsFree s J c → own_deed s J (moment_of J c) c.command ≡ None → told_of s J c ≡ t → IsDecided s J c (Ok (decision.Told t))
+pub only_told : (s : Terms) (J : History) (c : Call) (t : Told) → IsFree s J c → own_deed s J (moment_of J c) c.command
+    ≡ None → told_of s J c ≡ t → IsDecided s J c (Ok (decision.Told t))
 only_told s J c t f h told =
     let nothing : block s J c ≡ [] = block_of s J c None h in
-    let full : first_ground (full_grounds s J c) ≡ None = ap (λ (es : List Entry). first_ground (grounds_after s.limits J es)) nothing in
+    let full : first_ground (full_grounds s J c) ≡ None = ap (λ (es : List Entry). first_ground
+    (grounds_after s.limits J es)) nothing in
     record { answered = answers_ok s J c (only_full s J c f ∙ full) ∙ ap Ok told; nothing = nothing }
 
 -- ---- something is written
@@ -130,12 +145,18 @@ block_same J e =
     let es : List Entry = settling e.by e.moment K in
     let k = settling_same (most_settling K) e.by e.moment K in
     let apart : J ++ (e ∷ es) ≡ K ++ es = sym (append_assoc J (e ∷ []) es) in
-    record { clerks = ap clerks apart ∙ k.clerks; actions = ap actions apart ∙ k.actions; members = ap members apart ∙ k.members }
+    record {
+      clerks = ap clerks apart ∙ k.clerks;
+      actions = ap actions apart ∙ k.actions;
+      members = ap members apart
+          ∙ k.members;
+    }
 
 -- the tests of what there may be too much of, as the grounds that they are
 abbrev four : Limits → Bool → Bool → Bool → Bool → List Ground
 four l clerks actions members entries =
-    (refusal.Full resource.Clerks, clerks) ∷ (refusal.Full resource.Actions, actions) ∷ (refusal.Full resource.Members, members) ∷ (refusal.Full resource.Entries, entries) ∷ []
+    (refusal.Full resource.Clerks, clerks) ∷ (refusal.Full resource.Actions, actions)
+    ∷ (refusal.Full resource.Members, members) ∷ (refusal.Full resource.Entries, entries) ∷ []
 
 -- a call that writes an entry of its own, where no ground of the command holds
 pub record IsOwn (s : Terms) (J : History) (c : Call) (d : Deed) : Type 0 where
@@ -143,28 +164,41 @@ pub record IsOwn (s : Terms) (J : History) (c : Call) (d : Deed) : Type 0 where
   pub own : own_deed s J (moment_of J c) c.command ≡ Some d
 
 refused_full : (s : Terms) (J : History) (c : Call) (d : Deed) → IsOwn s J c d
-    → refused s J c ≡ first_ground (four s.limits (nat_lt s.limits.clerks (length (clerks (J ++ entry_of J c d ∷ [])))) (nat_lt s.limits.actions (length (actions (J ++ entry_of J c d ∷ []))))
-    (nat_lt s.limits.members (length (members (J ++ entry_of J c d ∷ [])))) (passes s.limits resource.Entries (J ++ with_settling J (entry_of J c d))))
+    → refused s J c ≡ first_ground (four s.limits (nat_lt s.limits.clerks (length (clerks (J ++ entry_of J c d ∷ []))))
+    (nat_lt s.limits.actions (length (actions (J ++ entry_of J c d ∷ []))))
+    (nat_lt s.limits.members (length (members (J ++ entry_of J c d ∷ []))))
+    (passes s.limits resource.Entries (J ++ with_settling J (entry_of J c d))))
 refused_full s J c d o =
     let e : Entry = entry_of J c d in
     let k = block_same J e in
     let filled = ap (λ (es : List Entry). first_ground (grounds_after s.limits J es)) (block_of s J c (Some d) o.own) in
     only_full s J c o.free ∙ filled
-    ∙ ap (λ (n : List ℕ). first_ground (four s.limits (nat_lt s.limits.clerks (length n)) (nat_lt s.limits.actions (length (actions (J ++ with_settling J e)))) (nat_lt s.limits.members (length (members (J ++ with_settling J e)))) (passes s.limits resource.Entries (J ++ with_settling J e)))) k.clerks
-    ∙ ap (λ (n : List ℕ). first_ground (four s.limits (nat_lt s.limits.clerks (length (clerks (J ++ e ∷ [])))) (nat_lt s.limits.actions (length n)) (nat_lt s.limits.members (length (members (J ++ with_settling J e)))) (passes s.limits resource.Entries (J ++ with_settling J e)))) k.actions
-    ∙ ap (λ (n : List ℕ). first_ground (four s.limits (nat_lt s.limits.clerks (length (clerks (J ++ e ∷ [])))) (nat_lt s.limits.actions (length (actions (J ++ e ∷ [])))) (nat_lt s.limits.members (length n)) (passes s.limits resource.Entries (J ++ with_settling J e)))) k.members
+    ∙ ap (λ (n : List ℕ). first_ground (four s.limits (nat_lt s.limits.clerks (length n))
+    (nat_lt s.limits.actions (length (actions (J ++ with_settling J e))))
+    (nat_lt s.limits.members (length (members (J ++ with_settling J e))))
+    (passes s.limits resource.Entries (J ++ with_settling J e)))) k.clerks
+    ∙ ap (λ (n : List ℕ). first_ground (four s.limits (nat_lt s.limits.clerks (length (clerks (J ++ e ∷ []))))
+    (nat_lt s.limits.actions (length n)) (nat_lt s.limits.members (length (members (J ++ with_settling J e))))
+    (passes s.limits resource.Entries (J ++ with_settling J e)))) k.actions
+    ∙ ap (λ (n : List ℕ). first_ground (four s.limits (nat_lt s.limits.clerks (length (clerks (J ++ e ∷ []))))
+    (nat_lt s.limits.actions (length (actions (J ++ e ∷ [])))) (nat_lt s.limits.members (length n))
+    (passes s.limits resource.Entries (J ++ with_settling J e)))) k.members
 
-only_entries : (l : Limits) (b : Bool) → first_ground (four l false false false b) ≡ when b (refusal.Full resource.Entries)
+only_entries : (l : Limits) (b : Bool) → first_ground (four l false false false b)
+    ≡ when b (refusal.Full resource.Entries)
 only_entries l true = refl
 only_entries l false = refl
 
-four_few : (l : Limits) (a b d e : Bool) → a ≡ false → b ≡ false → d ≡ false → first_ground (four l a b d e) ≡ when e (refusal.Full resource.Entries)
+four_few : (l : Limits) (a b d e : Bool) → a ≡ false → b ≡ false → d ≡ false → first_ground (four l a b d e)
+    ≡ when e (refusal.Full resource.Entries)
 four_few l false false false e h i j = only_entries l e
 four_few l true b d e h i j = absurd cc
 four_few l false true d e h i j = absurd cc
 four_few l false false true e h i j = absurd cc
 
-pub written_own : (s : Terms) (J : History) (c : Call) (d : Deed) → IsOwn s J c d → Allowed s.version is_address J (entry_of J c d) → HasFew s.limits J (entry_of J c d) → IsDecided s J c (Ok (decision.Write (entry_of J c d)))
+pub written_own : (s : Terms) (J : History) (c : Call) (d : Deed) → IsOwn s J c d
+    → Allowed s.version is_address J (entry_of J c d) → HasFew s.limits J (entry_of J c d)
+    → IsDecided s J c (Ok (decision.Write (entry_of J c d)))
 written_own s J c d o k f =
     let e : Entry = entry_of J c d in
     record {
@@ -172,37 +206,55 @@ written_own s J c d o k f =
       allowed = allows_from s.version is_address J e k;
       written = block_of s J c (Some d) o.own;
       refused = refused_full s J c d o
-          ∙ four_few s.limits _ _ _ (passes s.limits resource.Entries (J ++ with_settling J e)) (le-ltb s.limits.clerks (length (clerks (J ++ e ∷ []))) f.clerks) (le-ltb s.limits.actions (length (actions (J ++ e ∷ []))) f.actions)
+          ∙ four_few s.limits _ _ _ (passes s.limits resource.Entries (J ++ with_settling J e))
+          (le-ltb s.limits.clerks (length (clerks (J ++ e ∷ []))) f.clerks)
+          (le-ltb s.limits.actions (length (actions (J ++ e ∷ []))) f.actions)
           (le-ltb s.limits.members (length (members (J ++ e ∷ []))) f.members);
     }
 
 -- ---- too much
 
-four_clerks : (l : Limits) (a b d e : Bool) → a ≡ true → first_ground (four l a b d e) ≡ Some (refusal.Full resource.Clerks)
+four_clerks : (l : Limits) (a b d e : Bool) → a ≡ true → first_ground (four l a b d e)
+    ≡ Some (refusal.Full resource.Clerks)
 four_clerks l true b d e h = refl
 four_clerks l false b d e h = absurd cc
 
-four_actions : (l : Limits) (a b d e : Bool) → a ≡ false → b ≡ true → first_ground (four l a b d e) ≡ Some (refusal.Full resource.Actions)
+four_actions : (l : Limits) (a b d e : Bool) → a ≡ false → b ≡ true → first_ground (four l a b d e)
+    ≡ Some (refusal.Full resource.Actions)
 four_actions l false true d e h i = refl
 four_actions l true b d e h i = absurd cc
 four_actions l false false d e h i = absurd cc
 
-four_members : (l : Limits) (a b d e : Bool) → a ≡ false → b ≡ false → d ≡ true → first_ground (four l a b d e) ≡ Some (refusal.Full resource.Members)
+four_members : (l : Limits) (a b d e : Bool) → a ≡ false → b ≡ false → d ≡ true → first_ground (four l a b d e)
+    ≡ Some (refusal.Full resource.Members)
 four_members l false false true e h i j = refl
 four_members l true b d e h i j = absurd cc
 four_members l false true d e h i j = absurd cc
 four_members l false false false e h i j = absurd cc
 
-pub full_clerks : (s : Terms) (J : History) (c : Call) (d : Deed) → IsOwn s J c d → s.limits.clerks < length (clerks (J ++ entry_of J c d ∷ [])) → IsDecided s J c (Err (refusal.Full resource.Clerks))
-full_clerks s J c d o h = inl (answers_err s J c (refusal.Full resource.Clerks) (refused_full s J c d o ∙ four_clerks s.limits _ _ _ _ (lt-ltb s.limits.clerks (length (clerks (J ++ entry_of J c d ∷ []))) h)))
+pub full_clerks : (s : Terms) (J : History) (c : Call) (d : Deed) → IsOwn s J c d → s.limits.clerks
+    < length (clerks (J ++ entry_of J c d ∷ [])) → IsDecided s J c (Err (refusal.Full resource.Clerks))
+full_clerks s J c d o h = inl (answers_err s J c (refusal.Full resource.Clerks)
+    (refused_full s J c d o ∙ four_clerks s.limits _ _ _ _ (lt-ltb s.limits.clerks
+    (length (clerks (J ++ entry_of J c d ∷ []))) h)))
 
-pub full_actions : (s : Terms) (J : History) (c : Call) (d : Deed) → IsOwn s J c d → length (clerks (J ++ entry_of J c d ∷ [])) ≤ s.limits.clerks → s.limits.actions < length (actions (J ++ entry_of J c d ∷ []))
+pub full_actions : (s : Terms) (J : History) (c : Call) (d : Deed) → IsOwn s J c d
+    → length (clerks (J ++ entry_of J c d ∷ [])) ≤ s.limits.clerks → s.limits.actions
+    < length (actions (J ++ entry_of J c d ∷ []))
     → IsDecided s J c (Err (refusal.Full resource.Actions))
 full_actions s J c d o i h =
-    inl (answers_err s J c (refusal.Full resource.Actions) (refused_full s J c d o ∙ four_actions s.limits _ _ _ _ (le-ltb s.limits.clerks (length (clerks (J ++ entry_of J c d ∷ []))) i) (lt-ltb s.limits.actions (length (actions (J ++ entry_of J c d ∷ []))) h)))
+    inl (answers_err s J c (refusal.Full resource.Actions) (refused_full s J c d o
+    ∙ four_actions s.limits _ _ _ _ (le-ltb s.limits.clerks (length (clerks (J ++ entry_of J c d ∷ []))) i)
+    (lt-ltb s.limits.actions (length (actions (J ++ entry_of J c d ∷ []))) h)))
 
-pub full_members : (s : Terms) (J : History) (c : Call) (d : Deed) → IsOwn s J c d → length (clerks (J ++ entry_of J c d ∷ [])) ≤ s.limits.clerks → length (actions (J ++ entry_of J c d ∷ [])) ≤ s.limits.actions
-    → s.limits.members < length (members (J ++ entry_of J c d ∷ [])) → IsDecided s J c (Err (refusal.Full resource.Members))
+pub full_members : (s : Terms) (J : History) (c : Call) (d : Deed) → IsOwn s J c d
+    → length (clerks (J ++ entry_of J c d ∷ [])) ≤ s.limits.clerks → length (actions (J ++ entry_of J c d ∷ []))
+    ≤ s.limits.actions
+    → s.limits.members < length (members (J ++ entry_of J c d ∷ [])) → IsDecided s J c
+    (Err (refusal.Full resource.Members))
 full_members s J c d o i j h =
     inl (answers_err s J c (refusal.Full resource.Members)
-    (refused_full s J c d o ∙ four_members s.limits _ _ _ _ (le-ltb s.limits.clerks (length (clerks (J ++ entry_of J c d ∷ []))) i) (le-ltb s.limits.actions (length (actions (J ++ entry_of J c d ∷ []))) j) (lt-ltb s.limits.members (length (members (J ++ entry_of J c d ∷ []))) h)))
+    (refused_full s J c d o ∙ four_members s.limits _ _ _ _ (le-ltb s.limits.clerks
+    (length (clerks (J ++ entry_of J c d ∷ []))) i) (le-ltb s.limits.actions
+    (length (actions (J ++ entry_of J c d ∷ []))) j) (lt-ltb s.limits.members
+    (length (members (J ++ entry_of J c d ∷ []))) h)))

@@ -42,20 +42,26 @@ want_is l J p = by (wants J p)
     last kind = last_repeat J p (stage_wanted J p kind)
 
     by : (o : Option AskKind)
-        → option_map (λ (kind : AskKind). want kind (option_map_or count o 0) (due_after l (option_map_or count o 0) (option_and_then last o))) o
+        → option_map (λ (kind : AskKind). want kind (option_map_or count o 0)
+        (due_after l (option_map_or count o 0) (option_and_then last o))) o
         ≡ option_map (λ (kind : AskKind). want kind (count kind) (due_after l (count kind) (last kind))) o
     by None = refl
     by (Some kind) = refl
 
-member_there : (l : Limits) (J : History) (p : ℕ) → is_among (members J) p ≡ true → member_found l J p ≡ Some (member_row l J p)
+member_there : (l : Limits) (J : History) (p : ℕ) → is_among (members J) p ≡ true → member_found l J p
+    ≡ Some (member_row l J p)
 member_there l J p h =
-    ap (λ b. option_map (λ (r : MemberRow). row.Member p r.status r.outstanding (want_in l r)) (cond b (Some (member_of J p)) None)) h
+    ap (λ b. option_map (λ (r : MemberRow). row.Member p r.status r.outstanding (want_in l r))
+    (cond b (Some (member_of J p)) None)) h
     ∙ ap (λ (o : Option Want). Some (row.Member p (member_status J p) (outstanding_ask J p) o)) (want_is l J p)
 
-action_if : (J : History) (a : ℕ) (b : Bool) → is_among (actions J) a ≡ b → action_found J a ≡ cond b (Some (action_row J a)) None
-action_if J a b h = ap (λ x. option_map (λ (r : ActionRow). row.Action a r.status r.parent) (cond x (Some (row_of J a)) None)) h ∙ by b
+action_if : (J : History) (a : ℕ) (b : Bool) → is_among (actions J) a ≡ b → action_found J a
+    ≡ cond b (Some (action_row J a)) None
+action_if J a b h = ap (λ x. option_map (λ (r : ActionRow). row.Action a r.status r.parent)
+    (cond x (Some (row_of J a)) None)) h ∙ by b
   where
-    by : (x : Bool) → option_map (λ (r : ActionRow). row.Action a r.status r.parent) (cond x (Some (row_of J a)) None) ≡ cond x (Some (action_row J a)) None
+    by : (x : Bool) → option_map (λ (r : ActionRow). row.Action a r.status r.parent) (cond x (Some (row_of J a)) None)
+        ≡ cond x (Some (action_row J a)) None
     by true = refl
     by false = refl
 
@@ -73,7 +79,8 @@ got_among (m ∷ ns) zero n h = let e : m ≡ n = cc in ap (λ x. is_among (x �
 got_among (m ∷ ns) (suc k) n h = among_there m ns n (got_among ns k n h)
 
 -- what is found of each of a list
-each_found : (found : ℕ → Option Row) (f : ℕ → Row) (ns : List ℕ) → ((n : ℕ) → is_among ns n ≡ true → found n ≡ Some (f n)) → (k : ℕ) → option_and_then found (slice_get ns k) ≡ slice_get (map f ns) k
+each_found : (found : ℕ → Option Row) (f : ℕ → Row) (ns : List ℕ) → ((n : ℕ) → is_among ns n ≡ true → found n
+    ≡ Some (f n)) → (k : ℕ) → option_and_then found (slice_get ns k) ≡ slice_get (map f ns) k
 each_found found f ns h k = one (slice_get ns k) refl ∙ sym (slice_get-map f ns k)
   where
     one : (o : Option ℕ) → slice_get ns k ≡ o → option_and_then found o ≡ option_map f o
@@ -86,7 +93,8 @@ range_got a (suc n) zero b h = let e : a ≡ b = cc in omega (arith, e)
 range_got a (suc n) (suc k) b h = let e = range_got (a + 1) n k b h in omega (arith, e)
 
 -- of numbers that are 1, 2, 3 and so on, what is found of the number after a place
-numbered_found : (found : ℕ → Option Row) (f : ℕ → Row) (ns : List ℕ) → IsNumbered ns → ((n : ℕ) (b : Bool) → is_among ns n ≡ b → found n ≡ cond b (Some (f n)) None) → (k : ℕ)
+numbered_found : (found : ℕ → Option Row) (f : ℕ → Row) (ns : List ℕ) → IsNumbered ns
+    → ((n : ℕ) (b : Bool) → is_among ns n ≡ b → found n ≡ cond b (Some (f n)) None) → (k : ℕ)
     → found (k + 1) ≡ slice_get (map f ns) k
 numbered_found found f ns e h k = one (slice_get ns k) refl ∙ sym (slice_get-map f ns k)
   where
@@ -97,17 +105,25 @@ numbered_found found f ns e h k = one (slice_get ns k) refl ∙ sym (slice_get-m
     one : (o : Option ℕ) → slice_get ns k ≡ o → found (k + 1) ≡ option_map f o
     one None g = h (k + 1) false (past (is_among ns (k + 1)) refl (gone ns k g))
     one (Some n) g =
-        let q : n ≡ k + 1 = omega (arith, range_got 1 (length ns) k n (ap (λ (ms : List ℕ). slice_get ms k) (sym e) ∙ g)) in
+        let q : n ≡ k + 1 = omega (
+          arith,
+          range_got 1 (length ns) k n (ap (λ (ms : List ℕ). slice_get ms k) (sym e)
+              ∙ g),
+        ) in
         ap found (sym q) ∙ h n true (got_among ns k n g)
 
 -- ---- the rows of a listing
 
-pub row_is : (l : Limits) (v : Version) (t : List ℕ → Bool) (J : History) → is_legal v t J ≡ true → (x : Listing) (k : ℕ) → row_at l J x k ≡ slice_get (rows_along l J x) k
+pub row_is : (l : Limits) (v : Version) (t : List ℕ → Bool) (J : History) → is_legal v t J ≡ true
+    → (x : Listing) (k : ℕ) → row_at l J x k ≡ slice_get (rows_along l J x) k
 unfolding rows_along
-row_is l v t J g (listing.Members a) k = each_found (member_found l J) (member_row l J) (members_of J a) (λ p h. member_there l J p (member_action v t J g a p h).0) k
+row_is l v t J g (listing.Members a) k = each_found (member_found l J) (member_row l J) (members_of J a)
+    (λ p h. member_there l J p (member_action v t J g a p h).0) k
 row_is l v t J g (listing.Nested a) k =
-    each_found (action_found J) (action_row J) (children J a) (λ b h. action_if J b true (parent_there v t J g b a (child_of v t J g a b h)).child) k
-row_is l v t J g (listing.Actions status) k = numbered_found (action_found J) (action_row J) (actions J) (actions_numbered v t J g) (action_if J) k
+    each_found (action_found J) (action_row J) (children J a) (λ b h. action_if J b true
+    (parent_there v t J g b a (child_of v t J g a b h)).child) k
+row_is l v t J g (listing.Actions status) k = numbered_found (action_found J) (action_row J) (actions J)
+    (actions_numbered v t J g) (action_if J) k
 
 pub count_is : (l : Limits) (J : History) (x : Listing) → count_listed J x ≡ length (rows_along l J x)
 unfolding rows_along

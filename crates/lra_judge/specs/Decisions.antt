@@ -38,7 +38,8 @@ pub record IsWritten (s : Terms) (J : History) (c : Call) (e : Entry) : Type 0 w
   pub own : own_entry s J c ≡ Some e
   pub allowed : allows s.version is_address J e ≡ true
   pub written : block s J c ≡ with_settling J e
-  pub refused : refused s J c ≡ when (passes s.limits resource.Entries (J ++ with_settling J e)) (refusal.Full resource.Entries)
+  pub refused : refused s J c ≡ when (passes s.limits resource.Entries (J ++ with_settling J e))
+      (refusal.Full resource.Entries)
 
 -- whether a call comes to where addresses are read, which takes memory: a join by an enrolled clerk, of an action that is Active
 abbrev pub reads_addresses : History → Call → Bool

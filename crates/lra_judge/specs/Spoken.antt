@@ -19,7 +19,8 @@ spoken asking (command.Close a) = command.Close a
 spoken asking (command.Cancel a) = command.Cancel a
 spoken asking command.Tick = command.Tick
 spoken asking command.NextAsk = command.NextAsk
-spoken asking (command.Record errand o) = command.Record (record { ref_ptr = errand.ref_ptr; now = asking errand.now }) o
+spoken asking (command.Record errand o) = command.Record (record { ref_ptr = errand.ref_ptr; now = asking errand.now })
+    o
 spoken asking (command.Report p e) = command.Report p e
 spoken asking command.Restart = command.Restart
 spoken asking (command.Renew a limit) = command.Renew a limit

@@ -41,7 +41,8 @@ impl Judge<'_> {
 
     /// The number of a new action.
     fn new_action(&self) -> Result<u64, Refusal>
-        ensures { (J : History) → StandsFor self.now.tables.now.sheet J → result ≡ judged.new_action self.now.terms.limits J }
+        ensures { (J : History) → StandsFor self.now.tables.now.sheet J → result
+            ≡ judged.new_action self.now.terms.limits J }
     {
         let actions = self.tables.count_actions();
         if self.terms.limits.actions <= actions {
@@ -63,7 +64,8 @@ impl Judge<'_> {
 
     /// The start of an action.
     pub(crate) fn start(&self, parent: Option<u64>, limit: u64) -> Result<Decision, Refusal>
-        ensures { (J : History) → StandsFor self.now.tables.now.sheet J → result ≡ judged.start self.now.terms.limits J self.now.by self.now.moment parent limit }
+        ensures { (J : History) → StandsFor self.now.tables.now.sheet J → result
+            ≡ judged.start self.now.terms.limits J self.now.by self.now.moment parent limit }
     {
         self.require_clerk()?;
         let above = self.depth_above(parent)?;
@@ -79,7 +81,8 @@ impl Judge<'_> {
 
     /// The close of an action: taken where it is Active, refused where it is being cancelled or was, and else a repeat.
     pub(crate) fn close(&self, action: u64) -> Result<Decision, Refusal>
-        ensures { (J : History) → StandsFor self.now.tables.now.sheet J → result ≡ judged.close J self.now.by self.now.moment action }
+        ensures { (J : History) → StandsFor self.now.tables.now.sheet J → result
+            ≡ judged.close J self.now.by self.now.moment action }
     {
         self.require_clerk()?;
         let row = self.action(action)?;
@@ -129,7 +132,8 @@ impl Judge<'_> {
     /// The cancel of an action: taken where it is Active, or has closed and may be taken back; refused where it is being closed
     /// or was; and else a repeat.
     pub(crate) fn cancel(&self, action: u64) -> Result<Decision, Refusal>
-        ensures { (J : History) → StandsFor self.now.tables.now.sheet J → result ≡ judged.cancel self.now.terms.version J self.now.by self.now.moment action }
+        ensures { (J : History) → StandsFor self.now.tables.now.sheet J → result
+            ≡ judged.cancel self.now.terms.version J self.now.by self.now.moment action }
     {
         self.require_clerk()?;
         let row = self.action(action)?;
@@ -160,7 +164,8 @@ impl Judge<'_> {
 
     /// The cancel of the action that is late, if one is.
     pub(crate) fn tick(&self, late: Option<u64>) -> Result<Decision, Refusal>
-        ensures { (J : History) → StandsFor self.now.tables.now.sheet J → result ≡ judged.tick J self.now.by self.now.moment late }
+        ensures { (J : History) → StandsFor self.now.tables.now.sheet J → result
+            ≡ judged.tick J self.now.by self.now.moment late }
     {
         self.require_clerk()?;
         Ok(match late {
@@ -171,7 +176,8 @@ impl Judge<'_> {
 
     /// A new limit of an action.
     pub(crate) fn renew(&self, action: u64, limit: u64) -> Result<Decision, Refusal>
-        ensures { (J : History) → StandsFor self.now.tables.now.sheet J → result ≡ judged.renew self.now.terms.version J self.now.by self.now.moment action limit }
+        ensures { (J : History) → StandsFor self.now.tables.now.sheet J → result
+            ≡ judged.renew self.now.terms.version J self.now.by self.now.moment action limit }
     {
         self.require_clerk()?;
         require_newer(self.terms.version)?;

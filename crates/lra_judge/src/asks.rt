@@ -50,7 +50,8 @@ impl Judge<'_> {
 
     /// The ask of what the member wants whose want is due, if one is.
     pub(crate) fn next_ask(&self, due: Option<u64>) -> Result<Decision, Refusal>
-        ensures { (J : History) → StandsFor self.now.tables.now.sheet J → result ≡ judged.next_ask J self.now.by self.now.moment due }
+        ensures { (J : History) → StandsFor self.now.tables.now.sheet J → result
+            ≡ judged.next_ask J self.now.by self.now.moment due }
     {
         self.require_clerk()?;
         Ok(match due {
@@ -60,7 +61,8 @@ impl Judge<'_> {
     }
 
     fn ask_for(&self, member: u64, want: Option<AskKind>) -> Decision
-        ensures { (J : History) → StandsFor self.now.tables.now.sheet J → result ≡ judged.ask_for J self.now.by self.now.moment member want }
+        ensures { (J : History) → StandsFor self.now.tables.now.sheet J → result
+            ≡ judged.ask_for J self.now.by self.now.moment member want }
     {
         match want {
             Some(kind) => self.write(Deed::Ask {
@@ -84,7 +86,8 @@ impl Judge<'_> {
 
     /// Records what came of an ask, where it is outstanding and the errand's.
     pub(crate) fn record(&self, errand: Carried, outcome: Outcome) -> Result<Decision, Refusal>
-        ensures { (J : History) → StandsFor self.now.tables.now.sheet J → result ≡ judged.reply J self.now.by self.now.moment errand outcome }
+        ensures { (J : History) → StandsFor self.now.tables.now.sheet J → result
+            ≡ judged.reply J self.now.by self.now.moment errand outcome }
     {
         self.require_clerk()?;
         self.require_awaited(errand)?;
@@ -96,7 +99,8 @@ impl Judge<'_> {
 
     /// A restart, which makes every outstanding ask void.
     pub(crate) fn restart(&self) -> Result<Decision, Refusal>
-        ensures { (J : History) → StandsFor self.now.tables.now.sheet J → result ≡ judged.restart J self.now.by self.now.moment }
+        ensures { (J : History) → StandsFor self.now.tables.now.sheet J → result
+            ≡ judged.restart J self.now.by self.now.moment }
     {
         self.require_clerk()?;
         Ok(self.write(Deed::Restart))

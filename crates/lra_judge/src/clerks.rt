@@ -13,7 +13,8 @@ impl Judge<'_> {
 
     /// The number of a new clerk.
     fn new_clerk(&self) -> Result<u32, Refusal>
-        ensures { (J : History) → StandsFor self.now.tables.now.sheet J → result ≡ judged.new_clerk self.now.terms.limits J }
+        ensures { (J : History) → StandsFor self.now.tables.now.sheet J → result
+            ≡ judged.new_clerk self.now.terms.limits J }
     {
         let clerks = self.tables.count_clerks();
         if u64::from(self.terms.limits.clerks) <= clerks {
@@ -24,7 +25,8 @@ impl Judge<'_> {
 
     /// The enrolment of a new clerk, whoever asks for it.
     pub(crate) fn enrol(&self) -> Result<Decision, Refusal>
-        ensures { (J : History) → StandsFor self.now.tables.now.sheet J → result ≡ judged.enrol self.now.terms.limits J self.now.moment }
+        ensures { (J : History) → StandsFor self.now.tables.now.sheet J → result
+            ≡ judged.enrol self.now.terms.limits J self.now.moment }
     {
         let by = self.new_clerk()?;
         Ok(Decision::Write(Entry {

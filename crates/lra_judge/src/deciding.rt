@@ -32,7 +32,8 @@ fn judge<E: Carries>(
     beside: &Beside,
     command: &Command<'_, E>,
 ) -> Result<Decision, Refusal>
-    ensures { (J : History) → StandsFor judge.now.tables.now.sheet J → judged.IsJudged judge.now.terms J judge.now.by judge.now.moment beside.now (spoken E.asking command.now) result }
+    ensures { (J : History) → StandsFor judge.now.tables.now.sheet J → judged.IsJudged judge.now.terms J judge.now.by
+        judge.now.moment beside.now (spoken E.asking command.now) result }
 {
     match command {
         Command::Enrol => judge.enrol(),
@@ -69,7 +70,8 @@ pub fn decide<E: Carries>(
 ) -> Result<Decision, Refusal>
     requires keepable { AreKeepable terms.now.limits }
     requires fits { is_fitting (spoken E.asking command.now) ≡ true }
-    ensures { (J : History) → StandsFor tables.now.sheet J → IsLawful terms.now J → IsBeside terms.now J (max moment (last_moment J)) (spoken E.asking command.now) beside.now
+    ensures { (J : History) → StandsFor tables.now.sheet J → IsLawful terms.now J
+        → IsBeside terms.now J (max moment (last_moment J)) (spoken E.asking command.now) beside.now
         → IsDecided terms.now J (record { by = by; moment = moment; command = spoken E.asking command.now }) result }
 {
     let by_tables = Judge {

@@ -61,7 +61,8 @@ impl Judge<'_> {
 
     /// The number of a new member.
     fn new_member(&self) -> Result<u64, Refusal>
-        ensures { (J : History) → StandsFor self.now.tables.now.sheet J → result ≡ judged.new_member self.now.terms.limits J }
+        ensures { (J : History) → StandsFor self.now.tables.now.sheet J → result
+            ≡ judged.new_member self.now.terms.limits J }
     {
         let members = self.tables.count_members();
         if self.terms.limits.members <= members {
@@ -72,7 +73,8 @@ impl Judge<'_> {
 
     /// A join of an action that is Active, with addresses as they are stored.
     fn join_with(&self, action: u64, uris: Uris) -> Result<Decision, Refusal>
-        ensures { (J : History) → StandsFor self.now.tables.now.sheet J → result ≡ judged.join_with self.now.terms.limits J self.now.by self.now.moment action uris }
+        ensures { (J : History) → StandsFor self.now.tables.now.sheet J → result
+            ≡ judged.join_with self.now.terms.limits J self.now.by self.now.moment action uris }
     {
         if let Some(member) = self.tables.joined(action, &uris) {
             return Ok(Decision::Told(Told::AlreadyMember(member)));
@@ -87,7 +89,8 @@ impl Judge<'_> {
 
     /// That the clerk may let members join an action.
     fn require_joinable(&self, action: u64) -> Result<(), Refusal>
-        ensures { (J : History) → StandsFor self.now.tables.now.sheet J → result ≡ judged.joinable J self.now.by action }
+        ensures { (J : History) → StandsFor self.now.tables.now.sheet J → result
+            ≡ judged.joinable J self.now.by action }
     {
         self.require_clerk()?;
         self.open_action(action)?;
@@ -96,14 +99,17 @@ impl Judge<'_> {
 
     /// A join of an action that is Active, once the addresses are read.
     fn join_read(&self, action: u64, read: Result<Uris, Refusal>) -> Result<Decision, Refusal>
-        ensures { (J : History) → StandsFor self.now.tables.now.sheet J → result ≡ judged.join_read self.now.terms.limits J self.now.by self.now.moment action read }
+        ensures { (J : History) → StandsFor self.now.tables.now.sheet J → result
+            ≡ judged.join_read self.now.terms.limits J self.now.by self.now.moment action read }
     {
         self.join_with(action, read?)
     }
 
     /// The join of a member: a repeat where one with the same addresses has joined. Reading the addresses takes memory.
     pub(crate) fn join(&self, alloc: Global, action: u64, uris: &Uris) -> Result<Decision, Refusal>
-        ensures { (J : History) → StandsFor self.now.tables.now.sheet J → judged.IsJoin self.now.terms.limits J self.now.by self.now.moment action uris.now result (judged.joinable J self.now.by action) }
+        ensures { (J : History) → StandsFor self.now.tables.now.sheet J
+            → judged.IsJoin self.now.terms.limits J self.now.by self.now.moment action uris.now result
+            (judged.joinable J self.now.by action) }
     {
         if let Err(refusal) = self.require_joinable(action) {
             return Err(refusal);
@@ -113,7 +119,8 @@ impl Judge<'_> {
 
     /// The leave of a member.
     pub(crate) fn leave(&self, action: u64, member: u64) -> Result<Decision, Refusal>
-        ensures { (J : History) → StandsFor self.now.tables.now.sheet J → result ≡ judged.leave J self.now.by self.now.moment action member }
+        ensures { (J : History) → StandsFor self.now.tables.now.sheet J → result
+            ≡ judged.leave J self.now.by self.now.moment action member }
     {
         self.require_clerk()?;
         let row = self.action(action)?;
@@ -127,7 +134,8 @@ impl Judge<'_> {
     /// Decides on what a member reports of itself: the report is accepted where the member is asked for that, and is a
     /// repeat where that direction is decided.
     pub(crate) fn report(&self, member: u64, ending: Ending) -> Result<Decision, Refusal>
-        ensures { (J : History) → StandsFor self.now.tables.now.sheet J → result ≡ judged.report J self.now.by self.now.moment member ending }
+        ensures { (J : History) → StandsFor self.now.tables.now.sheet J → result
+            ≡ judged.report J self.now.by self.now.moment member ending }
     {
         self.require_clerk()?;
         let found = self.member(member)?;

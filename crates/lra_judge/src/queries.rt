@@ -18,7 +18,8 @@ use lra_tables::Tables;
 
 /// The status of an action.
 fn action_is(tables: &Tables, action: u64) -> Result<Known, Refusal>
-    ensures { (J : History) → StandsFor tables.now.sheet J → result ≡ known_where (is_among (actions J) action) (known.ActionIs (status_at J action)) refusal.NoSuchAction }
+    ensures { (J : History) → StandsFor tables.now.sheet J → result ≡ known_where (is_among (actions J) action)
+        (known.ActionIs (status_at J action)) refusal.NoSuchAction }
 {
     match tables.action(action) {
         Some(row) => Ok(Known::ActionIs(row.status)),
@@ -28,7 +29,8 @@ fn action_is(tables: &Tables, action: u64) -> Result<Known, Refusal>
 
 /// The status of a member.
 fn member_is(tables: &Tables, member: u64) -> Result<Known, Refusal>
-    ensures { (J : History) → StandsFor tables.now.sheet J → result ≡ known_where (is_among (members J) member) (known.MemberIs (member_status J member)) refusal.NoSuchMember }
+    ensures { (J : History) → StandsFor tables.now.sheet J → result ≡ known_where (is_among (members J) member)
+        (known.MemberIs (member_status J member)) refusal.NoSuchMember }
 {
     match tables.member(member) {
         Some(row) => Ok(Known::MemberIs(row.status)),
@@ -38,7 +40,8 @@ fn member_is(tables: &Tables, member: u64) -> Result<Known, Refusal>
 
 /// Returns what an action waits for, from a place on.
 fn awaited(limits: &Limits, tables: &Tables, action: u64, place: u64) -> Result<Known, Refusal>
-    ensures { (J : History) → StandsFor tables.now.sheet J → result ≡ known_where (is_among (actions J) action) (awaited_from J action place) refusal.NoSuchAction }
+    ensures { (J : History) → StandsFor tables.now.sheet J → result ≡ known_where (is_among (actions J) action)
+        (awaited_from J action place) refusal.NoSuchAction }
 {
     match tables.action(action) {
         Some(row) => Ok(tell_from(
@@ -82,7 +85,8 @@ fn next_row(
     listing: Listing,
     place: u64,
 ) -> Result<Known, Refusal>
-    ensures { (J : History) → StandsFor tables.now.sheet J → result ≡ known_where (is_listed J listing) (row_from limits.now J listing place) refusal.NoSuchAction }
+    ensures { (J : History) → StandsFor tables.now.sheet J → result ≡ known_where (is_listed J listing)
+        (row_from limits.now J listing place) refusal.NoSuchAction }
 {
     if is_listed(tables, listing) {
         Ok(tell_from(limits, tables, Walk::Listed { listing }, place))
@@ -98,7 +102,8 @@ fn count_rows(
     listing: Listing,
     place: u64,
 ) -> Result<Known, Refusal>
-    ensures { (J : History) → StandsFor tables.now.sheet J → result ≡ known_where (is_listed J listing) (count_from limits.now J listing place) refusal.NoSuchAction }
+    ensures { (J : History) → StandsFor tables.now.sheet J → result ≡ known_where (is_listed J listing)
+        (count_from limits.now J listing place) refusal.NoSuchAction }
 {
     if is_listed(tables, listing) {
         Ok(count_from(limits, tables, listing, place))
@@ -129,7 +134,8 @@ impl Judge<'_> {
 
     /// Returns what a command is told that only asks.
     pub(crate) fn ask(&self, query: Query) -> Result<Decision, Refusal>
-        ensures { (J : History) → StandsFor self.now.tables.now.sheet J → result ≡ judged.ask self.now.terms.limits J self.now.by query }
+        ensures { (J : History) → StandsFor self.now.tables.now.sheet J → result
+            ≡ judged.ask self.now.terms.limits J self.now.by query }
     {
         self.require_clerk()?;
         let known = tell(&self.terms.limits, self.tables, query)?;

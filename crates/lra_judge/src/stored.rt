@@ -28,8 +28,10 @@ fn stored_text(alloc: Global, text: &str) -> Result<String, Refusal>
 
 /// The same of a text that may be there.
 fn stored_address(alloc: Global, text: &Option<String>) -> Result<Option<String>, Refusal>
-    ensures ok { IfOk result (λ own. (text_of own ≡ option_map stored (text_of text.now)) × (is_readable (text_of text.now) ≡ true)) }
-    ensures err { IfErr result (λ r. r ≢ Refusal.Memory → (r ≡ Refusal.BadAddresses) × (is_readable (text_of text.now) ≡ false)) }
+    ensures ok { IfOk result (λ own. (text_of own ≡ option_map stored (text_of text.now))
+        × (is_readable (text_of text.now) ≡ true)) }
+    ensures err { IfErr result (λ r. r ≢ Refusal.Memory → (r ≡ Refusal.BadAddresses)
+        × (is_readable (text_of text.now) ≡ false)) }
 {
     match text {
         Some(text) => Ok(Some(stored_text(alloc, text)?)),

@@ -61,7 +61,8 @@ fn count_looked(rows: u64, place: u64) -> u64
 
 /// Returns what is told of the first of the rows looked at that is told.
 fn first_told(limits: &Limits, tables: &Tables, walk: Walk, place: u64) -> Option<Known>
-    ensures { (J : History) (none : Told) → StandsFor tables.now.sheet J → unwrap_or result none ≡ walks.first_some (walks.look limits.now J walk) none place most_rows }
+    ensures { (J : History) (none : Told) → StandsFor tables.now.sheet J → unwrap_or result none
+        ≡ walks.first_some (walks.look limits.now J walk) none place most_rows }
 {
     let rows = count_rows(tables, walk);
     for n in 0..count_looked(rows, place) {
@@ -121,7 +122,8 @@ fn one_if(is_so: bool) -> u64
 
 /// Counts the rows looked at that belong to a listing.
 fn count_belonging(limits: &Limits, tables: &Tables, listing: Listing, place: u64) -> u64
-    ensures { (J : History) → StandsFor tables.now.sheet J → result ≡ length (filter (belongs listing) (looked_at (rows_along limits.now J listing) place)) }
+    ensures { (J : History) → StandsFor tables.now.sheet J → result ≡ length
+        (filter (belongs listing) (looked_at (rows_along limits.now J listing) place)) }
 {
     let rows = count_listed(tables, listing);
     let mut count = 0;

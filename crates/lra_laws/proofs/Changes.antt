@@ -41,7 +41,8 @@ use Rattle.lra_laws.proofs.WantedWay.{wanted_way}
 pub record SameWants (J K : History) (p : ℕ) : Type 0 where
   pub there : is_among (members K) p ≡ is_among (members J) p
   pub want : is_among (members J) p ≡ true → wants K p ≡ wants J p
-  pub repeats : is_among (members J) p ≡ true → (kind : AskKind) → wants J p ≡ Some kind → repeats K p (stage_of kind (ask_direction K p kind)) ≡ repeats J p (stage_of kind (ask_direction J p kind))
+  pub repeats : is_among (members J) p ≡ true → (kind : AskKind) → wants J p ≡ Some kind
+      → repeats K p (stage_of kind (ask_direction K p kind)) ≡ repeats J p (stage_of kind (ask_direction J p kind))
 
 -- two histories agree on what an action's deadline goes by
 pub record SameLimit (J K : History) (a : ℕ) : Type 0 where
@@ -67,14 +68,23 @@ facts_with o = record {
 
 -- an action with what a want is read from alone
 abbrev glance : ActionStatus → Bool → Option ℕ → ActionFacts
-glance status ended parent = record { parent = parent; status = status; limit = record { length_of = 0; since = 0 }; settled = false; right_end = status; top_has_ended = ended }
+glance status ended parent = record {
+  parent = parent;
+  status = status;
+  limit = record { length_of = 0; since = 0 };
+  settled = false;
+  right_end = status;
+  top_has_ended = ended;
+}
 
-wanted_by_action : (f : Facts) (x : MemberFacts) (a : ActionFacts) → f.action x.action ≡ Some a → wanted f x ≡ wanted (facts_with (Some (glance a.status a.top_has_ended a.parent))) x
+wanted_by_action : (f : Facts) (x : MemberFacts) (a : ActionFacts) → f.action x.action ≡ Some a → wanted f x
+    ≡ wanted (facts_with (Some (glance a.status a.top_has_ended a.parent))) x
 wanted_by_action f x a e = ap (λ (o : Option ActionFacts). wanted (facts_with o) x) e
 
 wants_there : (J : History) (p : ℕ) → is_among (members J) p ≡ true → wants J p ≡ wanted (facts_of J) (member_facts J p)
 unfolding wants facts_of
-wants_there J p h = ap (λ (b : Bool). option_map_or (wanted (facts_of J)) (cond b (Some (member_facts J p)) None) None) h
+wants_there J p h = ap (λ (b : Bool). option_map_or (wanted (facts_of J)) (cond b (Some (member_facts J p)) None) None)
+    h
 
 action_there : (J : History) (a : ℕ) → is_among (actions J) a ≡ true → (facts_of J).action a ≡ Some (action_facts J a)
 unfolding facts_of
@@ -82,8 +92,11 @@ action_there J a h = ap (λ (b : Bool). cond b (Some (action_facts J a)) None) h
 
 -- what a member wants, by its facts and its action
 wants_by : (J : History) (p : ℕ) → is_among (members J) p ≡ true → is_among (actions J) (action_of J p) ≡ true
-    → wants J p ≡ wanted (facts_with (Some (glance (unwrap_or (action_status J (action_of J p)) action.Active) (top_has_ended J (action_of J p)) (parent J (action_of J p))))) (member_facts J p)
-wants_by J p h k = wants_there J p h ∙ wanted_by_action (facts_of J) (member_facts J p) (action_facts J (action_of J p)) (action_there J (action_of J p) k)
+    → wants J p ≡ wanted (facts_with
+    (Some (glance (unwrap_or (action_status J (action_of J p)) action.Active) (top_has_ended J (action_of J p))
+    (parent J (action_of J p))))) (member_facts J p)
+wants_by J p h k = wants_there J p h ∙ wanted_by_action (facts_of J) (member_facts J p) (action_facts J (action_of J p))
+    (action_there J (action_of J p) k)
 
 -- ---- what an entry leaves alone
 
@@ -107,11 +120,15 @@ facts_alike J K p x = λ i. record {
   was_told = (x.row i).was_told;
 }
 
-wants_alike : (v : Version) (t : List ℕ → Bool) (J K : History) (p : ℕ) → is_legal v t J ≡ true → is_legal v t K ≡ true → is_among (members J) p ≡ true → is_among (members K) p ≡ true → Alike J K p → wants K p ≡ wants J p
+wants_alike : (v : Version) (t : List ℕ → Bool) (J K : History) (p : ℕ) → is_legal v t J ≡ true → is_legal v t K ≡ true
+    → is_among (members J) p ≡ true → is_among (members K) p ≡ true → Alike J K p → wants K p ≡ wants J p
 wants_alike v t J K p l k h g x =
     wants_by K p g (action_of_there v t K k p g)
-    ∙ (λ i. wanted (facts_with (Some (glance (unwrap_or (action_status K (same i)) action.Active) (top_has_ended K (same i)) (parent K (same i))))) (facts_alike J K p x i))
-    ∙ (λ i. wanted (facts_with (Some (glance (unwrap_or (x.status i) action.Active) (x.ended i) (x.parent i)))) (member_facts J p))
+    ∙ (λ i. wanted (facts_with
+    (Some (glance (unwrap_or (action_status K (same i)) action.Active) (top_has_ended K (same i))
+    (parent K (same i))))) (facts_alike J K p x i))
+    ∙ (λ i. wanted (facts_with (Some (glance (unwrap_or (x.status i) action.Active) (x.ended i) (x.parent i))))
+    (member_facts J p))
     ∙ sym (wants_by J p h (action_of_there v t J l p h))
   where
     same : action_of K p ≡ action_of J p
@@ -132,7 +149,8 @@ unconcerned J (Ask n q kind) p h = apart q p h
 unconcerned J (Report q o) p h = apart q p h
 unconcerned J (Reply n o) p h = of_ask (ask_of J n) h
   where
-    of_ask : (a : Option Asked) → is_among (option_map_or (λ (x : Asked). x.member ∷ []) a []) p ≡ false → option_map_or (λ (x : Asked). x.member == p) a false ≡ false
+    of_ask : (a : Option Asked) → is_among (option_map_or (λ (x : Asked). x.member ∷ []) a []) p ≡ false
+        → option_map_or (λ (x : Asked). x.member == p) a false ≡ false
     of_ask None g = refl
     of_ask (Some x) g = apart x.member p g
 unconcerned J d p h = refl
@@ -140,7 +158,8 @@ unconcerned J d p h = refl
 -- ---- asks that a restart makes void
 
 -- what one of several numbers gives is among what they give
-given_of : (f : ℕ → Option ℕ) (ns : List ℕ) (n p : ℕ) → is_among ns n ≡ true → f n ≡ Some p → is_among (filter_map f ns) p ≡ true
+given_of : (f : ℕ → Option ℕ) (ns : List ℕ) (n p : ℕ) → is_among ns n ≡ true → f n ≡ Some p
+    → is_among (filter_map f ns) p ≡ true
 given_of f [] n p there gives = absurd cc
 given_of f (m ∷ ns) n p there gives = either (m == n) refl there (λ h. given_of f ns n p h gives)
   where
@@ -148,12 +167,16 @@ given_of f (m ∷ ns) n p there gives = either (m == n) refl there (λ h. given_
     longer None h = h
     longer (Some k) h = among_there k (filter_map f ns) p h
 
-    either : (b : Bool) → (m == n) ≡ b → (b || is_among ns n) ≡ true → (is_among ns n ≡ true → is_among (filter_map f ns) p ≡ true) → is_among (cons_option (f m) (filter_map f ns)) p ≡ true
-    either true e h rest = ap (λ (o : Option ℕ). is_among (cons_option o (filter_map f ns)) p) (ap f (eqb-true m n e) ∙ gives) ∙ among_here p (filter_map f ns)
+    either : (b : Bool) → (m == n) ≡ b → (b || is_among ns n) ≡ true →
+        (is_among ns n ≡ true → is_among (filter_map f ns) p ≡ true) → is_among (cons_option (f m) (filter_map f ns)) p
+        ≡ true
+    either true e h rest = ap (λ (o : Option ℕ). is_among (cons_option o (filter_map f ns)) p)
+        (ap f (eqb-true m n e) ∙ gives) ∙ among_here p (filter_map f ns)
     either false e h rest = longer (f m) (rest h)
 
 -- of one that isn't listed no ask is outstanding
-unasked : (v : Version) (t : List ℕ → Bool) (J : History) (p : ℕ) → is_legal v t J ≡ true → is_among (members_awaited J) p ≡ false → is_some (outstanding_ask J p) ≡ false
+unasked : (v : Version) (t : List ℕ → Bool) (J : History) (p : ℕ) → is_legal v t J ≡ true
+    → is_among (members_awaited J) p ≡ false → is_some (outstanding_ask J p) ≡ false
 unasked v t J p l h = is_asked_by J p list stand ∙ of_standing (standing J p) refl
   where
     list : AsksListed J
@@ -163,17 +186,22 @@ unasked v t J p l h = is_asked_by J p list stand ∙ of_standing (standing J p) 
     stand = asks_stand v t J l
 
     -- the ask that stands with the member, where it isn't void
-    there : (s : Standing) → standing J p ≡ Some s → nat_lt (void_asks J) s.number ≡ true → is_among (asks J) s.number ≡ true
+    there : (s : Standing) → standing J p ≡ Some s → nat_lt (void_asks J) s.number ≡ true → is_among (asks J) s.number
+        ≡ true
     there s e g =
         ap (λ (ns : List ℕ). is_among ns s.number) (asks_numbered v t J l)
         ∙ range_there 1 (length (asks J)) s.number (let lower = ltb-true (void_asks J) s.number g in omega arith) (let upper = list.below s.number (asked_of p s) (stand.stands p s e) in omega arith)
 
-    gives : (s : Standing) → standing J p ≡ Some s → nat_lt (void_asks J) s.number ≡ true → member_awaited J s.number ≡ Some p
+    gives : (s : Standing) → standing J p ≡ Some s → nat_lt (void_asks J) s.number ≡ true → member_awaited J s.number
+        ≡ Some p
     gives s e g =
-        ap (λ (o : Option Asked). option_map_or (λ (x : Asked). when (is_outstanding J s.number) x.member) o None) (stand.stands p s e)
-        ∙ ap (λ (b : Bool). when b p) (stand.outstanding s.number ∙ ap (stands_yet J s.number) (stand.stands p s e) ∙ (λ i. g i && stands_for (e i) s.number) ∙ eqb_self s.number)
+        ap (λ (o : Option Asked). option_map_or (λ (x : Asked). when (is_outstanding J s.number) x.member) o None)
+        (stand.stands p s e)
+        ∙ ap (λ (b : Bool). when b p) (stand.outstanding s.number ∙ ap (stands_yet J s.number) (stand.stands p s e)
+        ∙ (λ i. g i && stands_for (e i) s.number) ∙ eqb_self s.number)
 
-    of_standing : (o : Option Standing) → standing J p ≡ o → option_map_or (λ (s : Standing). nat_lt (void_asks J) s.number) o false ≡ false
+    of_standing : (o : Option Standing) → standing J p ≡ o → option_map_or
+        (λ (s : Standing). nat_lt (void_asks J) s.number) o false ≡ false
     of_standing None e = refl
     of_standing (Some s) e = decide (nat_lt (void_asks J) s.number) refl
       where
@@ -182,44 +210,59 @@ unasked v t J p l h = is_asked_by J p list stand ∙ of_standing (standing J p) 
         decide true g = sym (given_of (member_awaited J) (asks J) s.number p (there s e g) (gives s e g)) ∙ h
 
 -- after a restart none is outstanding at all
-none_asked : (v : Version) (t : List ℕ → Bool) (J : History) (by m p : ℕ) → is_legal v t J ≡ true → is_legal v t (more J by m Restart) ≡ true → is_some (outstanding_ask (more J by m Restart) p) ≡ false
+none_asked : (v : Version) (t : List ℕ → Bool) (J : History) (by m p : ℕ) → is_legal v t J ≡ true
+    → is_legal v t (more J by m Restart) ≡ true → is_some (outstanding_ask (more J by m Restart) p) ≡ false
 none_asked v t J by m p l k =
-    is_asked_by (more J by m Restart) p (asks_listed v t (more J by m Restart) k) (asks_stand v t (more J by m Restart) k)
-    ∙ (λ i. option_map_or (λ (s : Standing). nat_lt (void_push J (entry by m Restart) i) s.number) (stand_quiet J by m Restart p refl i) false)
+    is_asked_by (more J by m Restart) p (asks_listed v t (more J by m Restart) k)
+    (asks_stand v t (more J by m Restart) k)
+    ∙ (λ i. option_map_or (λ (s : Standing). nat_lt (void_push J (entry by m Restart) i) s.number)
+    (stand_quiet J by m Restart p refl i) false)
     ∙ of_standing (standing J p) refl
   where
-    of_standing : (o : Option Standing) → standing J p ≡ o → option_map_or (λ (s : Standing). nat_lt (length (asks J)) s.number) o false ≡ false
+    of_standing : (o : Option Standing) → standing J p ≡ o → option_map_or
+        (λ (s : Standing). nat_lt (length (asks J)) s.number) o false ≡ false
     of_standing None e = refl
-    of_standing (Some s) e = le-ltb (length (asks J)) s.number ((asks_listed v t J l).below s.number (asked_of p s) ((asks_stand v t J l).stands p s e))
+    of_standing (Some s) e = le-ltb (length (asks J)) s.number ((asks_listed v t J l).below s.number (asked_of p s)
+        ((asks_stand v t J l).stands p s e))
 
 -- so whether an ask is outstanding stays, of one that isn't listed
-asked_kept : (v : Version) (t : List ℕ → Bool) (J : History) (by m : ℕ) (d : Deed) (p : ℕ) → is_legal v t J ≡ true → is_legal v t (more J by m d) ≡ true → is_among (members_changed J d) p ≡ false → is_some (outstanding_ask (more J by m d) p) ≡ is_some (outstanding_ask J p)
+asked_kept : (v : Version) (t : List ℕ → Bool) (J : History) (by m : ℕ) (d : Deed) (p : ℕ) → is_legal v t J ≡ true
+    → is_legal v t (more J by m d) ≡ true → is_among (members_changed J d) p ≡ false
+    → is_some (outstanding_ask (more J by m d) p) ≡ is_some (outstanding_ask J p)
 asked_kept v t J by m d p l k h = by_deed d h k
   where
-    still : (d : Deed) → is_among (members_changed J d) p ≡ false → is_legal v t (more J by m d) ≡ true → void_at (step J (entry by m d)) ≡ None → is_some (outstanding_ask (more J by m d) p) ≡ is_some (outstanding_ask J p)
+    still : (d : Deed) → is_among (members_changed J d) p ≡ false → is_legal v t (more J by m d) ≡ true
+        → void_at (step J (entry by m d)) ≡ None → is_some (outstanding_ask (more J by m d) p)
+        ≡ is_some (outstanding_ask J p)
     still d h k same =
         is_asked_by (more J by m d) p (asks_listed v t (more J by m d) k) (asks_stand v t (more J by m d) k)
-        ∙ (λ i. option_map_or (λ (s : Standing). nat_lt (void_kept J by m d same i) s.number) (stand_quiet J by m d p (unconcerned J d p h) i) false)
+        ∙ (λ i. option_map_or (λ (s : Standing). nat_lt (void_kept J by m d same i) s.number)
+        (stand_quiet J by m d p (unconcerned J d p h) i) false)
         ∙ sym (is_asked_by J p (asks_listed v t J l) (asks_stand v t J l))
 
-    by_deed : (d : Deed) → is_among (members_changed J d) p ≡ false → is_legal v t (more J by m d) ≡ true → is_some (outstanding_ask (more J by m d) p) ≡ is_some (outstanding_ask J p)
+    by_deed : (d : Deed) → is_among (members_changed J d) p ≡ false → is_legal v t (more J by m d) ≡ true
+        → is_some (outstanding_ask (more J by m d) p) ≡ is_some (outstanding_ask J p)
     by_deed Restart h k = none_asked v t J by m p l k ∙ sym (unasked v t J p l h)
     by_deed d h k = still d h k refl
 
 -- no one's answer to a void ask is awaited
-pub void_unasked : (v : Version) (t : List ℕ → Bool) (J : History) (n : ℕ) → is_legal v t J ≡ true → n ≤ void_asks J → member_awaited J n ≡ None
+pub void_unasked : (v : Version) (t : List ℕ → Bool) (J : History) (n : ℕ) → is_legal v t J ≡ true → n ≤ void_asks J
+    → member_awaited J n ≡ None
 void_unasked v t J n l h = of_ask (ask_of J n) refl
   where
-    of_ask : (o : Option Asked) → ask_of J n ≡ o → option_map_or (λ (x : Asked). when (is_outstanding J n) x.member) o None ≡ None
+    of_ask : (o : Option Asked) → ask_of J n ≡ o → option_map_or (λ (x : Asked). when (is_outstanding J n) x.member) o
+        None ≡ None
     of_ask None e = refl
     of_ask (Some x) e =
         ap (λ (b : Bool). when b x.member)
-        ((asks_stand v t J l).outstanding n ∙ ap (stands_yet J n) e ∙ ap (λ (b : Bool). b && stands_for (standing J x.member) n) (le-ltb (void_asks J) n h))
+        ((asks_stand v t J l).outstanding n ∙ ap (stands_yet J n) e ∙ ap
+        (λ (b : Bool). b && stands_for (standing J x.member) n) (le-ltb (void_asks J) n h))
 
 -- ---- actions that it turns
 
 -- the members of an outermost action and of all below it
-pub under_lem : (J : History) (c p : ℕ) → is_among (members_under J c) p ≡ (is_among (members J) p && (top J (action_of J p) == c))
+pub under_lem : (J : History) (c p : ℕ) → is_among (members_under J c) p
+    ≡ (is_among (members J) p && (top J (action_of J p) == c))
 unfolding members_under
 under_lem J c p = among_filter (λ q. top J (action_of J q) == c) (members J) p
 
@@ -229,26 +272,34 @@ second_fails true b c e g h = sym e ∙ h
 second_fails false b c e g h = absurd cc
 
 -- an entry that lists a member not leaves its action as it is
-unturned : (v : Version) (t : List ℕ → Bool) (J : History) (by m : ℕ) (d : Deed) (p : ℕ) → is_legal v t J ≡ true → Allowed v t J (entry by m d) → is_among (members J) p ≡ true → is_among (members_changed J d) p ≡ false → status_given (action_of J p) d ≡ None
+unturned : (v : Version) (t : List ℕ → Bool) (J : History) (by m : ℕ) (d : Deed) (p : ℕ) → is_legal v t J ≡ true
+    → Allowed v t J (entry by m d) → is_among (members J) p ≡ true → is_among (members_changed J d) p ≡ false
+    → status_given (action_of J p) d ≡ None
 unturned v t J by m d p l k g h = by_deed d h (started_number v t J by m d k)
   where
     other : (c : ℕ) → is_among (members_of J c) p ≡ false → (c == action_of J p) ≡ false
-    other c n = eqb_flip (action_of J p) c (second_fails (is_among (members J) p) (action_of J p == c) (is_among (members_of J c) p) (members_of_lem v t J l c p) g n)
+    other c n = eqb_flip (action_of J p) c (second_fails (is_among (members J) p) (action_of J p == c)
+        (is_among (members_of J c) p) (members_of_lem v t J l c p) g n)
 
-    below : (c : ℕ) → parent J c ≡ None → is_among (members_under J c) p ≡ false → (b : Bool) → (c == action_of J p) ≡ b → b ≡ false
+    below : (c : ℕ) → parent J c ≡ None → is_among (members_under J c) p ≡ false → (b : Bool) → (c == action_of J p) ≡ b
+        → b ≡ false
     below c none n false e = refl
     below c none n true e =
         let same : c ≡ action_of J p = eqb-true c (action_of J p) e in
         let top_same : top J (action_of J p) ≡ c = ap (top J) (sym same) ∙ top_of_outermost v t J l c none in
-        sym (eqb_self c) ∙ ap (λ (x : ℕ). x == c) (sym top_same) ∙ second_fails (is_among (members J) p) (top J (action_of J p) == c) (is_among (members_under J c) p) (under_lem J c p) g n
+        sym (eqb_self c) ∙ ap (λ (x : ℕ). x == c) (sym top_same) ∙ second_fails (is_among (members J) p)
+        (top J (action_of J p) == c) (is_among (members_under J c) p) (under_lem J c p) g n
 
-    ends : (c : ℕ) (o : Option ℕ) → parent J c ≡ o → is_among (cond (is_some o) (members_of J c) (members_under J c)) p ≡ false → (c == action_of J p) ≡ false
+    ends : (c : ℕ) (o : Option ℕ) → parent J c ≡ o → is_among (cond (is_some o) (members_of J c) (members_under J c)) p
+        ≡ false → (c == action_of J p) ≡ false
     ends c (Some b) e n = other c n
     ends c None e n = below c e n (c == action_of J p) refl
 
-    by_deed : (d : Deed) → is_among (members_changed J d) p ≡ false → ((x : ℕ) → started_by d ≡ Some x → x ≡ length (actions J) + 1) → status_given (action_of J p) d ≡ None
+    by_deed : (d : Deed) → is_among (members_changed J d) p ≡ false → ((x : ℕ) → started_by d ≡ Some x → x
+        ≡ length (actions J) + 1) → status_given (action_of J p) d ≡ None
     by_deed (Start c above limit) n new =
-        ap (λ (b : Bool). when b action.Active) (among_apart (actions J) (action_of J p) c (action_of_there v t J l p g) (numbered_fresh (actions J) (actions_numbered v t J l) c (new c refl)))
+        ap (λ (b : Bool). when b action.Active) (among_apart (actions J) (action_of J p) c (action_of_there v t J l p g)
+        (numbered_fresh (actions J) (actions_numbered v t J l) c (new c refl)))
     by_deed (Close c cause) n new = ap (λ (b : Bool). when b action.Closing) (other c n)
     by_deed (Cancel c cause) n new = ap (λ (b : Bool). when b action.Cancelling) (other c n)
     by_deed (End c s) n new = ap (λ (b : Bool). when b s) (ends c (parent J c) refl n)
@@ -256,7 +307,8 @@ unturned v t J by m d p l k g h = by_deed d h (started_number v t J by m d k)
 
 -- the outermost action above a member isn't turned, or has ended neither before nor after
 Unended : History → Deed → ℕ → Type 0
-Unended J d t = (status_given t d ≡ None) ⊎ ((option_map_or has_ended (status_given t d) false ≡ false) × (action_is has_ended J t ≡ false))
+Unended J d t = (status_given t d ≡ None) ⊎ ((option_map_or has_ended (status_given t d) false ≡ false)
+    × (action_is has_ended J t ≡ false))
 
 active_unended : (J : History) (a : ℕ) → action_is is_active J a ≡ true → action_is has_ended J a ≡ false
 active_unended J a = one (action_status J a)
@@ -269,9 +321,12 @@ active_unended J a = one (action_status J a)
     one None h = absurd cc
     one (Some s) h = of_status s h
 
-unended : (v : Version) (t : List ℕ → Bool) (J : History) (by m : ℕ) (d : Deed) (p : ℕ) → is_legal v t J ≡ true → Allowed v t J (entry by m d) → is_among (members J) p ≡ true → is_among (members_changed J d) p ≡ false → Unended J d (top J (action_of J p))
+unended : (v : Version) (t : List ℕ → Bool) (J : History) (by m : ℕ) (d : Deed) (p : ℕ) → is_legal v t J ≡ true
+    → Allowed v t J (entry by m d) → is_among (members J) p ≡ true → is_among (members_changed J d) p ≡ false
+    → Unended J d (top J (action_of J p))
 unfolding Unended
-unended v t J by m d p l k g h = by_deed d h (started_number v t J by m d k) (entry_kept v t (facts_of J) (entry by m d) k.unbroken).deed
+unended v t J by m d p l k g h = by_deed d h (started_number v t J by m d k)
+    (entry_kept v t (facts_of J) (entry by m d) k.unbroken).deed
   where
     outer : ℕ
     outer = top J (action_of J p)
@@ -280,85 +335,119 @@ unended v t J by m d p l k g h = by_deed d h (started_number v t J by m d k) (en
     alone = top_is_outermost v t J l (action_of J p)
 
     -- an action that an entry turns where it was Active
-    from_active : (c : ℕ) (now : ActionStatus) (b : Bool) → (c == outer) ≡ b → has_ended now ≡ false → ((c == outer) ≡ true → action_is is_active J outer ≡ true)
-        → (when (c == outer) now ≡ None) ⊎ ((option_map_or has_ended (when (c == outer) now) false ≡ false) × (action_is has_ended J outer ≡ false))
+    from_active : (c : ℕ) (now : ActionStatus) (b : Bool) → (c == outer) ≡ b → has_ended now ≡ false
+        → ((c == outer) ≡ true → action_is is_active J outer ≡ true)
+        → (when (c == outer) now ≡ None) ⊎ ((option_map_or has_ended (when (c == outer) now) false ≡ false)
+        × (action_is has_ended J outer ≡ false))
     from_active c now false e goes active = inl (ap (λ (b : Bool). when b now) e)
-    from_active c now true e goes active = inr (ap (λ (b : Bool). option_map_or has_ended (when b now) false) e ∙ goes, active_unended J outer (active e))
+    from_active c now true e goes active = inr (
+      ap (λ (b : Bool). option_map_or has_ended (when b now) false) e
+          ∙ goes,
+      active_unended J outer (active e),
+    )
 
-    active_at : (c : ℕ) → status_is is_active (facts_of J) c ≡ true → (c == outer) ≡ true → action_is is_active J outer ≡ true
+    active_at : (c : ℕ) → status_is is_active (facts_of J) c ≡ true → (c == outer) ≡ true → action_is is_active J outer
+        ≡ true
     active_at c h e = ap (action_is is_active J) (sym (eqb-true c outer e)) ∙ sym (state_is_lem v t J l is_active c) ∙ h
 
-    no_parent : (c : ℕ) (test : ActionStatus → Bool) → (c == outer) ≡ true → parent_is test (facts_of J) (action_facts J c) ≡ true → ⊥
+    no_parent : (c : ℕ) (test : ActionStatus → Bool) → (c == outer) ≡ true
+        → parent_is test (facts_of J) (action_facts J c) ≡ true → ⊥
     no_parent c test e h =
-        let x : false ≡ true = sym (ap (λ (o : Option ℕ). option_map_or (status_is test (facts_of J)) o false) (ap (parent J) (eqb-true c outer e) ∙ alone)) ∙ h in
+        let x : false ≡ true = sym (ap (λ (o : Option ℕ). option_map_or (status_is test (facts_of J)) o false)
+        (ap (parent J) (eqb-true c outer e) ∙ alone)) ∙ h in
         (cc)
 
-    cancelled : (c : ℕ) (cause : Cause) → AllKept (deed_rules v t (facts_of J) m (Cancel c cause)) → (c == outer) ≡ true → action_is is_active J outer ≡ true
+    cancelled : (c : ℕ) (cause : Cause) → AllKept (deed_rules v t (facts_of J) m (Cancel c cause)) → (c == outer) ≡ true
+        → action_is is_active J outer ≡ true
     cancelled c cause r e =
         let fact = action_fact (may_cancel v m cause (facts_of J)) J c (cancel_kept v t (facts_of J) m c cause r).may in
         by_case (cancel_case v m cause (facts_of J) (action_facts J c) fact.1) fact.0
       where
-        by_case : (is_active (action_facts J c).status ≡ true) ⊎ (parent_is is_active (facts_of J) (action_facts J c) ≡ true) ⊎ (parent_is is_cancelling (facts_of J) (action_facts J c) ≡ true)
+        by_case : (is_active (action_facts J c).status ≡ true) ⊎ (parent_is is_active (facts_of J) (action_facts J c)
+            ≡ true) ⊎ (parent_is is_cancelling (facts_of J) (action_facts J c) ≡ true)
             → is_among (actions J) c ≡ true → action_is is_active J outer ≡ true
         by_case (inl x) there = active_at c (at_action_from (λ (y : ActionFacts). is_active y.status) J c there x) e
         by_case (inr (inl x)) there = absurd (no_parent c is_active e x)
         by_case (inr (inr x)) there = absurd (no_parent c is_cancelling e x)
 
-    ended : (c : ℕ) (s : ActionStatus) (o : Option ℕ) → parent J c ≡ o → is_among (cond (is_some o) (members_of J c) (members_under J c)) p ≡ false → (b : Bool) → (c == outer) ≡ b → when b s ≡ None
+    ended : (c : ℕ) (s : ActionStatus) (o : Option ℕ) → parent J c ≡ o
+        → is_among (cond (is_some o) (members_of J c) (members_under J c)) p ≡ false → (b : Bool) → (c == outer) ≡ b
+        → when b s ≡ None
     ended c s o e n false i = refl
     ended c s (Some b) e n true i = absurd (let x : Some b ≡ None = sym e ∙ ap (parent J) (eqb-true c outer i) ∙ alone in cc)
     ended c s None e n true i =
-        let x : (outer == c) ≡ false = second_fails (is_among (members J) p) (outer == c) (is_among (members_under J c) p) (under_lem J c p) g n in
+        let x : (outer == c) ≡ false = second_fails (is_among (members J) p) (outer == c)
+        (is_among (members_under J c) p) (under_lem J c p) g n in
         let y : (outer == c) ≡ true = ap (λ (z : ℕ). outer == z) (eqb-true c outer i) ∙ eqb_self outer in
         absurd (cc)
 
-    by_deed : (d : Deed) → is_among (members_changed J d) p ≡ false → ((x : ℕ) → started_by d ≡ Some x → x ≡ length (actions J) + 1) → AllKept (deed_rules v t (facts_of J) m d)
-        → (status_given outer d ≡ None) ⊎ ((option_map_or has_ended (status_given outer d) false ≡ false) × (action_is has_ended J outer ≡ false))
+    by_deed : (d : Deed) → is_among (members_changed J d) p ≡ false → ((x : ℕ) → started_by d ≡ Some x → x
+        ≡ length (actions J) + 1) → AllKept (deed_rules v t (facts_of J) m d)
+        → (status_given outer d ≡ None) ⊎ ((option_map_or has_ended (status_given outer d) false ≡ false)
+        × (action_is has_ended J outer ≡ false))
     by_deed (Start c above limit) n new r =
-        inl (ap (λ (b : Bool). when b action.Active) (among_apart (actions J) outer c (top_is_there v t J l (action_of J p) (action_of_there v t J l p g)) (numbered_fresh (actions J) (actions_numbered v t J l) c (new c refl))))
-    by_deed (Close c cause) n new r = from_active c action.Closing (c == outer) refl refl (active_at c (close_active (facts_of J) c cause (close_kept v t (facts_of J) m c cause r).may))
+        inl (ap (λ (b : Bool). when b action.Active) (among_apart (actions J) outer c
+        (top_is_there v t J l (action_of J p) (action_of_there v t J l p g))
+        (numbered_fresh (actions J) (actions_numbered v t J l) c (new c refl))))
+    by_deed (Close c cause) n new r = from_active c action.Closing (c == outer) refl refl
+        (active_at c (close_active (facts_of J) c cause (close_kept v t (facts_of J) m c cause r).may))
     by_deed (Cancel c cause) n new r = from_active c action.Cancelling (c == outer) refl refl (cancelled c cause r)
     by_deed (End c s) n new r = inl (ended c s (parent J c) refl n (c == outer) refl)
     by_deed _ n new r = inl refl
 
 -- so whether it has ended stays
-ended_still : (v : Version) (t : List ℕ → Bool) (J : History) (by m : ℕ) (d : Deed) (a : ℕ) → is_legal v t J ≡ true → is_among (actions J) a ≡ true → Unended J d (top J a) → top_has_ended (more J by m d) a ≡ top_has_ended J a
+ended_still : (v : Version) (t : List ℕ → Bool) (J : History) (by m : ℕ) (d : Deed) (a : ℕ) → is_legal v t J ≡ true
+    → is_among (actions J) a ≡ true → Unended J d (top J a) → top_has_ended (more J by m d) a ≡ top_has_ended J a
 unfolding Unended top_has_ended
-ended_still v t J by m d a l h u = ap (action_is has_ended (more J by m d)) (top_stays v t J (entry by m d) l a h) ∙ either u
+ended_still v t J by m d a l h u = ap (action_is has_ended (more J by m d)) (top_stays v t J (entry by m d) l a h)
+    ∙ either u
   where
-    combined : (o s : Option ActionStatus) → option_map_or has_ended o false ≡ false → option_map_or has_ended s false ≡ false → option_map_or has_ended (option_or o s) false ≡ option_map_or has_ended s false
+    combined : (o s : Option ActionStatus) → option_map_or has_ended o false ≡ false → option_map_or has_ended s false
+        ≡ false → option_map_or has_ended (option_or o s) false ≡ option_map_or has_ended s false
     combined None s x y = refl
     combined (Some z) s x y = x ∙ sym y
 
-    either : (status_given (top J a) d ≡ None) ⊎ ((option_map_or has_ended (status_given (top J a) d) false ≡ false) × (action_is has_ended J (top J a) ≡ false)) → action_is has_ended (more J by m d) (top J a) ≡ action_is has_ended J (top J a)
-    either (inl none) = ap (λ (o : Option ActionStatus). option_map_or has_ended o false) (status_kept J by m d (top J a) none)
-    either (inr x) = ap (λ (o : Option ActionStatus). option_map_or has_ended o false) (action_status_push J (entry by m d) (top J a)) ∙ combined (status_given (top J a) d) (action_status J (top J a)) x.0 x.1
+    either : (status_given (top J a) d ≡ None) ⊎ ((option_map_or has_ended (status_given (top J a) d) false ≡ false)
+        × (action_is has_ended J (top J a) ≡ false)) → action_is has_ended (more J by m d) (top J a)
+        ≡ action_is has_ended J (top J a)
+    either (inl none) = ap (λ (o : Option ActionStatus). option_map_or has_ended o false)
+        (status_kept J by m d (top J a) none)
+    either (inr x) = ap (λ (o : Option ActionStatus). option_map_or has_ended o false)
+        (action_status_push J (entry by m d) (top J a)) ∙ combined (status_given (top J a) d)
+        (action_status J (top J a)) x.0 x.1
 
 -- ---- one more entry
 
-repeats_kept : (J : History) (by m : ℕ) (d : Deed) (p : ℕ) (stage : AskKind) → concerns J d p ≡ false → repeats (more J by m d) p stage ≡ repeats J p stage
+repeats_kept : (J : History) (by m : ℕ) (d : Deed) (p : ℕ) (stage : AskKind) → concerns J d p ≡ false
+    → repeats (more J by m d) p stage ≡ repeats J p stage
 repeats_kept J by m d p stage h =
     repeats_push J (entry by m d) p stage
     ∙ ap (λ (o : Option ℕ). repeats J p stage ++ option_to_list o) (none d h)
     ∙ append-nil (repeats J p stage)
   where
-    none : (d : Deed) → concerns J d p ≡ false → option_map_or (repeat_of p stage) (replied_at (step J (entry by m d))) None ≡ None
+    none : (d : Deed) → concerns J d p ≡ false → option_map_or (repeat_of p stage) (replied_at (step J (entry by m d)))
+        None ≡ None
     none (Reply n o) g = of_ask (ask_of J n) g
       where
-        of_ask : (a : Option Asked) → option_map_or (λ (x : Asked). x.member == p) a false ≡ false → option_map_or (repeat_of p stage) (option_map (λ (x : Asked). record { to = x; outcome = o; moment = m }) a) None ≡ None
+        of_ask : (a : Option Asked) → option_map_or (λ (x : Asked). x.member == p) a false ≡ false
+            → option_map_or (repeat_of p stage) (option_map (λ (x : Asked). record { to = x; outcome = o; moment = m })
+            a) None ≡ None
         of_ask None e = refl
-        of_ask (Some x) e = ap (λ (b : Bool). when (b && same_kind (stage_of x.kind x.direction) stage && is_undecided o) m) e
+        of_ask (Some x) e = ap (λ (b : Bool). when (b && same_kind (stage_of x.kind x.direction) stage
+            && is_undecided o) m) e
     none _ g = refl
 
 -- the wants of a member that isn't listed stay
-pub wants_kept : (v : Version) (t : List ℕ → Bool) (J : History) (by m : ℕ) (d : Deed) (p : ℕ) → is_legal v t J ≡ true → Allowed v t J (entry by m d) → is_among (members_changed J d) p ≡ false → SameWants J (more J by m d) p
+pub wants_kept : (v : Version) (t : List ℕ → Bool) (J : History) (by m : ℕ) (d : Deed) (p : ℕ) → is_legal v t J ≡ true
+    → Allowed v t J (entry by m d) → is_among (members_changed J d) p ≡ false → SameWants J (more J by m d) p
 wants_kept v t J by m d p l k h = record {
   there = members_push_at d h;
   want = want;
   repeats = λ g kind w.
       repeats_kept J by m d p (stage_of kind (ask_direction K p kind)) quiet
       ∙ ap (λ (way : Direction). repeats J p (stage_of kind way))
-      (wanted_way K p kind (want g ∙ w) ∙ ap (λ (r : MemberRow). way_asked kind r.status) (quiet_row J by m d p quiet) ∙ sym (wanted_way J p kind w));
+      (wanted_way K p kind (want g ∙ w) ∙ ap (λ (r : MemberRow). way_asked kind r.status) (quiet_row J by m d p quiet)
+      ∙ sym (wanted_way J p kind w));
 }
   where
     K : History
@@ -370,10 +459,14 @@ wants_kept v t J by m d p l k h = record {
     quiet : concerns J d p ≡ false
     quiet = unconcerned J d p h
 
-    members_push_at : (d : Deed) → is_among (members_changed J d) p ≡ false → is_among (members (more J by m d)) p ≡ is_among (members J) p
-    members_push_at d n = ap (λ (ns : List ℕ). is_among ns p) (members_push J (entry by m d)) ∙ among_push (members J) (joined_by d) p ∙ ap (λ (b : Bool). is_among (members J) p || b) (not_joined d n) ∙ or-false (is_among (members J) p)
+    members_push_at : (d : Deed) → is_among (members_changed J d) p ≡ false → is_among (members (more J by m d)) p
+        ≡ is_among (members J) p
+    members_push_at d n = ap (λ (ns : List ℕ). is_among ns p) (members_push J (entry by m d))
+        ∙ among_push (members J) (joined_by d) p ∙ ap (λ (b : Bool). is_among (members J) p || b) (not_joined d n)
+        ∙ or-false (is_among (members J) p)
       where
-        not_joined : (d : Deed) → is_among (members_changed J d) p ≡ false → option_map_or (λ q. q == p) (joined_by d) false ≡ false
+        not_joined : (d : Deed) → is_among (members_changed J d) p ≡ false
+            → option_map_or (λ q. q == p) (joined_by d) false ≡ false
         not_joined (Join q a uris) i = apart q p i
         not_joined _ i = refl
 
@@ -390,14 +483,17 @@ wants_kept v t J by m d p l k h = record {
         there = action_of_there v t J l p g
 
 -- what the deadline of an action that isn't listed goes by stays
-pub limits_kept : (J : History) (by m : ℕ) (d : Deed) (a : ℕ) → is_among (actions_changed d) a ≡ false → SameLimit J (more J by m d) a
+pub limits_kept : (J : History) (by m : ℕ) (d : Deed) (a : ℕ) → is_among (actions_changed d) a ≡ false
+    → SameLimit J (more J by m d) a
 limits_kept J by m d a h = record {
-  there = ap (λ (ns : List ℕ). is_among ns a) (actions_push J (entry by m d)) ∙ among_push (actions J) (started_by d) a ∙ ap (λ (b : Bool). is_among (actions J) a || b) (not_started d h) ∙ or-false (is_among (actions J) a);
+  there = ap (λ (ns : List ℕ). is_among ns a) (actions_push J (entry by m d)) ∙ among_push (actions J) (started_by d) a
+      ∙ ap (λ (b : Bool). is_among (actions J) a || b) (not_started d h) ∙ or-false (is_among (actions J) a);
   status = status_kept J by m d a (not_turned d h);
   limit = limit_kept J by m d a (not_renewed d h);
 }
   where
-    not_started : (d : Deed) → is_among (actions_changed d) a ≡ false → option_map_or (λ c. c == a) (started_by d) false ≡ false
+    not_started : (d : Deed) → is_among (actions_changed d) a ≡ false → option_map_or (λ c. c == a) (started_by d) false
+        ≡ false
     not_started (Start c above limit) i = apart c a i
     not_started _ i = refl
 
@@ -409,6 +505,7 @@ limits_kept J by m d a h = record {
     not_turned _ i = refl
 
     not_renewed : (d : Deed) → is_among (actions_changed d) a ≡ false → limit_given a (entry by m d) ≡ None
-    not_renewed (Start c above limit) i = ap (λ (b : Bool). when b (record { length_of = limit; since = m })) (apart c a i)
+    not_renewed (Start c above limit) i = ap (λ (b : Bool). when b (record { length_of = limit; since = m }))
+        (apart c a i)
     not_renewed (Renew c limit) i = ap (λ (b : Bool). when b (record { length_of = limit; since = m })) (apart c a i)
     not_renewed _ i = refl

@@ -21,7 +21,8 @@ is_within (suc n) J t a = (a == t) || option_map_or (is_within n J t) (parent J 
 -- whether a cancelled action is met before t
 abbrev pub cancelled_within : ℕ → History → ℕ → ℕ → Bool
 cancelled_within zero J t a = cond (a == t) false (was_cancelled J a)
-cancelled_within (suc n) J t a = cond (a == t) false (was_cancelled J a || option_map_or (cancelled_within n J t) (parent J a) false)
+cancelled_within (suc n) J t a = cond (a == t) false (was_cancelled J a
+    || option_map_or (cancelled_within n J t) (parent J a) false)
 
 last_within : (n : ℕ) (J : History) (a : ℕ) (o : Option ℕ) → last_or o (lineage_within n J a) ≡ Some (top_within n J a)
 last_within zero J a o = refl
@@ -51,10 +52,12 @@ pub under_climbs : (J : History) (t a : ℕ) → is_under J t a ≡ is_within a 
 unfolding is_under
 under_climbs J t a = among_within a J t a
 
-any_within : (n : ℕ) (J : History) (t a : ℕ) → list_any (was_cancelled J) (before_first (λ b. b == t) (lineage_within n J a)) ≡ cancelled_within n J t a
+any_within : (n : ℕ) (J : History) (t a : ℕ) → list_any (was_cancelled J)
+    (before_first (λ b. b == t) (lineage_within n J a)) ≡ cancelled_within n J t a
 any_within zero J t a = before (a == t)
   where
-    before : (x : Bool) → list_any (was_cancelled J) (take (cond (not x) 1 0) (a ∷ [])) ≡ cond x false (was_cancelled J a)
+    before : (x : Bool) → list_any (was_cancelled J) (take (cond (not x) 1 0) (a ∷ []))
+        ≡ cond x false (was_cancelled J a)
     before true = refl
     before false = or-false (was_cancelled J a)
 any_within (suc n) J t a = before (a == t) (parent J a) (any_within n J t)
@@ -62,13 +65,17 @@ any_within (suc n) J t a = before (a == t) (parent J a) (any_within n J t)
     one_more : (k : ℕ) → 1 + k ≡ suc k
     one_more k = omega arith
 
-    before : (x : Bool) (p : Option ℕ) → ((b : ℕ) → list_any (was_cancelled J) (before_first (λ b. b == t) (lineage_within n J b)) ≡ cancelled_within n J t b)
-        → list_any (was_cancelled J) (take (cond (not x) (1 + position_or_len (λ b. b == t) (option_map_or (lineage_within n J) p [])) 0) (a ∷ option_map_or (lineage_within n J) p []))
+    before : (x : Bool) (p : Option ℕ) → ((b : ℕ) → list_any (was_cancelled J)
+        (before_first (λ b. b == t) (lineage_within n J b)) ≡ cancelled_within n J t b)
+        → list_any (was_cancelled J)
+        (take (cond (not x) (1 + position_or_len (λ b. b == t) (option_map_or (lineage_within n J) p [])) 0)
+        (a ∷ option_map_or (lineage_within n J) p []))
         ≡ cond x false (was_cancelled J a || option_map_or (cancelled_within n J t) p false)
     before true p up = refl
     before false None up = refl
     before false (Some b) up =
-        ap (λ (k : ℕ). list_any (was_cancelled J) (take k (a ∷ lineage_within n J b))) (one_more (position_or_len (λ c. c == t) (lineage_within n J b)))
+        ap (λ (k : ℕ). list_any (was_cancelled J) (take k (a ∷ lineage_within n J b)))
+        (one_more (position_or_len (λ c. c == t) (lineage_within n J b)))
         ∙ ap (λ (y : Bool). was_cancelled J a || y) (up b)
 
 -- a cancellation stands below t and at or above an action where a cancelled action is met before t

@@ -27,15 +27,20 @@ use Rattle.lra_laws.proofs.AskWords.{asks_listed}
 
 -- what a reply counts for
 abbrev pub repeat_of : ℕ → AskKind → Replied → Option ℕ
-repeat_of p stage r = when ((r.to.member == p) && same_kind (stage_of r.to.kind r.to.direction) stage && is_undecided r.outcome) r.moment
+repeat_of p stage r = when ((r.to.member == p) && same_kind (stage_of r.to.kind r.to.direction) stage
+    && is_undecided r.outcome) r.moment
 
 -- the repeats after one more entry
-pub repeats_push : (J : History) (e : Entry) (p : ℕ) (stage : AskKind) → repeats (J ++ e ∷ []) p stage ≡ repeats J p stage ++ option_to_list (option_map_or (repeat_of p stage) (replied_at (step J e)) None)
+pub repeats_push : (J : History) (e : Entry) (p : ℕ) (stage : AskKind) → repeats (J ++ e ∷ []) p stage
+    ≡ repeats J p stage ++ option_to_list (option_map_or (repeat_of p stage) (replied_at (step J e)) None)
 unfolding repeats
-repeats_push J e p stage = ap (filter_map (repeat_of p stage)) (replies_push J e) ∙ at_end (replies J) (replied_at (step J e))
+repeats_push J e p stage = ap (filter_map (repeat_of p stage)) (replies_push J e)
+    ∙ at_end (replies J) (replied_at (step J e))
   where
-    at_end : (rs : List Replied) (o : Option Replied) → filter_map (repeat_of p stage) (rs ++ option_to_list o) ≡ filter_map (repeat_of p stage) rs ++ option_to_list (option_map_or (repeat_of p stage) o None)
-    at_end rs None = ap (filter_map (repeat_of p stage)) (append-nil rs) ∙ sym (append-nil (filter_map (repeat_of p stage) rs))
+    at_end : (rs : List Replied) (o : Option Replied) → filter_map (repeat_of p stage) (rs ++ option_to_list o)
+        ≡ filter_map (repeat_of p stage) rs ++ option_to_list (option_map_or (repeat_of p stage) o None)
+    at_end rs None = ap (filter_map (repeat_of p stage)) (append-nil rs)
+        ∙ sym (append-nil (filter_map (repeat_of p stage) rs))
     at_end rs (Some r) = read_push (repeat_of p stage) rs r
 
 -- the repeats that a list of moments says
@@ -46,33 +51,49 @@ counted_more : (ms : List ℕ) (m : ℕ) → counted (ms ++ m ∷ []) ≡ again 
 counted_more ms m = λ i. record { count = length-append ms (m ∷ []) i; last = unwrap_or (last_or_push None ms m i) 0 }
 
 -- an entry that isn't a reply of the member
-repeats_still : (J : History) (by m : ℕ) (d : Deed) (p : ℕ) (stage : AskKind) → option_map_or (repeat_of p stage) (replied_at (step J (entry by m d))) None ≡ None → repeats_in (more J by m d) p stage ≡ repeats_in J p stage
-repeats_still J by m d p stage h = ap counted (repeats_push J (entry by m d) p stage ∙ ap (λ (o : Option ℕ). repeats J p stage ++ option_to_list o) h ∙ append-nil (repeats J p stage))
+repeats_still : (J : History) (by m : ℕ) (d : Deed) (p : ℕ) (stage : AskKind)
+    → option_map_or (repeat_of p stage) (replied_at (step J (entry by m d))) None ≡ None
+    → repeats_in (more J by m d) p stage ≡ repeats_in J p stage
+repeats_still J by m d p stage h = ap counted (repeats_push J (entry by m d) p stage
+    ∙ ap (λ (o : Option ℕ). repeats J p stage ++ option_to_list o) h ∙ append-nil (repeats J p stage))
 
 -- a reply of another member
-other_reply : (J : History) (by m n : ℕ) (o : Outcome) (x : Asked) (p : ℕ) (stage : AskKind) → ask_of J n ≡ Some x → (x.member == p) ≡ false → option_map_or (repeat_of p stage) (replied_at (step J (entry by m (Reply n o)))) None ≡ None
+other_reply : (J : History) (by m n : ℕ) (o : Outcome) (x : Asked) (p : ℕ) (stage : AskKind) → ask_of J n ≡ Some x
+    → (x.member == p) ≡ false → option_map_or (repeat_of p stage) (replied_at (step J (entry by m (Reply n o)))) None
+    ≡ None
 other_reply J by m n o x p stage asked e =
-    ap (λ (y : Option Asked). option_map_or (repeat_of p stage) (option_map (λ (a : Asked). record { to = a; outcome = o; moment = m }) y) None) asked
+    ap (λ (y : Option Asked). option_map_or (repeat_of p stage) (option_map
+    (λ (a : Asked). record { to = a; outcome = o; moment = m }) y) None) asked
     ∙ ap (λ (b : Bool). when (b && same_kind (stage_of x.kind x.direction) stage && is_undecided o) m) e
 
 -- one that isn't there has none
-repeats_absent : (v : Version) (t : List ℕ → Bool) (J : History) → is_legal v t J ≡ true → (p : ℕ) → is_among (members J) p ≡ false → (stage : AskKind) → repeats_in J p stage ≡ no_repeats
+repeats_absent : (v : Version) (t : List ℕ → Bool) (J : History) → is_legal v t J ≡ true → (p : ℕ)
+    → is_among (members J) p ≡ false → (stage : AskKind) → repeats_in J p stage ≡ no_repeats
 unfolding steps replies repeats
-repeats_absent v t = legal_induction v t (λ J. (p : ℕ) → is_among (members J) p ≡ false → (stage : AskKind) → repeats_in J p stage ≡ no_repeats) (λ p h stage. refl) push
+repeats_absent v t = legal_induction v t (λ J. (p : ℕ) → is_among (members J) p ≡ false → (stage : AskKind)
+    → repeats_in J p stage ≡ no_repeats) (λ p h stage. refl) push
   where
-    push : (J : History) (e : Entry) → is_legal v t J ≡ true → Allowed v t J e → ((p : ℕ) → is_among (members J) p ≡ false → (stage : AskKind) → repeats_in J p stage ≡ no_repeats)
-        → (p : ℕ) → is_among (members (J ++ e ∷ [])) p ≡ false → (stage : AskKind) → repeats_in (J ++ e ∷ []) p stage ≡ no_repeats
-    push J e l k ih p h stage = repeats_still J e.by e.moment e.deed p stage (none e.deed (told v t J e.by e.moment e.deed k)) ∙ ih p before stage
+    push : (J : History) (e : Entry) → is_legal v t J ≡ true → Allowed v t J e
+        → ((p : ℕ) → is_among (members J) p ≡ false → (stage : AskKind) → repeats_in J p stage ≡ no_repeats)
+        → (p : ℕ) → is_among (members (J ++ e ∷ [])) p ≡ false → (stage : AskKind) → repeats_in (J ++ e ∷ []) p stage
+        ≡ no_repeats
+    push J e l k ih p h stage = repeats_still J e.by e.moment e.deed p stage
+        (none e.deed (told v t J e.by e.moment e.deed k)) ∙ ih p before stage
       where
         before : is_among (members J) p ≡ false
         before = absent_before J e p h
 
-        none : (d : Deed) → Told J e.by d → option_map_or (repeat_of p stage) (replied_at (step J (entry e.by e.moment d))) None ≡ None
-        none (Reply n o) x = other_reply J e.by e.moment n o x.0 p stage x.1.asked (eqb_flip p x.0.member (among_apart (members J) x.0.member p ((asks_listed v t J l).there n x.0 x.1.asked) before))
+        none : (d : Deed) → Told J e.by d → option_map_or (repeat_of p stage)
+            (replied_at (step J (entry e.by e.moment d))) None ≡ None
+        none (Reply n o) x = other_reply J e.by e.moment n o x.0 p stage x.1.asked
+            (eqb_flip p x.0.member (among_apart (members J) x.0.member p ((asks_listed v t J l).there n x.0 x.1.asked)
+            before))
         none _ x = refl
 
 -- a member whose repeats stay
-contact_still : (J : History) (by m : ℕ) (d : Deed) (p : ℕ) → is_among (members J) p ≡ true → ((stage : AskKind) → option_map_or (repeat_of p stage) (replied_at (step J (entry by m d))) None ≡ None) → contact_of (more J by m d) p ≡ contact_of J p
+contact_still : (J : History) (by m : ℕ) (d : Deed) (p : ℕ) → is_among (members J) p ≡ true
+    → ((stage : AskKind) → option_map_or (repeat_of p stage) (replied_at (step J (entry by m d))) None ≡ None)
+    → contact_of (more J by m d) p ≡ contact_of J p
 contact_still J by m d p h still = λ i. record {
   addresses = addresses_stay J (entry by m d) p h i;
   completing = repeats_still J by m d p ask.Complete (still ask.Complete) i;
@@ -82,19 +103,26 @@ contact_still J by m d p h still = λ i. record {
 }
 
 -- no one joins or answers
-pub contacts_still : (J : History) (by m : ℕ) (d : Deed) → joined_by d ≡ None → replied_at (step J (entry by m d)) ≡ None → map (contact_of (more J by m d)) (members (more J by m d)) ≡ map (contact_of J) (members J)
+pub contacts_still : (J : History) (by m : ℕ) (d : Deed) → joined_by d ≡ None → replied_at (step J (entry by m d))
+    ≡ None → map (contact_of (more J by m d)) (members (more J by m d)) ≡ map (contact_of J) (members J)
 contacts_still J by m d no_join no_reply =
     ap (map (contact_of (more J by m d))) (members_stay J by m d no_join)
-    ∙ map_within (contact_of (more J by m d)) (contact_of J) (members J) (λ p h. contact_still J by m d p h (λ stage. ap (λ (o : Option Replied). option_map_or (repeat_of p stage) o None) no_reply))
+    ∙ map_within (contact_of (more J by m d)) (contact_of J) (members J)
+    (λ p h. contact_still J by m d p h
+    (λ stage. ap (λ (o : Option Replied). option_map_or (repeat_of p stage) o None) no_reply))
 
-pub contacts_joined : (v : Version) (t : List ℕ → Bool) (J : History) (by m p a : ℕ) (u : Addresses) → is_legal v t J ≡ true → p ≡ length (members J) + 1
-    → map (contact_of (more J by m (Join p a u))) (members (more J by m (Join p a u))) ≡ map (contact_of J) (members J) ++ new_contact u ∷ []
+pub contacts_joined : (v : Version) (t : List ℕ → Bool) (J : History) (by m p a : ℕ) (u : Addresses) → is_legal v t J
+    ≡ true → p ≡ length (members J) + 1
+    → map (contact_of (more J by m (Join p a u))) (members (more J by m (Join p a u))) ≡ map (contact_of J) (members J)
+    ++ new_contact u ∷ []
 contacts_joined v t J by m p a u l e =
     let K = more J by m (Join p a u) in
     let fresh = numbered_fresh (members J) (members_numbered v t J l) p e in
-    let none : (stage : AskKind) → repeats_in K p stage ≡ no_repeats = λ stage. repeats_still J by m (Join p a u) p stage refl ∙ repeats_absent v t J l p fresh stage in
+    let none : (stage : AskKind) → repeats_in K p stage ≡ no_repeats =
+    λ stage. repeats_still J by m (Join p a u) p stage refl ∙ repeats_absent v t J l p fresh stage in
     let new : contact_of K p ≡ new_contact u = λ i. record {
-      addresses = (addresses_of_new J (entry by m (Join p a u)) p fresh ∙ ap (λ (b : Bool). unwrap_or (when b u) no_addresses) (eqb_self p)) i;
+      addresses = (addresses_of_new J (entry by m (Join p a u)) p fresh
+          ∙ ap (λ (b : Bool). unwrap_or (when b u) no_addresses) (eqb_self p)) i;
       completing = none ask.Complete i;
       compensating = none ask.Compensate i;
       forgetting = none ask.Forget i;
@@ -102,19 +130,26 @@ contacts_joined v t J by m p a u l e =
     } in
     ap (map (contact_of K)) (members_push J (entry by m (Join p a u)))
     ∙ rows_more (contact_of K) (members J) p
-    ∙ (λ i. map_within (contact_of K) (contact_of J) (members J) (λ q h. contact_still J by m (Join p a u) q h (λ stage. refl)) i ++ new i ∷ [])
+    ∙ (λ i. map_within (contact_of K) (contact_of J) (members J) (λ q h. contact_still J by m (Join p a u) q h
+    (λ stage. refl)) i ++ new i ∷ [])
 
 -- the repeats of a member in each stage, where it answers
-repeats_answered : (J : History) (by m n : ℕ) (o : Outcome) (x : Asked) (stage : AskKind) (b : Bool) → ask_of J n ≡ Some x → (same_kind (stage_of x.kind x.direction) stage && is_undecided o) ≡ b
-    → repeats_in (more J by m (Reply n o)) x.member stage ≡ cond b (again m (repeats_in J x.member stage)) (repeats_in J x.member stage)
+repeats_answered : (J : History) (by m n : ℕ) (o : Outcome) (x : Asked) (stage : AskKind) (b : Bool) → ask_of J n
+    ≡ Some x → (same_kind (stage_of x.kind x.direction) stage && is_undecided o) ≡ b
+    → repeats_in (more J by m (Reply n o)) x.member stage ≡ cond b (again m (repeats_in J x.member stage))
+    (repeats_in J x.member stage)
 repeats_answered J by m n o x stage b asked e =
     ap counted (repeats_push J (entry by m (Reply n o)) x.member stage
-    ∙ ap (λ (y : Option Asked). repeats J x.member stage ++ option_to_list (option_map_or (repeat_of x.member stage) (option_map (λ (a : Asked). record { to = a; outcome = o; moment = m }) y) None)) asked
-    ∙ ap (λ (c : Bool). repeats J x.member stage ++ option_to_list (when (c && same_kind (stage_of x.kind x.direction) stage && is_undecided o) m)) (eqb_self x.member)
+    ∙ ap (λ (y : Option Asked). repeats J x.member stage ++ option_to_list
+    (option_map_or (repeat_of x.member stage)
+    (option_map (λ (a : Asked). record { to = a; outcome = o; moment = m }) y) None)) asked
+    ∙ ap (λ (c : Bool). repeats J x.member stage ++ option_to_list (when
+    (c && same_kind (stage_of x.kind x.direction) stage && is_undecided o) m)) (eqb_self x.member)
     ∙ ap (λ (c : Bool). repeats J x.member stage ++ option_to_list (when c m)) e)
     ∙ either b
   where
-    either : (b : Bool) → counted (repeats J x.member stage ++ option_to_list (when b m)) ≡ cond b (again m (repeats_in J x.member stage)) (repeats_in J x.member stage)
+    either : (b : Bool) → counted (repeats J x.member stage ++ option_to_list (when b m))
+        ≡ cond b (again m (repeats_in J x.member stage)) (repeats_in J x.member stage)
     either true = counted_more (repeats J x.member stage) m
     either false = ap counted (append-nil (repeats J x.member stage))
 
@@ -128,10 +163,12 @@ stages_after m more c = record {
   telling = cond (more ask.After) (again m c.telling) c.telling;
 }
 
-answer_is : (m : ℕ) (o : Outcome) (x : Asked) (c : Contact) → stages_after m (λ stage. same_kind (stage_of x.kind x.direction) stage && is_undecided o) c ≡ with_answer m o x c
+answer_is : (m : ℕ) (o : Outcome) (x : Asked) (c : Contact) → stages_after m
+    (λ stage. same_kind (stage_of x.kind x.direction) stage && is_undecided o) c ≡ with_answer m o x c
 answer_is m o x c = of_stage (stage_of x.kind x.direction) (is_undecided o)
   where
-    of_stage : (stage : AskKind) (b : Bool) → stages_after m (λ s. same_kind stage s && b) c ≡ cond b (with_repeat m stage c) c
+    of_stage : (stage : AskKind) (b : Bool) → stages_after m (λ s. same_kind stage s && b) c
+        ≡ cond b (with_repeat m stage c) c
     of_stage ask.Complete true = refl
     of_stage ask.Complete false = refl
     of_stage ask.Compensate true = refl
@@ -143,11 +180,14 @@ answer_is m o x c = of_stage (stage_of x.kind x.direction) (is_undecided o)
     of_stage ask.After true = refl
     of_stage ask.After false = refl
 
-pub contacts_answered : (v : Version) (t : List ℕ → Bool) (J : History) (by m n : ℕ) (o : Outcome) (x : Asked) → is_legal v t J ≡ true → ask_of J n ≡ Some x
-    → map (contact_of (more J by m (Reply n o))) (members (more J by m (Reply n o))) ≡ change_row (with_answer m o x) x.member (map (contact_of J) (members J))
+pub contacts_answered : (v : Version) (t : List ℕ → Bool) (J : History) (by m n : ℕ) (o : Outcome) (x : Asked)
+    → is_legal v t J ≡ true → ask_of J n ≡ Some x
+    → map (contact_of (more J by m (Reply n o))) (members (more J by m (Reply n o)))
+    ≡ change_row (with_answer m o x) x.member (map (contact_of J) (members J))
 contacts_answered v t J by m n o x l asked =
     ap (map (contact_of K)) (members_stay J by m (Reply n o) refl)
-    ∙ rows_changed (with_answer m o x) (contact_of J) (contact_of K) (members J) x.member (members_numbered v t J l) there
+    ∙ rows_changed (with_answer m o x) (contact_of J) (contact_of K) (members J) x.member (members_numbered v t J l)
+    there
     (λ q h e. contact_still J by m (Reply n o) q h (λ stage. other_reply J by m n o x q stage asked e))
     ((λ i. record {
       addresses = addresses_stay J (entry by m (Reply n o)) x.member there i;
@@ -163,5 +203,7 @@ contacts_answered v t J by m n o x l asked =
     there : is_among (members J) x.member ≡ true
     there = (asks_listed v t J l).there n x asked
 
-    here : (stage : AskKind) → repeats_in K x.member stage ≡ cond (same_kind (stage_of x.kind x.direction) stage && is_undecided o) (again m (repeats_in J x.member stage)) (repeats_in J x.member stage)
-    here stage = repeats_answered J by m n o x stage (same_kind (stage_of x.kind x.direction) stage && is_undecided o) asked refl
+    here : (stage : AskKind) → repeats_in K x.member stage ≡ cond (same_kind (stage_of x.kind x.direction) stage
+        && is_undecided o) (again m (repeats_in J x.member stage)) (repeats_in J x.member stage)
+    here stage = repeats_answered J by m n o x stage (same_kind (stage_of x.kind x.direction) stage && is_undecided o)
+        asked refl

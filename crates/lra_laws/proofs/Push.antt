@@ -34,7 +34,8 @@ last_or_push o [] y = refl
 last_or_push o (x ∷ xs) y = last_or_push (Some x) xs y
 
 -- what is read of one more
-pub read_push : {X Y : Type 0} (h : X → Option Y) (xs : List X) (x : X) → filter_map h (xs ++ x ∷ []) ≡ filter_map h xs ++ option_to_list (h x)
+pub read_push : {X Y : Type 0} (h : X → Option Y) (xs : List X) (x : X) → filter_map h (xs ++ x ∷ []) ≡ filter_map h xs
+    ++ option_to_list (h x)
 read_push {Y = Y} h xs x = filter_map-append h xs (x ∷ []) ∙ ap (λ (ys : List Y). filter_map h xs ++ ys) (one (h x))
   where
     one : (o : Option Y) → cons_option o [] ≡ option_to_list o
@@ -42,7 +43,8 @@ read_push {Y = Y} h xs x = filter_map-append h xs (x ∷ []) ∙ ap (λ (ys : Li
     one (Some y) = refl
 
 -- the last that is read is the new one's, if it gives any
-pub last_read_push : {X Y : Type 0} (h : X → Option Y) (xs : List X) (x : X) → last (filter_map h (xs ++ x ∷ [])) ≡ option_or (h x) (last (filter_map h xs))
+pub last_read_push : {X Y : Type 0} (h : X → Option Y) (xs : List X) (x : X) → last (filter_map h (xs ++ x ∷ []))
+    ≡ option_or (h x) (last (filter_map h xs))
 last_read_push {Y = Y} h xs x = ap last (read_push h xs x) ∙ at_end (filter_map h xs) (h x)
   where
     at_end : (ys : List Y) (o : Option Y) → last (ys ++ option_to_list o) ≡ option_or o (last ys)
@@ -50,7 +52,8 @@ last_read_push {Y = Y} h xs x = ap last (read_push h xs x) ∙ at_end (filter_ma
     at_end ys (Some y) = last_or_push None ys y
 
 -- the first that is read stays, if there was any
-pub first_read_push : {X Y : Type 0} (h : X → Option Y) (xs : List X) (x : X) → first (filter_map h (xs ++ x ∷ [])) ≡ option_or (first (filter_map h xs)) (h x)
+pub first_read_push : {X Y : Type 0} (h : X → Option Y) (xs : List X) (x : X) → first (filter_map h (xs ++ x ∷ []))
+    ≡ option_or (first (filter_map h xs)) (h x)
 first_read_push {Y = Y} h xs x = ap first (read_push h xs x) ∙ at_end (filter_map h xs) (h x)
   where
     at_end : (ys : List Y) (o : Option Y) → first (ys ++ option_to_list o) ≡ option_or (first ys) o
@@ -61,7 +64,8 @@ first_read_push {Y = Y} h xs x = ap first (read_push h xs x) ∙ at_end (filter_
 pub any_push : {X : Type 0} (p : X → Bool) (xs : List X) (x : X) → list_any p (xs ++ x ∷ []) ≡ (list_any p xs || p x)
 any_push p xs x = list_any-append p xs (x ∷ []) ∙ ap (λ (b : Bool). list_any p xs || b) (or-false (p x))
 
-pub find_push : {X : Type 0} (p : X → Bool) (xs : List X) (x : X) → find p (xs ++ x ∷ []) ≡ option_or (find p xs) (when (p x) x)
+pub find_push : {X : Type 0} (p : X → Bool) (xs : List X) (x : X) → find p (xs ++ x ∷ [])
+    ≡ option_or (find p xs) (when (p x) x)
 find_push {X = X} p xs x = find-append p xs (x ∷ []) ∙ ap (λ (o : Option X). option_or (find p xs) o) (one (p x))
   where
     one : (b : Bool) → cond b (Some x) None ≡ when b x
@@ -74,10 +78,12 @@ find_push {X = X} p xs x = find-append p xs (x ∷ []) ∙ ap (λ (o : Option X)
 abbrev pub step : History → Entry → Step
 step J e = record { past = J; entry = e }
 
-steps_after_push : (past es : History) (e : Entry) → steps_after past (es ++ e ∷ []) ≡ steps_after past es ++ step (past ++ es) e ∷ []
+steps_after_push : (past es : History) (e : Entry) → steps_after past (es ++ e ∷ []) ≡ steps_after past es
+    ++ step (past ++ es) e ∷ []
 steps_after_push past [] e = ap (λ (J : History). step J e ∷ []) (sym (append-nil past))
 steps_after_push past (x ∷ es) e =
-    ap (λ (ss : List Step). step past x ∷ ss) (steps_after_push (past ++ x ∷ []) es e ∙ ap (λ (J : History). steps_after (past ++ x ∷ []) es ++ step J e ∷ []) (append_assoc past (x ∷ []) es))
+    ap (λ (ss : List Step). step past x ∷ ss) (steps_after_push (past ++ x ∷ []) es e
+    ∙ ap (λ (J : History). steps_after (past ++ x ∷ []) es ++ step J e ∷ []) (append_assoc past (x ∷ []) es))
 
 pub steps_push : (J : History) (e : Entry) → steps (J ++ e ∷ []) ≡ steps J ++ step J e ∷ []
 unfolding steps
@@ -101,113 +107,153 @@ asks_push J e = read_push (λ (x : Entry). asked_by x.deed) J e
 
 pub last_moment_push : (J : History) (e : Entry) → last_moment (J ++ e ∷ []) ≡ e.moment
 unfolding last_moment
-last_moment_push J e = ap (λ (ms : List ℕ). unwrap_or (last ms) 0) (map-append (λ (x : Entry). x.moment) J (e ∷ [])) ∙ ap (λ (o : Option ℕ). unwrap_or o 0) (last_or_push None (map (λ (x : Entry). x.moment) J) e.moment)
+last_moment_push J e = ap (λ (ms : List ℕ). unwrap_or (last ms) 0) (map-append (λ (x : Entry). x.moment) J (e ∷ []))
+    ∙ ap (λ (o : Option ℕ). unwrap_or o 0) (last_or_push None (map (λ (x : Entry). x.moment) J) e.moment)
 
 -- ---- actions
 
-pub action_status_push : (J : History) (e : Entry) (a : ℕ) → action_status (J ++ e ∷ []) a ≡ option_or (status_given a e.deed) (action_status J a)
+pub action_status_push : (J : History) (e : Entry) (a : ℕ) → action_status (J ++ e ∷ []) a
+    ≡ option_or (status_given a e.deed) (action_status J a)
 unfolding action_status
 action_status_push J e a = last_read_push (λ (x : Entry). status_given a x.deed) J e
 
-pub parent_push : (J : History) (e : Entry) (a : ℕ) → parent (J ++ e ∷ []) a ≡ unwrap_or (option_or (first (read_deeds (parent_given a) J)) (parent_given a e.deed)) None
+pub parent_push : (J : History) (e : Entry) (a : ℕ) → parent (J ++ e ∷ []) a
+    ≡ unwrap_or (option_or (first (read_deeds (parent_given a) J)) (parent_given a e.deed)) None
 unfolding parent
-parent_push J e a = ap (λ (o : Option (Option ℕ)). unwrap_or o None) (first_read_push (λ (x : Entry). parent_given a x.deed) J e)
+parent_push J e a = ap (λ (o : Option (Option ℕ)). unwrap_or o None) (first_read_push
+    (λ (x : Entry). parent_given a x.deed) J e)
 
-pub limit_push : (J : History) (e : Entry) (a : ℕ) → limit_in_force (J ++ e ∷ []) a ≡ unwrap_or (limit_given a e) (limit_in_force J a)
+pub limit_push : (J : History) (e : Entry) (a : ℕ) → limit_in_force (J ++ e ∷ []) a
+    ≡ unwrap_or (limit_given a e) (limit_in_force J a)
 unfolding limit_in_force
-limit_push J e a = ap (λ (o : Option Limit). unwrap_or o (record { length_of = 0; since = 0 })) (last_read_push (limit_given a) J e) ∙ unwrap_either (limit_given a e) (last (filter_map (limit_given a) J)) (record { length_of = 0; since = 0 })
+limit_push J e a = ap (λ (o : Option Limit). unwrap_or o (record { length_of = 0; since = 0 }))
+    (last_read_push (limit_given a) J e) ∙ unwrap_either (limit_given a e) (last (filter_map (limit_given a) J))
+    (record { length_of = 0; since = 0 })
 
-pub children_push : (J : History) (e : Entry) (a : ℕ) → children (J ++ e ∷ []) a ≡ children J a ++ option_to_list (child_given a e.deed)
+pub children_push : (J : History) (e : Entry) (a : ℕ) → children (J ++ e ∷ []) a ≡ children J a
+    ++ option_to_list (child_given a e.deed)
 unfolding children
 children_push J e a = read_push (λ (x : Entry). child_given a x.deed) J e
 
-pub members_of_push : (J : History) (e : Entry) (a : ℕ) → members_of (J ++ e ∷ []) a ≡ members_of J a ++ option_to_list (member_given a e.deed)
+pub members_of_push : (J : History) (e : Entry) (a : ℕ) → members_of (J ++ e ∷ []) a ≡ members_of J a
+    ++ option_to_list (member_given a e.deed)
 unfolding members_of
 members_of_push J e a = read_push (λ (x : Entry). member_given a x.deed) J e
 
-pub was_cancelled_push : (J : History) (e : Entry) (a : ℕ) → was_cancelled (J ++ e ∷ []) a ≡ (was_cancelled J a || is_cancel_of a e.deed)
+pub was_cancelled_push : (J : History) (e : Entry) (a : ℕ) → was_cancelled (J ++ e ∷ []) a
+    ≡ (was_cancelled J a || is_cancel_of a e.deed)
 unfolding was_cancelled
 was_cancelled_push J e a = any_push (λ (x : Entry). is_cancel_of a x.deed) J e
 
 -- ---- members
 
-pub action_of_push : (J : History) (e : Entry) (p : ℕ) → action_of (J ++ e ∷ []) p ≡ unwrap_or (option_or (first (read_deeds (action_given p) J)) (action_given p e.deed)) 0
+pub action_of_push : (J : History) (e : Entry) (p : ℕ) → action_of (J ++ e ∷ []) p
+    ≡ unwrap_or (option_or (first (read_deeds (action_given p) J)) (action_given p e.deed)) 0
 unfolding action_of
 action_of_push J e p = ap (λ (o : Option ℕ). unwrap_or o 0) (first_read_push (λ (x : Entry). action_given p x.deed) J e)
 
-pub addresses_of_push : (J : History) (e : Entry) (p : ℕ) → addresses_of (J ++ e ∷ []) p ≡ unwrap_or (option_or (first (read_deeds (addresses_given p) J)) (addresses_given p e.deed)) no_addresses
+pub addresses_of_push : (J : History) (e : Entry) (p : ℕ) → addresses_of (J ++ e ∷ []) p
+    ≡ unwrap_or (option_or (first (read_deeds (addresses_given p) J)) (addresses_given p e.deed)) no_addresses
 unfolding addresses_of
-addresses_of_push J e p = ap (λ (o : Option Addresses). unwrap_or o no_addresses) (first_read_push (λ (x : Entry). addresses_given p x.deed) J e)
+addresses_of_push J e p = ap (λ (o : Option Addresses). unwrap_or o no_addresses)
+    (first_read_push (λ (x : Entry). addresses_given p x.deed) J e)
 
-pub has_left_push : (J : History) (e : Entry) (p : ℕ) → has_left (J ++ e ∷ []) p ≡ (has_left J p || is_leave_of p e.deed)
+pub has_left_push : (J : History) (e : Entry) (p : ℕ) → has_left (J ++ e ∷ []) p
+    ≡ (has_left J p || is_leave_of p e.deed)
 unfolding has_left
 has_left_push J e p = any_push (λ (x : Entry). is_leave_of p x.deed) J e
 
-pub was_asked_push : (J : History) (e : Entry) (p : ℕ) (kind : AskKind) → was_asked (J ++ e ∷ []) p kind ≡ (was_asked J p kind || is_ask_for p kind e.deed)
+pub was_asked_push : (J : History) (e : Entry) (p : ℕ) (kind : AskKind) → was_asked (J ++ e ∷ []) p kind
+    ≡ (was_asked J p kind || is_ask_for p kind e.deed)
 unfolding was_asked
 was_asked_push J e p kind = any_push (λ (x : Entry). is_ask_for p kind x.deed) J e
 
-pub ask_of_push : (J : History) (e : Entry) (n : ℕ) → ask_of (J ++ e ∷ []) n ≡ option_or (ask_of J n) (option_map_or (λ (a : Asked). when (a.number == n) a) (asked_at (step J e)) None)
+pub ask_of_push : (J : History) (e : Entry) (n : ℕ) → ask_of (J ++ e ∷ []) n
+    ≡ option_or (ask_of J n) (option_map_or (λ (a : Asked). when (a.number == n) a) (asked_at (step J e)) None)
 unfolding ask_of
 ask_of_push J e n =
     ap (λ (ss : List Step). find (λ (a : Asked). a.number == n) (filter_map asked_at ss)) (steps_push J e)
     ∙ ap (find (λ (a : Asked). a.number == n)) (read_push asked_at (steps J) (step J e))
     ∙ at_end (filter_map asked_at (steps J)) (asked_at (step J e))
   where
-    at_end : (xs : List Asked) (o : Option Asked) → find (λ (a : Asked). a.number == n) (xs ++ option_to_list o) ≡ option_or (find (λ (a : Asked). a.number == n) xs) (option_map_or (λ (a : Asked). when (a.number == n) a) o None)
-    at_end xs None = ap (find (λ (a : Asked). a.number == n)) (append-nil xs) ∙ sym (or_none (find (λ (a : Asked). a.number == n) xs))
+    at_end : (xs : List Asked) (o : Option Asked) → find (λ (a : Asked). a.number == n) (xs ++ option_to_list o)
+        ≡ option_or (find (λ (a : Asked). a.number == n) xs) (option_map_or (λ (a : Asked). when (a.number == n) a) o
+        None)
+    at_end xs None = ap (find (λ (a : Asked). a.number == n)) (append-nil xs)
+        ∙ sym (or_none (find (λ (a : Asked). a.number == n) xs))
     at_end xs (Some x) = find_push (λ (a : Asked). a.number == n) xs x
 
-pub replies_push : (J : History) (e : Entry) → replies (J ++ e ∷ []) ≡ replies J ++ option_to_list (replied_at (step J e))
+pub replies_push : (J : History) (e : Entry) → replies (J ++ e ∷ []) ≡ replies J
+    ++ option_to_list (replied_at (step J e))
 unfolding replies
 replies_push J e = ap (filter_map replied_at) (steps_push J e) ∙ read_push replied_at (steps J) (step J e)
 
 -- the first decisive word stays
-pub decided_push : (J : History) (e : Entry) (p : ℕ) (d : Direction) → decided (J ++ e ∷ []) p d ≡ option_or (decided J p d) (option_map_or (λ (h : Heard). when (decides p d h) h.outcome) (heard_at (step J e)) None)
+pub decided_push : (J : History) (e : Entry) (p : ℕ) (d : Direction) → decided (J ++ e ∷ []) p d
+    ≡ option_or (decided J p d) (option_map_or (λ (h : Heard). when (decides p d h) h.outcome) (heard_at (step J e))
+    None)
 unfolding decided
 decided_push J e p d =
-    ap (λ (ss : List Step). option_map (λ (h : Heard). h.outcome) (find (decides p d) (filter_map heard_at ss))) (steps_push J e)
-    ∙ ap (λ (hs : List Heard). option_map (λ (h : Heard). h.outcome) (find (decides p d) hs)) (read_push heard_at (steps J) (step J e))
+    ap (λ (ss : List Step). option_map (λ (h : Heard). h.outcome) (find (decides p d) (filter_map heard_at ss)))
+    (steps_push J e)
+    ∙ ap (λ (hs : List Heard). option_map (λ (h : Heard). h.outcome) (find (decides p d) hs))
+    (read_push heard_at (steps J) (step J e))
     ∙ at_end (filter_map heard_at (steps J)) (heard_at (step J e))
   where
-    mapped : (o : Option Heard) (b : Bool) (x : Heard) → option_map (λ (h : Heard). h.outcome) (option_or o (when b x)) ≡ option_or (option_map (λ (h : Heard). h.outcome) o) (when b x.outcome)
+    mapped : (o : Option Heard) (b : Bool) (x : Heard) → option_map (λ (h : Heard). h.outcome) (option_or o (when b x))
+        ≡ option_or (option_map (λ (h : Heard). h.outcome) o) (when b x.outcome)
     mapped (Some y) b x = refl
     mapped None true x = refl
     mapped None false x = refl
 
-    at_end : (hs : List Heard) (o : Option Heard) → option_map (λ (h : Heard). h.outcome) (find (decides p d) (hs ++ option_to_list o)) ≡ option_or (option_map (λ (h : Heard). h.outcome) (find (decides p d) hs)) (option_map_or (λ (h : Heard). when (decides p d h) h.outcome) o None)
-    at_end hs None = ap (λ (ys : List Heard). option_map (λ (h : Heard). h.outcome) (find (decides p d) ys)) (append-nil hs) ∙ sym (or_none (option_map (λ (h : Heard). h.outcome) (find (decides p d) hs)))
-    at_end hs (Some x) = ap (option_map (λ (h : Heard). h.outcome)) (find_push (decides p d) hs x) ∙ mapped (find (decides p d) hs) (decides p d x) x
+    at_end : (hs : List Heard) (o : Option Heard) → option_map (λ (h : Heard). h.outcome)
+        (find (decides p d) (hs ++ option_to_list o)) ≡ option_or (option_map (λ (h : Heard). h.outcome)
+        (find (decides p d) hs)) (option_map_or (λ (h : Heard). when (decides p d h) h.outcome) o None)
+    at_end hs None = ap (λ (ys : List Heard). option_map (λ (h : Heard). h.outcome) (find (decides p d) ys))
+        (append-nil hs) ∙ sym (or_none (option_map (λ (h : Heard). h.outcome) (find (decides p d) hs)))
+    at_end hs (Some x) = ap (option_map (λ (h : Heard). h.outcome)) (find_push (decides p d) hs x)
+        ∙ mapped (find (decides p d) hs) (decides p d x) x
 
 -- the last reply of a direction is the new one, if it is of it
 pub last_reply_push : (J : History) (e : Entry) (p : ℕ) (d : Direction)
-    → last_reply (J ++ e ∷ []) p d ≡ option_or (option_map_or (λ (r : Replied). when ((r.to.member == p) && same_direction r.to.direction d) r.outcome) (replied_at (step J e)) None) (last_reply J p d)
+    → last_reply (J ++ e ∷ []) p d
+    ≡ option_or (option_map_or (λ (r : Replied). when ((r.to.member == p) && same_direction r.to.direction d)
+    r.outcome) (replied_at (step J e)) None) (last_reply J p d)
 unfolding last_reply
-last_reply_push J e p d = ap (λ (rs : List Replied). last (filter_map reads rs)) (replies_push J e) ∙ at_end (replies J) (replied_at (step J e))
+last_reply_push J e p d = ap (λ (rs : List Replied). last (filter_map reads rs)) (replies_push J e)
+    ∙ at_end (replies J) (replied_at (step J e))
   where
     reads : Replied → Option Outcome
     reads r = when ((r.to.member == p) && same_direction r.to.direction d) r.outcome
 
-    at_end : (rs : List Replied) (o : Option Replied) → last (filter_map reads (rs ++ option_to_list o)) ≡ option_or (option_map_or reads o None) (last (filter_map reads rs))
+    at_end : (rs : List Replied) (o : Option Replied) → last (filter_map reads (rs ++ option_to_list o))
+        ≡ option_or (option_map_or reads o None) (last (filter_map reads rs))
     at_end rs None = ap (λ (xs : List Replied). last (filter_map reads xs)) (append-nil rs)
     at_end rs (Some r) = last_read_push reads rs r
 
 pub was_answered_push : (J : History) (e : Entry) (p : ℕ) (kind : AskKind)
-    → was_answered (J ++ e ∷ []) p kind ≡ (was_answered J p kind || option_map_or (λ (r : Replied). (r.to.member == p) && same_kind r.to.kind kind && is_done r.outcome) (replied_at (step J e)) false)
+    → was_answered (J ++ e ∷ []) p kind ≡ (was_answered J p kind || option_map_or
+    (λ (r : Replied). (r.to.member == p) && same_kind r.to.kind kind && is_done r.outcome) (replied_at (step J e))
+    false)
 unfolding was_answered
 was_answered_push J e p kind = ap (list_any test) (replies_push J e) ∙ at_end (replies J) (replied_at (step J e))
   where
     test : Replied → Bool
     test r = (r.to.member == p) && same_kind r.to.kind kind && is_done r.outcome
 
-    at_end : (rs : List Replied) (o : Option Replied) → list_any test (rs ++ option_to_list o) ≡ (list_any test rs || option_map_or test o false)
+    at_end : (rs : List Replied) (o : Option Replied) → list_any test (rs ++ option_to_list o)
+        ≡ (list_any test rs || option_map_or test o false)
     at_end rs None = ap (list_any test) (append-nil rs) ∙ sym (or-false (list_any test rs))
     at_end rs (Some r) = any_push test rs r
 
-pub is_outstanding_push : (J : History) (e : Entry) (n : ℕ) → is_outstanding (J ++ e ∷ []) n ≡ unwrap_or (standing_given n e.deed) (is_outstanding J n)
+pub is_outstanding_push : (J : History) (e : Entry) (n : ℕ) → is_outstanding (J ++ e ∷ []) n
+    ≡ unwrap_or (standing_given n e.deed) (is_outstanding J n)
 unfolding is_outstanding
-is_outstanding_push J e n = ap (λ (o : Option Bool). unwrap_or o false) (last_read_push (λ (x : Entry). standing_given n x.deed) J e) ∙ unwrap_either (standing_given n e.deed) (last (read_deeds (standing_given n) J)) false
+is_outstanding_push J e n = ap (λ (o : Option Bool). unwrap_or o false)
+    (last_read_push (λ (x : Entry). standing_given n x.deed) J e) ∙ unwrap_either (standing_given n e.deed)
+    (last (read_deeds (standing_given n) J)) false
 
 -- the asks of a member
-pub asks_to_push : (J : History) (e : Entry) (p : ℕ) → read_deeds (ask_given p) (J ++ e ∷ []) ≡ read_deeds (ask_given p) J ++ option_to_list (ask_given p e.deed)
+pub asks_to_push : (J : History) (e : Entry) (p : ℕ) → read_deeds (ask_given p) (J ++ e ∷ [])
+    ≡ read_deeds (ask_given p) J ++ option_to_list (ask_given p e.deed)
 asks_to_push J e p = read_push (λ (x : Entry). ask_given p x.deed) J e

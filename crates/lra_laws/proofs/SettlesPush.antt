@@ -44,7 +44,8 @@ not_first n ns m h e = eqb-false n m (neither (n == m) (is_among ns m) h).0 (sym
 not_rest : (n : ℕ) (ns : List ℕ) (m : ℕ) → is_among (n ∷ ns) m ≡ false → is_among ns m ≡ false
 not_rest n ns m h = (neither (n == m) (is_among ns m) h).1
 
-not_before : (ns ms : List ℕ) (m : ℕ) → is_among (ns ++ ms) m ≡ false → (is_among ns m ≡ false) × (is_among ms m ≡ false)
+not_before : (ns ms : List ℕ) (m : ℕ) → is_among (ns ++ ms) m ≡ false → (is_among ns m ≡ false)
+    × (is_among ms m ≡ false)
 not_before [] ms m h = (refl, h)
 not_before (n ∷ ns) ms m h =
     let rest = not_before ns ms m (not_rest n (ns ++ ms) m h) in
@@ -60,14 +61,16 @@ not_listed (Some b) n m h e k = let g : b ≡ n = cc in not_first b [] m h (k �
 -- ---- rows of a history
 
 module _ (v : Version) (t : List ℕ → Bool) (J : History) (l : is_legal v t J ≡ true) where
-  member_is : (p : ℕ) (r : MemberRow) → row_at (map (member_row J) (members J)) p ≡ Some r → (is_among (members J) p ≡ true) × (r ≡ member_row J p)
+  member_is : (p : ℕ) (r : MemberRow) → row_at (map (member_row J) (members J)) p ≡ Some r
+      → (is_among (members J) p ≡ true) × (r ≡ member_row J p)
   member_is p r e = known (is_among (members J) p) refl
     where
       known : (b : Bool) → is_among (members J) p ≡ b → (is_among (members J) p ≡ true) × (r ≡ member_row J p)
       known true g = let there = row_there (member_row J) (members J) p (members_numbered v t J l) g in (g, cc)
       known false g = let absent = row_absent (member_row J) (members J) p (members_numbered v t J l) g in absurd cc
 
-  action_is : (a : ℕ) (r : ActionRow) → row_at (map (action_row J) (actions J)) a ≡ Some r → (is_among (actions J) a ≡ true) × (r ≡ action_row J a)
+  action_is : (a : ℕ) (r : ActionRow) → row_at (map (action_row J) (actions J)) a ≡ Some r
+      → (is_among (actions J) a ≡ true) × (r ≡ action_row J a)
   action_is a r e = known (is_among (actions J) a) refl
     where
       known : (b : Bool) → is_among (actions J) a ≡ b → (is_among (actions J) a ≡ true) × (r ≡ action_row J a)
@@ -75,19 +78,25 @@ module _ (v : Version) (t : List ℕ → Bool) (J : History) (l : is_legal v t J
       known false g = let absent = row_absent (action_row J) (actions J) a (actions_numbered v t J l) g in absurd cc
 
   -- the members of an action
-  not_of : (a p : ℕ) (r : MemberRow) → row_at (map (member_row J) (members J)) p ≡ Some r → is_among (members_of J a) p ≡ false → r.action ≢ a
+  not_of : (a p : ℕ) (r : MemberRow) → row_at (map (member_row J) (members J)) p ≡ Some r → is_among (members_of J a) p
+      ≡ false → r.action ≢ a
   not_of a p r e g h =
       let is = member_is p r e in
-      let test : (action_of J p == a) ≡ true = eq-eqb (action_of J p) a (ap (λ (x : MemberRow). x.action) (sym is.1) ∙ h) in
-      let both : is_among (members_of J a) p ≡ true = ap (λ (ns : List ℕ). is_among ns p) (members_by v t J l a) ∙ among_filter (λ q. action_of J q == a) (members J) p ∙ ap (λ (b : Bool). b && (action_of J p == a)) is.0 ∙ test in
+      let test : (action_of J p == a) ≡ true = eq-eqb (action_of J p) a
+      (ap (λ (x : MemberRow). x.action) (sym is.1) ∙ h) in
+      let both : is_among (members_of J a) p ≡ true = ap (λ (ns : List ℕ). is_among ns p) (members_by v t J l a)
+      ∙ among_filter (λ q. action_of J q == a) (members J) p ∙ ap (λ (b : Bool). b && (action_of J p == a)) is.0
+      ∙ test in
       absurd cc
 
   -- the actions nested in an action
-  not_in : (a x : ℕ) (r : ActionRow) (b : ℕ) → row_at (map (action_row J) (actions J)) x ≡ Some r → is_among (children J a) x ≡ false → r.parent ≡ Some b → b ≢ a
+  not_in : (a x : ℕ) (r : ActionRow) (b : ℕ) → row_at (map (action_row J) (actions J)) x ≡ Some r
+      → is_among (children J a) x ≡ false → r.parent ≡ Some b → b ≢ a
   not_in a x r b e g h k =
       let is = action_is x r e in
       let up : parent J x ≡ Some b = ap (λ (y : ActionRow). y.parent) (sym is.1) ∙ h in
-      let child : is_among (children J a) x ≡ true = children_lem v t J l a x ∙ ap (λ (o : Option ℕ). option_map_or (λ b. b == a) o false) up ∙ eq-eqb b a k in
+      let child : is_among (children J a) x ≡ true = children_lem v t J l a x
+      ∙ ap (λ (o : Option ℕ). option_map_or (λ b. b == a) o false) up ∙ eq-eqb b a k in
       absurd cc
 
   -- the state at a moment
@@ -98,23 +107,29 @@ module _ (v : Version) (t : List ℕ → Bool) (J : History) (l : is_legal v t J
   moved m u ps xs h = Stays-trans (state_of J) (at m) u ps xs (rows_stay (state_of J) (at m) ps xs refl refl) h
 
   -- an action's status changes
-  around_stays : (now : ActionStatus) (a m : ℕ) → Stays (state_of J) (change_status now a (at m)) (members_of J a) (around J a)
+  around_stays : (now : ActionStatus) (a m : ℕ) → Stays (state_of J) (change_status now a (at m)) (members_of J a)
+      (around J a)
   around_stays now a m =
       moved m (change_status now a (at m)) (members_of J a) (around J a)
       (status_stays now a (at m) (members_of J a) (around J a)
       (λ p r e g. not_of a p r e g)
       (λ x g. not_first a (option_to_list (parent J a) ++ children J a) x g)
       (λ x r b e g h. not_in a x r b e (others x g).1 h)
-      (λ r b e h x g. not_listed (parent J a) b x (others x g).0 (ap (λ (y : ActionRow). y.parent) (sym (action_is a r e).1) ∙ h)))
+      (λ r b e h x g. not_listed (parent J a) b x (others x g).0 (ap (λ (y : ActionRow). y.parent)
+      (sym (action_is a r e).1) ∙ h)))
     where
-      others : (x : ℕ) → is_among (around J a) x ≡ false → (is_among (option_to_list (parent J a)) x ≡ false) × (is_among (children J a) x ≡ false)
-      others x g = not_before (option_to_list (parent J a)) (children J a) x (not_rest a (option_to_list (parent J a) ++ children J a) x g)
+      others : (x : ℕ) → is_among (around J a) x ≡ false → (is_among (option_to_list (parent J a)) x ≡ false)
+          × (is_among (children J a) x ≡ false)
+      others x g = not_before (option_to_list (parent J a)) (children J a) x
+          (not_rest a (option_to_list (parent J a) ++ children J a) x g)
 
   -- a member's row changes
-  one_stays : (f : MemberRow → MemberRow) (p m asked : ℕ) → Stays (state_of J) (change_member f p (record (at m) { asks = asked })) (p ∷ []) (action_of J p ∷ [])
+  one_stays : (f : MemberRow → MemberRow) (p m asked : ℕ) → Stays (state_of J)
+      (change_member f p (record (at m) { asks = asked })) (p ∷ []) (action_of J p ∷ [])
   one_stays f p m asked =
       let s : State = record (at m) { asks = asked } in
-      Stays-trans (state_of J) s (change_member f p s) (p ∷ []) (action_of J p ∷ []) (rows_stay (state_of J) s (p ∷ []) (action_of J p ∷ []) refl refl)
+      Stays-trans (state_of J) s (change_member f p s) (p ∷ []) (action_of J p ∷ [])
+      (rows_stay (state_of J) s (p ∷ []) (action_of J p ∷ []) refl refl)
       (member_stays f p s (p ∷ []) (action_of J p ∷ []) (λ q g. not_first p [] q g)
       (λ r e a g h. not_first (action_of J p) [] a g (h ∙ ap (λ (x : MemberRow). x.action) (member_is p r e).1)))
 
@@ -125,7 +140,8 @@ module _ (v : Version) (t : List ℕ → Bool) (J : History) (l : is_legal v t J
   new_member_number p e = let size = length-map (members J) (member_row J) in omega arith
 
   -- an action starts
-  started_stays : (m c : ℕ) (above : Option ℕ) (limit : ℕ) → StartTold J c above → Stays (state_of J) (after_deed m (Start c above limit) (at m)) [] (c ∷ option_to_list above)
+  started_stays : (m c : ℕ) (above : Option ℕ) (limit : ℕ) → StartTold J c above
+      → Stays (state_of J) (after_deed m (Start c above limit) (at m)) [] (c ∷ option_to_list above)
   started_stays m c above limit x =
       moved m (after_deed m (Start c above limit) (at m)) [] (c ∷ option_to_list above)
       (start_stays (new_action c above (new_top (at m) c above) limit m) above (at m) [] (c ∷ option_to_list above)
@@ -144,19 +160,28 @@ module _ (v : Version) (t : List ℕ → Bool) (J : History) (l : is_legal v t J
           absurd cc
 
   -- a member joins
-  joined_stays : (m p a : ℕ) (uris : Addresses) → JoinTold J p a → Stays (state_of J) (after_deed m (Join p a uris) (at m)) (p ∷ []) (a ∷ [])
+  joined_stays : (m p a : ℕ) (uris : Addresses) → JoinTold J p a → Stays (state_of J)
+      (after_deed m (Join p a uris) (at m)) (p ∷ []) (a ∷ [])
   joined_stays m p a uris x =
       moved m (after_deed m (Join p a uris) (at m)) (p ∷ []) (a ∷ [])
-      (join_stays (new_member a uris) a (at m) (p ∷ []) (a ∷ []) (λ q g h. not_first p [] q g (h ∙ new_member_number p x.number)) (λ b g. not_first a [] b g))
+      (join_stays (new_member a uris) a (at m) (p ∷ []) (a ∷ []) (λ q g h. not_first p [] q g
+      (h ∙ new_member_number p x.number)) (λ b g. not_first a [] b g))
 
   -- a member answers
-  replied_stays : (m n : ℕ) (o : Outcome) (x : Asked) → ask_of J n ≡ Some x → Stays (state_of J) (state_after m (asks_made J) (Reply n o) (at m)) (members_concerned J (Reply n o)) (actions_concerned J (Reply n o))
+  replied_stays : (m n : ℕ) (o : Outcome) (x : Asked) → ask_of J n ≡ Some x
+      → Stays (state_of J) (state_after m (asks_made J) (Reply n o) (at m)) (members_concerned J (Reply n o))
+      (actions_concerned J (Reply n o))
   replied_stays m n o x e =
-      subst (λ (q : Option Asked). Stays (state_of J) (option_map_or (λ (y : Asked). change_member (with_reply o) y.member (at m)) q (at m)) (members_concerned J (Reply n o)) (actions_concerned J (Reply n o))) (sym (ask_at v t J l n ∙ e))
-      (subst (λ (q : Option Asked). Stays (state_of J) (change_member (with_reply o) x.member (at m)) (option_map_or (λ (y : Asked). y.member ∷ []) q []) (option_map_or (λ (y : Asked). action_of J y.member ∷ []) q [])) (sym e)
+      subst (λ (q : Option Asked). Stays (state_of J)
+      (option_map_or (λ (y : Asked). change_member (with_reply o) y.member (at m)) q (at m))
+      (members_concerned J (Reply n o)) (actions_concerned J (Reply n o))) (sym (ask_at v t J l n ∙ e))
+      (subst (λ (q : Option Asked). Stays (state_of J) (change_member (with_reply o) x.member (at m))
+      (option_map_or (λ (y : Asked). y.member ∷ []) q []) (option_map_or (λ (y : Asked). action_of J y.member ∷ [])
+      q [])) (sym e)
       (one_stays (with_reply o) x.member m (length (asks J))))
 
-  after_stays : (by m : ℕ) (d : Deed) → Told J by d → Stays (state_of J) (state_after m (asks_made J) d (at m)) (members_concerned J d) (actions_concerned J d)
+  after_stays : (by m : ℕ) (d : Deed) → Told J by d → Stays (state_of J) (state_after m (asks_made J) d (at m))
+      (members_concerned J d) (actions_concerned J d)
   after_stays by m Enrol x = rows_stay (state_of J) (after_deed m Enrol (at m)) [] [] refl refl
   after_stays by m (Start c above limit) x = started_stays m c above limit x
   after_stays by m (Join p a uris) x = joined_stays m p a uris x
@@ -169,32 +194,41 @@ module _ (v : Version) (t : List ℕ → Bool) (J : History) (l : is_legal v t J
   after_stays by m (Report p o) x = one_stays (with_report o) p m (length (asks J))
   after_stays by m (End a status) x = around_stays status a m
   after_stays by m Restart x = rows_stay (state_of J) (after_deed m Restart (at m)) [] [] refl refl
-  after_stays by m (Renew a limit) x = moved m (after_deed m (Renew a limit) (at m)) [] [] (limit_stays (λ (r : ActionRow). record r { limit = record { length_of = limit; since = m } }) a (at m) [] [] (λ r. refl) (λ r. refl))
+  after_stays by m (Renew a limit) x = moved m (after_deed m (Renew a limit) (at m)) [] []
+      (limit_stays (λ (r : ActionRow). record r { limit = record { length_of = limit; since = m } }) a (at m) [] []
+      (λ r. refl) (λ r. refl))
 
 -- what a deed may change is all that it concerns
-pub settles_push : (v : Version) (t : List ℕ → Bool) (J : History) (e : Entry) → is_legal v t J ≡ true → allows v t J e ≡ true → Stays (state_of J) (state_of (J ++ e ∷ [])) (members_concerned J e.deed) (actions_concerned J e.deed)
+pub settles_push : (v : Version) (t : List ℕ → Bool) (J : History) (e : Entry) → is_legal v t J ≡ true → allows v t J e
+    ≡ true → Stays (state_of J) (state_of (J ++ e ∷ [])) (members_concerned J e.deed) (actions_concerned J e.deed)
 settles_push v t J e l k =
-    subst (λ (s : State). Stays (state_of J) s (members_concerned J e.deed) (actions_concerned J e.deed)) (ap (λ (s : Sheet). s.state) (sym (sheet_push v t J e l k)))
+    subst (λ (s : State). Stays (state_of J) s (members_concerned J e.deed) (actions_concerned J e.deed))
+    (ap (λ (s : Sheet). s.state) (sym (sheet_push v t J e l k)))
     (after_stays v t J l e.by e.moment e.deed (told v t J e.by e.moment e.deed (allowed v t J e k)))
 
 -- ---- what a deed concerns, before and after it
 
 module _ (v : Version) (t : List ℕ → Bool) (J : History) (l : is_legal v t J ≡ true) where
-  around_push : (e : Entry) (a : ℕ) → is_among (actions J) a ≡ true → child_given a e.deed ≡ None → around (J ++ e ∷ []) a ≡ around J a
+  around_push : (e : Entry) (a : ℕ) → is_among (actions J) a ≡ true → child_given a e.deed ≡ None
+      → around (J ++ e ∷ []) a ≡ around J a
   around_push e a there childless =
       ap (λ (o : Option ℕ). a ∷ (option_to_list o ++ children (J ++ e ∷ []) a)) (parent_stays J e a there)
-      ∙ ap (λ (ns : List ℕ). a ∷ (option_to_list (parent J a) ++ ns)) (children_push J e a ∙ ap (λ (o : Option ℕ). children J a ++ option_to_list o) childless ∙ append-nil (children J a))
+      ∙ ap (λ (ns : List ℕ). a ∷ (option_to_list (parent J a) ++ ns)) (children_push J e a
+      ∙ ap (λ (o : Option ℕ). children J a ++ option_to_list o) childless ∙ append-nil (children J a))
 
   members_of_same : (e : Entry) (a : ℕ) → member_given a e.deed ≡ None → members_of (J ++ e ∷ []) a ≡ members_of J a
-  members_of_same e a none = members_of_push J e a ∙ ap (λ (o : Option ℕ). members_of J a ++ option_to_list o) none ∙ append-nil (members_of J a)
+  members_of_same e a none = members_of_push J e a ∙ ap (λ (o : Option ℕ). members_of J a ++ option_to_list o) none
+      ∙ append-nil (members_of J a)
 
   one_push : (e : Entry) (p : ℕ) → is_among (members J) p ≡ true → (let xs : List ℕ = action_of (J ++ e ∷ []) p ∷ [] in xs) ≡ action_of J p ∷ []
   one_push e p there = ap (λ (a : ℕ). let xs : List ℕ = a ∷ [] in xs) (action_of_stays J e p there)
 
   asked_push : (e : Entry) (n : ℕ) (x : Asked) → ask_of J n ≡ Some x → ask_of (J ++ e ∷ []) n ≡ Some x
-  asked_push e n x h = ask_of_push J e n ∙ ap (λ (o : Option Asked). option_or o (option_map_or (λ (a : Asked). when (a.number == n) a) (asked_at (step J e)) None)) h
+  asked_push e n x h = ask_of_push J e n ∙ ap (λ (o : Option Asked). option_or o
+      (option_map_or (λ (a : Asked). when (a.number == n) a) (asked_at (step J e)) None)) h
 
-  pub members_concerned_push : (by m : ℕ) (d : Deed) → Told J by d → members_concerned (more J by m d) d ≡ members_concerned J d
+  pub members_concerned_push : (by m : ℕ) (d : Deed) → Told J by d → members_concerned (more J by m d) d
+      ≡ members_concerned J d
   members_concerned_push by m (Close a cause) x = members_of_same (entry by m (Close a cause)) a refl
   members_concerned_push by m (Cancel a cause) x = members_of_same (entry by m (Cancel a cause)) a refl
   members_concerned_push by m (End a status) x = members_of_same (entry by m (End a status)) a refl
@@ -203,7 +237,8 @@ module _ (v : Version) (t : List ℕ → Bool) (J : History) (l : is_legal v t J
       ap (λ (q : Option Asked). option_map_or (λ (y : Asked). y.member ∷ []) q []) (now ∙ sym x.1.asked)
   members_concerned_push by m _ x = refl
 
-  pub actions_concerned_push : (by m : ℕ) (d : Deed) → Told J by d → actions_concerned (more J by m d) d ≡ actions_concerned J d
+  pub actions_concerned_push : (by m : ℕ) (d : Deed) → Told J by d → actions_concerned (more J by m d) d
+      ≡ actions_concerned J d
   actions_concerned_push by m (Leave p) x = one_push (entry by m (Leave p)) p x
   actions_concerned_push by m (Close a cause) x = around_push (entry by m (Close a cause)) a x refl
   actions_concerned_push by m (Cancel a cause) x = around_push (entry by m (Cancel a cause)) a x refl
@@ -211,7 +246,8 @@ module _ (v : Version) (t : List ℕ → Bool) (J : History) (l : is_legal v t J
   actions_concerned_push by m (Ask n p kind) x = one_push (entry by m (Ask n p kind)) p x.there
   actions_concerned_push by m (Reply n o) x =
       let now = asked_push (entry by m (Reply n o)) n x.0 x.1.asked in
-      ap (λ (q : Option Asked). option_map_or (λ (y : Asked). action_of (more J by m (Reply n o)) y.member ∷ []) q []) now
+      ap (λ (q : Option Asked). option_map_or (λ (y : Asked). action_of (more J by m (Reply n o)) y.member ∷ []) q [])
+      now
       ∙ one_push (entry by m (Reply n o)) x.0.member ((asks_listed v t J l).there n x.0 x.1.asked)
       ∙ sym (ap (λ (q : Option Asked). option_map_or (λ (y : Asked). action_of J y.member ∷ []) q []) x.1.asked)
   actions_concerned_push by m (Report p o) x = one_push (entry by m (Report p o)) p x.there

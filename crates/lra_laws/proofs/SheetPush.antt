@@ -19,25 +19,32 @@ use Rattle.lra_laws.proofs.Contacts.{contacts_still, contacts_joined, contacts_a
 use Rattle.lra_laws.proofs.AskList.{ask_at, asks_push_by}
 
 -- the ask that is answered, in the list
-answered_at : (v : Version) (t : List ℕ → Bool) (J : History) (n : ℕ) (x : Asked) → is_legal v t J ≡ true → ReplyTold J n x → {Y : Type 0} (f : Asked → Y) (y : Y) → option_map_or f (row_at (asks_made J) n) y ≡ f x
+answered_at : (v : Version) (t : List ℕ → Bool) (J : History) (n : ℕ) (x : Asked) → is_legal v t J ≡ true
+    → ReplyTold J n x → {Y : Type 0} (f : Asked → Y) (y : Y) → option_map_or f (row_at (asks_made J) n) y ≡ f x
 answered_at v t J n x l told f y = ap (λ (o : Option Asked). option_map_or f o y) (ask_at v t J l n ∙ told.asked)
 
-contacts_push : (v : Version) (t : List ℕ → Bool) (J : History) (by m : ℕ) (d : Deed) → is_legal v t J ≡ true → Told J by d
-    → map (contact_of (more J by m d)) (members (more J by m d)) ≡ contacts_after m (asks_made J) d (map (contact_of J) (members J))
+contacts_push : (v : Version) (t : List ℕ → Bool) (J : History) (by m : ℕ) (d : Deed) → is_legal v t J ≡ true
+    → Told J by d
+    → map (contact_of (more J by m d)) (members (more J by m d)) ≡ contacts_after m (asks_made J) d
+    (map (contact_of J) (members J))
 contacts_push v t J by m (Join p a uris) l x = contacts_joined v t J by m p a uris l x.number
 contacts_push v t J by m (Reply n o) l x =
     contacts_answered v t J by m n o x.0 l x.1.asked
-    ∙ sym (answered_at v t J n x.0 l x.1 (λ (y : Asked). change_row (with_answer m o y) y.member (map (contact_of J) (members J))) (map (contact_of J) (members J)))
+    ∙ sym (answered_at v t J n x.0 l x.1 (λ (y : Asked). change_row (with_answer m o y) y.member
+    (map (contact_of J) (members J))) (map (contact_of J) (members J)))
 contacts_push v t J by m d l x = contacts_still J by m d refl refl
 
-state_push : (v : Version) (t : List ℕ → Bool) (J : History) (by m : ℕ) (d : Deed) → is_legal v t J ≡ true → Allowed v t J (entry by m d) → Told J by d
+state_push : (v : Version) (t : List ℕ → Bool) (J : History) (by m : ℕ) (d : Deed) → is_legal v t J ≡ true
+    → Allowed v t J (entry by m d) → Told J by d
     → state_of (more J by m d) ≡ state_after m (asks_made J) d (record (state_of J) { moment = m })
 state_push v t J by m (Reply n o) l k x =
     reply_at v t J by m n o x.0 l k x.1 (asks_listed v t J l) (asks_stand v t J l)
-    ∙ sym (answered_at v t J n x.0 l x.1 (λ (y : Asked). change_member (with_reply o) y.member (record (state_of J) { moment = m })) (record (state_of J) { moment = m }))
+    ∙ sym (answered_at v t J n x.0 l x.1 (λ (y : Asked). change_member (with_reply o) y.member
+    (record (state_of J) { moment = m })) (record (state_of J) { moment = m }))
 state_push v t J by m d l k x = push_by_deed v t J by m d l k x
 
-push_allowed : (v : Version) (t : List ℕ → Bool) (J : History) (by m : ℕ) (d : Deed) → is_legal v t J ≡ true → Allowed v t J (entry by m d) → Told J by d → sheet_of (more J by m d) ≡ sheet_after (entry by m d) (sheet_of J)
+push_allowed : (v : Version) (t : List ℕ → Bool) (J : History) (by m : ℕ) (d : Deed) → is_legal v t J ≡ true
+    → Allowed v t J (entry by m d) → Told J by d → sheet_of (more J by m d) ≡ sheet_after (entry by m d) (sheet_of J)
 push_allowed v t J by m d l k x = λ i. record {
   entries = length-append J (entry by m d ∷ []) i;
   state = state_push v t J by m d l k x i;
@@ -47,11 +54,13 @@ push_allowed v t J by m d l k x = λ i. record {
 }
 
 -- the sheet of a legal history, after an entry that is allowed
-pub sheet_push : (v : Version) (t : List ℕ → Bool) (J : History) (e : Entry) → is_legal v t J ≡ true → allows v t J e ≡ true → sheet_of (J ++ e ∷ []) ≡ sheet_after e (sheet_of J)
+pub sheet_push : (v : Version) (t : List ℕ → Bool) (J : History) (e : Entry) → is_legal v t J ≡ true → allows v t J e
+    ≡ true → sheet_of (J ++ e ∷ []) ≡ sheet_after e (sheet_of J)
 sheet_push v t J e l k = let a = allowed v t J e k in push_allowed v t J e.by e.moment e.deed l a (told v t J e.by e.moment e.deed a)
 
 -- so it stands for the longer history
-unfoldable pub StandsFor-push : (s : Sheet) (J : History) (e : Entry) (h : StandsFor s J) → allows h.version h.is_address J e ≡ true → StandsFor (sheet_after e s) (J ++ e ∷ [])
+unfoldable pub StandsFor-push : (s : Sheet) (J : History) (e : Entry) (h : StandsFor s J)
+    → allows h.version h.is_address J e ≡ true → StandsFor (sheet_after e s) (J ++ e ∷ [])
 StandsFor-push s J e h k = record {
   version = h.version;
   is_address = h.is_address;

@@ -31,18 +31,21 @@ none_from_absent None h = refl
 none_from_absent (Some x) h = absurd cc
 
 -- what passes a test passes a weaker one
-pub list_all-weaker : {X : Type 0} (p q : X → Bool) → ((x : X) → p x ≡ true → q x ≡ true) → (xs : List X) → list_all p xs ≡ true → list_all q xs ≡ true
+pub list_all-weaker : {X : Type 0} (p q : X → Bool) → ((x : X) → p x ≡ true → q x ≡ true) → (xs : List X)
+    → list_all p xs ≡ true → list_all q xs ≡ true
 list_all-weaker p q w [] h = refl
 list_all-weaker p q w (x ∷ xs) h =
     let k = both (p x) (list_all p xs) h in
     and_intro (q x) (list_all q xs) (w x k.0) (list_all-weaker p q w xs k.1)
 
 -- where no rule is broken, the first is kept, and none after it is broken
-pub kept : (r : Rule) (b : Bool) (rest : List Ruling) → first_broken ((r, b) ∷ rest) ≡ None → (b ≡ true) × (first_broken rest ≡ None)
+pub kept : (r : Rule) (b : Bool) (rest : List Ruling) → first_broken ((r, b) ∷ rest) ≡ None → (b ≡ true)
+    × (first_broken rest ≡ None)
 kept r true rest h = (refl, h)
 kept r false rest h = absurd cc
 
 -- a rule that is kept is passed over
-pub passed : (r : Rule) (b : Bool) (rest : List Ruling) → b ≡ true → first_broken rest ≡ None → first_broken ((r, b) ∷ rest) ≡ None
+pub passed : (r : Rule) (b : Bool) (rest : List Ruling) → b ≡ true → first_broken rest ≡ None
+    → first_broken ((r, b) ∷ rest) ≡ None
 passed r true rest h k = k
 passed r false rest h k = absurd cc

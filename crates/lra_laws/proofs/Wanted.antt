@@ -35,11 +35,13 @@ was_begun J p = was_asked J p ask.Complete || was_asked J p ask.Compensate
 abbrev Fails : (MemberStatus → Bool) → MemberStatus → Type 0
 Fails test s = test s ≡ false
 
-cond_fails : (test : MemberStatus → Bool) (b : Bool) (x y : MemberStatus) → Fails test x → Fails test y → Fails test (cond b x y)
+cond_fails : (test : MemberStatus → Bool) (b : Bool) (x y : MemberStatus) → Fails test x → Fails test y
+    → Fails test (cond b x y)
 cond_fails test true x y h k = h
 cond_fails test false x y h k = k
 
-decision_fails : (test : MemberStatus → Bool) (o : Option Outcome) (x y z : MemberStatus) → Fails test x → Fails test y → Fails test z → Fails test (by_decision o x y z)
+decision_fails : (test : MemberStatus → Bool) (o : Option Outcome) (x y z : MemberStatus) → Fails test x → Fails test y
+    → Fails test z → Fails test (by_decision o x y z)
 decision_fails test None x y z h k l = l
 decision_fails test (Some outcome.Done) x y z h k l = h
 decision_fails test (Some outcome.Failed) x y z h k l = k
@@ -51,13 +53,16 @@ abbrev from_completion : Option Outcome → Bool → MemberStatus
 from_completion c q = by_decision c member.Completed member.FailedToComplete (cond q member.Completing member.Active)
 
 abbrev from_compensation : Option Outcome → Bool → Option Outcome → Bool → MemberStatus
-from_compensation d a c q = by_decision d member.Compensated member.FailedToCompensate (cond a member.Compensating (from_completion c q))
+from_compensation d a c q = by_decision d member.Compensated member.FailedToCompensate
+    (cond a member.Compensating (from_completion c q))
 
 -- a member that hasn't left is in another status than Left
 pub not_gone : (J : History) (p : ℕ) → has_left J p ≡ false → has_gone (member_status J p) ≡ false
 unfolding member_status
 not_gone J p h =
-    ap (λ (b : Bool). has_gone (cond b member.Left (from_compensation (decided J p direction.Compensation) (was_asked J p ask.Compensate) (decided J p direction.Completion) (was_asked J p ask.Complete)))) h
+    ap (λ (b : Bool). has_gone
+    (cond b member.Left (from_compensation (decided J p direction.Compensation) (was_asked J p ask.Compensate)
+    (decided J p direction.Completion) (was_asked J p ask.Complete)))) h
     ∙ decision_fails has_gone (decided J p direction.Compensation) _ _ _ refl refl
     (cond_fails has_gone (was_asked J p ask.Compensate) _ _ refl
     (decision_fails has_gone (decided J p direction.Completion) _ _ _ refl refl
@@ -75,7 +80,8 @@ record Tells (test : MemberStatus → Bool) (begun : Bool) : Type 0 where
   active : test member.Active ≡ true → begun ≡ false
 
 -- it says so of every member in a status that passes
-told_begun : (test : MemberStatus → Bool) (x : Bool) → Tells test x → (l : Bool) (d : Option Outcome) (a : Bool) (c : Option Outcome) (q : Bool) → test (cond l member.Left (from_compensation d a c q)) ≡ true → (q || a) ≡ x
+told_begun : (test : MemberStatus → Bool) (x : Bool) → Tells test x → (l : Bool) (d : Option Outcome) (a : Bool)
+    (c : Option Outcome) (q : Bool) → test (cond l member.Left (from_compensation d a c q)) ≡ true → (q || a) ≡ x
 told_begun test x tells l d a c q h = by_left l h
   where
     never : (b : Bool) → b ≡ false → b ≡ true → (q || a) ≡ x
@@ -108,26 +114,61 @@ told_begun test x tells l d a c q h = by_left l h
     by_left true j = never _ tells.left j
     by_left false j = by_compensation d j
 
-state_told : (test : MemberStatus → Bool) (x : Bool) → Tells test x → (J : History) (p : ℕ) → test (member_status J p) ≡ true → was_begun J p ≡ x
+state_told : (test : MemberStatus → Bool) (x : Bool) → Tells test x → (J : History) (p : ℕ) → test (member_status J p)
+    ≡ true → was_begun J p ≡ x
 unfolding member_status
-state_told test x tells J p h = told_begun test x tells (has_left J p) (decided J p direction.Compensation) (was_asked J p ask.Compensate) (decided J p direction.Completion) (was_asked J p ask.Complete) h
+state_told test x tells J p h = told_begun test x tells (has_left J p) (decided J p direction.Compensation)
+    (was_asked J p ask.Compensate) (decided J p direction.Completion) (was_asked J p ask.Complete) h
 
 untouched_not_begun : (J : History) (p : ℕ) → is_untouched (member_status J p) ≡ true → was_begun J p ≡ false
-untouched_not_begun = state_told is_untouched false (record { left = refl; compensated = refl; uncompensated = refl; completed = refl; uncompleted = refl; compensating = λ i. absurd cc; completing = λ i. absurd cc; active = λ i. refl })
+untouched_not_begun =
+    state_told is_untouched false
+    (record {
+      left = refl;
+      compensated = refl;
+      uncompensated = refl;
+      completed = refl;
+      uncompleted = refl;
+      compensating = λ i. absurd cc;
+      completing = λ i. absurd cc;
+      active = λ i. refl;
+    })
 
 completing_begun : (J : History) (p : ℕ) → is_completing (member_status J p) ≡ true → was_begun J p ≡ true
-completing_begun = state_told is_completing true (record { left = refl; compensated = refl; uncompensated = refl; completed = refl; uncompleted = refl; compensating = λ i. absurd cc; completing = λ i. refl; active = λ i. absurd cc })
+completing_begun = state_told is_completing true
+    (record {
+      left = refl;
+      compensated = refl;
+      uncompensated = refl;
+      completed = refl;
+      uncompleted = refl;
+      compensating = λ i. absurd cc;
+      completing = λ i. refl;
+      active = λ i. absurd cc;
+    })
 
 compensating_begun : (J : History) (p : ℕ) → is_compensating (member_status J p) ≡ true → was_begun J p ≡ true
-compensating_begun = state_told is_compensating true (record { left = refl; compensated = refl; uncompensated = refl; completed = refl; uncompleted = refl; compensating = λ i. refl; completing = λ i. absurd cc; active = λ i. absurd cc })
+compensating_begun = state_told is_compensating true
+    (record {
+      left = refl;
+      compensated = refl;
+      uncompensated = refl;
+      completed = refl;
+      uncompleted = refl;
+      compensating = λ i. refl;
+      completing = λ i. absurd cc;
+      active = λ i. absurd cc;
+    })
 
 -- ---- who has answered in completion was asked
 
 begun_push : (J : History) (e : Entry) (p : ℕ) → was_begun J p ≡ true → was_begun (J ++ e ∷ []) p ≡ true
 begun_push J e p h =
     ap (λ (b : Bool). b || was_asked (J ++ e ∷ []) p ask.Compensate) (was_asked_push J e p ask.Complete)
-    ∙ ap (λ (b : Bool). (was_asked J p ask.Complete || is_ask_for p ask.Complete e.deed) || b) (was_asked_push J e p ask.Compensate)
-    ∙ more (was_asked J p ask.Complete) (is_ask_for p ask.Complete e.deed) (was_asked J p ask.Compensate) (is_ask_for p ask.Compensate e.deed) h
+    ∙ ap (λ (b : Bool). (was_asked J p ask.Complete || is_ask_for p ask.Complete e.deed) || b)
+    (was_asked_push J e p ask.Compensate)
+    ∙ more (was_asked J p ask.Complete) (is_ask_for p ask.Complete e.deed) (was_asked J p ask.Compensate)
+    (is_ask_for p ask.Compensate e.deed) h
   where
     more : (a b c d : Bool) → (a || c) ≡ true → ((a || b) || (c || d)) ≡ true
     more true b c d h = refl
@@ -140,8 +181,11 @@ abbrev ToCompletion : Asked → Type 0
 ToCompletion x = same_direction x.direction direction.Completion ≡ true
 
 -- an ask in completion that is made now: one to complete, or for the status of a member that was asked before
-asked_now : (v : Version) (t : List ℕ → Bool) (J : History) (by m : ℕ) (d : Deed) → Allowed v t J (record { by = by; moment = m; deed = d }) → (n : ℕ) (x : Asked)
-    → option_map_or (λ (a : Asked). when (a.number == n) a) (asked_at (step J (record { by = by; moment = m; deed = d }))) None ≡ Some x → ToCompletion x → was_begun (J ++ record { by = by; moment = m; deed = d } ∷ []) x.member ≡ true
+asked_now : (v : Version) (t : List ℕ → Bool) (J : History) (by m : ℕ) (d : Deed)
+    → Allowed v t J (record { by = by; moment = m; deed = d }) → (n : ℕ) (x : Asked)
+    → option_map_or (λ (a : Asked). when (a.number == n) a)
+    (asked_at (step J (record { by = by; moment = m; deed = d }))) None ≡ Some x → ToCompletion x
+    → was_begun (J ++ record { by = by; moment = m; deed = d } ∷ []) x.member ≡ true
 asked_now v t J by m (Ask k q kind) allow n x h g = numbered (k == n) h
   where
     e : Entry
@@ -153,18 +197,27 @@ asked_now v t J by m (Ask k q kind) allow n x h g = numbered (k == n) h
     timely : is_time_for kind (facts_of J) (member_facts J q) ≡ true
     timely =
         let may = (member_fact (may_ask kind (facts_of J)) J q rules.may).1 in
-        (both (not (member_facts J q).is_asked && has_address kind (member_facts J q).addresses) (is_time_for kind (facts_of J) (member_facts J q)) may).1
+        (both (not (member_facts J q).is_asked && has_address kind (member_facts J q).addresses)
+        (is_time_for kind (facts_of J) (member_facts J q)) may).1
 
-    either : (a b c d : Bool) → (a ≡ true → was_begun J q ≡ true) → (c ≡ true → was_begun J q ≡ true) → ((a && b) || (c && d)) ≡ true → was_begun J q ≡ true
+    either : (a b c d : Bool) → (a ≡ true → was_begun J q ≡ true) → (c ≡ true → was_begun J q ≡ true)
+        → ((a && b) || (c && d)) ≡ true → was_begun J q ≡ true
     either true b c d i j h = i refl
     either false b true d i j h = j refl
     either false b false d i j h = absurd cc
 
-    by_kind : (z : AskKind) → kind ≡ z → is_time_for z (facts_of J) (member_facts J q) ≡ true → same_direction (ask_direction J q z) direction.Completion ≡ true → was_begun (J ++ e ∷ []) q ≡ true
+    by_kind : (z : AskKind) → kind ≡ z → is_time_for z (facts_of J) (member_facts J q) ≡ true
+        → same_direction (ask_direction J q z) direction.Completion ≡ true → was_begun (J ++ e ∷ []) q ≡ true
     by_kind ask.Complete i j w =
-        ap (λ (b : Bool). b || was_asked (J ++ e ∷ []) q ask.Compensate) (was_asked_push J e q ask.Complete ∙ ap (λ (b : Bool). was_asked J q ask.Complete || (b && same_kind kind ask.Complete)) (eq-eqb q q refl) ∙ ap (λ (y : AskKind). was_asked J q ask.Complete || same_kind y ask.Complete) i ∙ or-true (was_asked J q ask.Complete))
+        ap (λ (b : Bool). b || was_asked (J ++ e ∷ []) q ask.Compensate)
+        (was_asked_push J e q ask.Complete ∙ ap (λ (b : Bool). was_asked J q ask.Complete
+        || (b && same_kind kind ask.Complete)) (eq-eqb q q refl) ∙ ap
+        (λ (y : AskKind). was_asked J q ask.Complete || same_kind y ask.Complete) i
+        ∙ or-true (was_asked J q ask.Complete))
     by_kind ask.Status i j w =
-        begun_push J e q (either (is_completing (member_status J q)) (was_accepted (last_reply J q direction.Completion)) (is_compensating (member_status J q)) (was_accepted (last_reply J q direction.Compensation)) (completing_begun J q) (compensating_begun J q) j)
+        begun_push J e q (either (is_completing (member_status J q)) (was_accepted
+        (last_reply J q direction.Completion)) (is_compensating (member_status J q))
+        (was_accepted (last_reply J q direction.Compensation)) (completing_begun J q) (compensating_begun J q) j)
     by_kind ask.Compensate i j w = absurd cc
     by_kind ask.Forget i j w = absurd cc
     by_kind ask.After i j w = absurd cc
@@ -189,7 +242,9 @@ asked_begun v t = legal_induction v t AskedBegun (λ n x h g. absurd cc) push
     push : (J : History) (e : Entry) → is_legal v t J ≡ true → Allowed v t J e → AskedBegun J → AskedBegun (J ++ e ∷ [])
     push J e l k ih n x h g = either (ask_of J n) refl (sym (ask_of_push J e n) ∙ h)
       where
-        either : (o : Option Asked) → ask_of J n ≡ o → option_or o (option_map_or (λ (a : Asked). when (a.number == n) a) (asked_at (step J e)) None) ≡ Some x → was_begun (J ++ e ∷ []) x.member ≡ true
+        either : (o : Option Asked) → ask_of J n ≡ o → option_or o (option_map_or
+            (λ (a : Asked). when (a.number == n) a) (asked_at (step J e)) None) ≡ Some x
+            → was_begun (J ++ e ∷ []) x.member ≡ true
         either (Some y) i j = begun_push J e x.member (ih n x (i ∙ j) g)
         either None i j = asked_now v t J e.by e.moment e.deed k n x j g
 
@@ -201,7 +256,10 @@ replied_begun : (v : Version) (t : List ℕ → Bool) (J : History) → is_legal
 unfolding last_reply replies steps
 replied_begun v t = legal_induction v t RepliedBegun (λ p h. absurd cc) push
   where
-    new : (J : History) → AskedBegun J → (by m : ℕ) (d : Deed) (p : ℕ) → is_some (option_map_or (λ (r : Replied). when ((r.to.member == p) && same_direction r.to.direction direction.Completion) r.outcome) (replied_at (step J (record { by = by; moment = m; deed = d }))) None) ≡ true → was_begun J p ≡ true
+    new : (J : History) → AskedBegun J → (by m : ℕ) (d : Deed) (p : ℕ)
+        → is_some (option_map_or (λ (r : Replied). when ((r.to.member == p)
+        && same_direction r.to.direction direction.Completion) r.outcome)
+        (replied_at (step J (record { by = by; moment = m; deed = d }))) None) ≡ true → was_begun J p ≡ true
     new J begun by m (Reply n o) p h = by_ask (ask_of J n) refl h
       where
         by_ask : (x : Option Asked) → ask_of J n ≡ x
@@ -209,21 +267,32 @@ replied_begun v t = legal_induction v t RepliedBegun (λ p h. absurd cc) push
         by_ask None g i = absurd cc
         by_ask (Some a) g i = by_member (a.member == p) refl (same_direction a.direction direction.Completion) refl i
           where
-            by_member : (b : Bool) → (a.member == p) ≡ b → (c : Bool) → same_direction a.direction direction.Completion ≡ c → is_some (when (b && c) o) ≡ true → was_begun J p ≡ true
+            by_member : (b : Bool) → (a.member == p) ≡ b → (c : Bool) → same_direction a.direction direction.Completion
+                ≡ c → is_some (when (b && c) o) ≡ true → was_begun J p ≡ true
             by_member true j true k w = ap (was_begun J) (sym (eqb-true a.member p j)) ∙ begun n a g k
             by_member true j false k w = absurd cc
             by_member false j c k w = absurd cc
     new J begun by m _ p h = absurd cc
 
-    push : (J : History) (e : Entry) → is_legal v t J ≡ true → Allowed v t J e → RepliedBegun J → RepliedBegun (J ++ e ∷ [])
-    push J e l k ih p h = begun_push J e p (either (option_map_or (λ (r : Replied). when ((r.to.member == p) && same_direction r.to.direction direction.Completion) r.outcome) (replied_at (step J e)) None) refl (sym (ap (λ (o : Option Outcome). is_some o) (last_reply_push J e p direction.Completion)) ∙ h))
+    push : (J : History) (e : Entry) → is_legal v t J ≡ true → Allowed v t J e → RepliedBegun J
+        → RepliedBegun (J ++ e ∷ [])
+    push J e l k ih p h =
+        begun_push J e p (either
+        (option_map_or (λ (r : Replied). when ((r.to.member == p) && same_direction r.to.direction direction.Completion)
+        r.outcome) (replied_at (step J e)) None) refl
+        (sym (ap (λ (o : Option Outcome). is_some o) (last_reply_push J e p direction.Completion)) ∙ h))
       where
-        either : (o : Option Outcome) → option_map_or (λ (r : Replied). when ((r.to.member == p) && same_direction r.to.direction direction.Completion) r.outcome) (replied_at (step J e)) None ≡ o → is_some (option_or o (last_reply J p direction.Completion)) ≡ true → was_begun J p ≡ true
+        either : (o : Option Outcome) → option_map_or (λ (r : Replied). when
+            ((r.to.member == p) && same_direction r.to.direction direction.Completion) r.outcome)
+            (replied_at (step J e)) None ≡ o → is_some (option_or o (last_reply J p direction.Completion)) ≡ true
+            → was_begun J p ≡ true
         either None i j = ih p j
-        either (Some x) i j = new J (asked_begun v t J l) e.by e.moment e.deed p (ap (λ (o : Option Outcome). is_some o) i)
+        either (Some x) i j = new J (asked_begun v t J l) e.by e.moment e.deed p
+            (ap (λ (o : Option Outcome). is_some o) i)
 
 -- a member that was asked nothing has accepted nothing
-untouched_not_accepted : (v : Version) (t : List ℕ → Bool) (J : History) → is_legal v t J ≡ true → (p : ℕ) → is_untouched (member_status J p) ≡ true → was_accepted (last_reply J p direction.Completion) ≡ false
+untouched_not_accepted : (v : Version) (t : List ℕ → Bool) (J : History) → is_legal v t J ≡ true → (p : ℕ)
+    → is_untouched (member_status J p) ≡ true → was_accepted (last_reply J p direction.Completion) ≡ false
 untouched_not_accepted v t J l p h = either (last_reply J p direction.Completion) refl
   where
     either : (o : Option Outcome) → last_reply J p direction.Completion ≡ o → was_accepted o ≡ false
@@ -246,14 +315,21 @@ some_when false x y h = absurd cc
 timely_notice : (f : Facts) (p : MemberFacts) (z kind : AskKind) → wants_notice z f p ≡ Some kind → IsTimely f p kind
 timely_notice f p z kind h =
     let k = some_when (is_time_for z f p && has_address z p.addresses) z kind h in
-    let b = both (is_time_for z f p) (has_address z p.addresses) k.0 in
-    (ap (λ (y : AskKind). has_address y p.addresses) (sym k.1) ∙ b.1, ap (λ (y : AskKind). is_time_for y f p) (sym k.1) ∙ b.0)
+    let b = both (is_time_for z f p) (has_address z p.addresses) k.0 in (
+      ap (λ (y : AskKind). has_address y p.addresses) (sym k.1) ∙ b.1,
+      ap (λ (y : AskKind). is_time_for y f p) (sym k.1)
+          ∙ b.0,
+    )
 
-timely_completion : (f : Facts) (p : MemberFacts) (kind : AskKind) → (is_untouched p.status ≡ true → was_accepted p.completion ≡ false) → wants_completion f p ≡ Some kind → IsTimely f p kind
-timely_completion f p kind fresh h = by_status (was_accepted p.completion) refl (has_address ask.Status p.addresses) refl k.1
+timely_completion : (f : Facts) (p : MemberFacts) (kind : AskKind) → (is_untouched p.status ≡ true
+    → was_accepted p.completion ≡ false) → wants_completion f p ≡ Some kind → IsTimely f p kind
+timely_completion f p kind fresh h = by_status (was_accepted p.completion) refl (has_address ask.Status p.addresses)
+    refl k.1
   where
-    k : ((is_time_for ask.Complete f p && has_address ask.Complete p.addresses) ≡ true) × (cond (was_accepted p.completion && has_address ask.Status p.addresses) ask.Status ask.Complete ≡ kind)
-    k = some_when (is_time_for ask.Complete f p && has_address ask.Complete p.addresses) (cond (was_accepted p.completion && has_address ask.Status p.addresses) ask.Status ask.Complete) kind h
+    k : ((is_time_for ask.Complete f p && has_address ask.Complete p.addresses) ≡ true)
+        × (cond (was_accepted p.completion && has_address ask.Status p.addresses) ask.Status ask.Complete ≡ kind)
+    k = some_when (is_time_for ask.Complete f p && has_address ask.Complete p.addresses)
+        (cond (was_accepted p.completion && has_address ask.Status p.addresses) ask.Status ask.Complete) kind h
 
     b : (is_time_for ask.Complete f p ≡ true) × (has_address ask.Complete p.addresses ≡ true)
     b = both (is_time_for ask.Complete f p) (has_address ask.Complete p.addresses) k.0
@@ -263,13 +339,21 @@ timely_completion f p kind fresh h = by_status (was_accepted p.completion) refl 
     begun false c i j g = g
 
     plain : ask.Complete ≡ kind → IsTimely f p kind
-    plain i = (ap (λ (y : AskKind). has_address y p.addresses) (sym i) ∙ b.1, ap (λ (y : AskKind). is_time_for y f p) (sym i) ∙ b.0)
+    plain i = (
+      ap (λ (y : AskKind). has_address y p.addresses) (sym i)
+          ∙ b.1,
+      ap (λ (y : AskKind). is_time_for y f p) (sym i) ∙ b.0,
+    )
 
-    by_status : (x : Bool) → was_accepted p.completion ≡ x → (y : Bool) → has_address ask.Status p.addresses ≡ y → cond (x && y) ask.Status ask.Complete ≡ kind → IsTimely f p kind
+    by_status : (x : Bool) → was_accepted p.completion ≡ x → (y : Bool) → has_address ask.Status p.addresses ≡ y
+        → cond (x && y) ask.Status ask.Complete ≡ kind → IsTimely f p kind
     by_status true g true i j =
-        let going = begun (is_untouched p.status) (is_completing p.status) refl g (both (state_is_closing) (is_untouched p.status || is_completing p.status) b.0).1 in (
+        let going = begun (is_untouched p.status) (is_completing p.status) refl g
+        (both (state_is_closing) (is_untouched p.status || is_completing p.status) b.0).1 in (
           ap (λ (y : AskKind). has_address y p.addresses) (sym j) ∙ i,
-          ap (λ (y : AskKind). is_time_for y f p) (sym j) ∙ or_left (is_completing p.status && was_accepted p.completion) (is_compensating p.status && was_accepted p.compensation) (and_intro (is_completing p.status) (was_accepted p.completion) going g),
+          ap (λ (y : AskKind). is_time_for y f p) (sym j) ∙ or_left (is_completing p.status
+              && was_accepted p.completion) (is_compensating p.status && was_accepted p.compensation)
+              (and_intro (is_completing p.status) (was_accepted p.completion) going g),
         )
       where
         state_is_closing : Bool
@@ -277,22 +361,35 @@ timely_completion f p kind fresh h = by_status (was_accepted p.completion) refl 
     by_status true g false i j = plain j
     by_status false g y i j = plain j
 
-timely_compensation : (f : Facts) (p : MemberFacts) (kind : AskKind) → wants_compensation f p ≡ Some kind → IsTimely f p kind
-timely_compensation f p kind h = by_status (is_compensating p.status && was_accepted p.compensation) refl (has_address ask.Status p.addresses) refl k.1
+timely_compensation : (f : Facts) (p : MemberFacts) (kind : AskKind) → wants_compensation f p ≡ Some kind
+    → IsTimely f p kind
+timely_compensation f p kind h = by_status (is_compensating p.status && was_accepted p.compensation) refl
+    (has_address ask.Status p.addresses) refl k.1
   where
-    k : ((is_time_for ask.Compensate f p && has_address ask.Compensate p.addresses) ≡ true) × (cond (is_compensating p.status && was_accepted p.compensation && has_address ask.Status p.addresses) ask.Status ask.Compensate ≡ kind)
-    k = some_when (is_time_for ask.Compensate f p && has_address ask.Compensate p.addresses) (cond (is_compensating p.status && was_accepted p.compensation && has_address ask.Status p.addresses) ask.Status ask.Compensate) kind h
+    k : ((is_time_for ask.Compensate f p && has_address ask.Compensate p.addresses) ≡ true)
+        × (cond (is_compensating p.status && was_accepted p.compensation && has_address ask.Status p.addresses)
+        ask.Status ask.Compensate ≡ kind)
+    k = some_when (is_time_for ask.Compensate f p && has_address ask.Compensate p.addresses)
+        (cond (is_compensating p.status && was_accepted p.compensation && has_address ask.Status p.addresses) ask.Status
+        ask.Compensate) kind h
 
     b : (is_time_for ask.Compensate f p ≡ true) × (has_address ask.Compensate p.addresses ≡ true)
     b = both (is_time_for ask.Compensate f p) (has_address ask.Compensate p.addresses) k.0
 
     plain : ask.Compensate ≡ kind → IsTimely f p kind
-    plain i = (ap (λ (y : AskKind). has_address y p.addresses) (sym i) ∙ b.1, ap (λ (y : AskKind). is_time_for y f p) (sym i) ∙ b.0)
+    plain i = (
+      ap (λ (y : AskKind). has_address y p.addresses) (sym i)
+          ∙ b.1,
+      ap (λ (y : AskKind). is_time_for y f p) (sym i) ∙ b.0,
+    )
 
-    by_status : (x : Bool) → (is_compensating p.status && was_accepted p.compensation) ≡ x → (y : Bool) → has_address ask.Status p.addresses ≡ y → cond (x && y) ask.Status ask.Compensate ≡ kind → IsTimely f p kind
+    by_status : (x : Bool) → (is_compensating p.status && was_accepted p.compensation) ≡ x → (y : Bool)
+        → has_address ask.Status p.addresses ≡ y → cond (x && y) ask.Status ask.Compensate ≡ kind → IsTimely f p kind
     by_status true g true i j = (
       ap (λ (y : AskKind). has_address y p.addresses) (sym j) ∙ i,
-      ap (λ (y : AskKind). is_time_for y f p) (sym j) ∙ ap (λ (y : Bool). (is_completing p.status && was_accepted p.completion) || y) g ∙ or-true (is_completing p.status && was_accepted p.completion),
+      ap (λ (y : AskKind). is_time_for y f p) (sym j) ∙ ap (λ (y : Bool).
+          (is_completing p.status && was_accepted p.completion) || y) g
+          ∙ or-true (is_completing p.status && was_accepted p.completion),
     )
     by_status true g false i j = plain j
     by_status false g y i j = plain j
@@ -303,13 +400,17 @@ record IsWanted (f : Facts) (p : MemberFacts) (kind : AskKind) : Type 0 where
   here : has_gone p.status ≡ false
   timely : IsTimely f p kind
 
-wanted_timely : (f : Facts) (p : MemberFacts) (kind : AskKind) → (is_untouched p.status ≡ true → was_accepted p.completion ≡ false) → wanted f p ≡ Some kind → IsWanted f p kind
+wanted_timely : (f : Facts) (p : MemberFacts) (kind : AskKind) → (is_untouched p.status ≡ true
+    → was_accepted p.completion ≡ false) → wanted f p ≡ Some kind → IsWanted f p kind
 wanted_timely f p kind fresh h = by_tests p.is_asked refl (has_gone p.status) refl h
   where
     rest : Option AskKind
-    rest = option_or (wants_completion f p) (option_or (wants_compensation f p) (option_or (wants_notice ask.Forget f p) (wants_notice ask.After f p)))
+    rest = option_or (wants_completion f p) (option_or (wants_compensation f p)
+        (option_or (wants_notice ask.Forget f p) (wants_notice ask.After f p)))
 
-    first_of_all : (a b c d : Option AskKind) → (a ≡ Some kind → IsTimely f p kind) → (b ≡ Some kind → IsTimely f p kind) → (c ≡ Some kind → IsTimely f p kind) → (d ≡ Some kind → IsTimely f p kind)
+    first_of_all : (a b c d : Option AskKind) → (a ≡ Some kind → IsTimely f p kind)
+        → (b ≡ Some kind → IsTimely f p kind) → (c ≡ Some kind → IsTimely f p kind)
+        → (d ≡ Some kind → IsTimely f p kind)
         → option_or a (option_or b (option_or c d)) ≡ Some kind → IsTimely f p kind
     first_of_all (Some x) b c d i j k l h = i h
     first_of_all None (Some x) c d i j k l h = j h
@@ -318,10 +419,12 @@ wanted_timely f p kind fresh h = by_tests p.is_asked refl (has_gone p.status) re
 
     timely : rest ≡ Some kind → IsTimely f p kind
     timely =
-        first_of_all (wants_completion f p) (wants_compensation f p) (wants_notice ask.Forget f p) (wants_notice ask.After f p) (timely_completion f p kind fresh) (timely_compensation f p kind)
+        first_of_all (wants_completion f p) (wants_compensation f p) (wants_notice ask.Forget f p)
+        (wants_notice ask.After f p) (timely_completion f p kind fresh) (timely_compensation f p kind)
         (timely_notice f p ask.Forget kind) (timely_notice f p ask.After kind)
 
-    by_tests : (x : Bool) → p.is_asked ≡ x → (y : Bool) → has_gone p.status ≡ y → cond (x || y) None rest ≡ Some kind → IsWanted f p kind
+    by_tests : (x : Bool) → p.is_asked ≡ x → (y : Bool) → has_gone p.status ≡ y → cond (x || y) None rest ≡ Some kind
+        → IsWanted f p kind
     by_tests false i false j g = record { free = i; here = j; timely = timely g }
     by_tests true i y j g = absurd cc
     by_tests false i true j g = absurd cc
@@ -334,14 +437,16 @@ pub record MayBeAsked (J : History) (p : ℕ) (kind : AskKind) : Type 0 where
   pub may : at_member (may_ask kind (facts_of J)) (facts_of J) p ≡ true
 
 -- what a member of a legal history wants to be asked, it may be asked
-pub wants_may : (v : Version) (t : List ℕ → Bool) (J : History) → is_legal v t J ≡ true → (p : ℕ) (kind : AskKind) → wants J p ≡ Some kind → MayBeAsked J p kind
+pub wants_may : (v : Version) (t : List ℕ → Bool) (J : History) → is_legal v t J ≡ true → (p : ℕ) (kind : AskKind)
+    → wants J p ≡ Some kind → MayBeAsked J p kind
 unfolding wants facts_of
 wants_may v t J l p kind h = decide (is_among (members J) p) refl h
   where
     facts : MemberFacts
     facts = member_facts J p
 
-    decide : (b : Bool) → is_among (members J) p ≡ b → option_map_or (wanted (facts_of J)) (cond b (Some facts) None) None ≡ Some kind → MayBeAsked J p kind
+    decide : (b : Bool) → is_among (members J) p ≡ b → option_map_or (wanted (facts_of J)) (cond b (Some facts) None)
+        None ≡ Some kind → MayBeAsked J p kind
     decide false g i = absurd cc
     decide true g i =
         let w = wanted_timely (facts_of J) facts kind (untouched_not_accepted v t J l p) i in
@@ -351,5 +456,7 @@ wants_may v t J l p kind h = decide (is_among (members J) p) refl h
           is_here = at_member_from (λ (x : MemberFacts). not (has_gone x.status)) J p g (ap not w.here);
           may =
               at_member_from (may_ask kind (facts_of J)) J p g
-              (and_intro (not facts.is_asked && has_address kind facts.addresses) (is_time_for kind (facts_of J) facts) (and_intro (not facts.is_asked) (has_address kind facts.addresses) (ap not w.free) w.timely.0) w.timely.1);
+              (and_intro (not facts.is_asked && has_address kind facts.addresses) (is_time_for kind (facts_of J) facts)
+              (and_intro (not facts.is_asked) (has_address kind facts.addresses) (ap not w.free) w.timely.0)
+              w.timely.1);
         }

@@ -36,32 +36,50 @@ first_of_six : (a b c d e f : Bool) → (a && b && c && d && e && f) ≡ true �
 first_of_six true b c d e f h = refl
 first_of_six false b c d e f h = absurd cc
 
-all_six : (a b c d e f : Bool) → a ≡ true → b ≡ true → c ≡ true → d ≡ true → e ≡ true → f ≡ true → (a && b && c && d && e && f) ≡ true
+all_six : (a b c d e f : Bool) → a ≡ true → b ≡ true → c ≡ true → d ≡ true → e ≡ true → f ≡ true
+    → (a && b && c && d && e && f) ≡ true
 all_six a b c d e f h i j k l m = rw (h, i, j, k, l, m) refl
 
 addresses_wider : (t : List ℕ → Bool) (u : Addresses) → addresses_fit t u ≡ true → addresses_fit any_text u ≡ true
-addresses_wider t u h = all_six (are_there u) _ _ _ _ _ (first_of_six (are_there u) _ _ _ _ _ h) (text_fits u.compensate) (text_fits u.complete) (text_fits u.status) (text_fits u.forget) (text_fits u.after)
+addresses_wider t u h = all_six (are_there u) _ _ _ _ _ (first_of_six (are_there u) _ _ _ _ _ h)
+    (text_fits u.compensate) (text_fits u.complete) (text_fits u.status) (text_fits u.forget) (text_fits u.after)
 
-rules_wider : (v : Version) (t : List ℕ → Bool) (f : Facts) (by m : ℕ) (d : Deed) → first_broken (rules_on v t f (record { by = by; moment = m; deed = d })) ≡ None → first_broken (rules_on v any_text f (record { by = by; moment = m; deed = d })) ≡ None
+rules_wider : (v : Version) (t : List ℕ → Bool) (f : Facts) (by m : ℕ) (d : Deed)
+    → first_broken (rules_on v t f (record { by = by; moment = m; deed = d })) ≡ None
+    → first_broken (rules_on v any_text f (record { by = by; moment = m; deed = d })) ≡ None
 rules_wider v t f by m (Join p a uris) h =
     let e : Entry = record { by = by; moment = m; deed = Join p a uris } in
     let k = all_kept (rules_on v t f e) h in
-    none_broken (rules_on v any_text f e) (k.0, (k.1.0, (k.1.1.0, (k.1.1.1.0, (k.1.1.1.1.0, (k.1.1.1.1.1.0, (addresses_wider t uris k.1.1.1.1.1.1.0, tt)))))))
+    none_broken (rules_on v any_text f e) (
+      k.0,
+      (
+        k.1.0,
+        (
+          k.1.1.0,
+          (k.1.1.1.0, (k.1.1.1.1.0, (k.1.1.1.1.1.0, (addresses_wider t uris k.1.1.1.1.1.1.0, tt)))),
+        ),
+      ),
+    )
 rules_wider v t f by m d h = h
 
-allows_wider : (v : Version) (t : List ℕ → Bool) (J : History) (e : Entry) → allows v t J e ≡ true → allows v any_text J e ≡ true
+allows_wider : (v : Version) (t : List ℕ → Bool) (J : History) (e : Entry) → allows v t J e ≡ true
+    → allows v any_text J e ≡ true
 unfolding broken
 allows_wider v t J e h =
     let k = both (in_range e) (is_none (broken v t J e)) h in
-    and_intro (in_range e) (is_none (broken v any_text J e)) k.0 (ap is_none (rules_wider v t (facts_of J) e.by e.moment e.deed (none_from_test (broken v t J e) k.1)))
+    and_intro (in_range e) (is_none (broken v any_text J e)) k.0 (ap is_none
+    (rules_wider v t (facts_of J) e.by e.moment e.deed (none_from_test (broken v t J e) k.1)))
 
-pub allows_widest : (v : Version) (t : List ℕ → Bool) (J : History) (e : Entry) → allows v t J e ≡ true → allows Two any_text J e ≡ true
+pub allows_widest : (v : Version) (t : List ℕ → Bool) (J : History) (e : Entry) → allows v t J e ≡ true
+    → allows Two any_text J e ≡ true
 allows_widest One t J e h = allows_kept any_text J e (allows_wider One t J e h)
 allows_widest Two t J e h = allows_wider Two t J e h
 
-pub legal_widest : (v : Version) (t : List ℕ → Bool) (J : History) → is_legal v t J ≡ true → is_legal Two any_text J ≡ true
+pub legal_widest : (v : Version) (t : List ℕ → Bool) (J : History) → is_legal v t J ≡ true → is_legal Two any_text J
+    ≡ true
 unfolding is_legal
-legal_widest v t J h = list_all-weaker (λ (s : Step). allows v t s.past s.entry) (λ (s : Step). allows Two any_text s.past s.entry) (λ s. allows_widest v t s.past s.entry) (steps J) h
+legal_widest v t J h = list_all-weaker (λ (s : Step). allows v t s.past s.entry)
+    (λ (s : Step). allows Two any_text s.past s.entry) (λ s. allows_widest v t s.past s.entry) (steps J) h
 
 -- two histories that one sheet stands for have the same facts
 pub same_facts : (s : Sheet) (J K : History) → StandsFor s J → StandsFor s K → facts_of K ≡ facts_of J
@@ -71,11 +89,13 @@ same_facts s J K h k =
     ∙ agree h.version h.is_address J h.legal
 
 -- so what may follow one of them may follow the other
-pub follows_each : (s : Sheet) (e : Entry) (J : History) → Follows s e → StandsFor s J → (is_legal Two any_text J ≡ true) × Allowed Two any_text J e
+pub follows_each : (s : Sheet) (e : Entry) (J : History) → Follows s e → StandsFor s J
+    → (is_legal Two any_text J ≡ true) × Allowed Two any_text J e
 unfolding broken
 follows_each s e J f h = (
   legal_widest h.version h.is_address J h.legal,
   allowed Two any_text J e
-      (subst (λ (x : Facts). (in_range e && is_none (first_broken (rules_on Two any_text x e))) ≡ true) (same_facts s J f.history h f.stands)
+      (subst (λ (x : Facts). (in_range e && is_none (first_broken (rules_on Two any_text x e))) ≡ true)
+      (same_facts s J f.history h f.stands)
       (allows_widest f.stands.version f.stands.is_address f.history e f.allowed)),
 )

@@ -27,7 +27,9 @@ known_deed version.One d h = h
 known_deed version.Two d h = refl
 
 -- what makes an entry allowed: its writer, its moment, its numbers, and the rules on its deed
-allowed_by : (v : Version) (t : List ℕ → Bool) (J : History) (by m : ℕ) (d : Deed) → nat_lt by (2 ^ 32) ≡ true → is_number m ≡ true → numbers_fit d ≡ true → has_deed v d ≡ true → clerk_fits (facts_of J) by d ≡ true → last_moment J ≤ m
+allowed_by : (v : Version) (t : List ℕ → Bool) (J : History) (by m : ℕ) (d : Deed) → nat_lt by (2 ^ 32) ≡ true
+    → is_number m ≡ true → numbers_fit d ≡ true → has_deed v d ≡ true → clerk_fits (facts_of J) by d ≡ true
+    → last_moment J ≤ m
     → AllKept (deed_rules v t (facts_of J) m d) → Allowed v t J (record { by = by; moment = m; deed = d })
 unfolding facts_of
 allowed_by v t J by m d low fits numbers known clerk later rules =
@@ -43,23 +45,36 @@ enrols Enrol = true
 enrols _ = false
 
 -- a deed whose rules are kept may be written by one who may write
-pub may_write : (v : Version) (t : List ℕ → Bool) (J : History) (by m : ℕ) (d : Deed) → MayWrite v t J by m → enrols d ≡ false → numbers_fit d ≡ true → has_deed v d ≡ true → AllKept (deed_rules v t (facts_of J) m d)
+pub may_write : (v : Version) (t : List ℕ → Bool) (J : History) (by m : ℕ) (d : Deed) → MayWrite v t J by m → enrols d
+    ≡ false → numbers_fit d ≡ true → has_deed v d ≡ true → AllKept (deed_rules v t (facts_of J) m d)
     → Allowed v t J (record { by = by; moment = m; deed = d })
 unfolding facts_of
-may_write v t J by m d w other numbers known rules = allowed_by v t J by m d (clerk_in_range v t J w.legal by w.clerk) w.fits numbers known (clerk d other) w.moment rules
+may_write v t J by m d w other numbers known rules = allowed_by v t J by m d (clerk_in_range v t J w.legal by w.clerk)
+    w.fits numbers known (clerk d other) w.moment rules
   where
     clerk : (d : Deed) → enrols d ≡ false → clerk_fits (facts_of J) by d ≡ true
     clerk Enrol h = absurd cc
     clerk _ h = w.clerk
 
 -- the next clerk may enrol
-pub may_enrol : (v : Version) (t : List ℕ → Bool) (J : History) (m : ℕ) → nat_lt (length (clerks J) + 1) (2 ^ 32) ≡ true → last_moment J ≤ m → is_number m ≡ true → Allowed v t J (record { by = length (clerks J) + 1; moment = m; deed = Enrol })
+pub may_enrol : (v : Version) (t : List ℕ → Bool) (J : History) (m : ℕ) → nat_lt (length (clerks J) + 1) (2 ^ 32) ≡ true
+    → last_moment J ≤ m → is_number m ≡ true
+    → Allowed v t J (record { by = length (clerks J) + 1; moment = m; deed = Enrol })
 unfolding facts_of
-may_enrol v t J m low later fits = allowed_by v t J (length (clerks J) + 1) m Enrol low fits refl (known_deed v Enrol refl) (eq-eqb (length (clerks J) + 1) (length (clerks J) + 1) refl) later tt
+may_enrol v t J m low later fits = allowed_by v t J (length (clerks J) + 1) m Enrol low fits refl
+    (known_deed v Enrol refl) (eq-eqb (length (clerks J) + 1) (length (clerks J) + 1) refl) later tt
 
 -- who has written may go on at that moment
-pub may_go_on : (v : Version) (t : List ℕ → Bool) (J : History) (by m : ℕ) (d : Deed) → is_legal v t J ≡ true → Allowed v t J (record { by = by; moment = m; deed = d }) → MayWrite v t (J ++ record { by = by; moment = m; deed = d } ∷ []) by m
+pub may_go_on : (v : Version) (t : List ℕ → Bool) (J : History) (by m : ℕ) (d : Deed) → is_legal v t J ≡ true
+    → Allowed v t J (record { by = by; moment = m; deed = d }) → MayWrite v t
+    (J ++ record { by = by; moment = m; deed = d } ∷ []) by m
 may_go_on v t J by m d l k =
     let e : Entry = record { by = by; moment = m; deed = d } in
     let now : last_moment (J ++ e ∷ []) ≡ m = last_moment_push J e in
-    record { legal = legal_more v t J e l k; clerk = writer_there v t J by m d k; moment = omega arith; fits = (ranged e k.ranged).moment }
+    record {
+      legal = legal_more v t J e l k;
+      clerk = writer_there v t J by m d k;
+      moment = omega arith;
+      fits =
+          (ranged e k.ranged).moment;
+    }

@@ -72,7 +72,8 @@ abbrev pub standing_at : ℕ → Step → Option (Option Standing)
 standing_at p s = of_deed s.entry.deed
   where
     of_deed : Deed → Option (Option Standing)
-    of_deed (Ask n q kind) = cond (q == p) (Some (Some (record { number = n; kind = kind; direction = ask_direction s.past q kind }))) None
+    of_deed (Ask n q kind) =
+        cond (q == p) (Some (Some (record { number = n; kind = kind; direction = ask_direction s.past q kind }))) None
     of_deed (Reply n o) = option_and_then (λ (a : Asked). cond (a.member == p) (Some None) None) (ask_of s.past n)
     of_deed _ = None
 
@@ -229,12 +230,20 @@ change_row f (suc n) rows = option_map_or (λ r. slice_set rows n (f r)) (slice_
 -- a member's row is changed, and its action counts anew
 abbrev pub change_member : (MemberRow → MemberRow) → ℕ → State → State
 change_member f p s =
-    option_map_or (λ (r : MemberRow). record s { members = change_row f p s.members; actions = change_row (with_member r (f r)) r.action s.actions }) (row_at s.members p) s
+    option_map_or (λ (r : MemberRow). record s {
+      members = change_row f p s.members;
+      actions =
+          change_row (with_member r (f r)) r.action s.actions;
+    }) (row_at s.members p) s
 
 -- an action's status is changed, and its parent counts anew
 abbrev pub change_status : ActionStatus → ℕ → State → State
 change_status now a s =
-    option_map_or (λ (r : ActionRow). record s { actions = option_map_or (λ b. change_row (with_child r.status now) b (changed a now s)) r.parent (changed a now s) }) (row_at s.actions a) s
+    option_map_or (λ (r : ActionRow). record s {
+      actions = option_map_or
+          (λ b. change_row (with_child r.status now) b (changed a now s)) r.parent (changed a now s);
+    })
+    (row_at s.actions a) s
   where
     changed : ℕ → ActionStatus → State → List ActionRow
     changed a now s = change_row (λ (x : ActionRow). record x { status = now }) a s.actions
@@ -267,7 +276,11 @@ asked_as _ s = s
 
 -- a member that is asked
 abbrev pub with_ask : ℕ → AskKind → MemberRow → MemberRow
-with_ask n kind r = record r { status = asked_as kind r.status; asked = Some (record { number = n; kind = kind; direction = way_asked kind r.status }) }
+with_ask n kind r = record r {
+  status = asked_as kind r.status;
+  asked =
+      Some (record { number = n; kind = kind; direction = way_asked kind r.status });
+}
 
 -- one of three by the way that a reply goes
 abbrev pub by_way : Direction → Option Outcome → Option Outcome → Option Outcome → Option Outcome
@@ -314,7 +327,19 @@ with_skip r = record r { status = member.Completed; completed_as = option_or r.c
 
 -- the row of a member that joins
 abbrev pub new_member : ℕ → Addresses → MemberRow
-new_member a u = record { action = a; addresses = presence_of u; status = member.Active; completion = None; compensation = None; completed_as = None; compensated_as = None; asked = None; has_forgotten = false; was_told = false }
+new_member a u = record {
+  action = a;
+  addresses = presence_of u;
+  status = member.Active;
+  completion = None;
+  compensation = None;
+  completed_as = None;
+  compensated_as = None;
+  asked = None;
+  has_forgotten = false;
+  was_told =
+      false;
+}
 
 -- the row of an action that starts
 abbrev pub new_action : ℕ → Option ℕ → ℕ → ℕ → ℕ → ActionRow
@@ -349,8 +374,15 @@ place_of n (r ∷ rows) = cond (stands_as n r) 1 (after (place_of n rows))
 abbrev pub after_deed : ℕ → Deed → State → State
 after_deed m Enrol s = record s { clerks = s.clerks + 1 }
 after_deed m (Start a parent limit) s =
-    record s { actions = option_map_or (λ b. change_row with_new_child b s.actions) parent s.actions ++ new_action a parent (new_top s a parent) limit m ∷ [] }
-after_deed m (Join p a u) s = record s { members = s.members ++ new_member a u ∷ []; actions = change_row (with_new_member (new_member a u)) a s.actions }
+    record s {
+      actions = option_map_or (λ b. change_row with_new_child b s.actions) parent s.actions
+          ++ new_action a parent (new_top s a parent) limit m ∷ [];
+    }
+after_deed m (Join p a u) s = record s {
+  members = s.members ++ new_member a u
+      ∷ [];
+  actions = change_row (with_new_member (new_member a u)) a s.actions;
+}
 after_deed m (Leave p) s = change_member (λ (r : MemberRow). record r { status = member.Left }) p s
 after_deed m (Close a cause) s = change_status action.Closing a s
 after_deed m (Cancel a cause) s = change_status action.Cancelling a s
@@ -360,4 +392,8 @@ after_deed m (Reply n o) s = change_member (with_reply o) (place_of n s.members)
 after_deed m (Report p o) s = change_member (with_report o) p s
 after_deed m (End a status) s = change_status status a s
 after_deed m Restart s = record s { void = s.asks }
-after_deed m (Renew a limit) s = record s { actions = change_row (λ (r : ActionRow). record r { limit = record { length_of = limit; since = m } }) a s.actions }
+after_deed m (Renew a limit) s =
+    record s {
+      actions = change_row (λ (r : ActionRow). record r { limit = record { length_of = limit; since = m } }) a
+          s.actions;
+    }

@@ -21,4 +21,5 @@ turn_by s a =
 
 -- the end of an action, where it may end
 abbrev pub end_by : State → ℕ → Option Deed
-end_by s a = option_and_then (λ (x : ActionFacts). cond x.settled (Some (End a x.right_end)) None) ((facts_by s).action a)
+end_by s a = option_and_then (λ (x : ActionFacts). cond x.settled (Some (End a x.right_end)) None)
+    ((facts_by s).action a)

@@ -73,7 +73,14 @@ asks_made J = filter_map asked_at (steps J)
 
 -- the sheet that stands for a history
 abbrev pub sheet_of : History → Sheet
-sheet_of J = record { entries = length J; state = state_of J; nests = map (nest_of J) (actions J); contacts = map (contact_of J) (members J); asks = asks_made J }
+sheet_of J = record {
+  entries = length J;
+  state = state_of J;
+  nests = map (nest_of J) (actions J);
+  contacts =
+      map (contact_of J) (members J);
+  asks = asks_made J;
+}
 
 -- the sheet stands for a legal history
 pub record StandsFor (s : Sheet) (J : History) : Type 0 where
@@ -116,8 +123,10 @@ top_at s a = option_map_or (λ (r : ActionRow). r.top) (row_at s.actions a) 0
 
 -- where the actions stand after one more deed
 abbrev pub nests_after : State → Deed → List Nest → List Nest
-nests_after s (Start c parent limit) nests = option_map_or (λ b. change_row (with_child_number c) b nests) parent nests ++ new_nest (new_depth nests parent) ∷ []
-nests_after s (Join p a uris) nests = change_row (with_number_under p) (top_at s a) (change_row (with_member_number p) a nests)
+nests_after s (Start c parent limit) nests = option_map_or (λ b. change_row (with_child_number c) b nests) parent nests
+    ++ new_nest (new_depth nests parent) ∷ []
+nests_after s (Join p a uris) nests = change_row (with_number_under p) (top_at s a)
+    (change_row (with_member_number p) a nests)
 nests_after s _ nests = nests
 
 -- no repeat yet
@@ -126,7 +135,14 @@ no_repeats = record { count = 0; last = 0 }
 
 -- one that has just joined has none in any stage
 abbrev pub new_contact : Addresses → Contact
-new_contact uris = record { addresses = uris; completing = no_repeats; compensating = no_repeats; forgetting = no_repeats; telling = no_repeats }
+new_contact uris = record {
+  addresses = uris;
+  completing = no_repeats;
+  compensating = no_repeats;
+  forgetting =
+      no_repeats;
+  telling = no_repeats;
+}
 
 -- one more repeat, at a moment
 abbrev pub again : ℕ → Repeats → Repeats
@@ -147,12 +163,20 @@ with_answer m o x c = cond (is_undecided o) (with_repeat m (stage_of x.kind x.di
 -- how members are reached after one more deed at a moment
 abbrev pub contacts_after : ℕ → List Asked → Deed → List Contact → List Contact
 contacts_after m asks (Join p a uris) contacts = contacts ++ new_contact uris ∷ []
-contacts_after m asks (Reply n o) contacts = option_map_or (λ (x : Asked). change_row (with_answer m o x) x.member contacts) (row_at asks n) contacts
+contacts_after m asks (Reply n o) contacts = option_map_or (λ (x : Asked). change_row (with_answer m o x) x.member
+    contacts) (row_at asks n) contacts
 contacts_after m asks _ contacts = contacts
 
 -- an ask of a member, as its row has it
 abbrev pub new_ask_by : State → ℕ → ℕ → AskKind → List Asked
-new_ask_by s n p kind = option_map_or (λ (r : MemberRow). record { number = n; member = p; kind = kind; direction = way_asked kind r.status } ∷ []) (row_at s.members p) []
+new_ask_by s n p kind =
+    option_map_or (λ (r : MemberRow). record {
+      number = n;
+      member = p;
+      kind = kind;
+      direction =
+          way_asked kind r.status;
+    } ∷ []) (row_at s.members p) []
 
 -- the asks after one more deed
 abbrev pub asks_after : State → Deed → List Asked → List Asked
@@ -161,7 +185,8 @@ asks_after s _ asks = asks
 
 -- the state after one more deed at a moment: the one that answers is found by the ask
 abbrev pub state_after : ℕ → List Asked → Deed → State → State
-state_after m asks (Reply n o) s = option_map_or (λ (x : Asked). change_member (with_reply o) x.member s) (row_at asks n) s
+state_after m asks (Reply n o) s = option_map_or (λ (x : Asked). change_member (with_reply o) x.member s)
+    (row_at asks n) s
 state_after m asks d s = after_deed m d s
 
 -- the sheet after one more deed at a moment, but for the count of entries

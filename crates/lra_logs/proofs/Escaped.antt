@@ -13,6 +13,7 @@ unfolding escaped
 escaped_empty text none = rw (chars_of_empty text none)
 
 -- of a text that begins with a character, that one is first
-pub escaped_step : (text rest : List ℕ) (c : ℕ) → IsUtf8 text → text ≡ encode_utf8 c ++ rest → escaped text ≡ encode_utf8_all (shown_char c) ++ escaped rest
+pub escaped_step : (text rest : List ℕ) (c : ℕ) → IsUtf8 text → text ≡ encode_utf8 c ++ rest → escaped text
+    ≡ encode_utf8_all (shown_char c) ++ escaped rest
 unfolding escaped
 escaped_step text rest c utf8 parts = rw (chars_past_char text rest c utf8 parts, encodes-append)

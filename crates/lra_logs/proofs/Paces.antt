@@ -36,7 +36,8 @@ after_written p u (WriteAfter n) = refl
 after_written p u Suppress = omega arith
 
 -- a verdict's lines have room in its second
-step : (p : Pace) (second n : ℕ) (u : Bool) (v : Verdict) → p.written + lines u v ≤ 100 → MayCome (after p u v) second n → MayCome p second (count second p.second u v + n)
+step : (p : Pace) (second n : ℕ) (u : Bool) (v : Verdict) → p.written + lines u v ≤ 100 → MayCome (after p u v) second n
+    → MayCome p second (count second p.second u v + n)
 step p second n u v room h = elim (cases_eq p.second second) [
   | inl own ↦
       let e = count_own second p.second u v own in
@@ -57,7 +58,8 @@ step p second n u v room h = elim (cases_eq p.second second) [
 
 -- a later second has more room
 turn_by : (b : Bool) (p : Pace) (next second n : ℕ) → nat_lt p.second next ≡ b → p.written ≤ 100
-    → MayCome (if b then record { second = next; written = 0; suppressed = p.suppressed } else p) second n → MayCome p second n
+    → MayCome (if b then record { second = next; written = 0; suppressed = p.suppressed } else p) second n
+    → MayCome p second n
 turn_by true p next second n e room h =
     let goes_on : p.second < next = grind (arith, nat_tests) in
     record {
@@ -67,7 +69,8 @@ turn_by true p next second n e room h =
     }
 turn_by false p next second n e room h = h
 
-turned_room_by : (b : Bool) (p : Pace) (next : ℕ) → p.written ≤ 100 → (if b then record { second = next; written = 0; suppressed = p.suppressed } else p).written ≤ 100
+turned_room_by : (b : Bool) (p : Pace) (next : ℕ) → p.written ≤ 100 → (if b then
+    record { second = next; written = 0; suppressed = p.suppressed } else p).written ≤ 100
 turned_room_by true p next h = omega arith
 turned_room_by false p next h = h
 
@@ -76,7 +79,8 @@ turned_room p moment h = turned_room_by (nat_lt p.second (moment / 1000)) p (mom
 
 -- what becomes of a line, by how the tests on it come out
 chosen : (none one two urgent : Bool) (n : ℕ) → Verdict
-chosen none one two urgent n = if none then (if one then Write else unless_urgent urgent) else (if two then WriteAfter n else unless_urgent urgent)
+chosen none one two urgent n = if none then (if one then Write else unless_urgent urgent) else
+    (if two then WriteAfter n else unless_urgent urgent)
 
 -- a line for which there is no room takes none
 none_fits : (p : Pace) (u : Bool) → p.written ≤ 100 → p.written + lines u (unless_urgent u) ≤ 100
@@ -89,7 +93,8 @@ share_fits true = omega arith
 share_fits false = omega arith
 
 -- a verdict keeps to the room
-fits_by : (none one two u : Bool) (p : Pace) → nat_lt p.written 100 ≡ one → nat_lt (p.written + share u) 100 ≡ two → p.written ≤ 100
+fits_by : (none one two u : Bool) (p : Pace) → nat_lt p.written 100 ≡ one → nat_lt (p.written + share u) 100 ≡ two
+    → p.written ≤ 100
     → p.written + lines u (chosen none one two u p.suppressed) ≤ 100
 unfolding chosen
 fits_by true true two u p e f h = let room : p.written < 100 = grind (arith, nat_tests) in omega (arith, room, share_fits u)
@@ -105,7 +110,8 @@ fits p u h = fits_by (p.suppressed == 0) (nat_lt p.written 100) (nat_lt (p.writt
 abbrev lines_in : ℕ → List (ℕ × Bool × Verdict) → ℕ
 lines_in second came = sum_by (λ x. if x.0 == second then lines x.1 x.2 else 0) came
 
-few_from : (came : List Coming) (p : Pace) (second : ℕ) → p.written ≤ 100 → MayCome p second (lines_in second (run p came))
+few_from : (came : List Coming) (p : Pace) (second : ℕ) → p.written ≤ 100
+    → MayCome p second (lines_in second (run p came))
 unfolding count
 few_from [] p second h = record { over = λ _. refl; now = λ _. omega (arith, h); later = omega arith }
 few_from (c ∷ rest_came) p second h =
@@ -118,14 +124,16 @@ few_from (c ∷ rest_came) p second h =
     let all = step q second (lines_in second others) u v fit rest in
     let e : lines_in second (run p (c ∷ rest_came)) ≡ count second q.second u v + lines_in second others =
     sum_by-cons (λ x. if x.0 == second then lines x.1 x.2 else 0) (q.second, u, v) others in
-    subst (MayCome p second) (sym e) (turn_by (nat_lt p.second (c.0 / 1000)) p (c.0 / 1000) second (count second q.second u v + lines_in second others) refl h all)
+    subst (MayCome p second) (sym e) (turn_by (nat_lt p.second (c.0 / 1000)) p (c.0 / 1000) second
+    (count second q.second u v + lines_in second others) refl h all)
 
 pub few : AreFew
 few came second = (few_from came at_rest second (omega arith)).later
 
 -- ---- each line is told of once
 
-turned_waits_by : (b : Bool) (p : Pace) (next : ℕ) → (if b then record { second = next; written = 0; suppressed = p.suppressed } else p).suppressed ≡ p.suppressed
+turned_waits_by : (b : Bool) (p : Pace) (next : ℕ)
+    → (if b then record { second = next; written = 0; suppressed = p.suppressed } else p).suppressed ≡ p.suppressed
 turned_waits_by true p next = refl
 turned_waits_by false p next = refl
 
@@ -133,7 +141,8 @@ turned_waits : (p : Pace) (moment : ℕ) → (turned p moment).suppressed ≡ p.
 turned_waits p moment = turned_waits_by (nat_lt p.second (moment / 1000)) p (moment / 1000)
 
 -- a line for which there is no room is told or waits
-none_waits : (p : Pace) (u : Bool) → p.suppressed + 1 < 2 ^ 64 → told (unless_urgent u) + (after p u (unless_urgent u)).suppressed ≡ p.suppressed + 1
+none_waits : (p : Pace) (u : Bool) → p.suppressed + 1 < 2 ^ 64 → told (unless_urgent u)
+    + (after p u (unless_urgent u)).suppressed ≡ p.suppressed + 1
 none_waits p true h = omega arith
 none_waits p false h = omega (arith, h)
 
@@ -145,7 +154,8 @@ waits_by true false two u p h = none_waits p u h
 waits_by false one true u p h = omega arith
 waits_by false one false u p h = none_waits p u h
 
-waits : (p : Pace) (u : Bool) → p.suppressed + 1 < 2 ^ 64 → told (verdict_at p u) + (after p u (verdict_at p u)).suppressed ≡ p.suppressed + 1
+waits : (p : Pace) (u : Bool) → p.suppressed + 1 < 2 ^ 64 → told (verdict_at p u)
+    + (after p u (verdict_at p u)).suppressed ≡ p.suppressed + 1
 unfolding chosen
 waits p u h = waits_by (p.suppressed == 0) (nat_lt p.written 100) (nat_lt (p.written + share u) 100) u p h
 
@@ -153,7 +163,8 @@ waits p u h = waits_by (p.suppressed == 0) (nat_lt p.written 100) (nat_lt (p.wri
 abbrev told_in : List (ℕ × Bool × Verdict) → ℕ
 told_in came = sum_by (λ x. told x.2) came
 
-counted_from : (came : List Coming) (p : Pace) → p.suppressed + length came < 2 ^ 64 → p.suppressed + length came ≡ told_in (run p came) + (ran p came).suppressed
+counted_from : (came : List Coming) (p : Pace) → p.suppressed + length came < 2 ^ 64 → p.suppressed + length came
+    ≡ told_in (run p came) + (ran p came).suppressed
 counted_from [] p h = omega arith
 counted_from (c ∷ rest_came) p h =
     let q = turned p c.0 in
@@ -163,7 +174,8 @@ counted_from (c ∷ rest_came) p h =
     let same = turned_waits p c.0 in
     let one = waits q u (omega (arith, h, same)) in
     let rest = counted_from rest_came (after q u v) (omega (arith, h, same, one)) in
-    let e : told_in (run p (c ∷ rest_came)) ≡ told v + told_in others = sum_by-cons (λ x. told x.2) (q.second, u, v) others in
+    let e : told_in (run p (c ∷ rest_came)) ≡ told v + told_in others =
+    sum_by-cons (λ x. told x.2) (q.second, u, v) others in
     let last : (ran p (c ∷ rest_came)).suppressed ≡ (ran (after q u v) rest_came).suppressed = refl in
     omega (arith, same, one, rest, e, last)
 

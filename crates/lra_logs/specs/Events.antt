@@ -70,22 +70,27 @@ outcome_field (Some reply) = field key.Outcome (shown.Outcome reply) ∷ []
 
 -- its numbers and words
 abbrev pub fields_of : Event → List Field
-fields_of (event.Serving journals workers) = field key.Journals (shown.Number journals) ∷ field key.Workers (shown.Number workers) ∷ []
+fields_of (event.Serving journals workers) = field key.Journals (shown.Number journals)
+    ∷ field key.Workers (shown.Number workers) ∷ []
 fields_of event.Ended = []
-fields_of (event.ActionStarted journal action) = field key.Journal (shown.Journal journal) ∷ field key.Action (shown.Number action) ∷ []
+fields_of (event.ActionStarted journal action) = field key.Journal (shown.Journal journal)
+    ∷ field key.Action (shown.Number action) ∷ []
 fields_of (event.ActionEnded journal action status) =
-    field key.Journal (shown.Journal journal) ∷ field key.Action (shown.Number action) ∷ field key.Status (shown.Status status) ∷ []
+    field key.Journal (shown.Journal journal) ∷ field key.Action (shown.Number action)
+    ∷ field key.Status (shown.Status status) ∷ []
 fields_of (event.JournalRolled journal) = field key.Journal (shown.Journal journal) ∷ []
 fields_of (event.JournalPutAway journal) = field key.Journal (shown.Journal journal) ∷ []
 fields_of (event.ArchiveFailed journal) = field key.Journal (shown.Journal journal) ∷ []
 fields_of event.SetBehind = []
 fields_of event.SetFollowed = []
-fields_of (event.DescriptorsLowered asked had) = field key.Asked (shown.Number asked) ∷ field key.Had (shown.Number had) ∷ []
+fields_of (event.DescriptorsLowered asked had) = field key.Asked (shown.Number asked) ∷ field key.Had (shown.Number had)
+    ∷ []
 fields_of event.ThreadRefused = []
 fields_of event.ThreadEnded = []
 fields_of (event.CallbacksStand journal) = field key.Journal (shown.Journal journal) ∷ []
 fields_of (event.MemberSilent journal member times outcome) =
-    field key.Journal (shown.Journal journal) ∷ field key.Member (shown.Number member) ∷ field key.Times (shown.Number times) ∷ outcome_field outcome
+    field key.Journal (shown.Journal journal) ∷ field key.Member (shown.Number member)
+    ∷ field key.Times (shown.Number times) ∷ outcome_field outcome
 fields_of (event.WriteFailed journal) = field key.Journal (shown.Journal journal) ∷ []
 fields_of event.SyncFailed = []
 fields_of (event.Refused port code) = field key.Port (shown.Port port) ∷ field key.Code (shown.Number code) ∷ []

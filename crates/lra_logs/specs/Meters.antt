@@ -19,7 +19,12 @@ most = 100
 
 -- the pace at a moment, in milliseconds: a later second begins with no line
 abbrev pub turned : Pace → ℕ → Pace
-turned p moment = if nat_lt p.second (moment / 1000) then record { second = moment / 1000; written = 0; suppressed = p.suppressed } else p
+turned p moment = if nat_lt p.second (moment / 1000) then record {
+  second = moment / 1000;
+  written = 0;
+  suppressed =
+      p.suppressed;
+} else p
 
 -- how much of the room of a second a line takes: an urgent one, which is a warning or an error, takes none
 abbrev pub share : Bool → ℕ
@@ -42,7 +47,12 @@ one_more n = min (n + 1) (2 ^ 64 - 1)
 -- the pace after that
 abbrev pub after : Pace → Bool → Verdict → Pace
 after p urgent Write = record { second = p.second; written = p.written + share urgent; suppressed = p.suppressed }
-after p urgent (WriteAfter suppressed) = record { second = p.second; written = p.written + (share urgent + 1); suppressed = 0 }
+after p urgent (WriteAfter suppressed) = record {
+  second = p.second;
+  written = p.written
+      + (share urgent + 1);
+  suppressed = 0;
+}
 after p urgent Suppress = record { second = p.second; written = p.written; suppressed = one_more p.suppressed }
 
 -- the pace once more lines weren't written
@@ -58,7 +68,8 @@ Coming = ℕ × Bool
 -- the second in which each line of a run came, whether it was urgent, and what became of it
 abbrev pub run : Pace → List Coming → List (ℕ × Bool × Verdict)
 run p [] = []
-run p (c ∷ rest) = ((turned p c.0).second, c.1, verdict_at (turned p c.0) c.1) ∷ run (after (turned p c.0) c.1 (verdict_at (turned p c.0) c.1)) rest
+run p (c ∷ rest) = ((turned p c.0).second, c.1, verdict_at (turned p c.0) c.1)
+    ∷ run (after (turned p c.0) c.1 (verdict_at (turned p c.0) c.1)) rest
 
 -- the pace after a run
 abbrev pub ran : Pace → List Coming → Pace
@@ -79,11 +90,13 @@ told Suppress = 0
 
 -- no second has more than a hundred lines, but for urgent ones
 abbrev pub AreFew : Type 0
-AreFew = (came : List Coming) (second : ℕ) → sum_by (λ x. if x.0 == second then lines x.1 x.2 else 0) (run at_rest came) ≤ most
+AreFew = (came : List Coming) (second : ℕ) → sum_by (λ x. if x.0 == second then lines x.1 x.2 else 0) (run at_rest came)
+    ≤ most
 
 -- each line is written, or told of once, or waits for that
 abbrev pub AreCounted : Type 0
-AreCounted = (came : List Coming) → length came < 2 ^ 64 → length came ≡ sum_by (λ x. told x.2) (run at_rest came) + (ran at_rest came).suppressed
+AreCounted = (came : List Coming) → length came < 2 ^ 64 → length came ≡ sum_by (λ x. told x.2) (run at_rest came)
+    + (ran at_rest came).suppressed
 
 -- an urgent line is written, whatever was before
 abbrev pub AreHeard : Type 0

@@ -47,5 +47,6 @@ silence journal member times = if is_told times then Some (event.MemberSilent jo
 abbrev pub event_of : ℕ → Sight → Deed → Option Event
 event_of journal s (deed.Start action parent limit) = Some (event.ActionStarted journal action)
 event_of journal s (deed.End action status) = Some (event.ActionEnded journal action status)
-event_of journal s (deed.Reply ask outcome.Silent) = option_and_then (λ member. silence journal member (one_more (s.silent member))) (s.asked ask)
+event_of journal s (deed.Reply ask outcome.Silent) = option_and_then (λ member. silence journal member
+    (one_more (s.silent member))) (s.asked ask)
 event_of journal s _ = None

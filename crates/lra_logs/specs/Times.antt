@@ -15,7 +15,9 @@ date_text d = wide 4 (unsigned_abs d.year) ++ (codes "-" ++ (wide 2 d.month ++ (
 -- its partial-time, at so many milliseconds
 abbrev pub clock_text : ℕ → List ℕ
 clock_text moment =
-    wide 2 (moment / 3_600_000 % 24) ++ (codes ":" ++ (wide 2 (moment / 60_000 % 60) ++ (codes ":" ++ (wide 2 (moment / 1000 % 60) ++ (codes "." ++ wide 3 (moment % 1000))))))
+    wide 2 (moment / 3_600_000 % 24)
+    ++ (codes ":" ++ (wide 2 (moment / 60_000 % 60) ++ (codes ":" ++
+    (wide 2 (moment / 1000 % 60) ++ (codes "." ++ wide 3 (moment % 1000))))))
 
 -- which day since 1970 it is in
 abbrev pub day_of : ℕ → ℕ
@@ -23,5 +25,6 @@ day_of moment = moment / 86_400_000
 
 -- the text of a moment, in milliseconds since 1970: the day's date and the time of the day; what RFC 3339 can't spell, since it is past the year 9999, is the number itself
 pub record IsTime (moment : ℕ) (text : List ℕ) : Type 0 where
-  pub spelled : day_of moment ≤ 2_932_896 → (d : Date) × (epoch_day d ≡ pos (day_of moment)) × (text ≡ date_text d ++ (codes "T" ++ (clock_text moment ++ codes "Z")))
+  pub spelled : day_of moment ≤ 2_932_896 → (d : Date) × (epoch_day d ≡ pos (day_of moment))
+      × (text ≡ date_text d ++ (codes "T" ++ (clock_text moment ++ codes "Z")))
   pub past : 2_932_896 < day_of moment → text ≡ decimal moment

@@ -6,4 +6,8 @@ use Rattle.lra_logs.specs.Silences.{Sight}
 
 -- what it knows of a journal's entries
 abbrev pub sight_of : Vigil → Sight
-sight_of v = record { asked = λ ask. get nat_eq v.asks ask; silent = λ member. unwrap_or (get nat_eq v.silences member) 0 }
+sight_of v = record {
+  asked = λ ask. get nat_eq v.asks ask;
+  silent = λ member. unwrap_or (get nat_eq v.silences member)
+      0;
+}

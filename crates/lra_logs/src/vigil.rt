@@ -58,7 +58,8 @@ impl Vigil {
 
     /// A member is asked.
     fn ask(&mut self, ask: u64, member: u64) -> Result<(), Memory>
-        ensures { OnOk result (sight_of self.new ≡ record (sight_of self.old) { asked = spec.with_at ask (Some member) (sight_of self.old).asked }) }
+        ensures { OnOk result (sight_of self.new ≡ record (sight_of self.old)
+            { asked = spec.with_at ask (Some member) (sight_of self.old).asked }) }
     {
         self.asks.insert(ask, member)?;
         Ok(())
@@ -66,7 +67,10 @@ impl Vigil {
 
     /// A member wasn't silent.
     fn speak(&mut self, member: u64)
-        ensures { sight_of self.new ≡ record (sight_of self.old) { silent = spec.with_at member 0 (sight_of self.old).silent } }
+        ensures { sight_of self.new ≡ record (sight_of self.old) {
+          silent =
+              spec.with_at member 0 (sight_of self.old).silent;
+        } }
     {
         self.silences.remove(&member);
     }
@@ -74,7 +78,8 @@ impl Vigil {
     /// A member was silent once more: how often that is in a row.
     fn count(&mut self, member: u64) -> Result<u64, Memory>
         ensures times { IfOk result (λ times. times ≡ one_more ((sight_of self.old).silent member)) }
-        ensures sight { IfOk result (λ times. sight_of self.new ≡ record (sight_of self.old) { silent = spec.with_at member times (sight_of self.old).silent }) }
+        ensures sight { IfOk result (λ times. sight_of self.new ≡ record (sight_of self.old)
+            { silent = spec.with_at member times (sight_of self.old).silent }) }
     {
         let times = match self.silences.get(&member) {
             Some(times) => times.saturating_add(1),
@@ -92,7 +97,8 @@ impl Vigil {
         outcome: Outcome,
     ) -> Result<Option<Event>, Memory>
         ensures sight { OnOk result (sight_of self.new ≡ spec.heard (sight_of self.old) (Deed.Reply ask outcome)) }
-        ensures event { IfOk result (λ event. event ≡ spec.event_of journal (sight_of self.old) (Deed.Reply ask outcome)) }
+        ensures event { IfOk result (λ event. event ≡ spec.event_of journal (sight_of self.old)
+            (Deed.Reply ask outcome)) }
     {
         let Some(member) = self.asks.remove(&ask) else {
             return Ok(None);

@@ -16,10 +16,16 @@ use Rattle.lra_marks.specs.inner.Leaves.{key, flag, is_mark, IsReal, IsBest, IsW
 
 -- of no places the last deadline is the best
 pub begun : (order : Order) (flags : List Bool) (start : ℕ) → IsBest order flags start start last
-begun order flags start = record { real = λ h. absurd cc; none = λ h. refl; least = λ k above below marked. absurd (omega arith) }
+begun order flags start = record {
+  real = λ h. absurd cc;
+  none = λ h. refl;
+  least =
+      λ k above below marked. absurd (omega arith);
+}
 
 -- of one more place it stays the best where the place is not marked, or comes later
-pub kept : (order : Order) (flags : List Bool) (start place : ℕ) (d : Deadline) → IsBest order flags start place d → (flag flags place ≡ true → d.moment ≤ key order (place + 1)) → IsBest order flags start (place + 1) d
+pub kept : (order : Order) (flags : List Bool) (start place : ℕ) (d : Deadline) → IsBest order flags start place d
+    → (flag flags place ≡ true → d.moment ≤ key order (place + 1)) → IsBest order flags start (place + 1) d
 kept order flags start place d best early = record {
   real = λ h. let r = best.real h in record { place = r.place; here = r.here; above = r.above; below = omega (arith, r.below); number = r.number; moment = r.moment };
   none = best.none;
@@ -30,7 +36,8 @@ kept order flags start place d best early = record {
 }
 
 -- and where it is marked and comes earlier, it is the best
-pub taken : (order : Order) (flags : List Bool) (start place : ℕ) (d : Deadline) → place < 2 ^ 64 - 2 → start ≤ place → flag flags place ≡ true → key order (place + 1) < d.moment → IsBest order flags start place d
+pub taken : (order : Order) (flags : List Bool) (start place : ℕ) (d : Deadline) → place < 2 ^ 64 - 2 → start ≤ place
+    → flag flags place ≡ true → key order (place + 1) < d.moment → IsBest order flags start place d
     → IsBest order flags start (place + 1) (record { moment = key order (place + 1); number = place + 1 })
 taken order flags start place d few from here early best = record {
   real = λ h. record { place = place; here = here; above = from; below = omega arith; number = refl; moment = refl };
@@ -42,7 +49,9 @@ taken order flags start place d few from here early best = record {
 }
 
 -- the same, of flags that are the same at these places
-moved : (order : Order) (flags gs : List Bool) (start end : ℕ) (d : Deadline) → ((k : ℕ) → start ≤ k → k < end → flag gs k ≡ flag flags k) → IsBest order flags start end d → IsBest order gs start end d
+moved : (order : Order) (flags gs : List Bool) (start end : ℕ) (d : Deadline)
+    → ((k : ℕ) → start ≤ k → k < end → flag gs k ≡ flag flags k) → IsBest order flags start end d
+    → IsBest order gs start end d
 moved order flags gs start end d same best = record {
   real = λ h. let r = best.real h in record { place = r.place; here = same r.place r.above r.below ∙ r.here; above = r.above; below = r.below; number = r.number; moment = r.moment };
   none = best.none;
@@ -63,10 +72,12 @@ pub changed : (order : Order) (flags gs : List Bool) (leaves ls : List Deadline)
     → length gs ≤ 8 * length ls → 8 * length ls < length gs + 8 → AreLeaves order gs ls
 changed order flags gs leaves ls b are same others written wide tight = record { at = at; wide = wide; tight = tight }
   where
-    other : (c : ℕ) → c < length ls → (c < b) ⊎ (b < c) → ((k : ℕ) → 8 * c ≤ k → k < 8 * c + 8 → flag gs k ≡ flag flags k) → IsWritten order gs c (node ls c)
+    other : (c : ℕ) → c < length ls → (c < b) ⊎ (b < c) → ((k : ℕ) → 8 * c ≤ k → k < 8 * c + 8 → flag gs k
+        ≡ flag flags k) → IsWritten order gs c (node ls c)
     other c there apart equal =
         let o = others c there apart in
-        subst (λ d. IsWritten order gs c d) (sym o.1) (moved order flags gs (8 * c) (8 * c + 8) (node leaves c) equal (are.at c o.0))
+        subst (λ d. IsWritten order gs c d) (sym o.1) (moved order flags gs (8 * c) (8 * c + 8) (node leaves c) equal
+        (are.at c o.0))
 
     at : (c : ℕ) → c < length ls → IsWritten order gs c (node ls c)
     at c there = elim (cases_lt c b) [
@@ -78,7 +89,8 @@ changed order flags gs leaves ls b are same others written wide tight = record {
     ]
 
 -- one leaf is written
-pub with_leaf : (order : Order) (flags gs : List Bool) (leaves : List Deadline) (b : ℕ) (d : Deadline) → AreLeaves order flags leaves
+pub with_leaf : (order : Order) (flags gs : List Bool) (leaves : List Deadline) (b : ℕ) (d : Deadline)
+    → AreLeaves order flags leaves
     → ((k : ℕ) → (k < 8 * b) ⊎ (8 * b + 8 ≤ k) → flag gs k ≡ flag flags k) → IsWritten order gs b d → b < length leaves
     → length gs ≤ 8 * length leaves → 8 * length leaves < length gs + 8 → AreLeaves order gs (set leaves b d)
 with_leaf order flags gs leaves b d are same written there wide tight =
@@ -89,13 +101,18 @@ with_leaf order flags gs leaves b d are same written there wide tight =
     (omega arith) (omega arith)
 
 -- one leaf less
-pub less_leaves : (order : Order) (flags gs : List Bool) (leaves ls : List Deadline) (b : ℕ) (d : Deadline) → AreLeaves order flags leaves
+pub less_leaves : (order : Order) (flags gs : List Bool) (leaves ls : List Deadline) (b : ℕ) (d : Deadline)
+    → AreLeaves order flags leaves
     → ((k : ℕ) → (k < 8 * b) ⊎ (8 * b + 8 ≤ k) → flag gs k ≡ flag flags k) → leaves ≡ ls ++ d ∷ [] → b ≡ length ls
     → length gs ≤ 8 * length ls → 8 * length ls < length gs + 8 → AreLeaves order gs ls
 less_leaves order flags gs leaves ls b d are same split last_one wide tight =
     let len : length leaves ≡ length ls + 1 = ap length split ∙ length-append ls (d ∷ []) in
     changed order flags gs leaves ls b are same
-    (λ c inside apart. (omega (arith, inside, len), sym (ap (λ (x : List Deadline). node x c) split ∙ get_or_append_left ls (d ∷ []) last c inside)))
+    (λ c inside apart. (
+      omega (arith, inside, len),
+      sym (ap (λ (x : List Deadline). node x c) split
+          ∙ get_or_append_left ls (d ∷ []) last c inside),
+    ))
     (λ h. absurd (omega arith)) wide tight
 
 -- one more flag leaves the others
@@ -103,7 +120,8 @@ pub flag_pushed : (es : List Bool) (x : Bool) (k : ℕ) → k ≢ length es → 
 flag_pushed es x k other = mark_at-push_other es x (suc k) (omega arith)
 
 -- and so does one less
-pub flag_popped : (fs es : List Bool) (o : Option Bool) (k : ℕ) → fs ≡ es ++ option_to_list o → k ≢ length es → flag es k ≡ flag fs k
+pub flag_popped : (fs es : List Bool) (o : Option Bool) (k : ℕ) → fs ≡ es ++ option_to_list o → k ≢ length es
+    → flag es k ≡ flag fs k
 flag_popped fs es None k split other = sym (ap (λ (x : List Bool). flag x k) (split ∙ append-nil es))
 flag_popped fs es (Some b) k split other = sym (ap (λ (x : List Bool). flag x k) split ∙ flag_pushed es b k other)
 
@@ -163,22 +181,28 @@ module _ (order : Order) (flags : List Bool) (leaves : List Deadline) (few : len
     pub first_marked : is_mark first ≡ true → IsFirstMarked order flags first.number
     first_marked marked =
         let r = (are.at is.place is.within).real (ap is_mark is.here ∙ marked) in
-        let number : first.number ≡ suc r.place = ap (λ (d : Deadline). d.number) (sym is.here) ∙ r.number ∙ add-one r.place in
-        let moment : first.moment ≡ key order (r.place + 1) = ap (λ (d : Deadline). d.moment) (sym is.here) ∙ r.moment in
-        subst (λ n. IsFirstMarked order flags n) (sym number) (record { is_marked = r.here; first = after r.place r.here moment })
+        let number : first.number ≡ suc r.place = ap (λ (d : Deadline). d.number) (sym is.here) ∙ r.number
+        ∙ add-one r.place in
+        let moment : first.moment ≡ key order (r.place + 1) = ap (λ (d : Deadline). d.moment) (sym is.here)
+        ∙ r.moment in
+        subst (λ n. IsFirstMarked order flags n) (sym number)
+        (record { is_marked = r.here; first = after r.place r.here moment })
       where
-        after : (p : ℕ) → flag flags p ≡ true → first.moment ≡ key order (p + 1) → (n : ℕ) → mark_at flags n ≡ true → IsNoLater order (suc p) n
+        after : (p : ℕ) → flag flags p ≡ true → first.moment ≡ key order (p + 1) → (n : ℕ) → mark_at flags n ≡ true
+            → IsNoLater order (suc p) n
         after p here moment zero h = absurd cc
         after p here moment (suc k) h =
             let keys : key order (p + 1) ≤ key order (k + 1) = subst (λ m. m ≤ key order (k + 1)) moment (soon k h) in
             let inside = within k h in
             let own = within p here in
-            subst (λ m. IsNoLater order m (suc k)) (add-one p) (subst (λ m. IsNoLater order (p + 1) m) (add-one k) (no_later order (p + 1) (k + 1) (omega arith) (omega arith) keys))
+            subst (λ m. IsNoLater order m (suc k)) (add-one p) (subst (λ m. IsNoLater order (p + 1) m) (add-one k)
+            (no_later order (p + 1) (k + 1) (omega arith) (omega arith) keys))
 
     pub none_marked : is_mark first ≡ false → NoneMarked flags
     none_marked unmarked zero = refl
     none_marked unmarked (suc k) = false_from_ne_true (flag flags k) (λ there.
-        let moment : first.moment ≡ 2 ^ 64 - 1 = ap (λ (d : Deadline). d.moment) (sym is.here) ∙ (are.at is.place is.within).none (ap is_mark is.here ∙ unmarked) in
+        let moment : first.moment ≡ 2 ^ 64 - 1 = ap (λ (d : Deadline). d.moment) (sym is.here)
+        ∙ (are.at is.place is.within).none (ap is_mark is.here ∙ unmarked) in
         let inside = within k there in
         let less = early order (k + 1) (omega arith) (omega arith) in
         let least = soon k there in

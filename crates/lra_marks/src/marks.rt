@@ -35,7 +35,12 @@ impl Model for Marks {
 
     ghost Value = { Marking };
 
-    ghost view = { λ m. record { order = m.order; marked = m.flags.items; room = room_of (vec_capacity m.flags) (vec_len m.flags) (length m.leaves.items + m.leaves.room) } };
+    ghost view = { λ m. record {
+      order = m.order;
+      marked = m.flags.items;
+      room =
+          room_of (vec_capacity m.flags) (vec_len m.flags) (length m.leaves.items + m.leaves.room);
+    } };
 
     ghost invariant = { λ m. AreLeaves m.order m.flags.items m.leaves.items };
 }
@@ -83,7 +88,8 @@ fn flag(flags: &[bool], place: usize) -> bool
 /// The better of the best so far and of the number at a place, where this is marked.
 fn better(order: Order, best: Deadline, place: usize, is_marked: bool) -> Deadline
     requires { place < 2 ^ 64 - 2 }
-    ensures { (flags : List Bool) (start : ℕ) → start ≤ place → flag flags place ≡ is_marked → IsBest order flags start place best → IsBest order flags start (place + 1) result }
+    ensures { (flags : List Bool) (start : ℕ) → start ≤ place → flag flags place ≡ is_marked
+        → IsBest order flags start place best → IsBest order flags start (place + 1) result }
 {
     let number = place as u64 + 1;
     let moment = key(order, number);

@@ -25,4 +25,10 @@ pub record Presence : Type 0 where
 
 -- which of these addresses there are
 abbrev pub presence_of : Addresses → Presence
-presence_of u = record { compensate = is_some u.compensate; complete = is_some u.complete; status = is_some u.status; forget = is_some u.forget; after = is_some u.after }
+presence_of u = record {
+  compensate = is_some u.compensate;
+  complete = is_some u.complete;
+  status = is_some u.status;
+  forget = is_some u.forget;
+  after = is_some u.after;
+}

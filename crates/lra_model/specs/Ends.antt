@@ -21,8 +21,10 @@ action_is test J a = option_map_or test (action_status J a) false
 -- actions have ended; a Cancelling one until its staying members have compensated or failed and its nested actions have finished cancelling
 -- (MicroProfile LRA 2.0, LRAStatus; on nested actions this project's choice).
 abbrev pub settles : Option ActionStatus → History → ℕ → Bool
-settles (Some action.Closing) J a = list_all (λ p. is_done_completing (member_status J p)) (staying J a) && list_all (action_is has_ended J) (children J a)
-settles (Some action.Cancelling) J a = list_all (λ p. is_done_compensating (member_status J p)) (staying J a) && list_all (action_is has_finished_cancelling J) (children J a)
+settles (Some action.Closing) J a = list_all (λ p. is_done_completing (member_status J p)) (staying J a)
+    && list_all (action_is has_ended J) (children J a)
+settles (Some action.Cancelling) J a = list_all (λ p. is_done_compensating (member_status J p)) (staying J a)
+    && list_all (action_is has_finished_cancelling J) (children J a)
 settles _ J a = false
 
 -- whether an action may end now (MicroProfile LRA 2.0, LRAStatus)
@@ -37,8 +39,10 @@ children_are_well J a = not (list_any (action_is has_failed J) (children J a))
 -- FailedToClose; a Cancelling one ends Cancelled where each has compensated and none has failed, else FailedToCancel (MicroProfile LRA 2.0,
 -- LRAStatus; on nested actions this project's choice).
 abbrev pub ends_as : Option ActionStatus → History → ℕ → ActionStatus
-ends_as (Some action.Closing) J a = cond (list_all (λ p. is_completed (member_status J p)) (staying J a) && children_are_well J a) action.Closed action.FailedToClose
-ends_as _ J a = cond (list_all (λ p. is_compensated (member_status J p)) (staying J a) && children_are_well J a) action.Cancelled action.FailedToCancel
+ends_as (Some action.Closing) J a = cond (list_all (λ p. is_completed (member_status J p)) (staying J a)
+    && children_are_well J a) action.Closed action.FailedToClose
+ends_as _ J a = cond (list_all (λ p. is_compensated (member_status J p)) (staying J a) && children_are_well J a)
+    action.Cancelled action.FailedToCancel
 
 -- the status that an action ends in where it ends now (MicroProfile LRA 2.0, LRAStatus)
 unfoldable pub right_end : History → ℕ → ActionStatus

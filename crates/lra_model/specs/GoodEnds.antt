@@ -25,11 +25,16 @@ pub record IsCompletedForGood (J : History) (p : ℕ) : Type 0 where
 -- failed; where it ended and did not fail, none of them did: an end is a failed one exactly where a member failed
 -- (MicroProfile LRA 2.0, LRAStatus: all or nothing).
 pub record HasGoodEnd (J : History) (t : ℕ) : Type 0 where
-  pub closed : action_status J t ≡ Some action.Closed → (p : ℕ) → StaysUnder J t p → was_cancelled_below J t (action_of J p) ≡ false → IsCompletedForGood J p
-  pub undone : action_status J t ≡ Some action.Closed → (p : ℕ) → StaysUnder J t p → was_cancelled_below J t (action_of J p) ≡ true → member_status J p ≡ member.Compensated
-  pub cancelled : action_status J t ≡ Some action.Cancelled → (p : ℕ) → StaysUnder J t p → member_status J p ≡ member.Compensated
-  pub failed : action_is has_failed J t ≡ true → (p : ℕ) × StaysUnder J t p × (member_has_failed (member_status J p) ≡ true)
-  pub unfailed : action_is has_ended J t ≡ true → action_is has_failed J t ≡ false → (p : ℕ) → StaysUnder J t p → member_has_failed (member_status J p) ≡ false
+  pub closed : action_status J t ≡ Some action.Closed → (p : ℕ) → StaysUnder J t p
+      → was_cancelled_below J t (action_of J p) ≡ false → IsCompletedForGood J p
+  pub undone : action_status J t ≡ Some action.Closed → (p : ℕ) → StaysUnder J t p
+      → was_cancelled_below J t (action_of J p) ≡ true → member_status J p ≡ member.Compensated
+  pub cancelled : action_status J t ≡ Some action.Cancelled → (p : ℕ) → StaysUnder J t p → member_status J p
+      ≡ member.Compensated
+  pub failed : action_is has_failed J t ≡ true → (p : ℕ) × StaysUnder J t p
+      × (member_has_failed (member_status J p) ≡ true)
+  pub unfailed : action_is has_ended J t ≡ true → action_is has_failed J t ≡ false → (p : ℕ) → StaysUnder J t p
+      → member_has_failed (member_status J p) ≡ false
 
 -- every action has a good end where it has ended (MicroProfile LRA 2.0, LRAStatus: all or nothing)
 abbrev pub GoodEnds : History → Type 0
@@ -37,4 +42,5 @@ GoodEnds J = (t : ℕ) → HasGoodEnd J t
 
 -- every legal history of either version has good ends, whatever the test of an address's text (MicroProfile LRA 2.0, LRAStatus)
 abbrev pub LegalHistoriesHaveGoodEnds : Type 0
-LegalHistoriesHaveGoodEnds = (v : Version) (is_address : List ℕ → Bool) (J : History) → is_legal v is_address J ≡ true → GoodEnds J
+LegalHistoriesHaveGoodEnds = (v : Version) (is_address : List ℕ → Bool) (J : History) → is_legal v is_address J ≡ true
+    → GoodEnds J

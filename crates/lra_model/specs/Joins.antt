@@ -16,7 +16,8 @@ same_address _ _ = false
 -- whether two members have the same five addresses (this project's choice)
 abbrev pub same_addresses : Addresses → Addresses → Bool
 same_addresses u w =
-    same_address u.compensate w.compensate && same_address u.complete w.complete && same_address u.status w.status && same_address u.forget w.forget && same_address u.after w.after
+    same_address u.compensate w.compensate && same_address u.complete w.complete && same_address u.status w.status
+    && same_address u.forget w.forget && same_address u.after w.after
 
 -- the least member of an action that has not left and has these addresses already: joining again is answered by it (this project's choice)
 unfoldable pub already_member : History → ℕ → Addresses → Option ℕ

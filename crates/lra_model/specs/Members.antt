@@ -91,7 +91,8 @@ abbrev pub asked_at : Step → Option Asked
 asked_at s = of_deed s.entry.deed
   where
     of_deed : Deed → Option Asked
-    of_deed (Ask n p kind) = Some (record { number = n; member = p; kind = kind; direction = ask_direction s.past p kind })
+    of_deed (Ask n p kind) =
+        Some (record { number = n; member = p; kind = kind; direction = ask_direction s.past p kind })
     of_deed _ = None
 
 -- the ask of a number, where it was made (this project's choice)
@@ -109,7 +110,8 @@ abbrev pub replied_at : Step → Option Replied
 replied_at s = of_deed s.entry.deed
   where
     of_deed : Deed → Option Replied
-    of_deed (Reply n o) = option_map (λ (a : Asked). record { to = a; outcome = o; moment = s.entry.moment }) (ask_of s.past n)
+    of_deed (Reply n o) = option_map (λ (a : Asked). record { to = a; outcome = o; moment = s.entry.moment })
+        (ask_of s.past n)
     of_deed _ = None
 
 -- the replies of a history, in their order (this project's choice)
@@ -128,7 +130,8 @@ abbrev pub heard_at : Step → Option Heard
 heard_at s = of_deed s.entry.deed
   where
     of_deed : Deed → Option Heard
-    of_deed (Reply n o) = option_map (λ (a : Asked). record { member = a.member; direction = a.direction; outcome = o }) (ask_of s.past n)
+    of_deed (Reply n o) = option_map (λ (a : Asked). record { member = a.member; direction = a.direction; outcome = o })
+        (ask_of s.past n)
     of_deed (Report p o) = Some (record { member = p; direction = status_direction s.past p; outcome = o })
     of_deed (Skip p) = Some (record { member = p; direction = direction.Completion; outcome = outcome.Done })
     of_deed _ = None
@@ -160,11 +163,13 @@ member_status J p =
 
 -- the last reply of a member in a direction (this project's choice)
 unfoldable pub last_reply : History → ℕ → Direction → Option Outcome
-last_reply J p d = last (filter_map (λ (r : Replied). when ((r.to.member == p) && same_direction r.to.direction d) r.outcome) (replies J))
+last_reply J p d = last
+    (filter_map (λ (r : Replied). when ((r.to.member == p) && same_direction r.to.direction d) r.outcome) (replies J))
 
 -- whether a member has answered an ask of a kind with Done (this project's choice)
 unfoldable pub was_answered : History → ℕ → AskKind → Bool
-was_answered J p kind = list_any (λ (r : Replied). (r.to.member == p) && same_kind r.to.kind kind && is_done r.outcome) (replies J)
+was_answered J p kind = list_any (λ (r : Replied). (r.to.member == p) && same_kind r.to.kind kind && is_done r.outcome)
+    (replies J)
 
 -- whether an ask is outstanding after a deed that bears on it (this project's journal)
 abbrev pub standing_given : ℕ → Deed → Option Bool

@@ -46,11 +46,16 @@ is_here = at_member (λ (p : MemberFacts). not (has_gone p.status))
 abbrev pub deed_rules : Version → (List ℕ → Bool) → Facts → ℕ → Deed → List Ruling
 deed_rules v t f m Enrol = []
 deed_rules v t f m (Start a parent limit) =
-    (rule.Number, a == f.actions + 1) ∷ (rule.Action, each_parent (is_action f) parent) ∷ (rule.Active, each_parent (status_is is_active f) parent) ∷ (rule.Limit, is_moment (m + limit)) ∷ []
+    (rule.Number, a == f.actions + 1) ∷ (rule.Action, each_parent (is_action f) parent)
+    ∷ (rule.Active, each_parent (status_is is_active f) parent) ∷ (rule.Limit, is_moment (m + limit)) ∷ []
 deed_rules v t f m (Join p a uris) =
-    (rule.Number, p == f.members + 1) ∷ (rule.Action, is_action f a) ∷ (rule.Active, status_is is_active f a) ∷ (rule.Addresses, addresses_fit t uris) ∷ []
+    (rule.Number, p == f.members + 1) ∷ (rule.Action, is_action f a) ∷ (rule.Active, status_is is_active f a)
+    ∷ (rule.Addresses, addresses_fit t uris) ∷ []
 deed_rules v t f m (Leave p) =
-    (rule.Member, is_member f p) ∷ (rule.Left, is_here f p) ∷ (rule.Active, at_member (λ (x : MemberFacts). status_is is_active f x.action) f p) ∷ []
+    (rule.Member, is_member f p) ∷ (rule.Left, is_here f p) ∷ (
+      rule.Active,
+      at_member (λ (x : MemberFacts). status_is is_active f x.action) f p,
+    ) ∷ []
 deed_rules v t f m (Close a cause) =
     (rule.Action, is_action f a) ∷ (rule.Cause, at_action (may_close cause f) f a) ∷ []
 deed_rules v t f m (Cancel a cause) =
@@ -58,20 +63,23 @@ deed_rules v t f m (Cancel a cause) =
 deed_rules v t f m (Skip p) =
     (rule.Member, is_member f p) ∷ (rule.Left, is_here f p) ∷ (rule.Skip, at_member (may_skip f) f p) ∷ []
 deed_rules v t f m (Ask n p kind) =
-    (rule.Number, n == f.asks + 1) ∷ (rule.Member, is_member f p) ∷ (rule.Left, is_here f p) ∷ (rule.Ask, at_member (may_ask kind f) f p) ∷ []
+    (rule.Number, n == f.asks + 1) ∷ (rule.Member, is_member f p) ∷ (rule.Left, is_here f p)
+    ∷ (rule.Ask, at_member (may_ask kind f) f p) ∷ []
 deed_rules v t f m (Reply n outcome) =
     (rule.Reply, may_reply f n outcome) ∷ []
 deed_rules v t f m (Report p outcome) =
     (rule.Member, is_member f p) ∷ (rule.Left, is_here f p) ∷ (rule.Report, at_member (may_report outcome) f p) ∷ []
 deed_rules v t f m (End a status) =
-    (rule.Action, is_action f a) ∷ (rule.Unsettled, at_action (λ (x : ActionFacts). x.settled) f a) ∷ (rule.Ending, at_action (λ (x : ActionFacts). same_status status x.right_end) f a) ∷ []
+    (rule.Action, is_action f a) ∷ (rule.Unsettled, at_action (λ (x : ActionFacts). x.settled) f a)
+    ∷ (rule.Ending, at_action (λ (x : ActionFacts). same_status status x.right_end) f a) ∷ []
 deed_rules v t f m Restart = []
 deed_rules v t f m (Renew a limit) =
     (rule.Action, is_action f a) ∷ (rule.Active, status_is is_active f a) ∷ (rule.Limit, is_moment (m + limit)) ∷ []
 
 -- all rules that bear on an entry, in the order in which they are looked at; t is the test of an address's text (this project's choice)
 abbrev pub rules_on : Version → (List ℕ → Bool) → Facts → Entry → List Ruling
-rules_on v t f e = (rule.Grammar, has_deed v e.deed) ∷ (rule.Clerk, clerk_fits f e.by e.deed) ∷ (rule.Moment, nat_le f.moment e.moment) ∷ deed_rules v t f e.moment e.deed
+rules_on v t f e = (rule.Grammar, has_deed v e.deed) ∷ (rule.Clerk, clerk_fits f e.by e.deed)
+    ∷ (rule.Moment, nat_le f.moment e.moment) ∷ deed_rules v t f e.moment e.deed
 
 -- the first rule that isn't kept, where one isn't
 abbrev pub first_broken : List Ruling → Option Rule

@@ -23,7 +23,8 @@ is_settling _ = false
 
 -- nothing is left to settle: no clerk may do such a deed at the last moment (this project's choice)
 abbrev pub IsQuiet : Version → (List ℕ → Bool) → History → Type 0
-IsQuiet v t J = (by : ℕ) (d : Deed) → is_settling d ≡ true → allows v t J (record { by = by; moment = last_moment J; deed = d }) ≡ false
+IsQuiet v t J = (by : ℕ) (d : Deed) → is_settling d ≡ true → allows v t J
+    (record { by = by; moment = last_moment J; deed = d }) ≡ false
 
 -- whether a member may be completed without being asked (MicroProfile LRA 2.0: a participant may have no complete callback)
 abbrev pub may_be_skipped : History → ℕ → Bool
@@ -41,12 +42,14 @@ unfoldable pub next_settling : History → Option Deed
 next_settling J =
     option_or (option_map Skip (find (may_be_skipped J) (members J)))
     (option_or (first (filter_map (by_parent J) (actions J)))
-    (option_map (λ a. End a (right_end J a)) (last (filter_map (λ a. cond (is_settled J a) (Some a) None) (actions J)))))
+    (option_map (λ a. End a (right_end J a))
+    (last (filter_map (λ a. cond (is_settled J a) (Some a) None) (actions J)))))
 
 -- one settling entry after another, at most so many, all by one clerk and at one moment
 abbrev pub settling_within : ℕ → ℕ → ℕ → History → List Entry
 settling_within zero by moment J = []
-settling_within (suc n) by moment J = option_map_or (λ (d : Deed). (record { by = by; moment = moment; deed = d }) ∷ settling_within n by moment (J ++ record { by = by; moment = moment; deed = d } ∷ [])) (next_settling J) []
+settling_within (suc n) by moment J = option_map_or (λ (d : Deed). (record { by = by; moment = moment; deed = d })
+    ∷ settling_within n by moment (J ++ record { by = by; moment = moment; deed = d } ∷ [])) (next_settling J) []
 
 -- how many settling entries there can be: a member is skipped once, and an action turns four times at most, to Closing, its end, Cancelling and its end
 abbrev pub most_settling : History → ℕ

@@ -14,7 +14,8 @@ count_actions test J = count_by (action_is test J) (actions J)
 
 -- the least member that stays in an action or below it and has failed, where there is one (this project's choice)
 unfoldable pub least_failed : History → ℕ → Option ℕ
-least_failed J t = find (λ p. stays J p && is_under J t (action_of J p) && member_has_failed (member_status J p)) (members J)
+least_failed J t = find (λ p. stays J p && is_under J t (action_of J p) && member_has_failed (member_status J p))
+    (members J)
 
 -- the actions that ended in failure, in the order of their numbers (MicroProfile LRA 2.0, LRAStatus)
 unfoldable pub failed_actions : History → List ℕ

@@ -81,7 +81,8 @@ may_cancel v moment cause.Limit f a = may_cancel_by_limit moment a
 -- of an address (MicroProfile LRA 2.0, joining an LRA).
 abbrev pub addresses_fit : (List ℕ → Bool) → Addresses → Bool
 addresses_fit is_address u =
-    (is_some u.compensate || (is_some u.after && is_none u.complete && is_none u.status && is_none u.forget)) && is_text u.compensate && is_text u.complete && is_text u.status && is_text u.forget && is_text u.after
+    (is_some u.compensate || (is_some u.after && is_none u.complete && is_none u.status && is_none u.forget))
+    && is_text u.compensate && is_text u.complete && is_text u.status && is_text u.forget && is_text u.after
   where
     is_text : Option (List ℕ) → Bool
     is_text text = option_map_or is_address text true
@@ -89,7 +90,8 @@ addresses_fit is_address u =
 -- A member may be completed without being asked where it is Active in a Closing action and has a compensate address and no complete address
 -- (MicroProfile LRA 2.0: a participant may have no complete callback).
 abbrev pub may_skip : Facts → MemberFacts → Bool
-may_skip f p = status_is is_closing f p.action && is_untouched p.status && not p.addresses.complete && p.addresses.compensate
+may_skip f p = status_is is_closing f p.action && is_untouched p.status && not p.addresses.complete
+    && p.addresses.compensate
 
 -- whether there is the address that an ask of a kind goes to (MicroProfile LRA 2.0, the participant's callbacks)
 abbrev pub has_address : AskKind → Presence → Bool
@@ -108,10 +110,13 @@ was_accepted reply = option_map_or is_accepted reply false
 -- action has ended (this project's choice).
 abbrev pub is_time_for : AskKind → Facts → MemberFacts → Bool
 is_time_for ask.Complete f p = status_is is_closing f p.action && (is_untouched p.status || is_completing p.status)
-is_time_for ask.Compensate f p = status_is is_cancelling f p.action && (is_untouched p.status || is_completed p.status || is_compensating p.status)
-is_time_for ask.Status f p = (is_completing p.status && was_accepted p.completion) || (is_compensating p.status && was_accepted p.compensation)
+is_time_for ask.Compensate f p = status_is is_cancelling f p.action &&
+    (is_untouched p.status || is_completed p.status || is_compensating p.status)
+is_time_for ask.Status f p = (is_completing p.status && was_accepted p.completion)
+    || (is_compensating p.status && was_accepted p.compensation)
 is_time_for ask.Forget f p =
-    at_action (λ (a : ActionFacts). a.top_has_ended && (member_has_failed p.status || (is_completed p.status && is_some a.parent))) f p.action && not p.has_forgotten
+    at_action (λ (a : ActionFacts). a.top_has_ended && (member_has_failed p.status
+    || (is_completed p.status && is_some a.parent))) f p.action && not p.has_forgotten
 is_time_for ask.After f p = at_action (λ (a : ActionFacts). a.top_has_ended) f p.action && not p.was_told
 
 -- whether a member may be asked for a kind now: no ask of it is outstanding, it has the address, and it is time (this project's choice)

@@ -6,4 +6,5 @@ use Rattle.lra_model.specs.Rules.{is_legal}
 
 -- every history that is legal in version 1 is legal in version 2 (this project's choice)
 abbrev pub VersionTwoKeepsLegal : Type 0
-VersionTwoKeepsLegal = (is_address : List ℕ → Bool) (J : History) → is_legal One is_address J ≡ true → is_legal Two is_address J ≡ true
+VersionTwoKeepsLegal = (is_address : List ℕ → Bool) (J : History) → is_legal One is_address J ≡ true
+    → is_legal Two is_address J ≡ true

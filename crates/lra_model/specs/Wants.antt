@@ -23,7 +23,8 @@ wants_completion f p =
 abbrev pub wants_compensation : Facts → MemberFacts → Option AskKind
 wants_compensation f p =
     when (is_time_for ask.Compensate f p && has_address ask.Compensate p.addresses)
-    (cond (is_compensating p.status && was_accepted p.compensation && has_address ask.Status p.addresses) ask.Status ask.Compensate)
+    (cond (is_compensating p.status && was_accepted p.compensation && has_address ask.Status p.addresses) ask.Status
+    ask.Compensate)
 
 -- a notice of a kind, where it is time and the member has the address (MicroProfile LRA 2.0, forget and AfterLRA)
 abbrev pub wants_notice : AskKind → Facts → MemberFacts → Option AskKind
@@ -33,7 +34,8 @@ wants_notice kind f p = when (is_time_for kind f p && has_address kind p.address
 abbrev pub wanted : Facts → MemberFacts → Option AskKind
 wanted f p =
     cond (p.is_asked || has_gone p.status) None
-    (option_or (wants_completion f p) (option_or (wants_compensation f p) (option_or (wants_notice ask.Forget f p) (wants_notice ask.After f p))))
+    (option_or (wants_completion f p) (option_or (wants_compensation f p)
+    (option_or (wants_notice ask.Forget f p) (wants_notice ask.After f p))))
 
 -- what a member wants to be asked next (this project's choice of order)
 unfoldable pub wants : History → ℕ → Option AskKind
@@ -47,7 +49,8 @@ stage_of kind direction.Neither = kind
 
 -- the moments of a member's replies in a stage after which it is asked again (this project's choice)
 unfoldable pub repeats : History → ℕ → AskKind → List ℕ
-repeats J p stage = filter_map (λ (r : Replied). when ((r.to.member == p) && same_kind (stage_of r.to.kind r.to.direction) stage && is_undecided r.outcome) r.moment) (replies J)
+repeats J p stage = filter_map (λ (r : Replied). when ((r.to.member == p)
+    && same_kind (stage_of r.to.kind r.to.direction) stage && is_undecided r.outcome) r.moment) (replies J)
 
 -- how many such replies there were (this project's choice)
 abbrev pub repeat_count : History → ℕ → AskKind → ℕ

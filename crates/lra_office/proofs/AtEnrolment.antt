@@ -16,8 +16,10 @@ use Rattle.lra_office.specs.Enrolled.{enrolment, IsEnrolled}
 use Rattle.lra_office.proofs.Enrols.{enrolled_number}
 
 -- a number was told
-pub told_some : {O : Type 0} (g : Setting) (v w : View O) (m : ℕ) (t : Told) (e : Option Asking) → IsGrown g v (enrolment m) t e w → (n : ℕ) × (t ≡ told.Clerk n)
-told_some g v w m t e h = (length (clerks h.history) + 1, (enrolled_number (terms_of g) h.history m t h.done.answered).told)
+pub told_some : {O : Type 0} (g : Setting) (v w : View O) (m : ℕ) (t : Told) (e : Option Asking)
+    → IsGrown g v (enrolment m) t e w → (n : ℕ) × (t ≡ told.Clerk n)
+told_some g v w m t e h =
+    (length (clerks h.history) + 1, (enrolled_number (terms_of g) h.history m t h.done.answered).told)
 
 abbrev pub number_told : Told → ℕ → ℕ
 number_told (told.Clerk n) d = n
@@ -28,7 +30,8 @@ pub record Knows {O : Type 0} (g : Setting) (v w : View O) (m n : ℕ) : Type 0 
   pub positive : n ≢ 0
   pub enrolled : IsEnrolled g v m n w
 
-pub knows : {O : Type 0} (g : Setting) (v w : View O) (m n : ℕ) (t : Told) (e : Option Asking) → v.number ≡ 0 → IsGrown g v (enrolment m) t e w → t ≡ told.Clerk n → Knows g v w m n
+pub knows : {O : Type 0} (g : Setting) (v w : View O) (m n : ℕ) (t : Told) (e : Option Asking) → v.number ≡ 0
+    → IsGrown g v (enrolment m) t e w → t ≡ told.Clerk n → Knows g v w m n
 knows g v w m n t e blank h is =
     let J : History = h.history in
     let k = enrolled_number (terms_of g) J m t h.done.answered in
@@ -38,7 +41,18 @@ knows g v w m n t e blank h is =
       same = ap (λ (x : View _). x.number) h.after ∙ ap (λ (x : ℕ). number_after x B) blank ∙ k.first ∙ sym number;
       positive = λ z. let p : length (clerks J) + 1 ≡ 0 = sym number ∙ z in absurd (omega arith);
       enrolled = record {
-        grown = record { history = J; met = h.met; done = record { answered = h.done.answered ∙ ap (λ (x : Told). Ok x) is; errand = refl; grown = h.done.grown }; kept = h.kept; after = h.after };
+        grown = record {
+          history = J;
+          met = h.met;
+          done = record {
+            answered = h.done.answered
+                ∙ ap (λ (x : Told). Ok x) is;
+            errand = refl;
+            grown = h.done.grown;
+          };
+          kept = h.kept;
+          after = h.after;
+        };
         fresh = ap (λ (x : ℕ). entries_by x J) number ∙ none_by_next g.version is_address J h.met.kept.lawful.legal;
       };
     }

@@ -10,4 +10,7 @@ use Rattle.lra_scribe.proofs.scribe.Scribe.TheSendSync as scribe
 use Rattle.lra_office.specs.contracts.desk.Desk as desk
 
 pub desk_send : (W : RattleType) (g : Ghosts W.Denot) → IsSend W → IsSend (desk.the_row W g)
-desk_send W g w = declared_send (desk.the_type W g) (Box-send _ (coordinator.the_send _ _ counted.the_send), (scribe.the_send W g w, (search sendable, (search sendable, tt))))
+desk_send W g w = declared_send (desk.the_type W g) (
+  Box-send _ (coordinator.the_send _ _ counted.the_send),
+  (scribe.the_send W g w, (search sendable, (search sendable, tt))),
+)

@@ -23,7 +23,8 @@ use Rattle.lra_commands.specs.Refusals.{refused}
 use Rattle.lra_commands.specs.Answers.{told_of, answer, growth}
 
 -- what settles enrols no clerk
-enrols_none : (by m : ℕ) (d : Deed) → is_settling d ≡ true → enrolled_by (record { by = by; moment = m; deed = d }) ≡ None
+enrols_none : (by m : ℕ) (d : Deed) → is_settling d ≡ true → enrolled_by (record { by = by; moment = m; deed = d })
+    ≡ None
 enrols_none by m (deed.Close a cause.Parent) h = refl
 enrols_none by m (deed.Cancel a cause.Parent) h = refl
 enrols_none by m (deed.Skip p) h = refl
@@ -34,19 +35,22 @@ settling_enrols_none : (n by m : ℕ) (J : History) → filter_map enrolled_by (
 settling_enrols_none zero by m J = refl
 settling_enrols_none (suc n) by m J = next (next_settling J) refl (λ K. settling_enrols_none n by m K)
   where
-    next : (o : Option Deed) → next_settling J ≡ o → ((K : History) → filter_map enrolled_by (settling_within n by m K) ≡ [])
+    next : (o : Option Deed) → next_settling J ≡ o → ((K : History) → filter_map enrolled_by (settling_within n by m K)
+        ≡ [])
         → filter_map enrolled_by (option_map_or (λ (d : Deed). (let e : Entry = record { by = by; moment = m; deed = d } in e) ∷ settling_within n by m (J ++ (let e : Entry = record { by = by; moment = m; deed = d } in e) ∷ [])) o []) ≡ []
     next None g rest = refl
     next (Some d) g rest = rw (enrols_none by m d (next_settles J d g)) (rest (J ++ (let e : Entry = record { by = by; moment = m; deed = d } in e) ∷ []))
 
 -- the clerks after it
-pub enrolled_clerks : (s : Terms) (J : History) (m : ℕ) → clerks (J ++ block s J (enrolment m)) ≡ clerks J ++ (length (clerks J) + 1) ∷ []
+pub enrolled_clerks : (s : Terms) (J : History) (m : ℕ) → clerks (J ++ block s J (enrolment m)) ≡ clerks J
+    ++ (length (clerks J) + 1) ∷ []
 unfolding clerks block
 enrolled_clerks s J m =
     let n : ℕ = length (filter_map enrolled_by J) + 1 in
     let e : Entry = record { by = n; moment = max m (last_moment J); deed = deed.Enrol } in
     filter_map-append enrolled_by J (e ∷ settling_within (most_settling (J ++ e ∷ [])) n e.moment (J ++ e ∷ []))
-    ∙ ap (λ (ns : List ℕ). filter_map enrolled_by J ++ n ∷ ns) (settling_enrols_none (most_settling (J ++ e ∷ [])) n e.moment (J ++ e ∷ []))
+    ∙ ap (λ (ns : List ℕ). filter_map enrolled_by J ++ n ∷ ns) (settling_enrols_none (most_settling (J ++ e ∷ [])) n
+    e.moment (J ++ e ∷ []))
 
 told_by : (o : Option Refusal) (x t : Told) → option_map_or Err o (Ok x) ≡ Ok t → (o ≡ None) × (t ≡ x)
 told_by None x t e = (refl, cc)
@@ -62,17 +66,20 @@ first_of_block : (s : Terms) (J : History) (m : ℕ) → first_by (block s J (en
 unfolding block
 first_of_block s J m = refl
 
-grows_block : (s : Terms) (J : History) (m : ℕ) → refused s J (enrolment m) ≡ None → growth s J (enrolment m) ≡ block s J (enrolment m)
+grows_block : (s : Terms) (J : History) (m : ℕ) → refused s J (enrolment m) ≡ None → growth s J (enrolment m)
+    ≡ block s J (enrolment m)
 unfolding growth
 grows_block s J m h = ap (λ (o : Option Refusal). cond (is_some o) [] (block s J (enrolment m))) h
 
-pub enrolled_number : (s : Terms) (J : History) (m : ℕ) (t : Told) → answer s J (enrolment m) ≡ Ok t → IsNumbered s J m t
+pub enrolled_number : (s : Terms) (J : History) (m : ℕ) (t : Told) → answer s J (enrolment m) ≡ Ok t
+    → IsNumbered s J m t
 unfolding answer
 enrolled_number s J m t h =
     let k = told_by (refused s J (enrolment m)) (told_of s J (enrolment m)) t h in
     let grown = grows_block s J m k.0 in
     record {
-      told = k.1 ∙ ap (λ (ns : List ℕ). told.Clerk (length ns)) (enrolled_clerks s J m) ∙ ap told.Clerk (length-append (clerks J) ((length (clerks J) + 1) ∷ []));
+      told = k.1 ∙ ap (λ (ns : List ℕ). told.Clerk (length ns)) (enrolled_clerks s J m)
+          ∙ ap told.Clerk (length-append (clerks J) ((length (clerks J) + 1) ∷ []));
       grown = grown;
       first = ap first_by grown ∙ first_of_block s J m;
     }
@@ -87,11 +94,13 @@ entry_there n [] es e h = here (e.by == n) (eq-eqb e.by n h)
     here false g k = absurd cc
 entry_there n (x ∷ J) es e h = either (x.by == n) (entry_there n J es e h)
   where
-    either : (b : Bool) → entries_by n (J ++ e ∷ es) ≢ [] → cond b (x ∷ entries_by n (J ++ e ∷ es)) (entries_by n (J ++ e ∷ es)) ≢ []
+    either : (b : Bool) → entries_by n (J ++ e ∷ es) ≢ [] → cond b (x ∷ entries_by n (J ++ e ∷ es))
+        (entries_by n (J ++ e ∷ es)) ≢ []
     either true g k = absurd cc
     either false g k = g k
 
-pub enrolled_entries : (s : Terms) (J : History) (m : ℕ) (more : List Entry) → entries_by (length (clerks J) + 1) (J ++ (block s J (enrolment m) ++ more)) ≢ []
+pub enrolled_entries : (s : Terms) (J : History) (m : ℕ) (more : List Entry)
+    → entries_by (length (clerks J) + 1) (J ++ (block s J (enrolment m) ++ more)) ≢ []
 unfolding block
 enrolled_entries s J m more =
     let n : ℕ = length (clerks J) + 1 in

@@ -26,24 +26,30 @@ use Rattle.lra_office.specs.Journals.{HasSoundJournal, JournalsAreSound}
 use Rattle.lra_office.proofs.Torn.{IsCutAfter, cut_lines, text_whole}
 
 -- a journal from which nothing was torn
-unbroken : (g : Setting) (J : History) (journal : List ℕ) (b : Bool) → g.instance < 2 ^ 60 → IsLawful (terms_of g) J → journal ≡ text g.version g.instance J → HasSoundJournal J journal b
+unbroken : (g : Setting) (J : History) (journal : List ℕ) (b : Bool) → g.instance < 2 ^ 60 → IsLawful (terms_of g) J
+    → journal ≡ text g.version g.instance J → HasSoundJournal J journal b
 unbroken g J journal b small k is =
     let same : whole_lines journal ≡ journal =
-    ap whole_lines (is ∙ sym (append-nil (text g.version g.instance J))) ∙ text_whole g.version g.instance J [] ∙ append-nil (text g.version g.instance J) ∙ sym is in
+    ap whole_lines (is ∙ sym (append-nil (text g.version g.instance J))) ∙ text_whole g.version g.instance J []
+    ∙ append-nil (text g.version g.instance J) ∙ sym is in
     record {
       cut = [];
-      sound = subst (λ (bytes : List ℕ). IsSoundAlone bytes (J ++ [])) (ap (text g.version g.instance) (append-nil J) ∙ sym is ∙ sym same)
-          (sound_alone g.version g.instance (J ++ []) small (ap (is_legal g.version is_address) (append-nil J) ∙ k.legal));
+      sound = subst (λ (bytes : List ℕ). IsSoundAlone bytes (J ++ []))
+          (ap (text g.version g.instance) (append-nil J) ∙ sym is ∙ sym same)
+          (sound_alone g.version g.instance (J ++ []) small (ap (is_legal g.version is_address) (append-nil J)
+          ∙ k.legal));
       going = λ h. (refl, same);
     }
 
 -- a journal whose last block was cut short
-broken : (g : Setting) (J : History) (journal tail : List ℕ) → g.instance < 2 ^ 60 → AreKeepable g.limits → IsLawful (terms_of g) J → journal ≡ text g.version g.instance J ++ tail → IsCut g J tail
+broken : (g : Setting) (J : History) (journal tail : List ℕ) → g.instance < 2 ^ 60 → AreKeepable g.limits
+    → IsLawful (terms_of g) J → journal ≡ text g.version g.instance J ++ tail → IsCut g J tail
     → HasSoundJournal J journal true
 broken g J journal tail small limits k is torn =
     record {
       cut = after.front;
-      sound = subst (λ (bytes : List ℕ). IsSoundAlone bytes (J ++ after.front)) (sym whole) (sound_alone g.version g.instance (J ++ after.front) small legal);
+      sound = subst (λ (bytes : List ℕ). IsSoundAlone bytes (J ++ after.front)) (sym whole)
+          (sound_alone g.version g.instance (J ++ after.front) small legal);
       going = λ h. absurd (true≢false h);
     }
   where
@@ -54,17 +60,21 @@ broken g J journal tail small limits k is torn =
     grown = (call_keeps (terms_of g) J torn.call limits k torn.possible).legal
 
     lines : All (HasLine g.version) G
-    lines = subst (All (HasLine g.version)) (front_rest (J ++ G) J G refl) (All-drop (HasLine g.version) (length J) (J ++ G) (legal_has_text g.version g.instance (J ++ G) small grown).lines)
+    lines = subst (All (HasLine g.version)) (front_rest (J ++ G) J G refl)
+        (All-drop (HasLine g.version) (length J) (J ++ G) (legal_has_text g.version g.instance (J ++ G) small
+        grown).lines)
 
     after : IsCutAfter G (take torn.count (flat_map line G))
     after = cut_lines g.version G lines torn.count
 
     legal : is_legal g.version is_address (J ++ after.front) ≡ true
     legal = legal_begins g.version is_address (J ++ after.front) after.rest
-        (ap (is_legal g.version is_address) (append_assoc J after.front after.rest ∙ ap (λ (es : List Entry). J ++ es) (sym after.parts)) ∙ grown)
+        (ap (is_legal g.version is_address) (append_assoc J after.front after.rest
+        ∙ ap (λ (es : List Entry). J ++ es) (sym after.parts)) ∙ grown)
 
     whole : whole_lines journal ≡ text g.version g.instance (J ++ after.front)
-    whole = ap whole_lines is ∙ text_whole g.version g.instance J tail ∙ ap (λ (xs : List ℕ). text g.version g.instance J ++ xs) (ap whole_lines torn.front ∙ after.whole)
+    whole = ap whole_lines is ∙ text_whole g.version g.instance J tail
+        ∙ ap (λ (xs : List ℕ). text g.version g.instance J ++ xs) (ap whole_lines torn.front ∙ after.whole)
         ∙ append_assoc (header g.version g.instance) (flat_map line J) (flat_map line after.front)
         ∙ ap (λ (xs : List ℕ). header g.version g.instance ++ xs) (sym (flat_map-append line J after.front))
 
@@ -78,7 +88,10 @@ journals_sound o c contents count is_stopped d small same = by is_stopped refl
     by false h =
         let none : d.written.tail ≡ [] = d.written.going h in
         unbroken o.setting c.history (o.front ++ d.written.taken) is_stopped small k
-        (d.written.text ∙ ap (λ (t : List ℕ). text o.setting.version o.setting.instance c.history ++ t) none ∙ append-nil (text o.setting.version o.setting.instance c.history))
+        (d.written.text ∙ ap (λ (t : List ℕ). text o.setting.version o.setting.instance c.history ++ t) none
+        ∙ append-nil (text o.setting.version o.setting.instance c.history))
     by true h =
         subst (λ (b : Bool). HasSoundJournal c.history (o.front ++ d.written.taken) b) (sym h)
-        (broken o.setting c.history (o.front ++ d.written.taken) d.written.tail small (subst (λ (g : Setting). AreKeepable g.limits) same d.coordinator.limits) k d.written.text (d.written.stopped h))
+        (broken o.setting c.history (o.front ++ d.written.taken) d.written.tail small
+        (subst (λ (g : Setting). AreKeepable g.limits) same d.coordinator.limits) k d.written.text
+        (d.written.stopped h))

@@ -15,7 +15,13 @@ use Rattle.lra_office.specs.Windows.{IsOfficeOf}
 
 -- the origin of a new office: its journal is of version 2 and begins with it
 abbrev pub new_origin : ℕ → List ℕ → Limits → Option (List ℕ) → Origin
-new_origin instance base limits had = record { setting = record { version = Two; instance = instance; base = base; limits = limits }; front = []; had = had }
+new_origin instance base limits had =
+    record {
+      setting = record { version = Two; instance = instance; base = base; limits = limits };
+      front = [];
+      had =
+          had;
+    }
 
 -- a new office of an origin, and its first pass, which has no number yet and has seen that there is no entry
 pub record IsFirst {X : Type 0} {g : Ghosts X Origin} (o : Origin) (office : OfficeOf X Origin) (pass : Pass X Origin g) : Type 0 where

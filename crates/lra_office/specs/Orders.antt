@@ -93,9 +93,11 @@ IsErrand g v c (Ok e) w = (t : Told) × IsGrown g v c t e w
 IsErrand g v c (Err r) w = IsNotGiven g v c r w
 
 -- what came of an ask was recorded, or the errand came back
-abbrev pub IsRecorded : {O : Type 0} → Setting → View O → ℕ → ℕ → Asking → Outcome → Result Told (OfficeRefusal × Asking) → View O → Type 0
+abbrev pub IsRecorded : {O : Type 0} → Setting → View O → ℕ → ℕ → Asking → Outcome
+    → Result Told (OfficeRefusal × Asking) → View O → Type 0
 IsRecorded g v number at e o result w =
-    (c : Call) × RecordsAs c number at e o × MatchResult result (λ t. IsTold g v c (Ok t) w) (λ x. (x.1 ≡ e) × IsNotGiven g v c x.0 w)
+    (c : Call) × RecordsAs c number at e o × MatchResult result (λ t. IsTold g v c (Ok t) w)
+    (λ x. (x.1 ≡ e) × IsNotGiven g v c x.0 w)
 
 -- an order that doesn't wait, and wasn't done: it was refused, or the lock was another's, or no ticket was left
 abbrev pub IsNotTried : {O : Type 0} → Setting → View O → Call → TryRefusal → View O → Type 0

@@ -23,10 +23,12 @@ pub record HasStopped {X O : Type 0} (origin : X → O) (history : X → History
   pub stopped : has_stopped value ≡ true
 
 -- what each window keeps: what every counter does; and where its reply is that the scribe has stopped, that has, at the history that is known then
-pub record KeepsInTurn {X O : Type 0} (setting : O → Setting) (origin : X → O) (history : X → History) (lawful : X → Type 0) (has_stopped : X → Bool)
+pub record KeepsInTurn {X O : Type 0} (setting : O → Setting) (origin : X → O) (history : X → History)
+    (lawful : X → Type 0) (has_stopped : X → Bool)
     (before : Sight) (moment : ℕ) (o : Order) (reply : Result Told CounterFault) (after : Sight) : Type 0 where
   pub keeps : KeepsHistory before moment o reply after
-  pub stops : reply ≡ Err (Refused Stopped) → (v : View O) × (setting v.origin ≡ after.setting) × (v.seen ≡ after.seen) × HasStopped origin history lawful has_stopped v
+  pub stops : reply ≡ Err (Refused Stopped) → (v : View O) × (setting v.origin ≡ after.setting) × (v.seen ≡ after.seen)
+      × HasStopped origin history lawful has_stopped v
 
 -- where nothing is appended, what the definitions would answer and write is refused: the scribe has stopped, or no
 -- memory was left

@@ -34,8 +34,10 @@ impl<V: Serving> OfficeOf<V> {
         requires other { IsNumberOf command.now clerk.old.number clerk.old.number }
         ensures clerk { IsClerkOf self.now.lock V.covers clerk.new }
         ensures number { clerk.new.number ≡ clerk.old.number }
-        ensures told { IsTold (V.setting (clerk_view clerk.old).origin) (clerk_view clerk.old) (record { by = clerk.old.number; moment = moment; command = command.now }) result (clerk_view clerk.new) }
-        ensures stopped { IfErr result (λ r. r ≡ Refused Stopped → HasStopped V.origin V.history V.lawful V.has_stopped (clerk_view clerk.new)) }
+        ensures told { IsTold (V.setting (clerk_view clerk.old).origin) (clerk_view clerk.old)
+            (record { by = clerk.old.number; moment = moment; command = command.now }) result (clerk_view clerk.new) }
+        ensures stopped { IfErr result (λ r. r ≡ Refused Stopped → HasStopped V.origin V.history V.lawful V.has_stopped
+            (clerk_view clerk.new)) }
     {
         let Committed { told, errand } = self.serve(rt, clerk, moment, command)?;
         if let Some(errand) = errand {
@@ -57,8 +59,11 @@ impl<V: Serving> OfficeOf<V> {
         requires { IsClerkOf self.now.lock V.covers clerk.old }
         ensures clerk { IsClerkOf self.now.lock V.covers clerk.new }
         ensures number { clerk.new.number ≡ clerk.old.number }
-        ensures told { IsTold (V.setting (clerk_view clerk.old).origin) (clerk_view clerk.old) (record { by = clerk.old.number; moment = moment; command = Command.Start parent limit }) result (clerk_view clerk.new) }
-        ensures stopped { IfErr result (λ r. r ≡ Refused Stopped → HasStopped V.origin V.history V.lawful V.has_stopped (clerk_view clerk.new)) }
+        ensures told { IsTold (V.setting (clerk_view clerk.old).origin) (clerk_view clerk.old)
+            (record { by = clerk.old.number; moment = moment; command = Command.Start parent limit }) result
+            (clerk_view clerk.new) }
+        ensures stopped { IfErr result (λ r. r ≡ Refused Stopped → HasStopped V.origin V.history V.lawful V.has_stopped
+            (clerk_view clerk.new)) }
     {
         self.tell(rt, clerk, moment, &Command::Start { parent, limit })
     }
@@ -75,8 +80,11 @@ impl<V: Serving> OfficeOf<V> {
         requires { IsClerkOf self.now.lock V.covers clerk.old }
         ensures clerk { IsClerkOf self.now.lock V.covers clerk.new }
         ensures number { clerk.new.number ≡ clerk.old.number }
-        ensures told { IsTold (V.setting (clerk_view clerk.old).origin) (clerk_view clerk.old) (record { by = clerk.old.number; moment = moment; command = Command.Join action uris.entry }) result (clerk_view clerk.new) }
-        ensures stopped { IfErr result (λ r. r ≡ Refused Stopped → HasStopped V.origin V.history V.lawful V.has_stopped (clerk_view clerk.new)) }
+        ensures told { IsTold (V.setting (clerk_view clerk.old).origin) (clerk_view clerk.old)
+            (record { by = clerk.old.number; moment = moment; command = Command.Join action uris.entry }) result
+            (clerk_view clerk.new) }
+        ensures stopped { IfErr result (λ r. r ≡ Refused Stopped → HasStopped V.origin V.history V.lawful V.has_stopped
+            (clerk_view clerk.new)) }
     {
         self.tell(rt, clerk, moment, &Command::Join { action, uris })
     }
@@ -93,8 +101,11 @@ impl<V: Serving> OfficeOf<V> {
         requires { IsClerkOf self.now.lock V.covers clerk.old }
         ensures clerk { IsClerkOf self.now.lock V.covers clerk.new }
         ensures number { clerk.new.number ≡ clerk.old.number }
-        ensures told { IsTold (V.setting (clerk_view clerk.old).origin) (clerk_view clerk.old) (record { by = clerk.old.number; moment = moment; command = Command.Leave action member }) result (clerk_view clerk.new) }
-        ensures stopped { IfErr result (λ r. r ≡ Refused Stopped → HasStopped V.origin V.history V.lawful V.has_stopped (clerk_view clerk.new)) }
+        ensures told { IsTold (V.setting (clerk_view clerk.old).origin) (clerk_view clerk.old)
+            (record { by = clerk.old.number; moment = moment; command = Command.Leave action member }) result
+            (clerk_view clerk.new) }
+        ensures stopped { IfErr result (λ r. r ≡ Refused Stopped → HasStopped V.origin V.history V.lawful V.has_stopped
+            (clerk_view clerk.new)) }
     {
         self.tell(rt, clerk, moment, &Command::Leave { action, member })
     }
@@ -110,8 +121,11 @@ impl<V: Serving> OfficeOf<V> {
         requires { IsClerkOf self.now.lock V.covers clerk.old }
         ensures clerk { IsClerkOf self.now.lock V.covers clerk.new }
         ensures number { clerk.new.number ≡ clerk.old.number }
-        ensures told { IsTold (V.setting (clerk_view clerk.old).origin) (clerk_view clerk.old) (record { by = clerk.old.number; moment = moment; command = Command.Close action }) result (clerk_view clerk.new) }
-        ensures stopped { IfErr result (λ r. r ≡ Refused Stopped → HasStopped V.origin V.history V.lawful V.has_stopped (clerk_view clerk.new)) }
+        ensures told { IsTold (V.setting (clerk_view clerk.old).origin) (clerk_view clerk.old)
+            (record { by = clerk.old.number; moment = moment; command = Command.Close action }) result
+            (clerk_view clerk.new) }
+        ensures stopped { IfErr result (λ r. r ≡ Refused Stopped → HasStopped V.origin V.history V.lawful V.has_stopped
+            (clerk_view clerk.new)) }
     {
         self.tell(rt, clerk, moment, &Command::Close { action })
     }
@@ -127,8 +141,11 @@ impl<V: Serving> OfficeOf<V> {
         requires { IsClerkOf self.now.lock V.covers clerk.old }
         ensures clerk { IsClerkOf self.now.lock V.covers clerk.new }
         ensures number { clerk.new.number ≡ clerk.old.number }
-        ensures told { IsTold (V.setting (clerk_view clerk.old).origin) (clerk_view clerk.old) (record { by = clerk.old.number; moment = moment; command = Command.Cancel action }) result (clerk_view clerk.new) }
-        ensures stopped { IfErr result (λ r. r ≡ Refused Stopped → HasStopped V.origin V.history V.lawful V.has_stopped (clerk_view clerk.new)) }
+        ensures told { IsTold (V.setting (clerk_view clerk.old).origin) (clerk_view clerk.old)
+            (record { by = clerk.old.number; moment = moment; command = Command.Cancel action }) result
+            (clerk_view clerk.new) }
+        ensures stopped { IfErr result (λ r. r ≡ Refused Stopped → HasStopped V.origin V.history V.lawful V.has_stopped
+            (clerk_view clerk.new)) }
     {
         self.tell(rt, clerk, moment, &Command::Cancel { action })
     }
@@ -143,8 +160,10 @@ impl<V: Serving> OfficeOf<V> {
         requires { IsClerkOf self.now.lock V.covers clerk.old }
         ensures clerk { IsClerkOf self.now.lock V.covers clerk.new }
         ensures number { clerk.new.number ≡ clerk.old.number }
-        ensures told { IsTold (V.setting (clerk_view clerk.old).origin) (clerk_view clerk.old) (record { by = clerk.old.number; moment = moment; command = Command.Tick }) result (clerk_view clerk.new) }
-        ensures stopped { IfErr result (λ r. r ≡ Refused Stopped → HasStopped V.origin V.history V.lawful V.has_stopped (clerk_view clerk.new)) }
+        ensures told { IsTold (V.setting (clerk_view clerk.old).origin) (clerk_view clerk.old)
+            (record { by = clerk.old.number; moment = moment; command = Command.Tick }) result (clerk_view clerk.new) }
+        ensures stopped { IfErr result (λ r. r ≡ Refused Stopped → HasStopped V.origin V.history V.lawful V.has_stopped
+            (clerk_view clerk.new)) }
     {
         self.tell(rt, clerk, moment, &Command::Tick)
     }
@@ -161,8 +180,11 @@ impl<V: Serving> OfficeOf<V> {
         requires { IsClerkOf self.now.lock V.covers clerk.old }
         ensures clerk { IsClerkOf self.now.lock V.covers clerk.new }
         ensures number { clerk.new.number ≡ clerk.old.number }
-        ensures told { IsTold (V.setting (clerk_view clerk.old).origin) (clerk_view clerk.old) (record { by = clerk.old.number; moment = moment; command = Command.Report member ending }) result (clerk_view clerk.new) }
-        ensures stopped { IfErr result (λ r. r ≡ Refused Stopped → HasStopped V.origin V.history V.lawful V.has_stopped (clerk_view clerk.new)) }
+        ensures told { IsTold (V.setting (clerk_view clerk.old).origin) (clerk_view clerk.old)
+            (record { by = clerk.old.number; moment = moment; command = Command.Report member ending }) result
+            (clerk_view clerk.new) }
+        ensures stopped { IfErr result (λ r. r ≡ Refused Stopped → HasStopped V.origin V.history V.lawful V.has_stopped
+            (clerk_view clerk.new)) }
     {
         self.tell(rt, clerk, moment, &Command::Report { member, ending })
     }
@@ -177,8 +199,11 @@ impl<V: Serving> OfficeOf<V> {
         requires { IsClerkOf self.now.lock V.covers clerk.old }
         ensures clerk { IsClerkOf self.now.lock V.covers clerk.new }
         ensures number { clerk.new.number ≡ clerk.old.number }
-        ensures told { IsTold (V.setting (clerk_view clerk.old).origin) (clerk_view clerk.old) (record { by = clerk.old.number; moment = moment; command = Command.Restart }) result (clerk_view clerk.new) }
-        ensures stopped { IfErr result (λ r. r ≡ Refused Stopped → HasStopped V.origin V.history V.lawful V.has_stopped (clerk_view clerk.new)) }
+        ensures told { IsTold (V.setting (clerk_view clerk.old).origin) (clerk_view clerk.old)
+            (record { by = clerk.old.number; moment = moment; command = Command.Restart }) result
+            (clerk_view clerk.new) }
+        ensures stopped { IfErr result (λ r. r ≡ Refused Stopped → HasStopped V.origin V.history V.lawful V.has_stopped
+            (clerk_view clerk.new)) }
     {
         self.tell(rt, clerk, moment, &Command::Restart)
     }
@@ -195,8 +220,11 @@ impl<V: Serving> OfficeOf<V> {
         requires { IsClerkOf self.now.lock V.covers clerk.old }
         ensures clerk { IsClerkOf self.now.lock V.covers clerk.new }
         ensures number { clerk.new.number ≡ clerk.old.number }
-        ensures told { IsTold (V.setting (clerk_view clerk.old).origin) (clerk_view clerk.old) (record { by = clerk.old.number; moment = moment; command = Command.Renew action limit }) result (clerk_view clerk.new) }
-        ensures stopped { IfErr result (λ r. r ≡ Refused Stopped → HasStopped V.origin V.history V.lawful V.has_stopped (clerk_view clerk.new)) }
+        ensures told { IsTold (V.setting (clerk_view clerk.old).origin) (clerk_view clerk.old)
+            (record { by = clerk.old.number; moment = moment; command = Command.Renew action limit }) result
+            (clerk_view clerk.new) }
+        ensures stopped { IfErr result (λ r. r ≡ Refused Stopped → HasStopped V.origin V.history V.lawful V.has_stopped
+            (clerk_view clerk.new)) }
     {
         self.tell(rt, clerk, moment, &Command::Renew { action, limit })
     }
@@ -211,8 +239,11 @@ impl<V: Serving> OfficeOf<V> {
         requires { IsClerkOf self.now.lock V.covers clerk.old }
         ensures clerk { IsClerkOf self.now.lock V.covers clerk.new }
         ensures number { clerk.new.number ≡ clerk.old.number }
-        ensures told { IsTold (V.setting (clerk_view clerk.old).origin) (clerk_view clerk.old) (record { by = clerk.old.number; moment = 0; command = Command.Status action }) result (clerk_view clerk.new) }
-        ensures stopped { IfErr result (λ r. r ≡ Refused Stopped → HasStopped V.origin V.history V.lawful V.has_stopped (clerk_view clerk.new)) }
+        ensures told { IsTold (V.setting (clerk_view clerk.old).origin) (clerk_view clerk.old)
+            (record { by = clerk.old.number; moment = 0; command = Command.Status action }) result
+            (clerk_view clerk.new) }
+        ensures stopped { IfErr result (λ r. r ≡ Refused Stopped → HasStopped V.origin V.history V.lawful V.has_stopped
+            (clerk_view clerk.new)) }
     {
         self.tell(rt, clerk, 0, &Command::Status { action })
     }
@@ -227,8 +258,11 @@ impl<V: Serving> OfficeOf<V> {
         requires { IsClerkOf self.now.lock V.covers clerk.old }
         ensures clerk { IsClerkOf self.now.lock V.covers clerk.new }
         ensures number { clerk.new.number ≡ clerk.old.number }
-        ensures told { IsTold (V.setting (clerk_view clerk.old).origin) (clerk_view clerk.old) (record { by = clerk.old.number; moment = 0; command = Command.MemberStatus member }) result (clerk_view clerk.new) }
-        ensures stopped { IfErr result (λ r. r ≡ Refused Stopped → HasStopped V.origin V.history V.lawful V.has_stopped (clerk_view clerk.new)) }
+        ensures told { IsTold (V.setting (clerk_view clerk.old).origin) (clerk_view clerk.old)
+            (record { by = clerk.old.number; moment = 0; command = Command.MemberStatus member }) result
+            (clerk_view clerk.new) }
+        ensures stopped { IfErr result (λ r. r ≡ Refused Stopped → HasStopped V.origin V.history V.lawful V.has_stopped
+            (clerk_view clerk.new)) }
     {
         self.tell(rt, clerk, 0, &Command::MemberStatus { member })
     }
@@ -243,8 +277,11 @@ impl<V: Serving> OfficeOf<V> {
         requires { IsClerkOf self.now.lock V.covers clerk.old }
         ensures clerk { IsClerkOf self.now.lock V.covers clerk.new }
         ensures number { clerk.new.number ≡ clerk.old.number }
-        ensures errand { IsErrand (V.setting (clerk_view clerk.old).origin) (clerk_view clerk.old) (record { by = clerk.old.number; moment = moment; command = Command.NextAsk }) result (clerk_view clerk.new) }
-        ensures stopped { IfErr result (λ r. r ≡ Refused Stopped → HasStopped V.origin V.history V.lawful V.has_stopped (clerk_view clerk.new)) }
+        ensures errand { IsErrand (V.setting (clerk_view clerk.old).origin) (clerk_view clerk.old)
+            (record { by = clerk.old.number; moment = moment; command = Command.NextAsk }) result
+            (clerk_view clerk.new) }
+        ensures stopped { IfErr result (λ r. r ≡ Refused Stopped → HasStopped V.origin V.history V.lawful V.has_stopped
+            (clerk_view clerk.new)) }
     {
         let Committed { told: _, errand } = self.serve(rt, clerk, moment, &Command::NextAsk)?;
         Ok(errand)
@@ -263,8 +300,10 @@ impl<V: Serving> OfficeOf<V> {
         requires suits { outcome_suits errand.kind outcome ≡ true }
         ensures clerk { IsClerkOf self.now.lock V.covers clerk.new }
         ensures number { clerk.new.number ≡ clerk.old.number }
-        ensures recorded { IsRecorded (V.setting (clerk_view clerk.old).origin) (clerk_view clerk.old) clerk.old.number moment errand outcome result (clerk_view clerk.new) }
-        ensures stopped { IfErr result (λ r. r.0 ≡ Refused Stopped → HasStopped V.origin V.history V.lawful V.has_stopped (clerk_view clerk.new)) }
+        ensures recorded { IsRecorded (V.setting (clerk_view clerk.old).origin) (clerk_view clerk.old) clerk.old.number
+            moment errand outcome result (clerk_view clerk.new) }
+        ensures stopped { IfErr result (λ r. r.0 ≡ Refused Stopped → HasStopped V.origin V.history V.lawful
+            V.has_stopped (clerk_view clerk.new)) }
     {
         match self.tell(
             rt,

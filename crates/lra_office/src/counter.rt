@@ -49,7 +49,8 @@ impl<V: Serving> OfficeOf<V> {
         ensures clerk { IsClerkOf self.now.lock V.covers clerk.new }
         ensures number { clerk.new.number ≡ clerk.old.number }
         ensures origin { (clerk_view clerk.new).origin ≡ (clerk_view clerk.old).origin }
-        ensures given { KeepsInTurn V.setting V.origin V.history V.lawful V.has_stopped (sight_of V.setting clerk.old) moment order.now result (sight_of V.setting clerk.new) }
+        ensures given { KeepsInTurn V.setting V.origin V.history V.lawful V.has_stopped (sight_of V.setting clerk.old)
+            moment order.now result (sight_of V.setting clerk.new) }
     {
         match self.tell(rt, clerk, moment, &order.command()) {
             Ok(told) => Ok(told),

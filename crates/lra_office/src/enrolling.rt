@@ -43,10 +43,13 @@ impl<V: Serving> OfficeOf<V> {
         requires lock { pass_id pass ≡ lock_id self.now.lock }
         requires newcomer { (pass_view pass).number ≡ 0 }
         ensures clerk { IfOk result (IsClerkOf self.now.lock V.covers) }
-        ensures enrolled { IfOk result (λ clerk. IsEnrolled (V.setting (pass_view pass).origin) (pass_view pass) moment clerk.number (clerk_view clerk)) }
+        ensures enrolled { IfOk result (λ clerk. IsEnrolled (V.setting (pass_view pass).origin) (pass_view pass) moment
+            clerk.number (clerk_view clerk)) }
         ensures same_lock { IfErr result (λ refused. pass_id refused.0 ≡ lock_id self.now.lock) }
-        ensures refused { IfErr result (λ refused. IsNotGiven (V.setting (pass_view pass).origin) (pass_view pass) (enrolment moment) refused.1 (pass_view refused.0)) }
-        ensures stopped { IfErr result (λ refused. refused.1 ≡ Refused Stopped → HasStopped V.origin V.history V.lawful V.has_stopped (pass_view refused.0)) }
+        ensures refused { IfErr result (λ refused. IsNotGiven (V.setting (pass_view pass).origin) (pass_view pass)
+            (enrolment moment) refused.1 (pass_view refused.0)) }
+        ensures stopped { IfErr result (λ refused. refused.1 ≡ Refused Stopped
+            → HasStopped V.origin V.history V.lawful V.has_stopped (pass_view refused.0)) }
     {
         let mut position = 0;
         let (pass, given) = self.give(rt, pass, 0, moment, &Command::Enrol, &mut position);
@@ -72,8 +75,10 @@ impl<V: Serving> OfficeOf<V> {
         ensures number { clerk.new.number ≡ clerk.old.number }
         ensures same { clerk_view clerk.new ≡ clerk_view clerk.old }
         ensures other { IfOk result (IsClerkOf self.now.lock V.covers) }
-        ensures enrolled { IfOk result (λ other. IsEnrolled (V.setting (clerk_view clerk.old).origin) (newcomer (clerk_view clerk.old)) moment other.number (clerk_view other)) }
-        ensures refused { IfErr result (IsNotEnrolled (V.setting (clerk_view clerk.old).origin) (newcomer (clerk_view clerk.old)) moment) }
+        ensures enrolled { IfOk result (λ other. IsEnrolled (V.setting (clerk_view clerk.old).origin)
+            (newcomer (clerk_view clerk.old)) moment other.number (clerk_view other)) }
+        ensures refused { IfErr result (IsNotEnrolled (V.setting (clerk_view clerk.old).origin)
+            (newcomer (clerk_view clerk.old)) moment) }
     {
         let pass = clerk.take_pass();
         let (first, second) = self.lock.split(pass);

@@ -51,9 +51,11 @@ impl<V: Serving> OfficeOf<V> {
         ensures second { IsClerkOf self.now.lock V.covers second.new }
         ensures numbers { (first.new.number ≡ first.old.number) × (second.new.number ≡ second.old.number) }
         ensures first_view { clerk_view first.new ≡ moved (clerk_view first.old) Idle }
-        ensures second_view { clerk_view second.new ≡ record (clerk_view second.old) { origin = (clerk_view first.old).origin; tries = 0; place = Idle } }
+        ensures second_view { clerk_view second.new ≡ record (clerk_view second.old)
+            { origin = (clerk_view first.old).origin; tries = 0; place = Idle } }
         ensures in_line { Comparable (clerk_view first.old).seen (clerk_view second.old).seen }
-        ensures complete { IsPrefix (clerk_view first.old).seen (clerk_view second.old).seen → entries_by first.old.number (clerk_view second.old).seen ≡ (clerk_view first.old).mine }
+        ensures complete { IsPrefix (clerk_view first.old).seen (clerk_view second.old).seen
+            → entries_by first.old.number (clerk_view second.old).seen ≡ (clerk_view first.old).mine }
         ensures apart { first.old.number ≢ second.old.number }
     {
         let (Some(one), Some(other)) = (first.pass.take(), second.pass.take()) else {
@@ -72,8 +74,10 @@ impl<V: Serving> OfficeOf<V> {
         requires second { IsClerkOf self.now.lock V.covers second }
         ensures clerk { IsClerkOf self.now.lock V.covers clerk.new }
         ensures number { clerk.new.number ≡ clerk.old.number }
-        ensures view { clerk_view clerk.new ≡ record (clerk_view clerk.old) { seen = longer (clerk_view clerk.old).seen (clerk_view second).seen; place = Idle } }
-        ensures seen { IsPrefix (clerk_view clerk.old).seen (clerk_view clerk.new).seen × IsPrefix (clerk_view second).seen (clerk_view clerk.new).seen }
+        ensures view { clerk_view clerk.new ≡ record (clerk_view clerk.old)
+            { seen = longer (clerk_view clerk.old).seen (clerk_view second).seen; place = Idle } }
+        ensures seen { IsPrefix (clerk_view clerk.old).seen (clerk_view clerk.new).seen
+            × IsPrefix (clerk_view second).seen (clerk_view clerk.new).seen }
     {
         let Clerk {
             number: _,

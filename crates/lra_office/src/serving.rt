@@ -32,7 +32,8 @@ pub trait Serving: Kept {
         requires lawful { Self.lawful self.old }
         ensures lawful { Self.lawful self.new }
         ensures origin { Self.origin self.new ≡ Self.origin self.old }
-        ensures served { IsServed (setting (Self.origin self.old)) (Self.history self.old) (record { by = by; moment = moment; command = command.now }) result (Self.history self.new) }
+        ensures served { IsServed (setting (Self.origin self.old)) (Self.history self.old)
+            (record { by = by; moment = moment; command = command.now }) result (Self.history self.new) }
         ensures stopped { IfErr result (λ refusal. refusal ≡ Stopped → has_stopped self.new ≡ true) }
 
         // Once it has stopped it stays so, and nothing is appended any more.

@@ -55,8 +55,10 @@ impl<V: Serving> OfficeOf<V> {
         requires suited { is_suited command.now ≡ true }
         requires number { IsNumberOf command.now by (pass_view pass).number }
         ensures lock { pass_id result.0 ≡ lock_id self.now.lock }
-        ensures tried { IsTried (V.setting (pass_view pass).origin) (pass_view pass) (record { by = by; moment = moment; command = command.now }) result.1 (pass_view result.0) }
-        ensures stopped { IfErr result.1 (λ r. r ≡ Refused Stopped → HasStopped V.origin V.history V.lawful V.has_stopped (pass_view result.0)) }
+        ensures tried { IsTried (V.setting (pass_view pass).origin) (pass_view pass)
+            (record { by = by; moment = moment; command = command.now }) result.1 (pass_view result.0) }
+        ensures stopped { IfErr result.1 (λ r. r ≡ Refused Stopped → HasStopped V.origin V.history V.lawful
+            V.has_stopped (pass_view result.0)) }
         ensures placed { IsTriedAt V.covers result.1 (pass_view result.0) position.old position.new }
     {
         let (held, mut value) = match self.lock.try_take(pass) {
@@ -84,8 +86,10 @@ impl<V: Serving> OfficeOf<V> {
         requires other { IsNumberOf command.now clerk.old.number clerk.old.number }
         ensures clerk { IsClerkOf self.now.lock V.covers clerk.new }
         ensures number { clerk.new.number ≡ clerk.old.number }
-        ensures tried { IsTried (V.setting (clerk_view clerk.old).origin) (clerk_view clerk.old) (record { by = clerk.old.number; moment = moment; command = command.now }) result (clerk_view clerk.new) }
-        ensures stopped { IfErr result (λ r. r ≡ Refused Stopped → HasStopped V.origin V.history V.lawful V.has_stopped (clerk_view clerk.new)) }
+        ensures tried { IsTried (V.setting (clerk_view clerk.old).origin) (clerk_view clerk.old)
+            (record { by = clerk.old.number; moment = moment; command = command.now }) result (clerk_view clerk.new) }
+        ensures stopped { IfErr result (λ r. r ≡ Refused Stopped → HasStopped V.origin V.history V.lawful V.has_stopped
+            (clerk_view clerk.new)) }
     {
         let pass = clerk.take_pass();
         let (pass, tried) = self.try_give(pass, clerk.number, moment, command, &mut clerk.position);
@@ -98,8 +102,11 @@ impl<V: Serving> OfficeOf<V> {
         requires { IsClerkOf self.now.lock V.covers clerk.old }
         ensures clerk { IsClerkOf self.now.lock V.covers clerk.new }
         ensures number { clerk.new.number ≡ clerk.old.number }
-        ensures tried { IsTried (V.setting (clerk_view clerk.old).origin) (clerk_view clerk.old) (record { by = clerk.old.number; moment = 0; command = Command.Status action }) result (clerk_view clerk.new) }
-        ensures stopped { IfErr result (λ r. r ≡ Refused Stopped → HasStopped V.origin V.history V.lawful V.has_stopped (clerk_view clerk.new)) }
+        ensures tried { IsTried (V.setting (clerk_view clerk.old).origin) (clerk_view clerk.old)
+            (record { by = clerk.old.number; moment = 0; command = Command.Status action }) result
+            (clerk_view clerk.new) }
+        ensures stopped { IfErr result (λ r. r ≡ Refused Stopped → HasStopped V.origin V.history V.lawful V.has_stopped
+            (clerk_view clerk.new)) }
     {
         self.try_tell(clerk, 0, &Command::Status { action })
     }
@@ -114,8 +121,11 @@ impl<V: Serving> OfficeOf<V> {
         requires { IsClerkOf self.now.lock V.covers clerk.old }
         ensures clerk { IsClerkOf self.now.lock V.covers clerk.new }
         ensures number { clerk.new.number ≡ clerk.old.number }
-        ensures tried { IsTried (V.setting (clerk_view clerk.old).origin) (clerk_view clerk.old) (record { by = clerk.old.number; moment = moment; command = Command.Close action }) result (clerk_view clerk.new) }
-        ensures stopped { IfErr result (λ r. r ≡ Refused Stopped → HasStopped V.origin V.history V.lawful V.has_stopped (clerk_view clerk.new)) }
+        ensures tried { IsTried (V.setting (clerk_view clerk.old).origin) (clerk_view clerk.old)
+            (record { by = clerk.old.number; moment = moment; command = Command.Close action }) result
+            (clerk_view clerk.new) }
+        ensures stopped { IfErr result (λ r. r ≡ Refused Stopped → HasStopped V.origin V.history V.lawful V.has_stopped
+            (clerk_view clerk.new)) }
     {
         self.try_tell(clerk, moment, &Command::Close { action })
     }

@@ -76,7 +76,8 @@ impl<V: Serving, R: Wait, L: WhichLock> Window<'_, V, R, L> {
     /// Tells its clerk what that asks, as `Office::query` does.
     pub fn query(&mut self, query: Query) -> Result<Known, OfficeRefusal>
         ensures number { self.new.clerk.number ≡ self.old.clerk.number }
-        ensures known { IsQueried (V.setting (clerk_view self.old.clerk).origin) (clerk_view self.old.clerk) query result (clerk_view self.new.clerk) }
+        ensures known { IsQueried (V.setting (clerk_view self.old.clerk).origin) (clerk_view self.old.clerk) query
+            result (clerk_view self.new.clerk) }
     {
         self.office.query(self.rt, &mut self.clerk, query)
     }
@@ -87,7 +88,12 @@ impl<V: Serving, R: Wait, L: WhichLock> Counter for Window<'_, V, R, L> {
     ghost use Rattle.lra_office.specs.Clerks.{clerk_view};
     ghost use Rattle.lra_office.specs.Stops.{KeepsInTurn};
 
-    ghost sight = { λ w. record { setting = V.setting (clerk_view w.clerk).origin; number = w.clerk.number; seen = (clerk_view w.clerk).seen } };
+    ghost sight = { λ w. record {
+      setting = V.setting (clerk_view w.clerk).origin;
+      number = w.clerk.number;
+      seen =
+          (clerk_view w.clerk).seen;
+    } };
 
     ghost gives = { KeepsInTurn V.setting V.origin V.history V.lawful V.has_stopped };
 

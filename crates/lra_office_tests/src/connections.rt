@@ -108,11 +108,13 @@ fn two_answer<V: Serving + Send, R: Threads + Wait + Sync>(
     let (one, other) = join(
         rt,
         move || -> (Clerk<V>, bool)
-            requires { IsClerkOf office.now.lock V.covers first × IsOfficeOf (V.setting (clerk_view first).origin) office.now }
+            requires { IsClerkOf office.now.lock V.covers first × IsOfficeOf (V.setting (clerk_view first).origin)
+                office.now }
             ensures { IsClerkOf office.entry.now.lock V.covers result.0 }
         { answers_one(rt, alloc, door, office, first) },
         move || -> (Clerk<V>, bool)
-            requires { IsClerkOf office.now.lock V.covers second × IsOfficeOf (V.setting (clerk_view second).origin) office.now }
+            requires { IsClerkOf office.now.lock V.covers second × IsOfficeOf (V.setting (clerk_view second).origin)
+                office.now }
             ensures { IsClerkOf office.entry.now.lock V.covers result.0 }
         { answers_one(rt, alloc, door, office, second) },
     );
@@ -146,7 +148,9 @@ fn visited<
     let ((clerk, have_ended), replies) = join(
         rt,
         move || -> (Clerk<V>, bool)
-            requires { IsClerkOf office.now.lock V.covers first × IsClerkOf office.now.lock V.covers second × IsOfficeOf (V.setting (clerk_view first).origin) office.now × IsOfficeOf (V.setting (clerk_view second).origin) office.now × IsSync R.row }
+            requires { IsClerkOf office.now.lock V.covers first × IsClerkOf office.now.lock V.covers second
+                × IsOfficeOf (V.setting (clerk_view first).origin) office.now
+                × IsOfficeOf (V.setting (clerk_view second).origin) office.now × IsSync R.row }
             ensures { IsClerkOf office.entry.now.lock V.covers result.0 }
         { two_answer(rt, alloc, door, office, first, second) },
         move || visit(rt, alloc, address),

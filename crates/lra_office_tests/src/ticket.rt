@@ -250,11 +250,13 @@ fn four<R: Threads + Wait + Sync>(
     let (one, other) = join(
         rt,
         move || -> Option<EntryPass>
-            requires { (pass_id one ≡ lock_id lock.now) × ((pass_view one).number ≡ 0) × (number ≢ 0) × (number < 90) × IsSync R.row }
+            requires { (pass_id one ≡ lock_id lock.now) × ((pass_view one).number ≡ 0) × (number ≢ 0) × (number < 90)
+                × IsSync R.row }
             ensures { IfSome result (λ p. pass_id p ≡ lock_id lock.entry.now) }
         { two(rt, lock, one, number, blocks) },
         move || -> Option<EntryPass>
-            requires { (pass_id other ≡ lock_id lock.now) × ((pass_view other).number ≡ 0) × (number < 90) × IsSync R.row }
+            requires { (pass_id other ≡ lock_id lock.now) × ((pass_view other).number ≡ 0) × (number < 90)
+                × IsSync R.row }
             ensures { IfSome result (λ p. pass_id p ≡ lock_id lock.entry.now) }
         { two(rt, lock, other, number + 2, blocks) },
     );

@@ -14,16 +14,21 @@ use Rattle.lra_opening.specs.Ends.{IsFoundSound, IsRefused}
 use Rattle.lra_opening.specs.Places.{IsRead}
 
 -- where its whole lines have a fault, the journal is refused
-pub refused : (found before after : Option (List ℕ)) (o : Fed) (line : ℕ) (rule : Rule) (status : ℕ) → IsRead found o → IsFault o.front line rule
-    → ((input : List ℕ) → IsFault input line rule → ReportsAudit input status before after) → status ≡ 1 → IsRefused found before after status
+pub refused : (found before after : Option (List ℕ)) (o : Fed) (line : ℕ) (rule : Rule) (status : ℕ) → IsRead found o
+    → IsFault o.front line rule
+    → ((input : List ℕ) → IsFault input line rule → ReportsAudit input status before after) → status ≡ 1
+    → IsRefused found before after status
 refused found before after o line rule status read fault reported one = record {
   journal = read.bytes;
   read = read.all;
-  reported = subst (λ (bytes : List ℕ). ReportsAudit bytes status before after) (sym (fed_front read.bytes o read.fed)) (reported o.front fault);
+  reported = subst (λ (bytes : List ℕ). ReportsAudit bytes status before after) (sym (fed_front read.bytes o read.fed))
+      (reported o.front fault);
   unsound = one;
 }
 
 -- where they are the text of a legal history, an audit finds them sound
-pub found_sound : (bytes : List ℕ) (o : Fed) → IsFed bytes o → (v : Version) × (i : ℕ) × (J : History) × IsTextOf v i J o.front → IsFoundSound (whole_lines bytes)
+pub found_sound : (bytes : List ℕ) (o : Fed) → IsFed bytes o → (v : Version) × (i : ℕ) × (J : History)
+    × IsTextOf v i J o.front → IsFoundSound (whole_lines bytes)
 found_sound bytes o fed (v, i, J, text) =
-    subst IsFoundSound (sym (fed_front bytes o fed)) (record { verdict = Sound (summary J); right = (v, i, J, text, refl); sound = refl })
+    subst IsFoundSound (sym (fed_front bytes o fed))
+    (record { verdict = Sound (summary J); right = (v, i, J, text, refl); sound = refl })

@@ -26,7 +26,8 @@ pub fn refuse<W: Write>(
     ensures audited { (b : List ℕ) → IsFed b opening.now → result ≡ None → (b ≡ []) ⊎ IsFoundSound (whole_lines b) }
     ensures unsound { (found : Option (List ℕ)) → IsRead found opening.now
         → IfSome result (λ told. IfOk told (IsRefused found (W.contents writer.old) (W.contents writer.new))) }
-    ensures fault { (address : List ℕ) → IfSome result (λ told. IfErr told (IsSaid address (W.contents writer.old) (W.contents writer.new))) }
+    ensures fault { (address : List ℕ) → IfSome result (λ told. IfErr told
+        (IsSaid address (W.contents writer.old) (W.contents writer.new))) }
     ensures of_run { IfSome result (λ told. IfErr told IsOfRun) }
 {
     if is_new(opening) {

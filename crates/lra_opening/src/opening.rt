@@ -61,7 +61,8 @@ pub fn begin_office<W: Write + Drop, R: Wait>(
     moment: u64,
 ) -> Result<(Office<W>, Clerk<Desk<W>>), ServeFault>
     requires limits { AreKeepable limits }
-    ensures opened { IfOk result (λ opened. IsBegun (new_origin instance base limits (W.contents writer)) moment opened.0 opened.1) }
+    ensures opened { IfOk result (λ opened. IsBegun (new_origin instance base limits (W.contents writer)) moment
+        opened.0 opened.1) }
     ensures fault { IfErr result IsOfNoScript }
 {
     match Office::with_base(alloc, instance, base, limits, writer) {
@@ -90,7 +91,8 @@ fn begin<W: Write + Drop, R: Wait>(
     moment: u64,
 ) -> Result<(Office<W>, Clerk<Desk<W>>), ServeFault>
     requires limits { AreKeepable limits }
-    ensures opened { IfOk result (λ opened. IsBegun (new_origin moment base limits (W.contents writer)) moment opened.0 opened.1) }
+    ensures opened { IfOk result (λ opened. IsBegun (new_origin moment base limits (W.contents writer)) moment opened.0
+        opened.1) }
     ensures fault { IfErr result IsOfNoScript }
 {
     match instance_at(moment) {
@@ -114,7 +116,8 @@ pub fn open_office<W: Write + Drop, R: Wait>(
     moment: u64,
 ) -> Result<(Office<W>, Clerk<Desk<W>>), ServeFault>
     requires limits { AreKeepable limits }
-    ensures opened { IfOk result (λ opened. (b : List ℕ) → IsFed b opening → GoesOn base limits b moment (W.contents writer) opened.0 opened.1) }
+    ensures opened { IfOk result (λ opened. (b : List ℕ) → IsFed b opening
+        → GoesOn base limits b moment (W.contents writer) opened.0 opened.1) }
     ensures fault { IfErr result IsOfNoScript }
 {
     if is_new(&opening) {

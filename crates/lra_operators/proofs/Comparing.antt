@@ -21,18 +21,21 @@ begun_long g w h = eqb-true (length g) (length w) h
 
 -- one byte more
 pub compared : (g w : List ℕ) (i : ℕ) (same : Bool) → i < length g → (same ≡ true → length g ≡ length w)
-    → ((same && (get_or g i 0 == get_or w i 0)) && bytes_eq (drop (i + 1) g) (drop (i + 1) w)) ≡ (same && bytes_eq (drop i g) (drop i w))
+    → ((same && (get_or g i 0 == get_or w i 0)) && bytes_eq (drop (i + 1) g) (drop (i + 1) w))
+    ≡ (same && bytes_eq (drop i g) (drop i w))
 compared g w i false h e = refl
 compared g w i true h e =
     let k : i < length w = subst (λ n. i < n) (e refl) h in
     rw (drop-cons g i 0 h, drop-cons w i 0 k, add-one i) refl
 
-pub compared_long : (g w : List ℕ) (same b : Bool) → (same ≡ true → length g ≡ length w) → (same && b) ≡ true → length g ≡ length w
+pub compared_long : (g w : List ℕ) (same b : Bool) → (same ≡ true → length g ≡ length w) → (same && b) ≡ true → length g
+    ≡ length w
 compared_long g w true b e h = e refl
 compared_long g w false b e h = e h
 
 -- after the last one
-whole : (g w : List ℕ) (same : Bool) → (same ≡ true → length g ≡ length w) → (same && bytes_eq (drop (length g) g) (drop (length g) w)) ≡ same
+whole : (g w : List ℕ) (same : Bool) → (same ≡ true → length g ≡ length w)
+    → (same && bytes_eq (drop (length g) g) (drop (length g) w)) ≡ same
 whole g w false e = refl
 whole g w true e = rw (drop-length g, e refl, drop-length w) refl
 

@@ -43,11 +43,13 @@ is_colon b = b == 58
 
 -- the key that a value of Authorization gives as Bearer: what follows that word and a space, or nothing (RFC 6750, section 2.1)
 abbrev pub bearer_in : List ℕ → List ℕ
-bearer_in value = if str_eq_ignore_ascii_case (before_first is_space value) (codes "bearer") then after_first is_space value else []
+bearer_in value = if str_eq_ignore_ascii_case (before_first is_space value) (codes "bearer") then after_first is_space
+    value else []
 
 -- what a value of Authorization has as Basic: what follows that word and a space, or nothing (RFC 7617, section 2)
 abbrev pub basic_in : List ℕ → List ℕ
-basic_in value = if str_eq_ignore_ascii_case (before_first is_space value) (codes "basic") then after_first is_space value else []
+basic_in value = if str_eq_ignore_ascii_case (before_first is_space value) (codes "basic") then after_first is_space
+    value else []
 
 -- what was decoded, or nothing
 abbrev pub decoded_or_none : Result (List ℕ) DecodeError → List ℕ
@@ -80,7 +82,8 @@ is_own_host name = bytes_eq name (codes "localhost") || is_loopback name
 
 -- a host that is the machine's own, as those name it who are on it: such a name with any port, or the address of version 6
 abbrev pub is_own_name : List ℕ → Bool
-is_own_name host = is_own_host (before_first is_colon host) || bytes_eq host (codes "[::1]") || begins (codes "[::1]:") host
+is_own_name host = is_own_host (before_first is_colon host) || bytes_eq host (codes "[::1]")
+    || begins (codes "[::1]:") host
 
 -- whether a request came by one of these: one with no Host, or with one that is no text, didn't
 abbrev pub is_own : Option (List ℕ) → Bool

@@ -48,7 +48,8 @@ is_order _ = false
 
 -- an operation, in a sentence
 abbrev pub summary : Operation → List ℕ
-summary operation.Health = codes "Returns whether it takes requests and keeps what it answers, by MicroProfile Health 4.0"
+summary operation.Health =
+    codes "Returns whether it takes requests and keeps what it answers, by MicroProfile Health 4.0"
 summary operation.Live = codes "Returns whether it has to be started anew"
 summary operation.Ready = codes "Returns whether it takes what is begun"
 summary operation.Started = codes "Returns whether it has started"
@@ -57,7 +58,8 @@ summary operation.Actions = codes "Lists the actions of a journal, page by page"
 summary operation.Action = codes "Returns an action, with its members and the actions nested in it"
 summary operation.Close = codes "Closes an action, as a service does"
 summary operation.Cancel = codes "Cancels an action, as a service does"
-summary operation.GiveUp = codes "Makes a member's report that it has failed, on its behalf; or ends what a member that has ended is asked"
+summary operation.GiveUp =
+    codes "Makes a member's report that it has failed, on its behalf; or ends what a member that has ended is asked"
 summary operation.Home = codes "Shows counts, and what hasn't ended or has a status"
 summary operation.Tree = codes "Shows an action"
 

@@ -17,7 +17,8 @@ use Rattle.lra_operators.specs.Access.{seen, admission_of}
 abbrev pub IsOrderAt : Operation → ℕ → Order → Type 0
 IsOrderAt operation.Close n o = o ≡ order.Close n
 IsOrderAt operation.Cancel n o = o ≡ order.Cancel n
-IsOrderAt operation.GiveUp n o = (o ≡ order.Report n ending.FailedToComplete) ⊎ (o ≡ order.Report n ending.FailedToCompensate)
+IsOrderAt operation.GiveUp n o = (o ≡ order.Report n ending.FailedToComplete)
+    ⊎ (o ≡ order.Report n ending.FailedToCompensate)
 IsOrderAt _ n o = ⊥
 
 -- the order that a target asks for of an operation, of a journal whose identifier its path has
@@ -36,8 +37,10 @@ pub record GivesOrder (access : Access) (request : Request) (i : ℕ) (o : Order
 
 -- what a request does to the orders that were given: nothing, or the one that it gives is added
 abbrev pub Answers : Access → Request → List (ℕ × Order) → List (ℕ × Order) → Type 0
-Answers access request before after = (after ≡ before) ⊎ ((i : ℕ) × (o : Order) × GivesOrder access request i o × (after ≡ before ++ (i, o) ∷ []))
+Answers access request before after = (after ≡ before) ⊎ ((i : ℕ) × (o : Order) × GivesOrder access request i o
+    × (after ≡ before ++ (i, o) ∷ []))
 
 -- what bytes do to them: nothing, or what the request does that they begin with
 abbrev pub AnswersBytes : Access → List ℕ → List (ℕ × Order) → List (ℕ × Order) → Type 0
-AnswersBytes access bytes before after = (after ≡ before) ⊎ ((request : Request) × (rest : List ℕ) × IsRequest bytes request rest × Answers access request before after)
+AnswersBytes access bytes before after = (after ≡ before) ⊎ ((request : Request) × (rest : List ℕ)
+    × IsRequest bytes request rest × Answers access request before after)

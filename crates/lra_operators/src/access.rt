@@ -290,7 +290,8 @@ fn bearer_gives(fields: &RequestFields, key: Option<&str>) -> bool
 
 /// Returns whether a value of `Authorization` gives the key as the password of `Basic`, where there is one.
 fn is_password(alloc: Global, authorization: &str, key: Option<&str>) -> Result<bool, Memory>
-    ensures { IfOk result (λ b. b ≡ spec.gives (Some (spec.password_in authorization.now)) (option_map (λ text. text.now) key.entry)) }
+    ensures { IfOk result (λ b. b ≡ spec.gives (Some (spec.password_in authorization.now))
+        (option_map (λ text. text.now) key.entry)) }
 {
     let bytes = decoded(alloc, basic_in(authorization))?;
     let password = after_colon(text_of(bytes.as_slice()));
@@ -299,7 +300,8 @@ fn is_password(alloc: Global, authorization: &str, key: Option<&str>) -> Result<
 
 /// Returns whether the head of a request gives the key as the password of `Basic`, where there is one.
 fn basic_gives(alloc: Global, fields: &RequestFields, key: Option<&str>) -> Result<bool, Memory>
-    ensures { IfOk result (λ b. b ≡ spec.gives (spec.password_of (what_fields fields.now)) (option_map (λ text. text.now) key.entry)) }
+    ensures { IfOk result (λ b. b ≡ spec.gives (spec.password_of (what_fields fields.now))
+        (option_map (λ text. text.now) key.entry)) }
 {
     match &fields.authorization {
         Some(value) => is_password(alloc, text_of(value.as_slice()), key),
@@ -309,7 +311,8 @@ fn basic_gives(alloc: Global, fields: &RequestFields, key: Option<&str>) -> Resu
 
 /// Returns whether a form gives the text under a name that is wanted, if one is.
 fn form_gives(alloc: Global, form: &[u8], name: &str, wanted: Option<&str>) -> Result<bool, Memory>
-    ensures { IfOk result (λ b. b ≡ spec.gives (form_value name.now form.now) (option_map (λ text. text.now) wanted.entry)) }
+    ensures { IfOk result (λ b. b ≡ spec.gives (form_value name.now form.now)
+        (option_map (λ text. text.now) wanted.entry)) }
 {
     match in_form(alloc, form, name)? {
         Some(given) => Ok(is_wanted(given.as_str(), wanted)),
@@ -324,7 +327,8 @@ fn form_mistakes(
     name: &str,
     wanted: Option<&str>,
 ) -> Result<bool, Memory>
-    ensures { IfOk result (λ b. b ≡ spec.mistakes (form_value name.now form.now) (option_map (λ text. text.now) wanted.entry)) }
+    ensures { IfOk result (λ b. b ≡ spec.mistakes (form_value name.now form.now)
+        (option_map (λ text. text.now) wanted.entry)) }
 {
     match in_form(alloc, form, name)? {
         Some(given) => Ok(is_mistaken(given.as_str(), wanted)),

@@ -187,7 +187,8 @@ impl Port {
         operation: Operation,
     ) -> Result<Reply, Trouble>
         requires { is_order operation ≡ true }
-        ensures orders { Orders (string_bytes request.now.target) operation (O.orders overview.old) (O.orders overview.new) }
+        ensures orders { Orders (string_bytes request.now.target) operation (O.orders overview.old)
+            (O.orders overview.new) }
         ensures done { IfOk result (λ reply. has_code reply.status (success operation) ≡ true) }
     {
         match order_at(self.alloc, overview, request, operation) {
@@ -216,7 +217,8 @@ impl Port {
         request: &RequestRead,
         operation: Operation,
     ) -> Result<Reply, Trouble>
-        ensures orders { Orders (string_bytes request.now.target) operation (O.orders overview.old) (O.orders overview.new) }
+        ensures orders { Orders (string_bytes request.now.target) operation (O.orders overview.old)
+            (O.orders overview.new) }
         // Where it is done, its code is one of the table.
         ensures done { IfOk result (λ reply. has_code reply.status (success operation) ≡ true) }
     {

@@ -30,11 +30,13 @@ five p0 p1 p2 p3 p4 p5 a b d e f (Err error) h1 h2 h3 h4 h5 = tt
 pub six : {E : Type 0} (p0 p1 p2 p3 p4 p5 p6 a b d e f g : List ℕ) (r : Result (Unit {0}) E)
     → p1 ≡ p0 ++ a → p2 ≡ p1 ++ b → p3 ≡ p2 ++ d → p4 ≡ p3 ++ e → p5 ≡ p4 ++ f → OnOk r (p6 ≡ p5 ++ g)
     → OnOk r (p6 ≡ p0 ++ joined (a ∷ b ∷ d ∷ e ∷ f ∷ g ∷ []))
-six p0 p1 p2 p3 p4 p5 p6 a b d e f g (Ok u) h1 h2 h3 h4 h5 h6 = rw (h6, h5, h4, h3, h2, h1) (simp (append_assoc, append-nil))
+six p0 p1 p2 p3 p4 p5 p6 a b d e f g (Ok u) h1 h2 h3 h4 h5 h6 = rw (h6, h5, h4, h3, h2, h1)
+    (simp (append_assoc, append-nil))
 six p0 p1 p2 p3 p4 p5 p6 a b d e f g (Err error) h1 h2 h3 h4 h5 h6 = tt
 
 pub seven : {E : Type 0} (p0 p1 p2 p3 p4 p5 p6 p7 a b d e f g h : List ℕ) (r : Result (Unit {0}) E)
     → p1 ≡ p0 ++ a → p2 ≡ p1 ++ b → p3 ≡ p2 ++ d → p4 ≡ p3 ++ e → p5 ≡ p4 ++ f → p6 ≡ p5 ++ g → OnOk r (p7 ≡ p6 ++ h)
     → OnOk r (p7 ≡ p0 ++ joined (a ∷ b ∷ d ∷ e ∷ f ∷ g ∷ h ∷ []))
-seven p0 p1 p2 p3 p4 p5 p6 p7 a b d e f g h (Ok u) h1 h2 h3 h4 h5 h6 h7 = rw (h7, h6, h5, h4, h3, h2, h1) (simp (append_assoc, append-nil))
+seven p0 p1 p2 p3 p4 p5 p6 p7 a b d e f g h (Ok u) h1 h2 h3 h4 h5 h6 h7 =
+    rw (h7, h6, h5, h4, h3, h2, h1) (simp (append_assoc, append-nil))
 seven p0 p1 p2 p3 p4 p5 p6 p7 a b d e f g h (Err error) h1 h2 h3 h4 h5 h6 h7 = tt

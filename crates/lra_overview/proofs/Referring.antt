@@ -39,14 +39,16 @@ s_fields token k y = skip_by (fields token k) y (r_fields token k)
 r_cancel_form : (i : ℕ) (token : List ℕ) (k : Bool) (a : ℕ) → refers (cancel_form i token k a) ≡ true
 r_cancel_form i token k a = simp (append_assoc, skip_id, s_fields token k)
 
-s_cancel_form : (i : ℕ) (token : List ℕ) (k : Bool) (a : ℕ) (y : List ℕ) → refers ((cancel_form i token k a) ++ y) ≡ refers y
+s_cancel_form : (i : ℕ) (token : List ℕ) (k : Bool) (a : ℕ) (y : List ℕ) → refers ((cancel_form i token k a) ++ y)
+    ≡ refers y
 s_cancel_form i token k a y = skip_by (cancel_form i token k a) y (r_cancel_form i token k a)
 
 r_cancel : (i : ℕ) (token : List ℕ) (k : Bool) (a : ℕ) (s : ActionStatus) → refers (cancel_at i token k a s) ≡ true
 r_cancel i token k a action_status.Active = r_cancel_form i token k a
 r_cancel i token k a _ = refl
 
-s_cancel : (i : ℕ) (token : List ℕ) (k : Bool) (a : ℕ) (s : ActionStatus) (y : List ℕ) → refers ((cancel_at i token k a s) ++ y) ≡ refers y
+s_cancel : (i : ℕ) (token : List ℕ) (k : Bool) (a : ℕ) (s : ActionStatus) (y : List ℕ)
+    → refers ((cancel_at i token k a s) ++ y) ≡ refers y
 s_cancel i token k a s y = skip_by (cancel_at i token k a s) y (r_cancel i token k a s)
 
 -- the form that gives a member up, with the field for the key or without it
@@ -59,7 +61,8 @@ form_of i token k p question ending =
     ∷ []
     )
 
-r_form_of : (i : ℕ) (token : List ℕ) (k : Bool) (p : ℕ) (question ending : List ℕ) → refers question ≡ true → refers ending ≡ true
+r_form_of : (i : ℕ) (token : List ℕ) (k : Bool) (p : ℕ) (question ending : List ℕ) → refers question ≡ true
+    → refers ending ≡ true
     → refers (form_of i token k p question ending) ≡ true
 r_form_of i token k p question ending q h =
     let asks : (y : List ℕ) → refers (question ++ y) ≡ refers y = λ y. skip_by question y q in
@@ -67,18 +70,23 @@ r_form_of i token k p question ending q h =
     simp (append_assoc, skip_id, s_fields token k, asks, after)
 
 r_give_up_at : (i : ℕ) (token : List ℕ) (p : ℕ) (s : MemberStatus) → refers (give_up_at i token p s) ≡ true
-r_give_up_at i token p member_status.Completing = r_form_of i token true p (codes "Have it count as failed for good?") (codes "FailedToComplete") refl refl
-r_give_up_at i token p member_status.Compensating = r_form_of i token true p (codes "Have it count as failed for good?") (codes "FailedToCompensate") refl refl
+r_give_up_at i token p member_status.Completing = r_form_of i token true p (codes "Have it count as failed for good?")
+    (codes "FailedToComplete") refl refl
+r_give_up_at i token p member_status.Compensating = r_form_of i token true p (codes "Have it count as failed for good?")
+    (codes "FailedToCompensate") refl refl
 r_give_up_at i token p _ = refl
 
-s_give_up_at : (i : ℕ) (token : List ℕ) (p : ℕ) (s : MemberStatus) (y : List ℕ) → refers ((give_up_at i token p s) ++ y) ≡ refers y
+s_give_up_at : (i : ℕ) (token : List ℕ) (p : ℕ) (s : MemberStatus) (y : List ℕ) → refers ((give_up_at i token p s) ++ y)
+    ≡ refers y
 s_give_up_at i token p s y = skip_by (give_up_at i token p s) y (r_give_up_at i token p s)
 
 r_told_form : (i : ℕ) (token : List ℕ) (p : ℕ) → refers (told_form i token p) ≡ true
 unfolding told_form
-r_told_form i token p = r_form_of i token true p (codes "Tell it no more how its action ended?") (codes "Ended") refl refl
+r_told_form i token p = r_form_of i token true p (codes "Tell it no more how its action ended?") (codes "Ended") refl
+    refl
 
-r_give_up_where : (b : Bool) (i : ℕ) (token : List ℕ) (p : ℕ) (s : MemberStatus) → refers (cond b (told_form i token p) (give_up_at i token p s)) ≡ true
+r_give_up_where : (b : Bool) (i : ℕ) (token : List ℕ) (p : ℕ) (s : MemberStatus)
+    → refers (cond b (told_form i token p) (give_up_at i token p s)) ≡ true
 r_give_up_where true i token p s = r_told_form i token p
 r_give_up_where false i token p s = r_give_up_at i token p s
 
@@ -86,7 +94,8 @@ r_give_up : (i : ℕ) (token : List ℕ) (k : Bool) (row : MemberRow) → refers
 r_give_up i token true row = r_give_up_where (wants_telling row.want) i token row.member row.status
 r_give_up i token false row = refl
 
-s_give_up : (i : ℕ) (token : List ℕ) (k : Bool) (row : MemberRow) (y : List ℕ) → refers ((give_up i token k row) ++ y) ≡ refers y
+s_give_up : (i : ℕ) (token : List ℕ) (k : Bool) (row : MemberRow) (y : List ℕ) → refers ((give_up i token k row) ++ y)
+    ≡ refers y
 s_give_up i token k row y = skip_by (give_up i token k row) y (r_give_up i token k row)
 
 r_share : (s : Share) → refers (share s) ≡ true
@@ -147,21 +156,32 @@ s_waits i s w y = skip_by (waits_at i s w) y (r_waits i s w)
 r_waiting : (i : ℕ) (token : List ℕ) (k : Bool) (w : Waiting) → refers (waiting i token k w) ≡ true
 unfolding waiting
 r_waiting i token k w =
-    simp (append_assoc, skip_id, skip_action, s_age w.age, s_waits i w.row.status w.awaited, s_next_ask (ask_in w.awaited) w.want w.left, s_cancel i token k w.row.action w.row.status)
+    simp (
+      append_assoc,
+      skip_id,
+      skip_action,
+      s_age w.age,
+      s_waits i w.row.status w.awaited,
+      s_next_ask (ask_in w.awaited) w.want w.left,
+      s_cancel i token k w.row.action w.row.status,
+    )
 
-s_waiting : (i : ℕ) (token : List ℕ) (k : Bool) (w : Waiting) (y : List ℕ) → refers ((waiting i token k w) ++ y) ≡ refers y
+s_waiting : (i : ℕ) (token : List ℕ) (k : Bool) (w : Waiting) (y : List ℕ) → refers ((waiting i token k w) ++ y)
+    ≡ refers y
 s_waiting i token k w y = skip_by (waiting i token k w) y (r_waiting i token k w)
 
 r_rows : (i : ℕ) (token : List ℕ) (k : Bool) (rows : List Waiting) → refers (flat_map (waiting i token k) rows) ≡ true
 r_rows i token k rows = refers_flat (waiting i token k) (r_waiting i token k) rows
 
-s_rows : (i : ℕ) (token : List ℕ) (k : Bool) (rows : List Waiting) (y : List ℕ) → refers ((flat_map (waiting i token k) rows) ++ y) ≡ refers y
+s_rows : (i : ℕ) (token : List ℕ) (k : Bool) (rows : List Waiting) (y : List ℕ)
+    → refers ((flat_map (waiting i token k) rows) ++ y) ≡ refers y
 s_rows i token k rows y = skip_by (flat_map (waiting i token k) rows) y (r_rows i token k rows)
 
 r_full_table : (i : ℕ) (token : List ℕ) (k : Bool) (rows : List Waiting) → refers (full_table i token k rows) ≡ true
 r_full_table i token k rows = simp (append_assoc, s_rows i token k rows)
 
-s_full_table : (i : ℕ) (token : List ℕ) (k : Bool) (rows : List Waiting) (y : List ℕ) → refers ((full_table i token k rows) ++ y) ≡ refers y
+s_full_table : (i : ℕ) (token : List ℕ) (k : Bool) (rows : List Waiting) (y : List ℕ)
+    → refers ((full_table i token k rows) ++ y) ≡ refers y
 s_full_table i token k rows y = skip_by (full_table i token k rows) y (r_full_table i token k rows)
 
 r_no_rows : (state : Option ActionStatus) → refers (no_rows state) ≡ true
@@ -195,7 +215,8 @@ s_shares shares y = skip_by (flat_map share shares) y (r_shares shares)
 r_begin : (base : List ℕ) → refers (begin base) ≡ true
 r_begin base =
     refers_joined
-    (HEAD.now ∷ LOOKS.now ∷ TABLES.now ∷ NIGHT.now ∷ codes "<p>The coordinator at <code>" ∷ escaped base ∷ codes "</code></p></header><main>\n" ∷ [])
+    (HEAD.now ∷ LOOKS.now ∷ TABLES.now ∷ NIGHT.now ∷ codes "<p>The coordinator at <code>" ∷ escaped base
+    ∷ codes "</code></p></header><main>\n" ∷ [])
     (refers_head, (refers_looks, (refers_tables, (refers_night, (refl, (refers_escaped base, (refl, tt)))))))
 
 r_counts : (h : Home) → refers (counts h) ≡ true
@@ -214,8 +235,16 @@ home_refers i base token k h =
     ∷ next i h.state h.next
     ∷ codes "</main></body></html>\n"
     ∷ []
+    ) (
+      r_begin base,
+      (
+        r_counts h,
+        (
+          r_table_where (length h.rows.now == 0) i token k h.state h.rows.now,
+          (r_next i h.state h.next, (refl, tt)),
+        ),
+      ),
     )
-    (r_begin base, (r_counts h, (r_table_where (length h.rows.now == 0) i token k h.state h.rows.now, (r_next i h.state h.next, (refl, tt)))))
 
 r_tried : (t : Option Tried) → refers (tried t) ≡ true
 r_tried None = refl
@@ -227,12 +256,20 @@ s_tried t y = skip_by (tried t) y (r_tried t)
 r_line : (i : ℕ) (token : List ℕ) (k : Bool) (l : Line) → refers (line i token k l) ≡ true
 unfolding line
 r_line i token k l =
-    simp (append_assoc, skip_id, skip_member, s_next_ask l.row.ask l.row.want l.left, s_tried l.tried, s_give_up i token k l.row)
+    simp (
+      append_assoc,
+      skip_id,
+      skip_member,
+      s_next_ask l.row.ask l.row.want l.left,
+      s_tried l.tried,
+      s_give_up i token k l.row,
+    )
 
 r_lines : (i : ℕ) (token : List ℕ) (k : Bool) (lines : List Line) → refers (flat_map (line i token k) lines) ≡ true
 r_lines i token k lines = refers_flat (line i token k) (r_line i token k) lines
 
-s_lines : (i : ℕ) (token : List ℕ) (k : Bool) (lines : List Line) (y : List ℕ) → refers ((flat_map (line i token k) lines) ++ y) ≡ refers y
+s_lines : (i : ℕ) (token : List ℕ) (k : Bool) (lines : List Line) (y : List ℕ)
+    → refers ((flat_map (line i token k) lines) ++ y) ≡ refers y
 s_lines i token k lines y = skip_by (flat_map (line i token k) lines) y (r_lines i token k lines)
 
 r_members : (i : ℕ) (token : List ℕ) (k : Bool) (lines : List Line) → refers (members i token k lines) ≡ true
@@ -270,26 +307,30 @@ r_branch : (depth : ℕ) (line : ℕ) (above : Option ℕ) → refers (pictures.
 r_branch depth line None = refl
 r_branch depth line (Some a) = simp (append_assoc, skip_decimal)
 
-s_branch : (depth : ℕ) (line : ℕ) (above : Option ℕ) (y : List ℕ) → refers ((pictures.branch depth line above) ++ y) ≡ refers y
+s_branch : (depth : ℕ) (line : ℕ) (above : Option ℕ) (y : List ℕ) → refers ((pictures.branch depth line above) ++ y)
+    ≡ refers y
 s_branch depth line above y = skip_by (pictures.branch depth line above) y (r_branch depth line above)
 
 r_disk : (i : ℕ) (depth : ℕ) (line : ℕ) (row : ActionRow) → refers (pictures.action i depth line row) ≡ true
 r_disk i depth line row = simp (append_assoc, skip_action, skip_decimal, skip_id)
 
-s_disk : (i : ℕ) (depth : ℕ) (line : ℕ) (row : ActionRow) (y : List ℕ) → refers ((pictures.action i depth line row) ++ y) ≡ refers y
+s_disk : (i : ℕ) (depth : ℕ) (line : ℕ) (row : ActionRow) (y : List ℕ)
+    → refers ((pictures.action i depth line row) ++ y) ≡ refers y
 s_disk i depth line row y = skip_by (pictures.action i depth line row) y (r_disk i depth line row)
 
 r_square : (i : ℕ) (depth : ℕ) (line : ℕ) (row : MemberRow) → refers (pictures.member i depth line row) ≡ true
 r_square i depth line row = simp (append_assoc, skip_member, skip_decimal, skip_id)
 
-s_square : (i : ℕ) (depth : ℕ) (line : ℕ) (row : MemberRow) (y : List ℕ) → refers ((pictures.member i depth line row) ++ y) ≡ refers y
+s_square : (i : ℕ) (depth : ℕ) (line : ℕ) (row : MemberRow) (y : List ℕ)
+    → refers ((pictures.member i depth line row) ++ y) ≡ refers y
 s_square i depth line row y = skip_by (pictures.member i depth line row) y (r_square i depth line row)
 
 r_mark : (i : ℕ) (depth : ℕ) (line : ℕ) (n : NodeOf) → refers (pictures.mark i depth line n) ≡ true
 r_mark i depth line (node_of.Action row) = r_disk i depth line row
 r_mark i depth line (node_of.Member row) = r_square i depth line row
 
-s_mark : (i : ℕ) (depth : ℕ) (line : ℕ) (n : NodeOf) (y : List ℕ) → refers ((pictures.mark i depth line n) ++ y) ≡ refers y
+s_mark : (i : ℕ) (depth : ℕ) (line : ℕ) (n : NodeOf) (y : List ℕ) → refers ((pictures.mark i depth line n) ++ y)
+    ≡ refers y
 s_mark i depth line n y = skip_by (pictures.mark i depth line n) y (r_mark i depth line n)
 
 r_node : (i : ℕ) (n : Node) → refers (pictures.node i n) ≡ true
@@ -335,10 +376,12 @@ action_refers i base token k w nodes lines =
     )
 
 r_sentence : (sentence text : List ℕ) → refers sentence ≡ true
-    → refers (joined (codes "<h2>" ∷ sentence ∷ codes "</h2>\n<p><code>" ∷ escaped text ∷ codes "</code></p>\n</main></body></html>\n" ∷ [])) ≡ true
+    → refers (joined (codes "<h2>" ∷ sentence ∷ codes "</h2>\n<p><code>" ∷ escaped text
+    ∷ codes "</code></p>\n</main></body></html>\n" ∷ [])) ≡ true
 r_sentence sentence text h =
     refers_joined
-    (codes "<h2>" ∷ sentence ∷ codes "</h2>\n<p><code>" ∷ escaped text ∷ codes "</code></p>\n</main></body></html>\n" ∷ [])
+    (codes "<h2>" ∷ sentence ∷ codes "</h2>\n<p><code>" ∷ escaped text ∷ codes "</code></p>\n</main></body></html>\n"
+    ∷ [])
     (refl, (h, (refl, (refers_escaped text, (refl, tt)))))
 
 pub plain_refers : PlainRefers
@@ -346,7 +389,8 @@ unfolding plain
 plain_refers base sentence text h =
     refers_joined
     (begin base
-    ∷ joined (codes "<h2>" ∷ sentence ∷ codes "</h2>\n<p><code>" ∷ escaped text ∷ codes "</code></p>\n</main></body></html>\n" ∷ [])
+    ∷ joined (codes "<h2>" ∷ sentence ∷ codes "</h2>\n<p><code>" ∷ escaped text
+    ∷ codes "</code></p>\n</main></body></html>\n" ∷ [])
     ∷ []
     )
     (r_begin base, (r_sentence sentence text h, tt))

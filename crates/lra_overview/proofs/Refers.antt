@@ -54,19 +54,23 @@ begins_more : (c x y : List ℕ) → begins c x ≡ true → begins c (x ++ y) �
 begins_more [] x y h = refl
 begins_more (a ∷ c) [] y h = cc
 begins_more (a ∷ c) (b ∷ x) y h =
-    and_both (b == a) (begins c (x ++ y)) (and_left (b == a) (begins c x) h) (begins_more c x y (and_right (b == a) (begins c x) h))
+    and_both (b == a) (begins c (x ++ y)) (and_left (b == a) (begins c x) h)
+    (begins_more c x y (and_right (b == a) (begins c x) h))
 
-any_more : (names : List (List ℕ)) (x y : List ℕ) → list_any (λ name. begins name x) names ≡ true → list_any (λ name. begins name (x ++ y)) names ≡ true
+any_more : (names : List (List ℕ)) (x y : List ℕ) → list_any (λ name. begins name x) names ≡ true
+    → list_any (λ name. begins name (x ++ y)) names ≡ true
 any_more [] x y h = h
 any_more (name ∷ names) x y h =
-    or_more (begins name x) (list_any (λ n. begins n x) names) (begins name (x ++ y)) (list_any (λ n. begins n (x ++ y)) names)
+    or_more (begins name x) (list_any (λ n. begins n x) names) (begins name (x ++ y))
+    (list_any (λ n. begins n (x ++ y)) names)
     (begins_more name x y) (any_more names x y) h
 
 -- such a text before another leaves it to the other
 skip : (x y : List ℕ) → refers x ≡ true → refers (x ++ y) ≡ refers y
 skip [] y h = refl
 skip (b ∷ x) y h =
-    rw (if_more (b == 38) (goes_on x) (goes_on (x ++ y)) (any_more references x y) (and_left (if b == 38 then goes_on x else true) (refers x) h))
+    rw (if_more (b == 38) (goes_on x) (goes_on (x ++ y)) (any_more references x y)
+    (and_left (if b == 38 then goes_on x else true) (refers x) h))
     (skip x y (and_right (if b == 38 then goes_on x else true) (refers x) h))
 
 -- ---- texts without `&`
@@ -85,7 +89,8 @@ refers_plain (b ∷ text) h =
 plain_append : (x y : List ℕ) → plain x ≡ true → plain y ≡ true → plain (x ++ y) ≡ true
 plain_append [] y p q = q
 plain_append (b ∷ x) y p q =
-    and_both (not (b == 38)) (plain (x ++ y)) (and_left (not (b == 38)) (plain x) p) (plain_append x y (and_right (not (b == 38)) (plain x) p) q)
+    and_both (not (b == 38)) (plain (x ++ y)) (and_left (not (b == 38)) (plain x) p)
+    (plain_append x y (and_right (not (b == 38)) (plain x) p) q)
 
 above : (n : ℕ) → 38 < n → not (n == 38) ≡ true
 above n h = elim (eqb_tells n 38) [
@@ -96,7 +101,8 @@ above n h = elim (eqb_tells n 38) [
 plain_by_index : (n : ℕ) (f : ℕ → ℕ) → ((k : ℕ) → not (f k == 38) ≡ true) → plain (by_index n f) ≡ true
 unfolding by_index
 plain_by_index zero f h = refl
-plain_by_index (suc n) f h = plain_append (by_index n f) (f n ∷ []) (plain_by_index n f h) (and_both (not (f n == 38)) true (h n) refl)
+plain_by_index (suc n) f h = plain_append (by_index n f) (f n ∷ []) (plain_by_index n f h)
+    (and_both (not (f n == 38)) true (h n) refl)
 
 hex_above : (t : Bool) (d : ℕ) → not ((if t then 48 + d else lower + d - 10) == 38) ≡ true
 hex_above true d = above (48 + d) (omega arith)
@@ -123,8 +129,10 @@ glyph_above false d = above (87 + d) (omega arith)
 plain_onto : (k n : ℕ) (text : List ℕ) → plain text ≡ true → plain (digits_onto k 10 false n text) ≡ true
 plain_onto zero n text h = h
 plain_onto (suc k) n text h =
-    let more : plain (digit_glyph false (n % 10) ∷ text) ≡ true = and_both (not (digit_glyph false (n % 10) == 38)) (plain text) (glyph_above (nat_lt (n % 10) 10) (n % 10)) h in
-    where_plain (n / 10 == 0) (digit_glyph false (n % 10) ∷ text) (digits_onto k 10 false (n / 10) (digit_glyph false (n % 10) ∷ text))
+    let more : plain (digit_glyph false (n % 10) ∷ text) ≡ true = and_both (not (digit_glyph false (n % 10) == 38))
+    (plain text) (glyph_above (nat_lt (n % 10) 10) (n % 10)) h in
+    where_plain (n / 10 == 0) (digit_glyph false (n % 10) ∷ text) (digits_onto k 10 false (n / 10)
+    (digit_glyph false (n % 10) ∷ text))
     more (plain_onto k (n / 10) (digit_glyph false (n % 10) ∷ text) more)
 
 plain_decimal : (n : ℕ) → plain (decimal n) ≡ true
@@ -133,7 +141,8 @@ plain_decimal n = plain_onto 64 n [] refl
 
 -- ---- pieces
 
-refers_plain_byte : (b : ℕ) → (b == 60) ≡ false → (b == 62) ≡ false → (b == 38) ≡ false → (b == 34) ≡ false → (b == 39) ≡ false → refers (spelled b) ≡ true
+refers_plain_byte : (b : ℕ) → (b == 60) ≡ false → (b == 62) ≡ false → (b == 38) ≡ false → (b == 34) ≡ false → (b == 39)
+    ≡ false → refers (spelled b) ≡ true
 refers_plain_byte b p q r s t = grind arith
 
 refers_spelled : (b : ℕ) → refers (spelled b) ≡ true
@@ -197,7 +206,8 @@ unit_where false x y p q = q
 refers_unit : (ms : ℕ) → refers (span_unit ms) ≡ true
 refers_unit ms =
     unit_where (nat_lt ms 120000) (codes " s") _ refl
-    (unit_where (nat_lt ms 7200000) (codes " min") _ refl (unit_where (nat_lt ms 172800000) (codes " h") (codes " d") refl refl))
+    (unit_where (nat_lt ms 7200000) (codes " min") _ refl (unit_where (nat_lt ms 172800000) (codes " h") (codes " d")
+    refl refl))
 
 pub refers_head : refers HEAD.now ≡ true
 refers_head = refl
@@ -235,7 +245,8 @@ skip_decimal n y = skip (decimal n) y (refers_plain (decimal n) (plain_decimal n
 
 refers_span : (ms : ℕ) → refers (span ms) ≡ true
 unfolding span
-refers_span ms = refers_joined (decimal (span_count ms) ∷ span_unit ms ∷ []) (refers_plain (decimal (span_count ms)) (plain_decimal (span_count ms)), (refers_unit ms, tt))
+refers_span ms = refers_joined (decimal (span_count ms) ∷ span_unit ms ∷ [])
+    (refers_plain (decimal (span_count ms)) (plain_decimal (span_count ms)), (refers_unit ms, tt))
 
 pub skip_span : (ms : ℕ) (y : List ℕ) → refers (span ms ++ y) ≡ refers y
 skip_span ms y = skip (span ms) y (refers_span ms)
@@ -253,7 +264,8 @@ pub skip_key : (y : List ℕ) → refers (KEY.now ++ y) ≡ refers y
 skip_key y = skip KEY.now y refers_key
 
 -- a text whose likes refer, each before what follows it
-pub refers_flat : {X : Type 0} (f : X → List ℕ) → ((x : X) → refers (f x) ≡ true) → (xs : List X) → refers (flat_map f xs) ≡ true
+pub refers_flat : {X : Type 0} (f : X → List ℕ) → ((x : X) → refers (f x) ≡ true) → (xs : List X)
+    → refers (flat_map f xs) ≡ true
 refers_flat f h [] = refl
 refers_flat f h (x ∷ xs) = skip (f x) (flat_map f xs) (h x) ∙ refers_flat f h xs
 

@@ -19,7 +19,8 @@ counts_fit facts None = true
 
 -- there is room for bytes, entries, actions and members
 abbrev pub has_room : Facts → Option Answered → Bool
-has_room facts answered = nat_lt facts.bytes facts.most_bytes && nat_lt facts.entries facts.most_entries && counts_fit facts answered
+has_room facts answered = nat_lt facts.bytes facts.most_bytes && nat_lt facts.entries facts.most_entries
+    && counts_fit facts answered
 
 -- actions may be begun: the service isn't to end, neither now nor once its actions have
 abbrev pub takes_starts : Facts → Bool
@@ -146,7 +147,8 @@ openings facts answered = joined (room facts answered ∷ codes "," ∷ starts f
 -- how many workers and callback workers have ended
 abbrev pub lost : Facts → List ℕ
 lost facts =
-    joined (measured (codes "ended_workers") facts.lost_workers ∷ codes "," ∷ measured (codes "ended_callback_workers") facts.lost_callback_workers ∷ [])
+    joined (measured (codes "ended_workers") facts.lost_workers ∷ codes ","
+    ∷ measured (codes "ended_callback_workers") facts.lost_callback_workers ∷ [])
 
 -- the name of a journal, without its end: fifteen hexadecimal digits in lower case, zeros in front
 unfoldable pub stem : ℕ → List ℕ
@@ -166,7 +168,8 @@ threads facts = joined (check (codes "threads") (has_threads facts) ∷ codes ",
 
 -- how long the sync under way has taken, and how long it may
 abbrev pub ages : Facts → List ℕ
-ages facts = joined (measured (codes "age_ms") facts.sync_age ∷ codes "," ∷ measured (codes "limit_ms") facts.sync_limit ∷ [])
+ages facts = joined (measured (codes "age_ms") facts.sync_age ∷ codes "," ∷ measured (codes "limit_ms") facts.sync_limit
+    ∷ [])
 
 -- whether a sync takes too long
 abbrev pub sync : Facts → List ℕ
@@ -194,7 +197,8 @@ live facts answered = joined (journal facts ∷ codes "," ∷ lock answered ∷ 
 
 -- those of whether it can be sent requests
 abbrev pub ready : Facts → Option Answered → List ℕ
-ready facts answered = joined (live facts answered ∷ codes "," ∷ openings facts answered ∷ codes "," ∷ delays facts ∷ [])
+ready facts answered = joined (live facts answered ∷ codes "," ∷ openings facts answered ∷ codes "," ∷ delays facts
+    ∷ [])
 
 -- the checks of a probe
 abbrev pub checks : Probe → Facts → Option Answered → List ℕ

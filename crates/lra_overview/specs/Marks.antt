@@ -19,16 +19,20 @@ HomeKeepsMarks = (i : ℕ) (base other token word : List ℕ) (have_key : Bool) 
 
 -- so does an action's page
 abbrev pub ActionKeepsMarks : Type 0
-ActionKeepsMarks = (i : ℕ) (base other token word : List ℕ) (have_key : Bool) (w : Waiting) (nodes : List Node) (lines : List Line)
-    → marks (pages.action i base token have_key w nodes lines) ≡ marks (pages.action i other word have_key w nodes lines)
+ActionKeepsMarks = (i : ℕ) (base other token word : List ℕ) (have_key : Bool) (w : Waiting) (nodes : List Node)
+    (lines : List Line)
+    → marks (pages.action i base token have_key w nodes lines) ≡ marks
+    (pages.action i other word have_key w nodes lines)
 
 -- what is told of a member's last callback has the same marks whatever its address is, and the words of what came of it
 abbrev pub ReplyKeepsMarks : Type 0
-ReplyKeepsMarks = (ms : ℕ) (words told address other : List ℕ) → marks (pages.reply words ms address) ≡ marks (pages.reply told ms other)
+ReplyKeepsMarks = (ms : ℕ) (words told address other : List ℕ) → marks (pages.reply words ms address)
+    ≡ marks (pages.reply told ms other)
 
 -- and a page of one sentence, whatever text it tells
 abbrev pub PlainKeepsMarks : Type 0
-PlainKeepsMarks = (base other sentence text told : List ℕ) → marks (pages.plain base sentence text) ≡ marks (pages.plain other sentence told)
+PlainKeepsMarks = (base other sentence text told : List ℕ) → marks (pages.plain base sentence text)
+    ≡ marks (pages.plain other sentence told)
 
 -- whether a text begins with another
 abbrev pub begins : List ℕ → List ℕ → Bool

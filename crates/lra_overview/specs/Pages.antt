@@ -28,7 +28,8 @@ use Rattle.lra_overview.specs.Pictures.{picture}
 
 -- what each page begins with: how it looks, and the base of the coordinator, which is escaped
 abbrev pub begin : List ℕ → List ℕ
-begin base = joined (HEAD.now ∷ LOOKS.now ∷ TABLES.now ∷ NIGHT.now ∷ codes "<p>The coordinator at <code>" ∷ escaped base ∷ codes "</code></p></header><main>\n" ∷ [])
+begin base = joined (HEAD.now ∷ LOOKS.now ∷ TABLES.now ∷ NIGHT.now ∷ codes "<p>The coordinator at <code>" ∷ escaped base
+    ∷ codes "</code></p></header><main>\n" ∷ [])
 
 -- ---- forms
 
@@ -70,8 +71,10 @@ give_up_form i token p question ending =
 
 -- that form, of a member that is to complete or to compensate: it is given up by its failure
 abbrev pub give_up_at : ℕ → List ℕ → ℕ → MemberStatus → List ℕ
-give_up_at i token p member_status.Completing = give_up_form i token p (codes "Have it count as failed for good?") (codes "FailedToComplete")
-give_up_at i token p member_status.Compensating = give_up_form i token p (codes "Have it count as failed for good?") (codes "FailedToCompensate")
+give_up_at i token p member_status.Completing = give_up_form i token p (codes "Have it count as failed for good?")
+    (codes "FailedToComplete")
+give_up_at i token p member_status.Compensating = give_up_form i token p (codes "Have it count as failed for good?")
+    (codes "FailedToCompensate")
 give_up_at i token p _ = []
 
 -- a member is only to be told how its action ended
@@ -84,7 +87,8 @@ told_form i token p = give_up_form i token p (codes "Tell it no more how its act
 
 -- the form of a member's row, where there is something to give up
 abbrev pub give_up_where_asked : ℕ → List ℕ → MemberRow → List ℕ
-give_up_where_asked i token row = cond (wants_telling row.want) (told_form i token row.member) (give_up_at i token row.member row.status)
+give_up_where_asked i token row = cond (wants_telling row.want) (told_form i token row.member)
+    (give_up_at i token row.member row.status)
 
 -- the form that gives a member up, where there is a key
 abbrev pub give_up : ℕ → List ℕ → Bool → MemberRow → List ℕ
@@ -146,7 +150,8 @@ want_now w = joined (ask_kind_name w.kind ∷ codes " now, in vain " ∷ decimal
 
 -- the same, in so many milliseconds
 abbrev pub want_in : Want → ℕ → List ℕ
-want_in w left = joined (ask_kind_name w.kind ∷ codes " in " ∷ span left ∷ codes ", in vain " ∷ decimal w.repeats ∷ codes " times" ∷ [])
+want_in w left = joined (ask_kind_name w.kind ∷ codes " in " ∷ span left ∷ codes ", in vain " ∷ decimal w.repeats
+    ∷ codes " times" ∷ [])
 
 -- what a member is to be asked next, and when
 abbrev pub want : Want → ℕ → List ℕ
@@ -263,7 +268,8 @@ home i base token have_key h =
 
 -- what came of a member's last callback, how long ago, and at which address: both texts are escaped
 abbrev pub reply : List ℕ → ℕ → List ℕ → List ℕ
-reply words ms address = joined (escaped words ∷ codes ", " ∷ span ms ∷ codes " ago<br><code>" ∷ escaped address ∷ codes "</code>" ∷ [])
+reply words ms address = joined (escaped words ∷ codes ", " ∷ span ms ∷ codes " ago<br><code>" ∷ escaped address
+    ∷ codes "</code>" ∷ [])
 
 -- that, where it is remembered
 abbrev pub tried : Option Tried → List ℕ
@@ -368,6 +374,7 @@ unfoldable pub plain : List ℕ → List ℕ → List ℕ → List ℕ
 plain base sentence text =
     joined
     (begin base
-    ∷ joined (codes "<h2>" ∷ sentence ∷ codes "</h2>\n<p><code>" ∷ escaped text ∷ codes "</code></p>\n</main></body></html>\n" ∷ [])
+    ∷ joined (codes "<h2>" ∷ sentence ∷ codes "</h2>\n<p><code>" ∷ escaped text
+    ∷ codes "</code></p>\n</main></body></html>\n" ∷ [])
     ∷ []
     )

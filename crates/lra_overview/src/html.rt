@@ -146,7 +146,8 @@ fn put_cancel_form(
     forms: &Forms<'_>,
     action: u64,
 ) -> Result<(), Memory>
-    ensures { OnOk result (page.new.items ≡ page.old.items ++ pages.cancel_form names.now.instance forms.now.token.now forms.now.have_key action) }
+    ensures { OnOk result (page.new.items ≡ page.old.items ++ pages.cancel_form names.now.instance forms.now.token.now
+        forms.now.have_key action) }
 {
     let opening = [
         Piece::Own("<details><summary>Cancel</summary><form method=\"post\" action=\"/actions/"),
@@ -168,7 +169,8 @@ fn put_cancel(
     forms: &Forms<'_>,
     row: ActionRow,
 ) -> Result<(), Memory>
-    ensures { OnOk result (page.new.items ≡ page.old.items ++ pages.cancel names.now.instance forms.now.token.now forms.now.have_key row) }
+    ensures { OnOk result (page.new.items ≡ page.old.items ++ pages.cancel names.now.instance forms.now.token.now
+        forms.now.have_key row) }
 {
     match row.status {
         ActionStatus::Active => put_cancel_form(page, names, forms, row.action),
@@ -185,7 +187,8 @@ fn put_give_up_form(
     question: &'static str,
     ending: &'static str,
 ) -> Result<(), Memory>
-    ensures { OnOk result (page.new.items ≡ page.old.items ++ pages.give_up_form names.now.instance token.now member question.now ending.now) }
+    ensures { OnOk result (page.new.items ≡ page.old.items ++ pages.give_up_form names.now.instance token.now member
+        question.now ending.now) }
 {
     let opening = [
         Piece::Own("<details><summary>Give up</summary><form method=\"post\" action=\"/members/"),
@@ -217,7 +220,8 @@ fn put_give_up_at(
     member: u64,
     status: MemberStatus,
 ) -> Result<(), Memory>
-    ensures { OnOk result (page.new.items ≡ page.old.items ++ pages.give_up_at names.now.instance token.now member status) }
+    ensures { OnOk result (page.new.items ≡ page.old.items ++ pages.give_up_at names.now.instance token.now member
+        status) }
 {
     match status {
         MemberStatus::Completing => {
@@ -248,7 +252,8 @@ fn put_give_up_where_asked(
     token: &str,
     row: MemberRow,
 ) -> Result<(), Memory>
-    ensures { OnOk result (page.new.items ≡ page.old.items ++ pages.give_up_where_asked names.now.instance token.now row) }
+    ensures { OnOk result (page.new.items ≡ page.old.items ++ pages.give_up_where_asked names.now.instance token.now
+        row) }
 {
     if wants_telling(row.want) {
         put_give_up_form(page, names, token, row.member, AS_TOLD, "Ended")
@@ -264,7 +269,8 @@ fn put_give_up(
     forms: &Forms<'_>,
     row: MemberRow,
 ) -> Result<(), Memory>
-    ensures { OnOk result (page.new.items ≡ page.old.items ++ pages.give_up names.now.instance forms.now.token.now forms.now.have_key row) }
+    ensures { OnOk result (page.new.items ≡ page.old.items ++ pages.give_up names.now.instance forms.now.token.now
+        forms.now.have_key row) }
 {
     if forms.have_key {
         put_give_up_where_asked(page, names, forms.token, row)
@@ -442,7 +448,8 @@ fn put_waiting(
     forms: &Forms<'_>,
     waiting: &Waiting,
 ) -> Result<(), Memory>
-    ensures { OnOk result (page.new.items ≡ page.old.items ++ pages.waiting names.now.instance forms.now.token.now forms.now.have_key waiting.now) }
+    ensures { OnOk result (page.new.items ≡ page.old.items ++ pages.waiting names.now.instance forms.now.token.now
+        forms.now.have_key waiting.now) }
 {
     let opening = [
         Piece::Own("<tr><td><a href=\"/page/actions/"),
@@ -471,7 +478,8 @@ fn put_rows(
     forms: &Forms<'_>,
     rows: &[Waiting],
 ) -> Result<(), Memory>
-    ensures { OnOk result (page.new.items ≡ page.old.items ++ flat_map (pages.waiting names.now.instance forms.now.token.now forms.now.have_key) rows.now) }
+    ensures { OnOk result (page.new.items ≡ page.old.items ++ flat_map
+        (pages.waiting names.now.instance forms.now.token.now forms.now.have_key) rows.now) }
 {
     for row in rows {
         put_waiting(page, names, forms, row)?;
@@ -486,7 +494,8 @@ fn put_full_table(
     forms: &Forms<'_>,
     rows: &[Waiting],
 ) -> Result<(), Memory>
-    ensures { OnOk result (page.new.items ≡ page.old.items ++ pages.full_table names.now.instance forms.now.token.now forms.now.have_key rows.now) }
+    ensures { OnOk result (page.new.items ≡ page.old.items ++ pages.full_table names.now.instance forms.now.token.now
+        forms.now.have_key rows.now) }
 {
     names.put_all(
         page,
@@ -520,7 +529,8 @@ fn put_table(
     state: Option<ActionStatus>,
     rows: &[Waiting],
 ) -> Result<(), Memory>
-    ensures { OnOk result (page.new.items ≡ page.old.items ++ pages.table names.now.instance forms.now.token.now forms.now.have_key state rows.now) }
+    ensures { OnOk result (page.new.items ≡ page.old.items ++ pages.table names.now.instance forms.now.token.now
+        forms.now.have_key state rows.now) }
 {
     if rows.is_empty() {
         put_no_rows(page, names, state)
@@ -633,7 +643,8 @@ pub fn put_home(
     forms: &Forms<'_>,
     home: &Home<'_>,
 ) -> Result<(), Memory>
-    ensures { OnOk result (page.new.items ≡ page.old.items ++ pages.home names.now.instance names.now.base.now forms.now.token.now forms.now.have_key home.now) }
+    ensures { OnOk result (page.new.items ≡ page.old.items ++ pages.home names.now.instance names.now.base.now
+        forms.now.token.now forms.now.have_key home.now) }
 {
     begin(page, names)?;
     put_counts(page, names, home)?;
@@ -669,7 +680,8 @@ fn put_member(
     forms: &Forms<'_>,
     line: &Line,
 ) -> Result<(), Memory>
-    ensures { OnOk result (page.new.items ≡ page.old.items ++ pages.line names.now.instance forms.now.token.now forms.now.have_key line.now) }
+    ensures { OnOk result (page.new.items ≡ page.old.items ++ pages.line names.now.instance forms.now.token.now
+        forms.now.have_key line.now) }
 {
     let row = line.row;
     let opening = [
@@ -697,7 +709,8 @@ fn put_lines(
     forms: &Forms<'_>,
     lines: &[Line],
 ) -> Result<(), Memory>
-    ensures { OnOk result (page.new.items ≡ page.old.items ++ flat_map (pages.line names.now.instance forms.now.token.now forms.now.have_key) lines.now) }
+    ensures { OnOk result (page.new.items ≡ page.old.items ++ flat_map
+        (pages.line names.now.instance forms.now.token.now forms.now.have_key) lines.now) }
 {
     for line in lines {
         put_member(page, names, forms, line)?;
@@ -712,7 +725,8 @@ fn put_members(
     forms: &Forms<'_>,
     lines: &[Line],
 ) -> Result<(), Memory>
-    ensures { OnOk result (page.new.items ≡ page.old.items ++ pages.members names.now.instance forms.now.token.now forms.now.have_key lines.now) }
+    ensures { OnOk result (page.new.items ≡ page.old.items ++ pages.members names.now.instance forms.now.token.now
+        forms.now.have_key lines.now) }
 {
     names.put_all(
         page,
@@ -797,7 +811,8 @@ pub fn put_action_page(
     nodes: &[Node],
     lines: &[Line],
 ) -> Result<(), Memory>
-    ensures { OnOk result (page.new.items ≡ page.old.items ++ pages.action names.now.instance names.now.base.now forms.now.token.now forms.now.have_key waiting.now nodes.now lines.now) }
+    ensures { OnOk result (page.new.items ≡ page.old.items ++ pages.action names.now.instance names.now.base.now
+        forms.now.token.now forms.now.have_key waiting.now nodes.now lines.now) }
 {
     begin(page, names)?;
     put_heading(page, names, waiting)?;

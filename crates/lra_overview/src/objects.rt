@@ -233,7 +233,8 @@ pub fn put_action(
     nested: &[ActionRow],
     is_cut: bool,
 ) -> Result<(), Memory>
-    ensures { OnOk result (page.new.items ≡ page.old.items ++ lists.action names.now.instance waiting.now members.now nested.now is_cut) }
+    ensures { OnOk result (page.new.items ≡ page.old.items ++ lists.action names.now.instance waiting.now members.now
+        nested.now is_cut) }
 {
     put_head(page, names, waiting)?;
     names.put_all(page, &[Piece::Own(",\"members\":[")])?;

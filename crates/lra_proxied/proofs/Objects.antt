@@ -15,11 +15,13 @@ use Rattle.serde_json.proofs.Views.{view-Object, members_view-insert_entry}
 use Rattle.serde_json.specs.Find.{as_object}
 use Rattle.lra_front.specs.Bodies.{object_in}
 
-pub object_ok : (body : List ℕ) (d : Data) → 0 < length body → IsUtf8 body → read body ≡ Some d → object_in body ≡ as_object d
+pub object_ok : (body : List ℕ) (d : Data) → 0 < length body → IsUtf8 body → read body ≡ Some d → object_in body
+    ≡ as_object d
 object_ok [] d some text e = absurd (omega (arith, some))
 object_ok (b ∷ rest) d some text e = rw (is_utf8-from_IsUtf8 (b ∷ rest) text, e) refl
 
-object_by : (b : ℕ) (rest : List ℕ) (t : Bool) → is_utf8 (b ∷ rest) ≡ t → (IsUtf8 (b ∷ rest) → read (b ∷ rest) ≡ None) → object_in (b ∷ rest) ≡ None
+object_by : (b : ℕ) (rest : List ℕ) (t : Bool) → is_utf8 (b ∷ rest) ≡ t → (IsUtf8 (b ∷ rest) → read (b ∷ rest) ≡ None)
+    → object_in (b ∷ rest) ≡ None
 object_by b rest true e h = rw (e, h (IsUtf8-from_is_utf8 (b ∷ rest) e)) refl
 object_by b rest false e h = rw e refl
 
@@ -29,16 +31,19 @@ object_err (b ∷ rest) some h = object_by b rest (is_utf8 (b ∷ rest)) refl h
 
 -- ---- a text goes into an object
 
-depth-match_ordering : (o : Ordering) (a b c : Members) (n : ℕ) → members_depth a ≤ n → members_depth b ≤ n → members_depth c ≤ n → members_depth (match_ordering o a b c) ≤ n
+depth-match_ordering : (o : Ordering) (a b c : Members) (n : ℕ) → members_depth a ≤ n → members_depth b ≤ n
+    → members_depth c ≤ n → members_depth (match_ordering o a b c) ≤ n
 depth-match_ordering Less a b c n p q r = p
 depth-match_ordering Equal a b c n p q r = q
 depth-match_ordering Greater a b c n p q r = r
 
 -- it nests no deeper for it
-pub depth-put : (key text : List ℕ) (ms : Members) (n : ℕ) → members_depth ms ≤ n → members_depth (put key (string text) ms) ≤ n
+pub depth-put : (key text : List ℕ) (ms : Members) (n : ℕ) → members_depth ms ≤ n
+    → members_depth (put key (string text) ms) ≤ n
 depth-put key text no_members n h = omega arith
 depth-put key text (member l e ms) n h =
-    depth-match_ordering _ (member key (string text) (member l e ms)) (member l (string text) ms) (member l e (put key (string text) ms)) n
+    depth-match_ordering _ (member key (string text) (member l e ms)) (member l (string text) ms)
+    (member l e (put key (string text) ms)) n
     (omega (arith, h)) (omega (arith, h)) (omega (arith, h, depth-put key text ms n (omega (arith, h))))
 
 view-String : (t : String Global) → view (value.String t) ≡ string (string_bytes t)
@@ -54,7 +59,8 @@ object_read [] ms text e = object_none ms e
 object_read (b ∷ rest) ms text e = rw (is_utf8-from_IsUtf8 (b ∷ rest) text, e) refl
 
 -- the body that is written of an object with a text more
-pub body_is : (v : Value) (old new : BTreeMap (String Global) Value) (k t body : String Global) (key : List ℕ) → v ≡ Object old → string_bytes k ≡ key
+pub body_is : (v : Value) (old new : BTreeMap (String Global) Value) (k t body : String Global) (key : List ℕ) → v
+    ≡ Object old → string_bytes k ≡ key
     → new.entries ≡ insert_entry string_cmp old.entries k (value.String t) → depth (view v) ≤ max_depth
     → (depth (view (Object new)) ≤ max_depth → read (string_bytes body) ≡ Some (view (Object new)))
     → IfSome (as_object (view v)) (λ ms. object_in (string_bytes body) ≡ Some (put key (string (string_bytes t)) ms))
@@ -62,9 +68,12 @@ body_is v old new k t body key is named entries deep written =
     let ms = members_view old.entries in
     let seen : view v ≡ object ms = ap view is ∙ view-Object old in
     let made : view (Object new) ≡ object (put key (string (string_bytes t)) ms) =
-    view-Object new ∙ ap (λ es. object (members_view es)) entries ∙ ap object (members_view-insert_entry old.entries k (value.String t))
-    ∙ ap (λ d. object (put (string_bytes k) d ms)) (view-String t) ∙ ap (λ l. object (put l (string (string_bytes t)) ms)) named in
+    view-Object new ∙ ap (λ es. object (members_view es)) entries ∙ ap object
+    (members_view-insert_entry old.entries k (value.String t))
+    ∙ ap (λ d. object (put (string_bytes k) d ms)) (view-String t) ∙ ap
+    (λ l. object (put l (string (string_bytes t)) ms)) named in
     let small : suc (members_depth ms) ≤ max_depth = subst (λ d. depth d ≤ max_depth) seen deep in
     let fits : depth (view (Object new)) ≤ max_depth =
-    subst (λ d. depth d ≤ max_depth) (sym made) (omega (arith, small, depth-put key (string_bytes t) ms 126 (omega (arith, small)))) in
+    subst (λ d. depth d ≤ max_depth) (sym made)
+    (omega (arith, small, depth-put key (string_bytes t) ms 126 (omega (arith, small)))) in
     rw seen (object_read (string_bytes body) _ (IsUtf8-string_bytes body) (written fits ∙ ap Some made))

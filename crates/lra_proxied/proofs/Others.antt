@@ -17,12 +17,14 @@ use Rattle.lra_proxied.specs.inner.Made.{with_others}
 
 -- ---- bodies that mean themselves
 
-pub empty_other : (base : List ℕ) (olders : List (List ℕ)) (key body : List ℕ) → length body ≡ 0 → IsOther (other_at base olders key body) None
+pub empty_other : (base : List ℕ) (olders : List (List ℕ)) (key body : List ℕ) → length body ≡ 0
+    → IsOther (other_at base olders key body) None
 unfolding other_at
 empty_other base olders key [] e = refl
 empty_other base olders key (b ∷ rest) e = absurd (omega (arith, e))
 
-pub unread_other : (base : List ℕ) (olders : List (List ℕ)) (key body : List ℕ) → object_in body ≡ None → IsOther (other_at base olders key body) None
+pub unread_other : (base : List ℕ) (olders : List (List ℕ)) (key body : List ℕ) → object_in body ≡ None
+    → IsOther (other_at base olders key body) None
 unfolding other_at
 unread_other base olders key body e = rw e refl
 
@@ -34,7 +36,8 @@ no_text : (base text : List ℕ) → other_text base [] text ≡ None
 unfolding other_text
 no_text base text = neither (is_some (served_behind base text)) None refl
 
-no_members_of : (base key : List ℕ) (o : Option (List ℕ)) (ms : Members) → option_map (λ text. put key (string text) ms) (option_and_then (other_text base []) o) ≡ None
+no_members_of : (base key : List ℕ) (o : Option (List ℕ)) (ms : Members)
+    → option_map (λ text. put key (string text) ms) (option_and_then (other_text base []) o) ≡ None
 no_members_of base key None ms = refl
 no_members_of base key (Some text) ms = rw (no_text base text) refl
 
@@ -52,13 +55,15 @@ no_body base (Ok r) body = no_key base body (identifier_key r)
 no_body base (Err d) body = refl
 
 -- where there is no older base
-pub none_older : (base : List ℕ) (olders : List (List ℕ)) (asked : Result Operation Denial) (body : List ℕ) → length olders ≡ 0 → IsOther (other_body base olders asked body) None
+pub none_older : (base : List ℕ) (olders : List (List ℕ)) (asked : Result Operation Denial) (body : List ℕ)
+    → length olders ≡ 0 → IsOther (other_body base olders asked body) None
 none_older base [] asked body e = rw (no_body base asked body) refl
 none_older base (o ∷ olders) asked body e = absurd (omega (arith, e))
 
 -- ---- bodies whose value is known
 
-found_none : (base : List ℕ) (olders : List (List ℕ)) (key : List ℕ) (d : Data) → None ≡ option_and_then (other_text base olders) (option_and_then as_str (get key d))
+found_none : (base : List ℕ) (olders : List (List ℕ)) (key : List ℕ) (d : Data) → None
+    ≡ option_and_then (other_text base olders) (option_and_then as_str (get key d))
     → option_and_then (other_members base olders key) (as_object d) ≡ None
 found_none base olders key null e = refl
 found_none base olders key (boolean b) e = refl
@@ -68,13 +73,15 @@ found_none base olders key (array ds) e = refl
 found_none base olders key (object ms) e = ap (option_map (λ text. put key (string text) ms)) (sym e)
 
 pub other_none : (base : List ℕ) (olders : List (List ℕ)) (key body : List ℕ) (d : Data) → object_in body ≡ as_object d
-    → None ≡ option_and_then (other_text base olders) (option_and_then as_str (get key d)) → IsOther (other_at base olders key body) None
+    → None ≡ option_and_then (other_text base olders) (option_and_then as_str (get key d))
+    → IsOther (other_at base olders key body) None
 unfolding other_at
 other_none base olders key body d is e = rw (is, found_none base olders key d e) refl
 
 found_some : (base : List ℕ) (olders : List (List ℕ)) (key : List ℕ) (d : Data) (text : List ℕ) (other : String Global)
     → Some text ≡ option_and_then (other_text base olders) (option_and_then as_str (get key d))
-    → IfSome (as_object d) (λ ms. object_in (string_bytes other) ≡ Some (put key (string text) ms)) → IsOther (option_and_then (other_members base olders key) (as_object d)) (Some other)
+    → IfSome (as_object d) (λ ms. object_in (string_bytes other) ≡ Some (put key (string text) ms))
+    → IsOther (option_and_then (other_members base olders key) (as_object d)) (Some other)
 found_some base olders key null text other e h = absurd (true≢false (ap is_some e))
 found_some base olders key (boolean b) text other e h = absurd (true≢false (ap is_some e))
 found_some base olders key (number n) text other e h = absurd (true≢false (ap is_some e))
@@ -82,24 +89,29 @@ found_some base olders key (string s) text other e h = absurd (true≢false (ap 
 found_some base olders key (array ds) text other e h = absurd (true≢false (ap is_some e))
 found_some base olders key (object ms) text other e h = rw (← e) h
 
-pub other_some : (base : List ℕ) (olders : List (List ℕ)) (key body : List ℕ) (d : Data) (text : List ℕ) (other : String Global) → object_in body ≡ as_object d
+pub other_some : (base : List ℕ) (olders : List (List ℕ)) (key body : List ℕ) (d : Data) (text : List ℕ)
+    (other : String Global) → object_in body ≡ as_object d
     → Some text ≡ option_and_then (other_text base olders) (option_and_then as_str (get key d))
-    → IfSome (as_object d) (λ ms. object_in (string_bytes other) ≡ Some (put key (string text) ms)) → IsOther (other_at base olders key body) (Some other)
+    → IfSome (as_object d) (λ ms. object_in (string_bytes other) ≡ Some (put key (string text) ms))
+    → IsOther (other_at base olders key body) (Some other)
 unfolding other_at
 other_some base olders key body d text other is e h = rw is (found_some base olders key d text other e h)
 
 -- ---- requests
 
 body_meant : (members : Option Members) (other : Option (String Global)) (own : List ℕ) → IsOther members other
-    → MatchOption members (unwrap_or (option_map string_bytes other) own ≡ own) (λ ms. object_in (unwrap_or (option_map string_bytes other) own) ≡ Some ms)
+    → MatchOption members (unwrap_or (option_map string_bytes other) own ≡ own)
+    (λ ms. object_in (unwrap_or (option_map string_bytes other) own) ≡ Some ms)
 body_meant None None own h = refl
 body_meant None (Some body) own h = absurd (true≢false (ap is_some h))
 body_meant (Some ms) None own h = absurd h
 body_meant (Some ms) (Some body) own h = h
 
 -- a request with the target and the body that its own mean
-pub means : (base : List ℕ) (olders : List (List ℕ)) (own : Request) (target body : Option (String Global)) → option_map string_bytes target ≡ other_target base own.target
-    → IsOther (other_body base olders (operation_of own.method (unwrap_or (option_map string_bytes target) own.target)) own.body) body
+pub means : (base : List ℕ) (olders : List (List ℕ)) (own : Request) (target body : Option (String Global))
+    → option_map string_bytes target ≡ other_target base own.target
+    → IsOther (other_body base olders (operation_of own.method (unwrap_or (option_map string_bytes target) own.target))
+    own.body) body
     → Means base olders own (with_others own (option_map string_bytes target) (option_map string_bytes body))
 means base olders own target body is other = record {
   method = refl;
@@ -111,11 +123,15 @@ means base olders own target body is other = record {
 }
 
 -- what a request means wants memory where its target or its body is another
-pub lacks : (base : List ℕ) (olders : List (List ℕ)) (own : Request) (target body : Option (String Global)) (asked : Result Operation Denial) (bytes : List ℕ)
-    → option_map string_bytes target ≡ other_target base own.target → asked ≡ operation_of own.method (unwrap_or (option_map string_bytes target) own.target) → bytes ≡ own.body
-    → OnSome body (IsRead olders asked bytes) → (is_none target ≡ false) ⊎ (is_none body ≡ false) → LacksMemory base olders own
+pub lacks : (base : List ℕ) (olders : List (List ℕ)) (own : Request) (target body : Option (String Global))
+    (asked : Result Operation Denial) (bytes : List ℕ)
+    → option_map string_bytes target ≡ other_target base own.target → asked
+    ≡ operation_of own.method (unwrap_or (option_map string_bytes target) own.target) → bytes ≡ own.body
+    → OnSome body (IsRead olders asked bytes) → (is_none target ≡ false) ⊎ (is_none body ≡ false)
+    → LacksMemory base olders own
 lacks base olders own (Some text) body asked bytes is asks has read other = inl (subst IsSome is refl)
 lacks base olders own None (Some text) asked bytes is asks has read other =
-    inr (subst (λ t. IsRead olders (operation_of own.method (unwrap_or t own.target)) own.body) is (subst (λ r. IsRead olders r own.body) asks (subst (IsRead olders asked) has read)))
+    inr (subst (λ t. IsRead olders (operation_of own.method (unwrap_or t own.target)) own.body) is
+    (subst (λ r. IsRead olders r own.body) asks (subst (IsRead olders asked) has read)))
 lacks base olders own None None asked bytes is asks has read (inl e) = absurd (true≢false e)
 lacks base olders own None None asked bytes is asks has read (inr e) = absurd (true≢false e)

@@ -43,7 +43,8 @@ module _ {S : Type 0} (base_of : S → List ℕ) (responds : S → ℕ → Reque
     pub olders : after.olders ≡ before.olders
     pub is_strict : after.is_strict ≡ before.is_strict
     pub inner : (IsTrue (keeps_out before request) × Denies before answered after.inner)
-        ⊎ (IsFalse (keeps_out before request) × (Answers before moment request answered after.inner ⊎ Refuses before request answered after.inner))
+        ⊎ (IsFalse (keeps_out before request) × (Answers before moment request answered after.inner
+        ⊎ Refuses before request answered after.inner))
 
 -- who answers rests, and all else stays
 pub record Rests {S : Type 0} (rests : S → S → Type 0) (before after : Served S) : Type 0 where

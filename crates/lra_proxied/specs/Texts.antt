@@ -11,4 +11,5 @@ behind_any (base ∷ bases) text = option_or (served_behind base text) (behind_a
 -- the text that an identifier means, where that is another (this project's choice): it is under an older base, and not under the base of now, which then
 -- stands in the place of the first older one that it is under
 unfoldable pub other_text : List ℕ → List (List ℕ) → List ℕ → Option (List ℕ)
-other_text base olders text = if is_some (served_behind base text) then None else option_map (λ rest. base ++ rest) (behind_any olders text)
+other_text base olders text = if is_some (served_behind base text) then None else option_map (λ rest. base ++ rest)
+    (behind_any olders text)

@@ -52,7 +52,8 @@ fn other_under(
 /// The body with a text under a key of what it is.
 fn body_with(alloc: Global, value: Value, key: &str, text: String) -> Result<String, Memory>
     requires { depth (view value) ≤ max_depth }
-    ensures { IfOk result (λ body. IfSome (as_object (view value)) (λ ms. object_in (string_bytes body) ≡ Some (put key.now (string (string_bytes text)) ms))) }
+    ensures { IfOk result (λ body. IfSome (as_object (view value)) (λ ms. object_in (string_bytes body)
+        ≡ Some (put key.now (string (string_bytes text)) ms))) }
 {
     match value {
         Value::Object(members) => {

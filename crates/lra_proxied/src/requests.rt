@@ -31,7 +31,8 @@ fn with_parts(
     target: Option<String>,
     body: Option<String>,
 ) -> Result<RequestRead, Memory>
-    ensures { IfOk result (λ made. request_of made ≡ with_others (request_of request.now) (option_map string_bytes target) (option_map string_bytes body)) }
+    ensures { IfOk result (λ made. request_of made ≡ with_others (request_of request.now)
+        (option_map string_bytes target) (option_map string_bytes body)) }
 {
     Ok(RequestRead {
         method: String::from_str(alloc, request.method.as_str())?,
@@ -51,7 +52,8 @@ pub(crate) fn other_request(
     olders: &[Base],
     request: &RequestRead,
 ) -> Result<Option<RequestRead>, Memory>
-    ensures ok { IfOk result (λ other. spec.Means base.now olders.now (request_of request.now) (meant_by request.now other)) }
+    ensures ok { IfOk result (λ other. spec.Means base.now olders.now (request_of request.now)
+        (meant_by request.now other)) }
     ensures err { OnErr result (spec.LacksMemory base.now olders.now (request_of request.now)) }
 {
     let target = other_target(alloc, base.as_str(), request.target.as_str())?;

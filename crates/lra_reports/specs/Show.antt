@@ -15,11 +15,13 @@ use Rattle.lra_audits.specs.Report.{joined, line_feed, fault_line}
 
 -- a line for an action: its number, its parent's or `*`, and its status
 abbrev pub action_line : ListedAction → List ℕ
-action_line a = joined (codes "action " ∷ decimal a.action ∷ codes " " ∷ or_star (option_map decimal a.parent) ∷ codes " " ∷ action_status_name a.status ∷ line_feed ∷ [])
+action_line a = joined (codes "action " ∷ decimal a.action ∷ codes " " ∷ or_star (option_map decimal a.parent)
+    ∷ codes " " ∷ action_status_name a.status ∷ line_feed ∷ [])
 
 -- a line for a member: its number, its action's and its status
 abbrev pub member_line : ListedMember → List ℕ
-member_line m = joined (codes "member " ∷ decimal m.member ∷ codes " " ∷ decimal m.action ∷ codes " " ∷ member_status_name m.status ∷ line_feed ∷ [])
+member_line m = joined (codes "member " ∷ decimal m.member ∷ codes " " ∷ decimal m.action ∷ codes " "
+    ∷ member_status_name m.status ∷ line_feed ∷ [])
 
 -- a line for each action, and then one for each member
 abbrev pub listing_text : Listed → List ℕ

@@ -19,9 +19,11 @@ pub fn run<S: Sources, W: Write>(
     invocation: Invocation<'_>,
     writer: &mut W,
 ) -> Result<u8, RunFault>
-    ensures ok { IfOk result (λ status. IfSome (input_bytes (S.standard sources.now) (S.named sources.now) invocation.entry) (λ input.
+    ensures ok { IfOk result
+        (λ status. IfSome (input_bytes (S.standard sources.now) (S.named sources.now) invocation.entry) (λ input.
         Runs invocation.entry input status (W.contents writer.old) (W.contents writer.new))) }
-    ensures measured { IfSome (input_bytes (S.standard sources.now) (S.named sources.now) invocation.entry) (IsMeasured result) }
+    ensures measured { IfSome (input_bytes (S.standard sources.now) (S.named sources.now) invocation.entry)
+        (IsMeasured result) }
     ensures left { LeavesOutput result (W.contents writer.old) (W.contents writer.new) }
     ensures fault { IfErr result NamesNoLine }
 {

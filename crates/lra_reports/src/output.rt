@@ -12,7 +12,8 @@ const PAGE: usize = 65_536;
 
 /// Adds a line to a page, and writes the page once it is full.
 pub fn put_line<W: Write>(writer: &mut W, page: &mut Vec<u8>, line: &str) -> Result<(), RunFault>
-    ensures written { OnOk result (IsPaged (W.contents writer.old) (W.contents writer.new) page.old.items page.new.items line.now) }
+    ensures written { OnOk result (IsPaged (W.contents writer.old) (W.contents writer.new) page.old.items page.new.items
+        line.now) }
     ensures fault { IfErr result IsOfOutput }
 {
     page.extend_from_slice(line.as_bytes())?;

@@ -45,7 +45,8 @@ impl<W: Write> Taker for Copying<'_, W> {
     ghost use Rattle.lra_audits.specs.inner.Fed.{IsFedOn};
     ghost use Rattle.std.proofs.Common.{rules};
 
-    ghost took = { λ before after bytes. IsFedOn before.auditor.now after.auditor.now bytes × Appends (W.contents before.writer.now) (W.contents after.writer.now) bytes };
+    ghost took = { λ before after bytes. IsFedOn before.auditor.now after.auditor.now bytes
+        × Appends (W.contents before.writer.now) (W.contents after.writer.now) bytes };
 
     ghost count = { λ c. c.auditor.now.fed };
 

@@ -37,7 +37,8 @@ pub enum Question<'a> {
 /// The run on a file that a verb names.
 fn invocation_on<'a>(verb: &str, file: &'a str) -> Result<Invocation<'a>, Usage>
     ensures invocation { IfOk result (IsInvocation (verb.now ∷ file.now ∷ [])) }
-    ensures usage { IfErr result (λ _. (invocation : Invocation) → IsInvocation (verb.now ∷ file.now ∷ []) invocation → ⊥) }
+    ensures usage { IfErr result (λ _. (invocation : Invocation) → IsInvocation (verb.now ∷ file.now ∷ []) invocation
+        → ⊥) }
 {
     match verb {
         "audit" => Ok(Invocation::Audit { file }),

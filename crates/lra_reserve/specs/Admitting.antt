@@ -62,4 +62,5 @@ module _ {S : Type 0} (responds : S → ℕ → Request → Answered → S → T
   -- what a request at a moment does: where it is let through what it does without, and else nothing
   abbrev pub Responds : S → ℕ → Request → Answered → S → Type 0
   Responds before moment request answered after =
-      (IsLet tells request × responds before moment request answered after) ⊎ (IsTurnedAway tells request answered × (after ≡ before))
+      (IsLet tells request × responds before moment request answered after)
+      ⊎ (IsTurnedAway tells request answered × (after ≡ before))

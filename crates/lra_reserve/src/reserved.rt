@@ -116,7 +116,8 @@ impl<A: Responder, K: Reserve> Responder for Reserved<A, K> {
         self.inner.rest();
     }
 
-    ghost stays = { λ before after moment request answered h. responds_stays A.responds K.tells A.base_of A.stays before after moment request answered h };
+    ghost stays = { λ before after moment request answered h. responds_stays A.responds K.tells A.base_of A.stays before
+        after moment request answered h };
 
     ghost rest_stays = { λ before after h. A.rest_stays before after h };
 }

@@ -25,14 +25,19 @@ record Stays (old new : History) : Type 0 where
   base : new.base ≡ old.base
 
 stays_same : (old new : History) → new ≡ old → Stays old new
-stays_same old new e = subst (Stays old) (sym e) (record { turns = refl; taken = refl; sent = refl; closed = refl; instance = refl; base = refl })
+stays_same old new e =
+    subst (Stays old) (sym e)
+    (record { turns = refl; taken = refl; sent = refl; closed = refl; instance = refl; base = refl })
 
 steps_stay : (step : Step) (old new : History) → StepsTo step old new → Stays old new
 steps_stay Wants old new s = stays_same old new s.4
 steps_stay Waits old new s = stays_same old new s.2
-steps_stay Stands old new s = subst (Stays old) (sym s.4) (record { turns = refl; taken = refl; sent = refl; closed = refl; instance = refl; base = refl })
+steps_stay Stands old new s =
+    subst (Stays old) (sym s.4)
+    (record { turns = refl; taken = refl; sent = refl; closed = refl; instance = refl; base = refl })
 steps_stay (Ended end) old new (inl s) = stays_same old new s.1
-steps_stay (Ended end) old new (inr s) = subst (Stays old) (sym s.2) (record { turns = refl; taken = refl; sent = refl; closed = refl; instance = refl; base = refl })
+steps_stay (Ended end) old new (inr s) = subst (Stays old) (sym s.2) (record
+    { turns = refl; taken = refl; sent = refl; closed = refl; instance = refl; base = refl })
 
 -- what an answer to a request leaves as it was, and its turn
 record Turned (old new : History) (turn : Turn) : Type 0 where
@@ -43,12 +48,16 @@ record Turned (old new : History) (turn : Turn) : Type 0 where
   instance : new.instance ≡ old.instance
   base : new.base ≡ old.base
 
-turned : (old new : History) (turn : Turn) (result : Result (Unit {0}) AllocError) → Tells result old new turn → Turned old new turn
-turned old new turn (Ok u) e = subst (λ (g : History). Turned old g turn) (sym e) (record { turns = refl; taken = refl; sent = refl; closed = refl; instance = refl; base = refl })
-turned old new turn (Err f) e = subst (λ (g : History). Turned old g turn) (sym e) (record { turns = refl; taken = refl; sent = refl; closed = refl; instance = refl; base = refl })
+turned : (old new : History) (turn : Turn) (result : Result (Unit {0}) AllocError) → Tells result old new turn
+    → Turned old new turn
+turned old new turn (Ok u) e = subst (λ (g : History). Turned old g turn) (sym e)
+    (record { turns = refl; taken = refl; sent = refl; closed = refl; instance = refl; base = refl })
+turned old new turn (Err f) e = subst (λ (g : History). Turned old g turn) (sym e)
+    (record { turns = refl; taken = refl; sent = refl; closed = refl; instance = refl; base = refl })
 
 module _ {S K : Type 0} (base_of : S → List ℕ) (responds : S → ℕ → Request → Answered → S → Type 0) (tells : K → ℕ → K → Type 0) where
-  chain-append : (v w x : S) (k l m : K) (xs ys : List Turn) → Chain responds tells v k xs w l → Chain responds tells w l ys x m → Chain responds tells v k (xs ++ ys) x m
+  chain-append : (v w x : S) (k l m : K) (xs ys : List Turn) → Chain responds tells v k xs w l
+      → Chain responds tells w l ys x m → Chain responds tells v k (xs ++ ys) x m
   chain-append v w x k l m [] ys c d =
       subst (λ (j : K). Chain responds tells v j ys x m) c.1 (subst (λ (u : S). Chain responds tells u l ys x m) c.0 d)
   chain-append v w x k l m (turn ∷ xs) ys c d = (c.0, c.1, c.2, c.3, chain-append c.0 w x c.1 l m xs ys c.4 d)
@@ -70,7 +79,8 @@ module _ {S K : Type 0} (base_of : S → List ℕ) (responds : S → ℕ → Req
   }
 
   -- some, and then others
-  pub answers_on : (h g f : History) (v w x : S) (k l m : K) → AnswersOf base_of responds tells h g v k w l → AnswersOf base_of responds tells g f w l x m → AnswersOf base_of responds tells h f v k x m
+  pub answers_on : (h g f : History) (v w x : S) (k l m : K) → AnswersOf base_of responds tells h g v k w l
+      → AnswersOf base_of responds tells g f w l x m → AnswersOf base_of responds tells h f v k x m
   answers_on h g f v w x k l m a b = record {
     turns = a.turns ++ b.turns;
     answered = b.answered ∙ ap (λ ts. ts ++ b.turns) a.answered ∙ append_assoc h.turns a.turns b.turns;
@@ -162,7 +172,8 @@ module _ {S K : Type 0} (base_of : S → List ℕ) (responds : S → ℕ → Req
   pub some_none : (v : S) (k : K) → AnsweredSome base_of responds tells v k v k
   some_none v k = (0, record { turns = []; number = refl; chain = (refl, refl); base = refl })
 
-  pub some_on : (v w x : S) (k l m : K) → AnsweredSome base_of responds tells v k w l → AnsweredSome base_of responds tells w l x m → AnsweredSome base_of responds tells v k x m
+  pub some_on : (v w x : S) (k l m : K) → AnsweredSome base_of responds tells v k w l
+      → AnsweredSome base_of responds tells w l x m → AnsweredSome base_of responds tells v k x m
   some_on v w x k l m a b = (
     length (a.1.turns ++ b.1.turns),
     record {
@@ -173,34 +184,42 @@ module _ {S K : Type 0} (base_of : S → List ℕ) (responds : S → ℕ → Req
     },
   )
 
-  pub some_of : (old new : History) (v w : S) (k l : K) → AnswersOf base_of responds tells old new v k w l → AnsweredSome base_of responds tells v k w l
-  some_of old new v w k l a = (length a.turns, record { turns = a.turns; number = refl; chain = a.chain; base = a.same })
+  pub some_of : (old new : History) (v w : S) (k l : K) → AnswersOf base_of responds tells old new v k w l
+      → AnsweredSome base_of responds tells v k w l
+  some_of old new v w k l a =
+      (length a.turns, record { turns = a.turns; number = refl; chain = a.chain; base = a.same })
 
   -- the URIs go on to begin so
-  pub base_on : (base : List ℕ) (v w : S) (k l : K) → base_of v ≡ base → AnsweredSome base_of responds tells v k w l → base_of w ≡ base
+  pub base_on : (base : List ℕ) (v w : S) (k l : K) → base_of v ≡ base → AnsweredSome base_of responds tells v k w l
+      → base_of w ≡ base
   base_on base v w k l a s = s.1.base ∙ a
 
 -- ---- rounds, with rests between them
 
 module _ {S K : Type 0} (base_of : S → List ℕ) (responds : S → ℕ → Request → Answered → S → Type 0) (rests : S → S → Type 0) (tells : K → ℕ → K → Type 0) where
-  course-append : (v w x : S) (k l m : K) (xs ys : List (Option Turn)) → Course responds rests tells v k xs w l → Course responds rests tells w l ys x m
+  course-append : (v w x : S) (k l m : K) (xs ys : List (Option Turn)) → Course responds rests tells v k xs w l
+      → Course responds rests tells w l ys x m
       → Course responds rests tells v k (xs ++ ys) x m
   course-append v w x k l m [] ys c d =
-      subst (λ (j : K). Course responds rests tells v j ys x m) c.1 (subst (λ (u : S). Course responds rests tells u l ys x m) c.0 d)
+      subst (λ (j : K). Course responds rests tells v j ys x m) c.1 (subst
+      (λ (u : S). Course responds rests tells u l ys x m) c.0 d)
   course-append v w x k l m (Some turn ∷ xs) ys c d = (c.0, c.1, c.2, c.3, course-append c.0 w x c.1 l m xs ys c.4 d)
   course-append v w x k l m (None ∷ xs) ys c d = (c.0, c.1, course-append c.0 w x k l m xs ys c.2 d)
 
   -- turns, and a rest behind them or none
-  course-chain : (v w x : S) (k l : K) (turns : List Turn) (ys : List (Option Turn)) → Chain responds tells v k turns w l → Course responds rests tells w l ys x l
+  course-chain : (v w x : S) (k l : K) (turns : List Turn) (ys : List (Option Turn))
+      → Chain responds tells v k turns w l → Course responds rests tells w l ys x l
       → Course responds rests tells v k (map Some turns ++ ys) x l
   course-chain v w x k l [] ys c d =
-      subst (λ (j : K). Course responds rests tells v j ys x l) c.1 (subst (λ (u : S). Course responds rests tells u l ys x l) c.0 d)
+      subst (λ (j : K). Course responds rests tells v j ys x l) c.1 (subst
+      (λ (u : S). Course responds rests tells u l ys x l) c.0 d)
   course-chain v w x k l (turn ∷ turns) ys c d = (c.0, c.1, c.2, c.3, course-chain c.0 w x c.1 l turns ys c.4 d)
 
   pub rests_none : (v : S) (k : K) → AnsweredWithRests base_of responds rests tells v k v k
   rests_none v k = record { turns = []; course = (refl, refl); base = refl }
 
-  pub rests_on : (v w x : S) (k l m : K) → AnsweredWithRests base_of responds rests tells v k w l → AnsweredWithRests base_of responds rests tells w l x m
+  pub rests_on : (v w x : S) (k l m : K) → AnsweredWithRests base_of responds rests tells v k w l
+      → AnsweredWithRests base_of responds rests tells w l x m
       → AnsweredWithRests base_of responds rests tells v k x m
   rests_on v w x k l m a b = record {
     turns = a.turns ++ b.turns;
@@ -209,7 +228,8 @@ module _ {S K : Type 0} (base_of : S → List ℕ) (responds : S → ℕ → Req
   }
 
   -- a round with no rest
-  pub rests_some : (v w : S) (k l : K) → AnsweredSome base_of responds tells v k w l → AnsweredWithRests base_of responds rests tells v k w l
+  pub rests_some : (v w : S) (k l : K) → AnsweredSome base_of responds tells v k w l
+      → AnsweredWithRests base_of responds rests tells v k w l
   rests_some v w k l a = record {
     turns = map Some a.1.turns ++ [];
     course = course-chain v w w k l a.1.turns [] a.1.chain (refl, refl);
@@ -217,7 +237,8 @@ module _ {S K : Type 0} (base_of : S → List ℕ) (responds : S → ℕ → Req
   }
 
   -- a round, and a rest where there is one
-  pub rests_round : ((before after : S) → rests before after → base_of after ≡ base_of before) → (v w x : S) (k l : K) → AnsweredSome base_of responds tells v k w l
+  pub rests_round : ((before after : S) → rests before after → base_of after ≡ base_of before) → (v w x : S) (k l : K)
+      → AnsweredSome base_of responds tells v k w l
       → MayRest rests w x → AnsweredWithRests base_of responds rests tells v k x l
   rests_round stays v w x k l a (inl rest) = record {
     turns = map Some a.1.turns ++ None ∷ [];

@@ -20,7 +20,8 @@ module _ {S K : Type 0} (base_of : S → List ℕ) (responds : S → ℕ → Req
 
 -- Some requests are answered one after another, each once, at a moment that the clock tells, with rests between them, from a responder and a clock on to what
 -- is known of both afterwards; and nothing else is done.
-pub record AnsweredWithRests {S K : Type 0} (base_of : S → List ℕ) (responds : S → ℕ → Request → Answered → S → Type 0) (rests : S → S → Type 0)
+pub record AnsweredWithRests {S K : Type 0} (base_of : S → List ℕ) (responds : S → ℕ → Request → Answered → S → Type 0)
+    (rests : S → S → Type 0)
     (tells : K → ℕ → K → Type 0) (v : S) (k : K) (w : S) (l : K) : Type 0 where
   pub turns : List (Option Turn)
   pub course : Course responds rests tells v k turns w l

@@ -141,7 +141,8 @@ impl<S, G: SyncGroup, P: WhichBase> Client<S, G, P> {
 /// These bytes came, for which there is room.
 fn take_in(connection: &mut Connection, bytes: &[u8]) -> Result<Reading, ClientFault>
     requires { length bytes.now ≤ room_of connection.old }
-    ensures taken { IfOk result (λ reading. (reading ≡ Reading.Came) × (connection.new ≡ took connection.old bytes.now)) }
+    ensures taken { IfOk result (λ reading. (reading ≡ Reading.Came) ×
+        (connection.new ≡ took connection.old bytes.now)) }
     ensures here { connection.new.base ≡ connection.old.base }
     ensures turns { connection.new.turns ≡ connection.old.turns }
 {
@@ -155,7 +156,8 @@ impl<S: Read, G: SyncGroup, P: WhichBase> Client<S, G, P> {
     /// Reads once, what came and there is room for.
     #[tactic(auto, using(crate::proofs::Noted::noted_still))]
     pub fn read(&mut self, buffer: &mut [u8]) -> Result<Reading, ClientFault>
-        ensures read { IfOk result (Reads (S.remaining self.old.stream) (S.remaining self.new.stream) self.old.connection self.new.connection) }
+        ensures read { IfOk result (Reads (S.remaining self.old.stream) (S.remaining self.new.stream)
+            self.old.connection self.new.connection) }
     {
         let room = self.connection.room().min(buffer.len());
         if room == 0 {
@@ -177,7 +179,8 @@ impl<S: Read, G: SyncGroup, P: WhichBase> Client<S, G, P> {
     /// Reads once and throws away what came. Returns how many bytes that were, or nothing where none came yet; 0 at the
     /// stream's end.
     pub fn discard(&mut self, buffer: &mut [u8]) -> Result<Option<usize>, ClientFault>
-        ensures { IfOk result (ThrowsAway (S.remaining self.old.stream) (S.remaining self.new.stream) self.old.connection self.new.connection) }
+        ensures { IfOk result (ThrowsAway (S.remaining self.old.stream) (S.remaining self.new.stream)
+            self.old.connection self.new.connection) }
     {
         match self.stream.read(buffer) {
             Ok(count) => Ok(Some(count)),

@@ -213,7 +213,8 @@ impl<G: SyncGroup, P: WhichBase> Clients<G, P> {
         now: u64,
     )
         requires { A.base_of (A.sight responder.old) ≡ P.base }
-        ensures { AnsweredSome A.base_of A.responds K.tells (A.sight responder.old) clock.old (A.sight responder.new) clock.new }
+        ensures { AnsweredSome A.base_of A.responds K.tells (A.sight responder.old) clock.old (A.sight responder.new)
+            clock.new }
     {
         let Some(seat) = self.seats.get_mut(key) else {
             return;
@@ -235,7 +236,8 @@ impl<G: SyncGroup, P: WhichBase> Clients<G, P> {
         now: u64,
     )
         requires { A.base_of (A.sight responder.old) ≡ P.base }
-        ensures { AnsweredSome A.base_of A.responds K.tells (A.sight responder.old) clock.old (A.sight responder.new) clock.new }
+        ensures { AnsweredSome A.base_of A.responds K.tells (A.sight responder.old) clock.old (A.sight responder.new)
+            clock.new }
     {
         let keys = mem::replace(&mut self.ready, Vec::new(self.alloc));
         for key in keys {

@@ -241,7 +241,8 @@ impl<'a, R: Wait + time::Clock, G: SyncGroup> Rounds<'a, R, G> {
         now: u64,
     ) -> bool
         requires { A.base_of (A.sight responder.old) ≡ P.base }
-        ensures { AnsweredSome A.base_of A.responds K.tells (A.sight responder.old) clock.old (A.sight responder.new) clock.new }
+        ensures { AnsweredSome A.base_of A.responds K.tells (A.sight responder.old) clock.old (A.sight responder.new)
+            clock.new }
     {
         self.take_in(watch, clients, responder.instance(), responder.base(), now);
         let is_quiet = watch.events.is_empty() && !clients.has_ready();
@@ -263,7 +264,8 @@ impl<'a, R: Wait + time::Clock, G: SyncGroup> Rounds<'a, R, G> {
         clock: &mut K,
     ) -> Option<RoundsEnd>
         requires { A.base_of (A.sight responder.old) ≡ P.base }
-        ensures answered { AnsweredWithRests A.base_of A.responds A.rests K.tells (A.sight responder.old) clock.old (A.sight responder.new) clock.new }
+        ensures answered { AnsweredWithRests A.base_of A.responds A.rests K.tells (A.sight responder.old) clock.old
+            (A.sight responder.new) clock.new }
         ensures failed { result ≡ Some RoundsEnd.Unkept → IsTrue G.failed }
     {
         let wait = self.wait(clients, watch.moments.now());
@@ -296,7 +298,8 @@ impl<'a, R: Wait + time::Clock, G: SyncGroup> Rounds<'a, R, G> {
         clock: &mut K,
     ) -> RoundsEnd
         requires { A.base_of (A.sight responder.old) ≡ P.base }
-        ensures answered { AnsweredWithRests A.base_of A.responds A.rests K.tells (A.sight responder.old) clock.old (A.sight responder.new) clock.new }
+        ensures answered { AnsweredWithRests A.base_of A.responds A.rests K.tells (A.sight responder.old) clock.old
+            (A.sight responder.new) clock.new }
         ensures failed { result ≡ RoundsEnd.Unkept → IsTrue G.failed }
     {
         for _round in self.rt.forever() {
@@ -314,7 +317,8 @@ impl<'a, R: Wait + time::Clock, G: SyncGroup> Rounds<'a, R, G> {
         clock: &mut K,
     ) -> RoundsEnd
         requires { A.base_of (A.sight responder.old) ≡ P.base }
-        ensures answered { AnsweredWithRests A.base_of A.responds A.rests K.tells (A.sight responder.old) clock.old (A.sight responder.new) clock.new }
+        ensures answered { AnsweredWithRests A.base_of A.responds A.rests K.tells (A.sight responder.old) clock.old
+            (A.sight responder.new) clock.new }
         ensures failed { result ≡ RoundsEnd.Unkept → IsTrue G.failed }
     {
         let Some(poll) = self.arrivals.take_poll(self.rt) else {
@@ -343,7 +347,8 @@ impl<'a, R: Wait + time::Clock, G: SyncGroup> Rounds<'a, R, G> {
     /// connections come. Whatever
     /// happens to one connection, the others are answered. After a round in which nothing came whoever answers rests, four times a second at most.
     pub fn run<A: Responder, K: Clock>(&self, responder: &mut A, clock: &mut K) -> RoundsEnd
-        ensures answered { AnsweredWithRests A.base_of A.responds A.rests K.tells (A.sight responder.old) clock.old (A.sight responder.new) clock.new }
+        ensures answered { AnsweredWithRests A.base_of A.responds A.rests K.tells (A.sight responder.old) clock.old
+            (A.sight responder.new) clock.new }
         ensures failed { result ≡ RoundsEnd.Unkept → IsTrue G.failed }
     {
         self.run_at::<A, K, Brand>(responder, clock)

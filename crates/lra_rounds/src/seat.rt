@@ -205,7 +205,8 @@ impl<G: SyncGroup, P: WhichBase> Seat<G, P> {
         clock: &mut K,
     ) -> Result<(), ClientFault>
         requires { A.base_of (A.sight responder.old) ≡ P.base }
-        ensures { AnsweredSome A.base_of A.responds K.tells (A.sight responder.old) clock.old (A.sight responder.new) clock.new }
+        ensures { AnsweredSome A.base_of A.responds K.tells (A.sight responder.old) clock.old (A.sight responder.new)
+            clock.new }
     {
         self.is_listed = false;
         if !self.client.is_done() {

@@ -38,20 +38,32 @@ use Rattle.lra_rows.specs.declared.found.AskRow.{AskRow}
 use Rattle.lra_rows.specs.Found.{found_action, found_member, found_addresses, found_ask, found_end}
 use Rattle.lra_rows.specs.inner.Held.{repeats_at, held_repeats, last_of, held_action, held_member, held_addresses, held_standing, held_ask, held_children, held_members, held_under}
 
-pub action_held : (v : Version) (t : List ℕ → Bool) (J : History) → is_legal v t J ≡ true → (a : ℕ) → held_action (sheet_of J) a ≡ found_action J a
+pub action_held : (v : Version) (t : List ℕ → Bool) (J : History) → is_legal v t J ≡ true → (a : ℕ)
+    → held_action (sheet_of J) a ≡ found_action J a
 action_held v t J l a = decide (is_among (actions J) a) refl
   where
     row : laws.ActionRow → Nest → ActionRow
-    row r x = record { parent = r.parent; limit = r.limit.length_of; since = r.limit.since; depth = x.depth; status = r.status }
+    row r x = record {
+      parent = r.parent;
+      limit = r.limit.length_of;
+      since = r.limit.since;
+      depth = x.depth;
+      status =
+          r.status;
+    }
 
-    decide : (b : Bool) → is_among (actions J) a ≡ b → held_action (sheet_of J) a ≡ cond b (Some (row (action_row J a) (nest_of J a))) None
+    decide : (b : Bool) → is_among (actions J) a ≡ b → held_action (sheet_of J) a
+        ≡ cond b (Some (row (action_row J a) (nest_of J a))) None
     decide true e =
-        ap (option_and_then (λ (r : laws.ActionRow). option_map (row r) (row_at (map (nest_of J) (actions J)) a))) (row_there (action_row J) (actions J) a (actions_numbered v t J l) e)
+        ap (option_and_then (λ (r : laws.ActionRow). option_map (row r) (row_at (map (nest_of J) (actions J)) a)))
+        (row_there (action_row J) (actions J) a (actions_numbered v t J l) e)
         ∙ ap (option_map (row (action_row J a))) (row_there (nest_of J) (actions J) a (actions_numbered v t J l) e)
     decide false e =
-        ap (option_and_then (λ (r : laws.ActionRow). option_map (row r) (row_at (map (nest_of J) (actions J)) a))) (row_absent (action_row J) (actions J) a (actions_numbered v t J l) e)
+        ap (option_and_then (λ (r : laws.ActionRow). option_map (row r) (row_at (map (nest_of J) (actions J)) a)))
+        (row_absent (action_row J) (actions J) a (actions_numbered v t J l) e)
 
-pub ask_held : (v : Version) (t : List ℕ → Bool) (J : History) → is_legal v t J ≡ true → (n : ℕ) → held_ask (sheet_of J) n ≡ found_ask J n
+pub ask_held : (v : Version) (t : List ℕ → Bool) (J : History) → is_legal v t J ≡ true → (n : ℕ)
+    → held_ask (sheet_of J) n ≡ found_ask J n
 ask_held v t J l n = ap (option_map (row (held_standing (sheet_of J) n))) (ask_at v t J l n) ∙ known (ask_of J n) refl
   where
     row : (ℕ → Bool) → Asked → AskRow
@@ -59,120 +71,168 @@ ask_held v t J l n = ap (option_map (row (held_standing (sheet_of J) n))) (ask_a
 
     stands : (x : Asked) → ask_of J n ≡ Some x → held_standing (sheet_of J) n x.member ≡ is_outstanding J n
     stands x e =
-        ap (λ (o : Option laws.MemberRow). nat_lt (void_asks J) n && option_map_or (stands_as n) o false) (row_there (member_row J) (members J) x.member (members_numbered v t J l) ((asks_listed v t J l).there n x e))
+        ap (λ (o : Option laws.MemberRow). nat_lt (void_asks J) n && option_map_or (stands_as n) o false)
+        (row_there (member_row J) (members J) x.member (members_numbered v t J l)
+        ((asks_listed v t J l).there n x e))
         ∙ sym ((asks_stand v t J l).outstanding n ∙ ap (stands_yet J n) e)
 
-    known : (o : Option Asked) → ask_of J n ≡ o → option_map (row (held_standing (sheet_of J) n)) o ≡ option_map (row (λ p. is_outstanding J n)) o
+    known : (o : Option Asked) → ask_of J n ≡ o → option_map (row (held_standing (sheet_of J) n)) o
+        ≡ option_map (row (λ p. is_outstanding J n)) o
     known None e = refl
-    known (Some x) e = λ i. Some (record { member = x.member; kind = x.kind; direction = x.direction; outstanding = stands x e i })
+    known (Some x) e = λ i. Some
+        (record { member = x.member; kind = x.kind; direction = x.direction; outstanding = stands x e i })
 
-nest_held : (v : Version) (t : List ℕ → Bool) (J : History) → is_legal v t J ≡ true → (read : Nest → List ℕ) (a : ℕ) → (is_among (actions J) a ≡ false → read (nest_of J a) ≡ []) → option_map_or read (row_at (map (nest_of J) (actions J)) a) [] ≡ read (nest_of J a)
+nest_held : (v : Version) (t : List ℕ → Bool) (J : History) → is_legal v t J ≡ true → (read : Nest → List ℕ) (a : ℕ)
+    → (is_among (actions J) a ≡ false → read (nest_of J a) ≡ []) → option_map_or read
+    (row_at (map (nest_of J) (actions J)) a) [] ≡ read (nest_of J a)
 nest_held v t J l read a none = decide (is_among (actions J) a) refl
   where
-    decide : (b : Bool) → is_among (actions J) a ≡ b → option_map_or read (row_at (map (nest_of J) (actions J)) a) [] ≡ read (nest_of J a)
-    decide true e = ap (λ (o : Option Nest). option_map_or read o []) (row_there (nest_of J) (actions J) a (actions_numbered v t J l) e)
-    decide false e = ap (λ (o : Option Nest). option_map_or read o []) (row_absent (nest_of J) (actions J) a (actions_numbered v t J l) e) ∙ sym (none e)
+    decide : (b : Bool) → is_among (actions J) a ≡ b → option_map_or read (row_at (map (nest_of J) (actions J)) a) []
+        ≡ read (nest_of J a)
+    decide true e = ap (λ (o : Option Nest). option_map_or read o []) (row_there (nest_of J) (actions J) a
+        (actions_numbered v t J l) e)
+    decide false e = ap (λ (o : Option Nest). option_map_or read o [])
+        (row_absent (nest_of J) (actions J) a (actions_numbered v t J l) e) ∙ sym (none e)
 
-pub children_held : (v : Version) (t : List ℕ → Bool) (J : History) → is_legal v t J ≡ true → (a : ℕ) → held_children (sheet_of J) a ≡ children J a
+pub children_held : (v : Version) (t : List ℕ → Bool) (J : History) → is_legal v t J ≡ true → (a : ℕ)
+    → held_children (sheet_of J) a ≡ children J a
 children_held v t J l a = nest_held v t J l (λ (x : Nest). x.children) a (λ e. (nothing_in v t J a l e).0)
 
-pub members_held : (v : Version) (t : List ℕ → Bool) (J : History) → is_legal v t J ≡ true → (a : ℕ) → held_members (sheet_of J) a ≡ members_of J a
+pub members_held : (v : Version) (t : List ℕ → Bool) (J : History) → is_legal v t J ≡ true → (a : ℕ)
+    → held_members (sheet_of J) a ≡ members_of J a
 members_held v t J l a = nest_held v t J l (λ (x : Nest). x.members) a (λ e. (nothing_in v t J a l e).1)
 
-pub under_held : (v : Version) (t : List ℕ → Bool) (J : History) → is_legal v t J ≡ true → (a : ℕ) → held_under (sheet_of J) a ≡ members_under J a
+pub under_held : (v : Version) (t : List ℕ → Bool) (J : History) → is_legal v t J ≡ true → (a : ℕ)
+    → held_under (sheet_of J) a ≡ members_under J a
 under_held v t J l a = nest_held v t J l (λ (x : Nest). x.under) a (λ e. (nothing_in v t J a l e).2)
 
 -- what a member wants, by its row
-want_held : (v : Version) (t : List ℕ → Bool) (J : History) → is_legal v t J ≡ true → (p : ℕ) → is_among (members J) p ≡ true → wanted (facts_by (state_of J)) (member_by (state_of J) (member_row J p)) ≡ wants J p
+want_held : (v : Version) (t : List ℕ → Bool) (J : History) → is_legal v t J ≡ true → (p : ℕ) → is_among (members J) p
+    ≡ true → wanted (facts_by (state_of J)) (member_by (state_of J) (member_row J p)) ≡ wants J p
 unfolding wants
 want_held v t J l p e =
     sym (ap (λ (f : Facts). option_map_or (wanted f) (f.member p) None) (sym (agree v t J l))
-    ∙ ap (λ (o : Option laws.MemberRow). option_map_or (wanted (facts_by (state_of J))) (option_map (member_by (state_of J)) o) None) (row_there (member_row J) (members J) p (members_numbered v t J l) e))
+    ∙ ap (λ (o : Option laws.MemberRow). option_map_or (wanted (facts_by (state_of J)))
+    (option_map (member_by (state_of J)) o) None) (row_there (member_row J) (members J) p (members_numbered v t J l)
+    e))
 
 -- the last of a list is there unless it is empty
 last_is : (ms : List ℕ) → last_of (record { count = length ms; last = unwrap_or (last ms) 0 }) ≡ last ms
 last_is [] = refl
-last_is (m ∷ ms) = ap (λ (b : Bool). cond b None (Some (unwrap_or (last (m ∷ ms)) 0))) (ne_eqb (length (m ∷ ms)) 0 (λ e. omega arith)) ∙ some m ms
+last_is (m ∷ ms) = ap (λ (b : Bool). cond b None (Some (unwrap_or (last (m ∷ ms)) 0)))
+    (ne_eqb (length (m ∷ ms)) 0 (λ e. omega arith)) ∙ some m ms
   where
     some : (x : ℕ) (xs : List ℕ) → Some (unwrap_or (last_or (Some x) xs) 0) ≡ last_or (Some x) xs
     some x [] = refl
     some x (y ∷ ys) = some y ys
 
 -- the stage of an ask is one that repeats are kept of
-stage_held : (J : History) (p : ℕ) (kind : AskKind) (s : MemberStatus) → repeats_at (stage_of kind (way_asked kind s)) (contact_of J p) ≡ repeats_in J p (stage_of kind (way_asked kind s))
+stage_held : (J : History) (p : ℕ) (kind : AskKind) (s : MemberStatus)
+    → repeats_at (stage_of kind (way_asked kind s)) (contact_of J p) ≡ repeats_in J p (stage_of kind (way_asked kind s))
 stage_held J p ask.Complete s = refl
 stage_held J p ask.Compensate s = refl
 stage_held J p ask.Forget s = refl
 stage_held J p ask.After s = refl
 stage_held J p ask.Status s = of_way (is_compensating s)
   where
-    of_way : (b : Bool) → repeats_at (stage_of ask.Status (cond b direction.Compensation direction.Completion)) (contact_of J p) ≡ repeats_in J p (stage_of ask.Status (cond b direction.Compensation direction.Completion))
+    of_way : (b : Bool) → repeats_at (stage_of ask.Status (cond b direction.Compensation direction.Completion))
+        (contact_of J p) ≡ repeats_in J p (stage_of ask.Status (cond b direction.Compensation direction.Completion))
     of_way true = refl
     of_way false = refl
 
 -- the repeats of what is wanted
 abbrev found_repeats : History → ℕ → Option AskKind → Repeats
-found_repeats J p o = option_map_or (λ (kind : AskKind). repeats_in J p (stage_of kind (ask_direction J p kind))) o no_repeats
+found_repeats J p o = option_map_or (λ (kind : AskKind). repeats_in J p (stage_of kind (ask_direction J p kind))) o
+    no_repeats
 
-repeats_held : (v : Version) (t : List ℕ → Bool) (J : History) → is_legal v t J ≡ true → (p : ℕ) → is_among (members J) p ≡ true → held_repeats (sheet_of J) p (member_row J p) ≡ found_repeats J p (wants J p)
+repeats_held : (v : Version) (t : List ℕ → Bool) (J : History) → is_legal v t J ≡ true → (p : ℕ)
+    → is_among (members J) p ≡ true → held_repeats (sheet_of J) p (member_row J p) ≡ found_repeats J p (wants J p)
 repeats_held v t J l p e =
     ap (λ (o : Option AskKind). option_map_or held o no_repeats) (want_held v t J l p e) ∙ of_want (wants J p) refl
   where
     held : AskKind → Repeats
-    held kind = option_map_or (repeats_at (stage_of kind (way_asked kind (member_status J p)))) (row_at (map (contact_of J) (members J)) p) no_repeats
+    held kind = option_map_or (repeats_at (stage_of kind (way_asked kind (member_status J p))))
+        (row_at (map (contact_of J) (members J)) p) no_repeats
 
     of_want : (o : Option AskKind) → wants J p ≡ o → option_map_or held o no_repeats ≡ found_repeats J p o
     of_want None h = refl
     of_want (Some kind) h =
-        ap (λ (o : Option Contact). option_map_or (repeats_at (stage_of kind (way_asked kind (member_status J p)))) o no_repeats) (row_there (contact_of J) (members J) p (members_numbered v t J l) e)
+        ap (λ (o : Option Contact). option_map_or (repeats_at (stage_of kind (way_asked kind (member_status J p)))) o
+        no_repeats) (row_there (contact_of J) (members J) p (members_numbered v t J l) e)
         ∙ stage_held J p kind (member_status J p)
         ∙ ap (λ (w : Direction). repeats_in J p (stage_of kind w)) (sym (wanted_way J p kind h))
 
-count_found : (J : History) (p : ℕ) (o : Option AskKind) → (found_repeats J p o).count ≡ option_map_or (λ (kind : AskKind). repeat_count J p (stage_of kind (ask_direction J p kind))) o 0
+count_found : (J : History) (p : ℕ) (o : Option AskKind) → (found_repeats J p o).count
+    ≡ option_map_or (λ (kind : AskKind). repeat_count J p (stage_of kind (ask_direction J p kind))) o 0
 count_found J p None = refl
 count_found J p (Some kind) = refl
 
-last_found : (J : History) (p : ℕ) (o : Option AskKind) → last_of (found_repeats J p o) ≡ option_and_then (λ (kind : AskKind). last_repeat J p (stage_of kind (ask_direction J p kind))) o
+last_found : (J : History) (p : ℕ) (o : Option AskKind) → last_of (found_repeats J p o)
+    ≡ option_and_then (λ (kind : AskKind). last_repeat J p (stage_of kind (ask_direction J p kind))) o
 last_found J p None = refl
 last_found J p (Some kind) = last_is (repeats J p (stage_of kind (ask_direction J p kind)))
 
-pub member_held : (v : Version) (t : List ℕ → Bool) (J : History) → is_legal v t J ≡ true → (p : ℕ) → held_member (sheet_of J) p ≡ found_member J p
+pub member_held : (v : Version) (t : List ℕ → Bool) (J : History) → is_legal v t J ≡ true → (p : ℕ)
+    → held_member (sheet_of J) p ≡ found_member J p
 member_held v t J l p = decide (is_among (members J) p) refl
   where
     row : Option ℕ → Option AskKind → ℕ → Option ℕ → laws.MemberRow → MemberRow
-    row out want k last r = record { action = r.action; status = r.status; completion = r.completed_as; compensation = r.compensated_as; outstanding = out; want = want; k = k; last = last }
+    row out want k last r = record {
+      action = r.action;
+      status = r.status;
+      completion = r.completed_as;
+      compensation =
+          r.compensated_as;
+      outstanding = out;
+      want = want;
+      k = k;
+      last = last;
+    }
 
     held : laws.MemberRow → MemberRow
     held r =
-        row (option_map_or (λ (x : laws.Standing). when (nat_lt (void_asks J) x.number) x.number) r.asked None) (wanted (facts_by (state_of J)) (member_by (state_of J) r))
+        row (option_map_or (λ (x : laws.Standing). when (nat_lt (void_asks J) x.number) x.number) r.asked None)
+        (wanted (facts_by (state_of J)) (member_by (state_of J) r))
         (held_repeats (sheet_of J) p r).count (last_of (held_repeats (sheet_of J) p r)) r
 
-    decide : (b : Bool) → is_among (members J) p ≡ b → held_member (sheet_of J) p ≡ cond b (Some (row (outstanding_ask J p) (wants J p)
+    decide : (b : Bool) → is_among (members J) p ≡ b → held_member (sheet_of J) p
+        ≡ cond b (Some (row (outstanding_ask J p) (wants J p)
         (option_map_or (λ (kind : AskKind). repeat_count J p (stage_of kind (ask_direction J p kind))) (wants J p) 0)
-        (option_and_then (λ (kind : AskKind). last_repeat J p (stage_of kind (ask_direction J p kind))) (wants J p)) (member_row J p))) None
+        (option_and_then (λ (kind : AskKind). last_repeat J p (stage_of kind (ask_direction J p kind))) (wants J p))
+        (member_row J p))) None
     decide true e =
         ap (option_map held) (row_there (member_row J) (members J) p (members_numbered v t J l) e)
         ∙ (λ i. Some (row (out i) (want_held v t J l p e i)
         ((ap (λ (x : Repeats). x.count) (repeats_held v t J l p e) ∙ count_found J p (wants J p)) i)
         ((ap last_of (repeats_held v t J l p e) ∙ last_found J p (wants J p)) i) (member_row J p)))
       where
-        out : option_map_or (λ (x : laws.Standing). when (nat_lt (void_asks J) x.number) x.number) (standing J p) None ≡ outstanding_ask J p
+        out : option_map_or (λ (x : laws.Standing). when (nat_lt (void_asks J) x.number) x.number) (standing J p) None
+            ≡ outstanding_ask J p
         out = sym (outstanding_by J p (asks_listed v t J l) (asks_stand v t J l))
     decide false e = ap (option_map held) (row_absent (member_row J) (members J) p (members_numbered v t J l) e)
 
-pub addresses_held : (v : Version) (t : List ℕ → Bool) (J : History) → is_legal v t J ≡ true → (p : ℕ) → held_addresses (sheet_of J) p ≡ found_addresses J p
+pub addresses_held : (v : Version) (t : List ℕ → Bool) (J : History) → is_legal v t J ≡ true → (p : ℕ)
+    → held_addresses (sheet_of J) p ≡ found_addresses J p
 addresses_held v t J l p = decide (is_among (members J) p) refl
   where
-    decide : (b : Bool) → is_among (members J) p ≡ b → held_addresses (sheet_of J) p ≡ cond b (Some (contact_of J p).addresses) None
-    decide true e = ap (option_map (λ (c : Contact). c.addresses)) (row_there (contact_of J) (members J) p (members_numbered v t J l) e)
-    decide false e = ap (option_map (λ (c : Contact). c.addresses)) (row_absent (contact_of J) (members J) p (members_numbered v t J l) e)
+    decide : (b : Bool) → is_among (members J) p ≡ b → held_addresses (sheet_of J) p
+        ≡ cond b (Some (contact_of J p).addresses) None
+    decide true e = ap (option_map (λ (c : Contact). c.addresses)) (row_there (contact_of J) (members J) p
+        (members_numbered v t J l) e)
+    decide false e = ap (option_map (λ (c : Contact). c.addresses)) (row_absent (contact_of J) (members J) p
+        (members_numbered v t J l) e)
 
 -- an action that isn't there may not end
-pub end_held : (v : Version) (t : List ℕ → Bool) (J : History) → is_legal v t J ≡ true → (a : ℕ) → end_by (state_of J) a ≡ found_end J a
+pub end_held : (v : Version) (t : List ℕ → Bool) (J : History) → is_legal v t J ≡ true → (a : ℕ) → end_by (state_of J) a
+    ≡ found_end J a
 unfolding is_settled
-end_held v t J l a = end_agrees v t J l a ∙ decide (is_among (actions J) a) (action_status J a) refl (status_is_there v t J l a)
+end_held v t J l a = end_agrees v t J l a ∙ decide (is_among (actions J) a) (action_status J a) refl
+    (status_is_there v t J l a)
   where
-    decide : (b : Bool) (o : Option ActionStatus) → action_status J a ≡ o → is_some (action_status J a) ≡ b → cond b (cond (settles (action_status J a) J a) (Some (End a (right_end J a))) None) None ≡ cond (settles (action_status J a) J a) (Some (End a (right_end J a))) None
+    decide : (b : Bool) (o : Option ActionStatus) → action_status J a ≡ o → is_some (action_status J a) ≡ b
+        → cond b (cond (settles (action_status J a) J a) (Some (End a (right_end J a))) None) None
+        ≡ cond (settles (action_status J a) J a) (Some (End a (right_end J a))) None
     decide true o e h = refl
-    decide false None e h = sym (ap (λ (q : Option ActionStatus). cond (settles q J a) (Some (End a (right_end J a))) None) e)
+    decide false None e h =
+        sym (ap (λ (q : Option ActionStatus). cond (settles q J a) (Some (End a (right_end J a))) None) e)
     decide false (Some s) e h = let k = ap is_some e in absurd cc

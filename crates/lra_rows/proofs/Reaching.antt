@@ -26,7 +26,8 @@ use Rattle.std.proofs.lemmas.Bool.{cases_eq}
 -- ---- one member
 
 -- one more repeat is what was there, and one more
-pub repeated : (m : ℕ) (stage : AskKind) (c : Contact) → with_repeats stage (again m (repeats_at stage c)) c ≡ with_repeat m stage c
+pub repeated : (m : ℕ) (stage : AskKind) (c : Contact) → with_repeats stage (again m (repeats_at stage c)) c
+    ≡ with_repeat m stage c
 repeated m ask.Complete c = refl
 repeated m ask.Compensate c = refl
 repeated m ask.Forget c = refl
@@ -35,7 +36,8 @@ repeated m ask.Status c = refl
 
 -- a member that answered, with the repeats that it had
 pub answered_stays : (m : ℕ) (o : Outcome) (x : Asked) (r : Reached) → (is_undecided o ≡ true → r.is_ready ≡ true)
-    → with_stage (stage_of x.kind x.direction) (repeats_at (stage_of x.kind x.direction) r.contact) (answered m o x r) ≡ r
+    → with_stage (stage_of x.kind x.direction) (repeats_at (stage_of x.kind x.direction) r.contact) (answered m o x r)
+    ≡ r
 answered_stays m o x r ready = λ i. record r { contact = by_place r.is_ready refl i }
   where
     stage : AskKind
@@ -45,72 +47,102 @@ answered_stays m o x r ready = λ i. record r { contact = by_place r.is_ready re
     by_outcome false e g = ap (λ (b : Bool). cond b (with_repeat m stage r.contact) r.contact) e
     by_outcome true e g = absurd (let h = ready e in cc)
 
-    by_place : (b : Bool) → r.is_ready ≡ b → cond b (with_repeats stage (repeats_at stage r.contact) (with_answer m o x r.contact)) (with_answer m o x r.contact) ≡ r.contact
+    by_place : (b : Bool) → r.is_ready ≡ b → cond b (with_repeats stage (repeats_at stage r.contact)
+        (with_answer m o x r.contact)) (with_answer m o x r.contact) ≡ r.contact
     by_place true g = answer_back m o x r.contact
     by_place false g = by_outcome (is_undecided o) refl g
 
 -- what is known of one of them is known where it stands
-pub few_at : (n : ℕ) (rows : List Reached) (p : ℕ) (x : Reached) → row_at rows p ≡ Some x → IfSome (row_at (contacts_in rows) p) (RepeatsTo n) → RepeatsTo n x.contact
+pub few_at : (n : ℕ) (rows : List Reached) (p : ℕ) (x : Reached) → row_at rows p ≡ Some x
+    → IfSome (row_at (contacts_in rows) p) (RepeatsTo n) → RepeatsTo n x.contact
 few_at n rows p x there h = (rw (row_at-map (λ (r : Reached). r.contact) rows p, there) at h)
 
-pub ready_at : (rows : List Reached) (p : ℕ) (x : Reached) → row_at rows p ≡ Some x → is_ready_at (ready_in rows) p ≡ true → x.is_ready ≡ true
+pub ready_at : (rows : List Reached) (p : ℕ) (x : Reached) → row_at rows p ≡ Some x → is_ready_at (ready_in rows) p
+    ≡ true → x.is_ready ≡ true
 ready_at rows p x there h = (rw (row_at-map (λ (r : Reached). r.is_ready) rows p, there) at h)
 
 -- ---- all of them
 
 -- a member answers
-pub contacts_answered : (m : ℕ) (o : Outcome) (x : Asked) (n : ℕ) (rows : List Reached) → contacts_in (change_row (answered m o x) n rows) ≡ change_row (with_answer m o x) n (contacts_in rows)
-contacts_answered m o x n rows = map-change_row (λ (r : Reached). r.contact) (answered m o x) (with_answer m o x) (λ r. refl) n rows
+pub contacts_answered : (m : ℕ) (o : Outcome) (x : Asked) (n : ℕ) (rows : List Reached)
+    → contacts_in (change_row (answered m o x) n rows) ≡ change_row (with_answer m o x) n (contacts_in rows)
+contacts_answered m o x n rows = map-change_row (λ (r : Reached). r.contact) (answered m o x) (with_answer m o x)
+    (λ r. refl) n rows
 
-pub ready_answered : (m : ℕ) (o : Outcome) (x : Asked) (n : ℕ) (rows : List Reached) → ready_in (change_row (answered m o x) n rows) ≡ ready_in rows
-ready_answered m o x n rows = map-change_row (λ (r : Reached). r.is_ready) (answered m o x) (λ b. b) (λ r. refl) n rows ∙ change_none n (ready_in rows)
+pub ready_answered : (m : ℕ) (o : Outcome) (x : Asked) (n : ℕ) (rows : List Reached)
+    → ready_in (change_row (answered m o x) n rows) ≡ ready_in rows
+ready_answered m o x n rows = map-change_row (λ (r : Reached). r.is_ready) (answered m o x) (λ b. b) (λ r. refl) n rows
+    ∙ change_none n (ready_in rows)
 
 -- and its repeats are put back
 contacts_put : (stage : AskKind) (repeats : Repeats) (n : ℕ) (rows : List Reached)
-    → contacts_in (change_row (with_stage stage repeats) n rows) ≡ cond (is_ready_at (ready_in rows) n) (change_row (with_repeats stage repeats) n (contacts_in rows)) (contacts_in rows)
+    → contacts_in (change_row (with_stage stage repeats) n rows) ≡ cond (is_ready_at (ready_in rows) n)
+    (change_row (with_repeats stage repeats) n (contacts_in rows)) (contacts_in rows)
 contacts_put stage repeats zero rows = refl
 contacts_put stage repeats (suc k) rows =
     of_row (slice_get rows k) refl
-    ∙ sym (ap (λ (o : Option Bool). cond (option_map_or (λ b. b) o true) (change_row (with_repeats stage repeats) (suc k) (contacts_in rows)) (contacts_in rows)) (slice_get-map (λ (r : Reached). r.is_ready) rows k))
+    ∙ sym (ap (λ (o : Option Bool). cond (option_map_or (λ b. b) o true)
+    (change_row (with_repeats stage repeats) (suc k) (contacts_in rows)) (contacts_in rows))
+    (slice_get-map (λ (r : Reached). r.is_ready) rows k))
   where
-    there : (o : Option Reached) → slice_get rows k ≡ o → slice_get (contacts_in rows) k ≡ option_map (λ (r : Reached). r.contact) o
+    there : (o : Option Reached) → slice_get rows k ≡ o → slice_get (contacts_in rows) k
+        ≡ option_map (λ (r : Reached). r.contact) o
     there o e = slice_get-map (λ (r : Reached). r.contact) rows k ∙ ap (option_map (λ (r : Reached). r.contact)) e
 
     of_place : (r : Reached) → slice_get rows k ≡ Some r → (b : Bool) → r.is_ready ≡ b
-        → contacts_in (slice_set rows k (with_stage stage repeats r)) ≡ cond b (change_row (with_repeats stage repeats) (suc k) (contacts_in rows)) (contacts_in rows)
+        → contacts_in (slice_set rows k (with_stage stage repeats r)) ≡ cond b
+        (change_row (with_repeats stage repeats) (suc k) (contacts_in rows)) (contacts_in rows)
     of_place r e true g =
         map-set (λ (r : Reached). r.contact) rows k (with_stage stage repeats r)
         ∙ ap (λ (b : Bool). slice_set (contacts_in rows) k (cond b (with_repeats stage repeats r.contact) r.contact)) g
-        ∙ sym (ap (λ (o : Option Contact). option_map_or (λ (c : Contact). slice_set (contacts_in rows) k (with_repeats stage repeats c)) o (contacts_in rows)) (there (Some r) e))
-    of_place r e false g = map-same (λ (r : Reached). r.contact) rows k r (with_stage stage repeats r) e (ap (λ (b : Bool). cond b (with_repeats stage repeats r.contact) r.contact) g)
+        ∙ sym (ap (λ (o : Option Contact). option_map_or (λ (c : Contact). slice_set (contacts_in rows) k
+        (with_repeats stage repeats c)) o (contacts_in rows)) (there (Some r) e))
+    of_place r e false g = map-same (λ (r : Reached). r.contact) rows k r (with_stage stage repeats r) e
+        (ap (λ (b : Bool). cond b (with_repeats stage repeats r.contact) r.contact) g)
 
     of_row : (o : Option Reached) → slice_get rows k ≡ o
-        → contacts_in (change_row (with_stage stage repeats) (suc k) rows) ≡ cond (option_map_or (λ b. b) (option_map (λ (r : Reached). r.is_ready) (slice_get rows k)) true) (change_row (with_repeats stage repeats) (suc k) (contacts_in rows)) (contacts_in rows)
+        → contacts_in (change_row (with_stage stage repeats) (suc k) rows)
+        ≡ cond (option_map_or (λ b. b) (option_map (λ (r : Reached). r.is_ready) (slice_get rows k)) true)
+        (change_row (with_repeats stage repeats) (suc k) (contacts_in rows)) (contacts_in rows)
     of_row None e =
         rw (e, there None e) refl
     of_row (Some r) e =
-        ap (λ (o : Option Reached). contacts_in (option_map_or (λ (x : Reached). slice_set rows k (with_stage stage repeats x)) o rows)) e
+        ap (λ (o : Option Reached). contacts_in
+        (option_map_or (λ (x : Reached). slice_set rows k (with_stage stage repeats x)) o rows)) e
         ∙ of_place r e r.is_ready refl
-        ∙ sym (ap (λ (o : Option Reached). cond (option_map_or (λ b. b) (option_map (λ (r : Reached). r.is_ready) o) true) (change_row (with_repeats stage repeats) (suc k) (contacts_in rows)) (contacts_in rows)) e)
+        ∙ sym (ap (λ (o : Option Reached). cond (option_map_or (λ b. b) (option_map (λ (r : Reached). r.is_ready) o)
+        true) (change_row (with_repeats stage repeats) (suc k) (contacts_in rows)) (contacts_in rows)) e)
 
-pub contacts_back : (o : Option Repeated) (rows : List Reached) → contacts_in (stages_back o rows) ≡ repeats_back o (ready_in rows) (contacts_in rows)
+pub contacts_back : (o : Option Repeated) (rows : List Reached) → contacts_in (stages_back o rows)
+    ≡ repeats_back o (ready_in rows) (contacts_in rows)
 contacts_back None rows = refl
 contacts_back (Some x) rows = contacts_put x.stage x.repeats x.member rows
 
 pub ready_back : (o : Option Repeated) (rows : List Reached) → ready_in (stages_back o rows) ≡ ready_in rows
 ready_back None rows = refl
-ready_back (Some x) rows = map-change_row (λ (r : Reached). r.is_ready) (with_stage x.stage x.repeats) (λ b. b) (λ r. refl) x.member rows ∙ change_none x.member (ready_in rows)
+ready_back (Some x) rows = map-change_row (λ (r : Reached). r.is_ready) (with_stage x.stage x.repeats) (λ b. b)
+    (λ r. refl) x.member rows ∙ change_none x.member (ready_in rows)
 
 -- a place for repeats is made
-pub ready_there : (rows : List Reached) (k : ℕ) (x n : Reached) → slice_get rows k ≡ Some x → n.is_ready ≡ true → is_ready_at (ready_in (slice_set rows k n)) (suc k) ≡ true
-ready_there rows k x n there h = rw (row_at-map (λ (r : Reached). r.is_ready) (slice_set rows k n) (suc k), slice_get-set_same rows k x n there) h
+pub ready_there : (rows : List Reached) (k : ℕ) (x n : Reached) → slice_get rows k ≡ Some x → n.is_ready ≡ true
+    → is_ready_at (ready_in (slice_set rows k n)) (suc k) ≡ true
+ready_there rows k x n there h = rw (
+  row_at-map (λ (r : Reached). r.is_ready) (slice_set rows k n) (suc k),
+  slice_get-set_same rows k x n there,
+) h
 
-pub ready_kept : (rows : List Reached) (k : ℕ) (x n : Reached) → slice_get rows k ≡ Some x → (x.is_ready ≡ true → n.is_ready ≡ true) → (j : ℕ) → is_ready_at (ready_in rows) j ≡ true → is_ready_at (ready_in (slice_set rows k n)) j ≡ true
+pub ready_kept : (rows : List Reached) (k : ℕ) (x n : Reached) → slice_get rows k ≡ Some x
+    → (x.is_ready ≡ true → n.is_ready ≡ true) → (j : ℕ) → is_ready_at (ready_in rows) j ≡ true
+    → is_ready_at (ready_in (slice_set rows k n)) j ≡ true
 ready_kept rows k x n there kept zero h = refl
 ready_kept rows k x n there kept (suc j) h =
     elim (cases_eq j k) [
-      | inl same ↦ rw (ap (λ (i : ℕ). is_ready_at (ready_in (slice_set rows k n)) (suc i)) same) (ready_there rows k x n there (kept (ready_at rows (suc k) x there (rw same at h))))
-      | inr apart ↦ rw (row_at-map (λ (r : Reached). r.is_ready) (slice_set rows k n) (suc j), slice_get-set_other rows k j n apart) (rw (row_at-map (λ (r : Reached). r.is_ready) rows (suc j)) at h)
+      | inl same ↦ rw (ap (λ (i : ℕ). is_ready_at (ready_in (slice_set rows k n)) (suc i)) same)
+          (ready_there rows k x n there (kept (ready_at rows (suc k) x there (rw same at h))))
+      | inr apart ↦ rw (
+        row_at-map (λ (r : Reached). r.is_ready) (slice_set rows k n) (suc j),
+        slice_get-set_other rows k j n apart,
+      ) (rw (row_at-map (λ (r : Reached). r.is_ready) rows (suc j)) at h)
     ]
 
 pub ready_past : (rows : List Reached) (k : ℕ) → slice_get rows k ≡ None → is_ready_at (ready_in rows) (suc k) ≡ true
@@ -118,11 +150,15 @@ ready_past rows k there = rw (row_at-map (λ (r : Reached). r.is_ready) rows (su
 
 -- ---- the rows, one more and one less
 
-pub contacts_more : (rows : List Reached) (uris : Addresses) → contacts_in (rows ++ record { contact = new_contact uris; is_ready = false } ∷ []) ≡ contacts_in rows ++ new_contact uris ∷ []
-contacts_more rows uris = map-more (λ (r : Reached). r.contact) rows (record { contact = new_contact uris; is_ready = false })
+pub contacts_more : (rows : List Reached) (uris : Addresses) → contacts_in
+    (rows ++ record { contact = new_contact uris; is_ready = false } ∷ []) ≡ contacts_in rows ++ new_contact uris ∷ []
+contacts_more rows uris = map-more (λ (r : Reached). r.contact) rows (record
+    { contact = new_contact uris; is_ready = false })
 
-pub ready_more : (rows : List Reached) (uris : Addresses) → ready_in (rows ++ record { contact = new_contact uris; is_ready = false } ∷ []) ≡ ready_in rows ++ false ∷ []
-ready_more rows uris = map-more (λ (r : Reached). r.is_ready) rows (record { contact = new_contact uris; is_ready = false })
+pub ready_more : (rows : List Reached) (uris : Addresses) → ready_in (rows
+    ++ record { contact = new_contact uris; is_ready = false } ∷ []) ≡ ready_in rows ++ false ∷ []
+ready_more rows uris = map-more (λ (r : Reached). r.is_ready) rows (record
+    { contact = new_contact uris; is_ready = false })
 
 pub contacts_less : (rows : List Reached) → contacts_in (without_last rows) ≡ without_last (contacts_in rows)
 contacts_less rows = map-without_last (λ (r : Reached). r.contact) rows
@@ -131,29 +167,43 @@ pub ready_less : (rows : List Reached) → ready_in (without_last rows) ≡ with
 ready_less rows = map-without_last (λ (r : Reached). r.is_ready) rows
 
 -- there is as much room
-pub takes_reached : (rows : List Reached) (capacity : ℕ) → takes_one (contacts_in rows) capacity ≡ takes_one rows capacity
+pub takes_reached : (rows : List Reached) (capacity : ℕ) → takes_one (contacts_in rows) capacity
+    ≡ takes_one rows capacity
 takes_reached rows capacity = ap (λ (n : ℕ). nat_lt n capacity) (length-map rows (λ (r : Reached). r.contact))
 
 -- what is read of one that is there
 pub addresses_at : (rows : List Reached) (n : ℕ) (o : Option Reached) → o ≡ row_at rows n
-    → option_map (λ (r : Reached). r.contact.addresses) o ≡ option_map (λ (c : Contact). c.addresses) (row_at (contacts_in rows) n)
-addresses_at rows n o e = of_row o ∙ ap (λ (x : Option Reached). option_map (λ (c : Contact). c.addresses) (option_map (λ (r : Reached). r.contact) x)) e ∙ sym (ap (option_map (λ (c : Contact). c.addresses)) (row_at-map (λ (r : Reached). r.contact) rows n))
+    → option_map (λ (r : Reached). r.contact.addresses) o ≡ option_map (λ (c : Contact). c.addresses)
+    (row_at (contacts_in rows) n)
+addresses_at rows n o e = of_row o ∙ ap (λ (x : Option Reached). option_map (λ (c : Contact). c.addresses)
+    (option_map (λ (r : Reached). r.contact) x)) e ∙ sym (ap (option_map (λ (c : Contact). c.addresses))
+    (row_at-map (λ (r : Reached). r.contact) rows n))
   where
-    of_row : (o : Option Reached) → option_map (λ (r : Reached). r.contact.addresses) o ≡ option_map (λ (c : Contact). c.addresses) (option_map (λ (r : Reached). r.contact) o)
+    of_row : (o : Option Reached) → option_map (λ (r : Reached). r.contact.addresses) o
+        ≡ option_map (λ (c : Contact). c.addresses) (option_map (λ (r : Reached). r.contact) o)
     of_row None = refl
     of_row (Some r) = refl
 
 pub repeats_of : (rows : List Reached) (n : ℕ) (stage : AskKind) (o : Option Reached) → o ≡ row_at rows n
-    → option_map_or (λ (r : Reached). repeats_at stage r.contact) o no_repeats ≡ option_map_or (repeats_at stage) (row_at (contacts_in rows) n) no_repeats
-repeats_of rows n stage o e = of_row o ∙ ap (λ (x : Option Reached). option_map_or (repeats_at stage) (option_map (λ (r : Reached). r.contact) x) no_repeats) e ∙ sym (ap (λ (x : Option Contact). option_map_or (repeats_at stage) x no_repeats) (row_at-map (λ (r : Reached). r.contact) rows n))
+    → option_map_or (λ (r : Reached). repeats_at stage r.contact) o no_repeats
+    ≡ option_map_or (repeats_at stage) (row_at (contacts_in rows) n) no_repeats
+repeats_of rows n stage o e = of_row o ∙ ap (λ (x : Option Reached). option_map_or (repeats_at stage)
+    (option_map (λ (r : Reached). r.contact) x) no_repeats) e ∙ sym (ap
+    (λ (x : Option Contact). option_map_or (repeats_at stage) x no_repeats)
+    (row_at-map (λ (r : Reached). r.contact) rows n))
   where
-    of_row : (o : Option Reached) → option_map_or (λ (r : Reached). repeats_at stage r.contact) o no_repeats ≡ option_map_or (repeats_at stage) (option_map (λ (r : Reached). r.contact) o) no_repeats
+    of_row : (o : Option Reached) → option_map_or (λ (r : Reached). repeats_at stage r.contact) o no_repeats
+        ≡ option_map_or (repeats_at stage) (option_map (λ (r : Reached). r.contact) o) no_repeats
     of_row None = refl
     of_row (Some r) = refl
 
-pub ready_of : (rows : List Reached) (n : ℕ) (o : Option Reached) → o ≡ row_at rows n → option_map_or (λ (r : Reached). r.is_ready) o true ≡ is_ready_at (ready_in rows) n
-ready_of rows n o e = of_row o ∙ ap (λ (x : Option Reached). option_map_or (λ b. b) (option_map (λ (r : Reached). r.is_ready) x) true) e ∙ sym (ap (λ (x : Option Bool). option_map_or (λ b. b) x true) (row_at-map (λ (r : Reached). r.is_ready) rows n))
+pub ready_of : (rows : List Reached) (n : ℕ) (o : Option Reached) → o ≡ row_at rows n
+    → option_map_or (λ (r : Reached). r.is_ready) o true ≡ is_ready_at (ready_in rows) n
+ready_of rows n o e = of_row o ∙ ap (λ (x : Option Reached). option_map_or (λ b. b)
+    (option_map (λ (r : Reached). r.is_ready) x) true) e ∙ sym (ap (λ (x : Option Bool). option_map_or (λ b. b) x true)
+    (row_at-map (λ (r : Reached). r.is_ready) rows n))
   where
-    of_row : (o : Option Reached) → option_map_or (λ (r : Reached). r.is_ready) o true ≡ option_map_or (λ b. b) (option_map (λ (r : Reached). r.is_ready) o) true
+    of_row : (o : Option Reached) → option_map_or (λ (r : Reached). r.is_ready) o true
+        ≡ option_map_or (λ b. b) (option_map (λ (r : Reached). r.is_ready) o) true
     of_row None = refl
     of_row (Some r) = refl

@@ -42,7 +42,8 @@ read-le : {X Y : Type 0} (f : X → Option Y) (xs : List X) → length (filter_m
 read-le f [] = omega arith
 read-le {Y = Y} f (x ∷ xs) = either (f x) (read-le f xs)
   where
-    either : (o : Option Y) → length (filter_map f xs) ≤ length xs → length (cons_option o (filter_map f xs)) ≤ length (x ∷ xs)
+    either : (o : Option Y) → length (filter_map f xs) ≤ length xs → length (cons_option o (filter_map f xs))
+        ≤ length (x ∷ xs)
     either None h = omega arith
     either (Some y) h = omega arith
 
@@ -54,7 +55,8 @@ actions-le : (J : History) → length (actions J) ≤ length J
 unfolding actions
 actions-le J = read-le (λ (e : Entry). started_by e.deed) J
 
-row_counts : (v : Version) (t : List ℕ → Bool) (J : History) → is_legal v t J ≡ true → (a : ℕ) → CountsTo (length J) (action_row J a)
+row_counts : (v : Version) (t : List ℕ → Bool) (J : History) → is_legal v t J ≡ true → (a : ℕ)
+    → CountsTo (length J) (action_row J a)
 row_counts v t J l a = record {
   completing = staying is_left_to_complete;
   compensating = staying is_left_to_compensate;
@@ -78,7 +80,14 @@ row_counts v t J l a = record {
         let k = actions-le J in omega arith
 
 -- nothing has happened
-pub sheet_empty : sheet_of [] ≡ record { entries = 0; state = record { moment = 0; clerks = 0; asks = 0; void = 0; actions = []; members = [] }; nests = []; contacts = []; asks = [] }
+pub sheet_empty : sheet_of []
+    ≡ record {
+      entries = 0;
+      state = record { moment = 0; clerks = 0; asks = 0; void = 0; actions = []; members = [] };
+      nests = [];
+      contacts = [];
+      asks = [];
+    }
 unfolding steps clerks actions members asks last_moment void_asks asks_made
 sheet_empty = refl
 
@@ -89,7 +98,8 @@ steps-length past (e ∷ es) = ap (λ (n : ℕ). suc n) (steps-length (past ++ e
 repeats-le : (J : History) (p : ℕ) (stage : AskKind) → repeat_count J p stage ≤ length J
 unfolding repeats replies steps
 repeats-le J p stage =
-    let a = read-le (λ (r : Replied). when ((r.to.member == p) && same_kind (stage_of r.to.kind r.to.direction) stage && is_undecided r.outcome) r.moment) (filter_map replied_at (steps_after [] J)) in
+    let a = read-le (λ (r : Replied). when ((r.to.member == p) && same_kind (stage_of r.to.kind r.to.direction) stage
+    && is_undecided r.outcome) r.moment) (filter_map replied_at (steps_after [] J)) in
     let b = read-le replied_at (steps_after [] J) in
     let c = steps-length [] J in omega arith
 
@@ -97,16 +107,19 @@ lineage_within-le : (n : ℕ) (J : History) (a : ℕ) → length (lineage_within
 lineage_within-le zero J a = omega arith
 lineage_within-le (suc n) J a = above (parent J a) (λ b. lineage_within-le n J b)
   where
-    above : (o : Option ℕ) → ((b : ℕ) → length (lineage_within n J b) ≤ suc n) → length (a ∷ option_map_or (lineage_within n J) o []) ≤ suc (suc n)
+    above : (o : Option ℕ) → ((b : ℕ) → length (lineage_within n J b) ≤ suc n)
+        → length (a ∷ option_map_or (lineage_within n J) o []) ≤ suc (suc n)
     above None h = omega arith
     above (Some b) h = let k = h b in omega arith
 
-depth-le : (v : Version) (t : List ℕ → Bool) (J : History) → is_legal v t J ≡ true → (a : ℕ) → is_among (actions J) a ≡ true → depth J a ≤ length J + 1
+depth-le : (v : Version) (t : List ℕ → Bool) (J : History) → is_legal v t J ≡ true → (a : ℕ) → is_among (actions J) a
+    ≡ true → depth J a ≤ length J + 1
 unfolding depth
 depth-le v t J l a h = let k = lineage_within-le a J a in let g = numbered_among (actions J) (actions_numbered v t J l) a h in let m = actions-le J in omega (arith, g.1)
 
 -- a bound of each row that is there
-rows_bounded : {R : Type 0} (P : R → Type 0) (g : ℕ → R) (ns : List ℕ) → IsNumbered ns → ((n : ℕ) → is_among ns n ≡ true → P (g n)) → (n : ℕ) → IfSome (row_at (map g ns) n) P
+rows_bounded : {R : Type 0} (P : R → Type 0) (g : ℕ → R) (ns : List ℕ) → IsNumbered ns
+    → ((n : ℕ) → is_among ns n ≡ true → P (g n)) → (n : ℕ) → IfSome (row_at (map g ns) n) P
 rows_bounded {R = R} P g ns numbered each n = decide (is_among ns n) refl
   where
     decide : (b : Bool) → is_among ns n ≡ b → IfSome (row_at (map g ns) n) P
@@ -126,14 +139,17 @@ CanCount-from_StandsFor s J h few = subst CanCount (sym h.sheet) (of_history (le
     of_history : length J < 2 ^ 63 → CanCount (sheet_of J)
     of_history k = record {
       entries = k;
-      actions = rows_bounded (CountsTo 18446744073709551614) (action_row J) (actions J) (actions_numbered v t J h.legal) (λ a g. CountsTo-more (length J) 18446744073709551614 (action_row J a) (omega arith) (row_counts v t J h.legal a));
+      actions = rows_bounded (CountsTo 18446744073709551614) (action_row J) (actions J) (actions_numbered v t J h.legal)
+          (λ a g. CountsTo-more (length J) 18446744073709551614 (action_row J a) (omega arith)
+          (row_counts v t J h.legal a));
       nests = rows_bounded (DeepTo (2 ^ 63)) (nest_of J) (actions J) (actions_numbered v t J h.legal) (λ a g. let d = depth-le v t J h.legal a g in omega arith);
-      contacts = rows_bounded (RepeatsTo (2 ^ 63)) (contact_of J) (members J) (members_numbered v t J h.legal) (λ p g. record {
-        completing = few_repeats p ask.Complete;
-        compensating = few_repeats p ask.Compensate;
-        forgetting = few_repeats p ask.Forget;
-        telling = few_repeats p ask.After;
-      });
+      contacts = rows_bounded (RepeatsTo (2 ^ 63)) (contact_of J) (members J) (members_numbered v t J h.legal)
+          (λ p g. record {
+            completing = few_repeats p ask.Complete;
+            compensating = few_repeats p ask.Compensate;
+            forgetting = few_repeats p ask.Forget;
+            telling = few_repeats p ask.After;
+          });
       asks = asks_count J;
     }
       where
@@ -142,7 +158,9 @@ CanCount-from_StandsFor s J h few = subst CanCount (sym h.sheet) (of_history (le
 
 -- one that enrols or asks has the next number
 pub TakesNextNumber-from_Follows : (s : Sheet) (e : Entry) → Follows s e → TakesNextNumber s.state e.deed e.by
-TakesNextNumber-from_Follows s e h = subst (λ (x : Sheet). TakesNextNumber x.state e.deed e.by) (sym h.stands.sheet) (of_deed e.deed (told h.stands.version h.stands.is_address h.history e.by e.moment e.deed (allowed h.stands.version h.stands.is_address h.history e h.allowed)))
+TakesNextNumber-from_Follows s e h = subst (λ (x : Sheet). TakesNextNumber x.state e.deed e.by) (sym h.stands.sheet)
+    (of_deed e.deed (told h.stands.version h.stands.is_address h.history e.by e.moment e.deed
+    (allowed h.stands.version h.stands.is_address h.history e h.allowed)))
   where
     of_deed : (d : Deed) → Told h.history e.by d → TakesNextNumber (state_of h.history) d e.by
     of_deed Enrol x = x

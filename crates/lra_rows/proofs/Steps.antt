@@ -20,7 +20,8 @@ use Rattle.lra_rows.specs.inner.Held.{repeats_at}
 use Rattle.lra_rows.proofs.Numbered.{changed_back}
 
 -- a member that answered, with the repeats that it had
-repeat_back : (m : ℕ) (stage : AskKind) (c : Contact) → with_repeats stage (repeats_at stage c) (with_repeat m stage c) ≡ c
+repeat_back : (m : ℕ) (stage : AskKind) (c : Contact) → with_repeats stage (repeats_at stage c) (with_repeat m stage c)
+    ≡ c
 repeat_back m ask.Complete c = refl
 repeat_back m ask.Compensate c = refl
 repeat_back m ask.Forget c = refl
@@ -34,10 +35,12 @@ same_back ask.Forget c = refl
 same_back ask.After c = refl
 same_back ask.Status c = refl
 
-pub answer_back : (m : ℕ) (o : Outcome) (x : Asked) (c : Contact) → with_repeats (stage_of x.kind x.direction) (repeats_at (stage_of x.kind x.direction) c) (with_answer m o x c) ≡ c
+pub answer_back : (m : ℕ) (o : Outcome) (x : Asked) (c : Contact) → with_repeats (stage_of x.kind x.direction)
+    (repeats_at (stage_of x.kind x.direction) c) (with_answer m o x c) ≡ c
 answer_back m o x c = either (is_undecided o)
   where
-    either : (b : Bool) → with_repeats (stage_of x.kind x.direction) (repeats_at (stage_of x.kind x.direction) c) (cond b (with_repeat m (stage_of x.kind x.direction) c) c) ≡ c
+    either : (b : Bool) → with_repeats (stage_of x.kind x.direction) (repeats_at (stage_of x.kind x.direction) c)
+        (cond b (with_repeat m (stage_of x.kind x.direction) c) c) ≡ c
     either true = repeat_back m (stage_of x.kind x.direction) c
     either false = same_back (stage_of x.kind x.direction) c
 
@@ -63,35 +66,58 @@ under_back : (p : ℕ) (n : Nest) → without_under (with_number_under p n) ≡ 
 under_back p n = λ i. record n { under = without_more n.under p i }
 
 -- an action that started, and the member that joined
-pub started_back : (c : ℕ) (parent : Option ℕ) (nests : List Nest) → option_map_or (λ b. change_row without_child b (option_map_or (λ b. change_row (with_child_number c) b nests) parent nests)) parent (option_map_or (λ b. change_row (with_child_number c) b nests) parent nests) ≡ nests
+pub started_back : (c : ℕ) (parent : Option ℕ) (nests : List Nest) → option_map_or
+    (λ b. change_row without_child b (option_map_or (λ b. change_row (with_child_number c) b nests) parent nests))
+    parent (option_map_or (λ b. change_row (with_child_number c) b nests) parent nests) ≡ nests
 started_back c None nests = refl
 started_back c (Some b) nests = changed_back (with_child_number c) without_child (child_back c) b nests
 
-pub joined_back : (p a t : ℕ) (nests : List Nest) → change_row without_member a (change_row without_under t (change_row (with_number_under p) t (change_row (with_member_number p) a nests))) ≡ nests
+pub joined_back : (p a t : ℕ) (nests : List Nest) → change_row without_member a
+    (change_row without_under t (change_row (with_number_under p) t (change_row (with_member_number p) a nests)))
+    ≡ nests
 joined_back p a t nests =
-    ap (change_row without_member a) (changed_back (with_number_under p) without_under (under_back p) t (change_row (with_member_number p) a nests))
+    ap (change_row without_member a) (changed_back (with_number_under p) without_under (under_back p) t
+    (change_row (with_member_number p) a nests))
     ∙ changed_back (with_member_number p) without_member (member_back p) a nests
 
 -- what takes back a member's change takes back the ask that came before it
-pub asked_back : (w : Writes) (old mid new : Rowed) (m n : ℕ) (x : Asked) → IsOfMember w → Undoes w new mid → mid ≡ record old { sheet = record old.sheet { state = record old.sheet.state { moment = m; asks = n }; asks = old.sheet.asks ++ x ∷ [] } }
+pub asked_back : (w : Writes) (old mid new : Rowed) (m n : ℕ) (x : Asked) → IsOfMember w → Undoes w new mid → mid
+    ≡ record old {
+      sheet = record old.sheet {
+        state = record old.sheet.state { moment = m; asks = n };
+        asks =
+            old.sheet.asks ++ x ∷ [];
+      };
+    }
     → Undoes (record w { added = added.Ask }) new old
 asked_back w old mid new m n x alone back e =
-    ap less (subst (λ (a : Added). with_counts (counts_of mid.sheet) (rewritten w (without_added a new)) ≡ mid) alone.1.1 back) ∙ ap less e ∙ (λ i. record old { sheet = record old.sheet { asks = without_more old.sheet.asks x i } })
+    ap less (subst (λ (a : Added). with_counts (counts_of mid.sheet) (rewritten w (without_added a new)) ≡ mid)
+    alone.1.1 back) ∙ ap less e
+    ∙ (λ i. record old { sheet = record old.sheet { asks = without_more old.sheet.asks x i } })
   where
     less : Rowed → Rowed
-    less r = with_counts (counts_of old.sheet) (record r { sheet = record r.sheet { asks = without_last r.sheet.asks } })
+    less r = with_counts (counts_of old.sheet)
+        (record r { sheet = record r.sheet { asks = without_last r.sheet.asks } })
 
 -- and the repeats
-pub answered_back : (w : Writes) (old mid new : Rowed) (m : ℕ) (o : Option Repeated) (contacts : List Contact) → IsOfMember w → Undoes w new mid → mid ≡ record old { sheet = record old.sheet { state = record old.sheet.state { moment = m }; contacts = contacts } }
+pub answered_back : (w : Writes) (old mid new : Rowed) (m : ℕ) (o : Option Repeated) (contacts : List Contact)
+    → IsOfMember w → Undoes w new mid → mid ≡ record old {
+      sheet = record old.sheet
+          { state = record old.sheet.state { moment = m }; contacts = contacts };
+    }
     → repeats_back o old.capacity.ready contacts ≡ old.sheet.contacts → Undoes (record w { repeats = o }) new old
 answered_back w old mid new m o contacts alone back e h =
-    ap fewer (subst (λ (a : Option Repeated). with_counts (counts_of mid.sheet) (rewritten (record w { repeats = a }) (without_added w.added new)) ≡ mid) alone.1.0 back) ∙ ap fewer e ∙ (λ i. record old { sheet = record old.sheet { contacts = h i } })
+    ap fewer (subst (λ (a : Option Repeated). with_counts (counts_of mid.sheet)
+    (rewritten (record w { repeats = a }) (without_added w.added new)) ≡ mid) alone.1.0 back) ∙ ap fewer e
+    ∙ (λ i. record old { sheet = record old.sheet { contacts = h i } })
   where
     fewer : Rowed → Rowed
-    fewer r = with_counts (counts_of old.sheet) (record r { sheet = record r.sheet { contacts = repeats_back o r.capacity.ready r.sheet.contacts } })
+    fewer r = with_counts (counts_of old.sheet)
+        (record r { sheet = record r.sheet { contacts = repeats_back o r.capacity.ready r.sheet.contacts } })
 
 -- a member that joined
-pub joined_undone : (w : Option (ℕ × ActionRow)) (p a t m : ℕ) (row : MemberRow) (contact : Contact) (actions : List ActionRow) (old : Rowed) → put_back w actions ≡ old.sheet.state.actions
+pub joined_undone : (w : Option (ℕ × ActionRow)) (p a t m : ℕ) (row : MemberRow) (contact : Contact)
+    (actions : List ActionRow) (old : Rowed) → put_back w actions ≡ old.sheet.state.actions
     → Undoes (record { member = None; action = w; parent = None; repeats = None; added = added.Member a t })
     (record old {
       sheet = record old.sheet {
@@ -111,19 +137,23 @@ joined_undone w p a t m row contact actions old h = λ i. record old {
 }
 
 -- an action that started
-pub started_undone : (w : Option (ℕ × ActionRow)) (c : ℕ) (parent : Option ℕ) (m : ℕ) (row : ActionRow) (nest : Nest) (capacity : NestCapacity) (actions : List ActionRow) (old : Rowed) → put_back w actions ≡ old.sheet.state.actions
+pub started_undone : (w : Option (ℕ × ActionRow)) (c : ℕ) (parent : Option ℕ) (m : ℕ) (row : ActionRow) (nest : Nest)
+    (capacity : NestCapacity) (actions : List ActionRow) (old : Rowed) → put_back w actions ≡ old.sheet.state.actions
     → Undoes (record { member = None; action = w; parent = None; repeats = None; added = added.Action parent })
     (record old {
       sheet = record old.sheet {
         state = record old.sheet.state { moment = m; actions = actions ++ row ∷ [] };
-        nests = option_map_or (λ b. change_row (with_child_number c) b old.sheet.nests) parent old.sheet.nests ++ nest ∷ [];
+        nests = option_map_or (λ b. change_row (with_child_number c) b old.sheet.nests) parent old.sheet.nests ++ nest
+            ∷ [];
       };
       capacity = record old.capacity { lists = old.capacity.lists ++ capacity ∷ [] };
     }) old
 started_undone w c parent m row nest capacity actions old h = λ i. record {
   sheet = record old.sheet {
     state = record old.sheet.state { actions = (ap (put_back w) (without_more actions row) ∙ h) i };
-    nests = (ap (λ (ns : List Nest). option_map_or (λ b. change_row without_child b ns) parent ns) (without_more (option_map_or (λ b. change_row (with_child_number c) b old.sheet.nests) parent old.sheet.nests) nest) ∙ started_back c parent old.sheet.nests) i;
+    nests = (ap (λ (ns : List Nest). option_map_or (λ b. change_row without_child b ns) parent ns)
+        (without_more (option_map_or (λ b. change_row (with_child_number c) b old.sheet.nests) parent old.sheet.nests)
+        nest) ∙ started_back c parent old.sheet.nests) i;
   };
   capacity = record old.capacity { lists = without_more old.capacity.lists capacity i };
 }

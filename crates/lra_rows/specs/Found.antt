@@ -20,7 +20,13 @@ use Rattle.lra_rows.specs.declared.found.AskRow.{AskRow}
 abbrev pub found_action : History → ℕ → Option ActionRow
 found_action J a =
     cond (is_among (actions J) a)
-    (Some (record { parent = parent J a; limit = (limit_in_force J a).length_of; since = (limit_in_force J a).since; depth = depth J a; status = unwrap_or (action_status J a) action.Active }))
+    (Some (record {
+      parent = parent J a;
+      limit = (limit_in_force J a).length_of;
+      since = (limit_in_force J a).since;
+      depth = depth J a;
+      status = unwrap_or (action_status J a) action.Active;
+    }))
     None
 
 -- a member, if it is there: its action, its status, the outcomes that decide it both ways, the ask of it that is outstanding, what it wants,
@@ -46,7 +52,14 @@ found_addresses J p = cond (is_among (members J) p) (Some (addresses_of J p)) No
 
 -- an ask, if it was made: of whom, for what, which way it goes, and whether it is outstanding
 abbrev pub found_ask : History → ℕ → Option AskRow
-found_ask J n = option_map (λ (x : Asked). record { member = x.member; kind = x.kind; direction = x.direction; outstanding = is_outstanding J n }) (ask_of J n)
+found_ask J n = option_map
+    (λ (x : Asked). record {
+      member = x.member;
+      kind = x.kind;
+      direction = x.direction;
+      outstanding =
+          is_outstanding J n;
+    }) (ask_of J n)
 
 -- the end of an action, where it may end
 abbrev pub found_end : History → ℕ → Option Deed

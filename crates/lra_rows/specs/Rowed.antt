@@ -50,7 +50,8 @@ takes_one xs capacity = nat_lt (length xs) capacity
 -- whether a list of an action does, where the action is there (this project's choice)
 abbrev pub list_takes_one : (Nest → List ℕ) → (NestCapacity → ℕ) → Rowed → ℕ → Bool
 list_takes_one list capacity r a =
-    option_map_or (λ (n : Nest). option_map_or (λ (c : NestCapacity). takes_one (list n) (capacity c)) (row_at r.capacity.lists a) true) (row_at r.sheet.nests a) true
+    option_map_or (λ (n : Nest). option_map_or (λ (c : NestCapacity). takes_one (list n) (capacity c))
+    (row_at r.capacity.lists a) true) (row_at r.sheet.nests a) true
 
 -- whether an action's list of children takes one more (this project's choice)
 abbrev pub takes_child : Rowed → ℕ → Bool
@@ -71,11 +72,15 @@ is_ready_at ready p = option_map_or (λ b. b) (row_at ready p) true
 -- whether each list that a deed adds to takes one more, and repeats have a place that a reply adds to; the numbers of members that are asked
 -- are less than 2^32 (this project's choice)
 abbrev pub deed_has_room : Deed → Rowed → Bool
-deed_has_room (Start a parent limit) r = takes_one r.sheet.state.actions r.capacity.actions && takes_one r.sheet.nests r.capacity.nests && option_map_or (takes_child r) parent true
+deed_has_room (Start a parent limit) r = takes_one r.sheet.state.actions r.capacity.actions
+    && takes_one r.sheet.nests r.capacity.nests && option_map_or (takes_child r) parent true
 deed_has_room (Join p a uris) r =
-    takes_one r.sheet.state.members r.capacity.members && takes_one r.sheet.contacts r.capacity.contacts && takes_member r a && takes_under r (top_at r.sheet.state a)
+    takes_one r.sheet.state.members r.capacity.members && takes_one r.sheet.contacts r.capacity.contacts
+    && takes_member r a && takes_under r (top_at r.sheet.state a)
 deed_has_room (Ask n p kind) r = takes_one r.sheet.asks r.capacity.asks && nat_lt p (2 ^ 32)
-deed_has_room (Reply n o) r = cond (is_undecided o) (option_map_or (λ (x : Asked). is_ready_at r.capacity.ready x.member) (row_at r.sheet.asks n) true) true
+deed_has_room (Reply n o) r =
+    cond (is_undecided o) (option_map_or (λ (x : Asked). is_ready_at r.capacity.ready x.member) (row_at r.sheet.asks n)
+    true) true
 deed_has_room _ r = true
 
 -- whether an entry can be carried out with no memory: each list that it adds to takes one more, and so do the counts, which are less

@@ -40,7 +40,13 @@ pub record Step : Type 0 where
 
 -- rows with other counts
 abbrev pub with_counts : Counts → Rowed → Rowed
-with_counts c r = record r { sheet = record r.sheet { entries = c.entries; state = record r.sheet.state { moment = c.moment; clerks = c.clerks; asks = c.asks; void = c.void } } }
+with_counts c r = record r {
+  sheet = record r.sheet {
+    entries = c.entries;
+    state = record r.sheet.state
+        { moment = c.moment; clerks = c.clerks; asks = c.asks; void = c.void };
+  };
+}
 
 -- a list without its last one
 abbrev pub without_last : {X : Type 0} → List X → List X
@@ -64,7 +70,8 @@ without_added added.Nothing r = r
 without_added (added.Action parent) r = record r {
   sheet = record r.sheet {
     state = record r.sheet.state { actions = without_last r.sheet.state.actions };
-    nests = option_map_or (λ b. change_row without_child b (without_last r.sheet.nests)) parent (without_last r.sheet.nests);
+    nests = option_map_or (λ b. change_row without_child b (without_last r.sheet.nests)) parent
+        (without_last r.sheet.nests);
   };
   capacity = record r.capacity { lists = without_last r.capacity.lists };
 }
@@ -94,13 +101,18 @@ with_repeats ask.Status r c = c
 -- the members' repeats as they were, where they have places
 abbrev pub repeats_back : Option Repeated → List Bool → List Contact → List Contact
 repeats_back o ready contacts =
-    option_map_or (λ (x : Repeated). cond (is_ready_at ready x.member) (change_row (with_repeats x.stage x.repeats) x.member contacts) contacts) o contacts
+    option_map_or (λ (x : Repeated). cond (is_ready_at ready x.member)
+    (change_row (with_repeats x.stage x.repeats) x.member contacts) contacts) o contacts
 
 -- each row that was written over as it was
 abbrev pub rewritten : Writes → Rowed → Rowed
 rewritten w r = record r {
   sheet = record r.sheet {
-    state = record r.sheet.state { actions = put_back w.action (put_back w.parent r.sheet.state.actions); members = put_back w.member r.sheet.state.members };
+    state = record r.sheet.state {
+      actions = put_back w.action (put_back w.parent r.sheet.state.actions);
+      members =
+          put_back w.member r.sheet.state.members;
+    };
     contacts = repeats_back w.repeats r.capacity.ready r.sheet.contacts;
   };
 }
@@ -111,7 +123,8 @@ taken_back k r = with_counts k.before (rewritten k.writes (without_added k.write
 
 -- the addresses of the last member, where a member was added
 abbrev pub added_addresses : Added → List Contact → Option Addresses
-added_addresses (added.Member a top) contacts = option_map (λ (c : Contact). c.addresses) (row_at contacts (length contacts))
+added_addresses (added.Member a top) contacts = option_map (λ (c : Contact). c.addresses)
+    (row_at contacts (length contacts))
 added_addresses _ contacts = None
 
 -- the addresses of the member that a step added, if it added one (this project's choice)

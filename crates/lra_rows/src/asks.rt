@@ -72,7 +72,8 @@ impl Asks {
     pub(crate) fn reserve_one(&mut self) -> Result<(), Memory>
         ensures items { self.new.items ≡ self.old.items }
         ensures ok { OnOk result (takes_one self.new.items self.new.capacity ≡ true) }
-        ensures kept { takes_one self.old.items self.old.capacity ≡ true → takes_one self.new.items self.new.capacity ≡ true }
+        ensures kept { takes_one self.old.items self.old.capacity ≡ true → takes_one self.new.items self.new.capacity
+            ≡ true }
     {
         reserve_one(&mut self.rows)
     }

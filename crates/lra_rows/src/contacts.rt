@@ -64,7 +64,8 @@ fn make_ready(alloc: Global, rows: &mut Vec<Contact>, number: u64) -> Result<(),
     ensures same { contacts_in rows.new.items ≡ contacts_in rows.old.items }
     ensures capacity { vec_capacity rows.new ≡ vec_capacity rows.old }
     ensures ok { OnOk result (is_ready_at (ready_in rows.new.items) number ≡ true) }
-    ensures kept { (n : ℕ) → is_ready_at (ready_in rows.old.items) n ≡ true → is_ready_at (ready_in rows.new.items) n ≡ true }
+    ensures kept { (n : ℕ) → is_ready_at (ready_in rows.old.items) n ≡ true → is_ready_at (ready_in rows.new.items) n
+        ≡ true }
 {
     let Some(place) = place_of(number) else {
         return Ok(());
@@ -78,7 +79,8 @@ fn make_ready(alloc: Global, rows: &mut Vec<Contact>, number: u64) -> Result<(),
 /// Removes the last one, and gives its addresses.
 fn remove_last(rows: &mut Vec<Contact>) -> Option<Packed>
     ensures items { rows.new.items ≡ without_last rows.old.items }
-    ensures uris { result ≡ option_map (λ (r : Reached). r.contact.addresses) (row_at rows.old.items (length rows.old.items)) }
+    ensures uris { result ≡ option_map (λ (r : Reached). r.contact.addresses)
+        (row_at rows.old.items (length rows.old.items)) }
     ensures capacity { vec_capacity rows.new ≡ vec_capacity rows.old }
 {
     match rows.pop() {
@@ -99,7 +101,12 @@ impl Model for Contacts {
 
     ghost Value = { Reachable };
 
-    ghost view = { λ c. record { items = contacts_in c.rows.items; capacity = vec_capacity c.rows; ready = ready_in c.rows.items } };
+    ghost view = { λ c. record {
+      items = contacts_in c.rows.items;
+      capacity = vec_capacity c.rows;
+      ready =
+          ready_in c.rows.items;
+    } };
 }
 
 impl Contacts {
@@ -124,7 +131,8 @@ impl Contacts {
 
     /// The addresses of a member, if it is there.
     pub(crate) fn addresses(&self, number: u64) -> Option<&Packed>
-        ensures { option_copied result ≡ option_map (λ (c : sheets.Contact). c.addresses) (row_at self.now.items number) }
+        ensures { option_copied result ≡ option_map (λ (c : sheets.Contact). c.addresses)
+            (row_at self.now.items number) }
     {
         match lent(&self.rows, number) {
             Some(contact) => Some(&contact.uris),
@@ -154,7 +162,8 @@ impl Contacts {
         ensures items { self.new.items ≡ self.old.items }
         ensures ready { self.new.ready ≡ self.old.ready }
         ensures ok { OnOk result (takes_one self.new.items self.new.capacity ≡ true) }
-        ensures kept { takes_one self.old.items self.old.capacity ≡ true → takes_one self.new.items self.new.capacity ≡ true }
+        ensures kept { takes_one self.old.items self.old.capacity ≡ true → takes_one self.new.items self.new.capacity
+            ≡ true }
     {
         reserve_one(&mut self.rows)
     }
@@ -192,7 +201,8 @@ impl Contacts {
     /// Removes the last member, if there is one, and gives its addresses.
     pub(crate) fn remove_last(&mut self) -> Option<Packed>
         ensures items { self.new.items ≡ without_last self.old.items }
-        ensures uris { result ≡ option_map (λ (c : sheets.Contact). c.addresses) (row_at self.old.items (length self.old.items)) }
+        ensures uris { result ≡ option_map (λ (c : sheets.Contact). c.addresses)
+            (row_at self.old.items (length self.old.items)) }
         ensures capacity { self.new.capacity ≡ self.old.capacity }
         ensures ready { self.new.ready ≡ without_last self.old.ready }
     {
@@ -203,7 +213,8 @@ impl Contacts {
     pub(crate) fn answer(&mut self, moment: u64, outcome: Outcome, asked: Asked) -> Option<Repeated>
         requires few { (p : ℕ) → IfSome (row_at self.old.items p) (RepeatsTo (2 ^ 63)) }
         requires ready { is_undecided outcome ≡ true → is_ready_at self.old.ready asked.member ≡ true }
-        ensures items { self.new.items ≡ change_row (sheets.with_answer moment outcome asked) asked.member self.old.items }
+        ensures items { self.new.items ≡ change_row (sheets.with_answer moment outcome asked) asked.member
+            self.old.items }
         ensures ready { self.new.ready ≡ self.old.ready }
         ensures back { repeats_back result self.new.ready self.new.items ≡ self.old.items }
         ensures capacity { self.new.capacity ≡ self.old.capacity }

@@ -79,7 +79,8 @@ pub(crate) fn takes_one<T>(rows: &Vec<T>) -> bool
 pub(crate) fn reserve_one<T: Drop>(rows: &mut Vec<T>) -> Result<(), Memory>
     ensures items { rows.new.items ≡ rows.old.items }
     ensures ok { OnOk result (takes_one rows.new.items (vec_capacity rows.new) ≡ true) }
-    ensures kept { takes_one rows.old.items (vec_capacity rows.old) ≡ true → takes_one rows.new.items (vec_capacity rows.new) ≡ true }
+    ensures kept { takes_one rows.old.items (vec_capacity rows.old) ≡ true
+        → takes_one rows.new.items (vec_capacity rows.new) ≡ true }
 {
     rows.reserve(1)?;
     Ok(())

@@ -28,7 +28,8 @@ fn reserve_at(nests: &mut Vec<Nest>, list: Listed, action: u64) -> Result<(), Me
     ensures same { nests_in nests.new.items ≡ nests_in nests.old.items }
     ensures capacity { vec_capacity nests.new ≡ vec_capacity nests.old }
     ensures ok { OnOk result (has_place_at list action nests.new.items ≡ true) }
-    ensures kept { (l : Listed) (a : ℕ) → has_place_at l a nests.old.items ≡ true → has_place_at l a nests.new.items ≡ true }
+    ensures kept { (l : Listed) (a : ℕ) → has_place_at l a nests.old.items ≡ true → has_place_at l a nests.new.items
+        ≡ true }
 {
     let Some(place) = place_of(action) else {
         return Ok(());
@@ -114,7 +115,8 @@ impl Rows {
 
     fn reserve_join(&mut self, action: u64) -> Result<(), Memory>
         ensures sheet { self.new.sheet ≡ self.old.sheet }
-        ensures ok { OnOk result ((p : ℕ) (uris : Addresses) → deed_has_room (deeds.Join p action uris) self.new ≡ true) }
+        ensures ok { OnOk result ((p : ℕ) (uris : Addresses) → deed_has_room (deeds.Join p action uris) self.new
+            ≡ true) }
         ensures kept { Keeps self.old self.new }
     {
         reserve_one(&mut self.members)?;

@@ -42,7 +42,8 @@ impl Rows {
     }
 
     fn may_close_with_parent(&self, row: &ActionState) -> bool
-        ensures { result ≡ tests.may_close_with_parent (facts_by self.now.sheet.state) (action_by self.now.sheet.state row.now) }
+        ensures { result ≡ tests.may_close_with_parent (facts_by self.now.sheet.state)
+            (action_by self.now.sheet.state row.now) }
     {
         match row.parent {
             Some(parent) => row.status.is_active() && self.is_closing(parent),
@@ -51,7 +52,8 @@ impl Rows {
     }
 
     fn may_cancel_with_parent(&self, row: &ActionState) -> bool
-        ensures { result ≡ tests.may_cancel_with_parent (facts_by self.now.sheet.state) (action_by self.now.sheet.state row.now) }
+        ensures { result ≡ tests.may_cancel_with_parent (facts_by self.now.sheet.state)
+            (action_by self.now.sheet.state row.now) }
     {
         match row.parent {
             Some(parent) => row.status.is_cancellable() && self.is_cancelling(parent),

@@ -23,9 +23,23 @@ impl Model for Counts {
 
     ghost Value = { steps.Counts };
 
-    ghost view = { λ c. record { entries = c.entries; moment = c.moment; clerks = c.clerks; asks = c.asked; void = c.void } };
+    ghost view = { λ c. record {
+      entries = c.entries;
+      moment = c.moment;
+      clerks = c.clerks;
+      asks = c.asked;
+      void =
+          c.void;
+    } };
 
-    ghost inverse = { λ c. record { entries = c.entries; moment = c.moment; clerks = c.clerks; asked = c.asks; void = c.void } };
+    ghost inverse = { λ c. record {
+      entries = c.entries;
+      moment = c.moment;
+      clerks = c.clerks;
+      asked = c.asks;
+      void =
+          c.void;
+    } };
 }
 
 /// A member's repeats in a stage, as they were.
@@ -71,9 +85,22 @@ impl Model for Writes {
 
     ghost Value = { steps.Writes };
 
-    ghost view = { λ w. record { member = w.member; action = w.action; parent = w.parent; repeats = w.repeats; added = w.added } };
+    ghost view = { λ w. record {
+      member = w.member;
+      action = w.action;
+      parent = w.parent;
+      repeats = w.repeats;
+      added =
+          w.added;
+    } };
 
-    ghost inverse = { λ w. record { member = w.member; action = w.action; parent = w.parent; repeats = w.repeats; added = w.added } };
+    ghost inverse = { λ w. record {
+      member = w.member;
+      action = w.action;
+      parent = w.parent;
+      repeats = w.repeats;
+      added = w.added;
+    } };
 }
 
 impl Writes {

@@ -44,7 +44,8 @@ impl Rows {
     }
 
     fn wants_completion(&self, row: &MemberState) -> Option<AskKind>
-        ensures { result ≡ wants.wants_completion (facts_by self.now.sheet.state) (member_by self.now.sheet.state row.now) }
+        ensures { result ≡ wants.wants_completion (facts_by self.now.sheet.state)
+            (member_by self.now.sheet.state row.now) }
     {
         let is_time = self.is_closing(row.action)
             && (row.status.is_untouched() || row.status.is_completing());
@@ -59,7 +60,8 @@ impl Rows {
     }
 
     fn wants_compensation(&self, row: &MemberState) -> Option<AskKind>
-        ensures { result ≡ wants.wants_compensation (facts_by self.now.sheet.state) (member_by self.now.sheet.state row.now) }
+        ensures { result ≡ wants.wants_compensation (facts_by self.now.sheet.state)
+            (member_by self.now.sheet.state row.now) }
     {
         let is_time = self.is_cancelling(row.action)
             && (row.status.is_untouched()
@@ -76,7 +78,8 @@ impl Rows {
     }
 
     fn is_time_to_forget(&self, row: &MemberState) -> bool
-        ensures { result ≡ tests.is_time_for ask.Forget (facts_by self.now.sheet.state) (member_by self.now.sheet.state row.now) }
+        ensures { result ≡ tests.is_time_for ask.Forget (facts_by self.now.sheet.state)
+            (member_by self.now.sheet.state row.now) }
     {
         let Some(action) = at(&self.actions, row.action) else {
             return false;
@@ -87,7 +90,8 @@ impl Rows {
     }
 
     fn is_time_to_tell(&self, row: &MemberState) -> bool
-        ensures { result ≡ tests.is_time_for ask.After (facts_by self.now.sheet.state) (member_by self.now.sheet.state row.now) }
+        ensures { result ≡ tests.is_time_for ask.After (facts_by self.now.sheet.state)
+            (member_by self.now.sheet.state row.now) }
     {
         let Some(action) = at(&self.actions, row.action) else {
             return false;

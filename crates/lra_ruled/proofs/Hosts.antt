@@ -16,11 +16,14 @@ behind a = ap (prefix_len (λ b. not (b == 58))) (reverse-append a (codes ":80")
 host_at_80 : (a : List ℕ) → host_in (a ++ codes ":80") ≡ a
 unfolding at_last
 host_at_80 a =
-    let there : list_any (λ b. b == 58) (a ++ codes ":80") ≡ true = list_any-append (λ b. b == 58) a (codes ":80") ∙ or-true (list_any (λ b. b == 58) a) in
-    let count : length (a ++ codes ":80") - suffix_len (λ b. not (b == 58)) (a ++ codes ":80") - 1 ≡ length a = omega (arith, length-append a (codes ":80"), behind a) in
+    let there : list_any (λ b. b == 58) (a ++ codes ":80") ≡ true = list_any-append (λ b. b == 58) a (codes ":80")
+    ∙ or-true (list_any (λ b. b == 58) a) in
+    let count : length (a ++ codes ":80") - suffix_len (λ b. not (b == 58)) (a ++ codes ":80") - 1
+    ≡ length a = omega (arith, length-append a (codes ":80"), behind a) in
     rw (there, count) (take-append_seam a (codes ":80"))
 
 -- with the port that an authority names, or with port 80
-pub same_host : (port : Option ℕ) (a : List ℕ) → option_map_or (λ _. host_in a) port a ≡ host_in (option_map_or (λ _. a) port (a ++ codes ":80"))
+pub same_host : (port : Option ℕ) (a : List ℕ) → option_map_or (λ _. host_in a) port a
+    ≡ host_in (option_map_or (λ _. a) port (a ++ codes ":80"))
 same_host None a = sym (host_at_80 a)
 same_host (Some n) a = refl

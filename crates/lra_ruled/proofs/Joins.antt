@@ -8,11 +8,13 @@ use Rattle.serde_json.specs.Find.{as_object}
 use Rattle.lra_front.specs.declared.operation.Operation.TheVariants as operation
 use Rattle.lra_front.specs.Bodies.{members_fit, fitting, object_in, body_of}
 
-object_ok : (body : List ℕ) (d : Data) → 0 < length body → IsUtf8 body → read body ≡ Some d → object_in body ≡ as_object d
+object_ok : (body : List ℕ) (d : Data) → 0 < length body → IsUtf8 body → read body ≡ Some d → object_in body
+    ≡ as_object d
 object_ok [] d some text e = absurd (omega (arith, some))
 object_ok (b ∷ rest) d some text e = rw (is_utf8-from_IsUtf8 (b ∷ rest) text, e) refl
 
-object_by : (b : ℕ) (rest : List ℕ) (t : Bool) → is_utf8 (b ∷ rest) ≡ t → (IsUtf8 (b ∷ rest) → read (b ∷ rest) ≡ None) → object_in (b ∷ rest) ≡ None
+object_by : (b : ℕ) (rest : List ℕ) (t : Bool) → is_utf8 (b ∷ rest) ≡ t → (IsUtf8 (b ∷ rest) → read (b ∷ rest) ≡ None)
+    → object_in (b ∷ rest) ≡ None
 object_by b rest true e h = rw (e, h (IsUtf8-from_is_utf8 (b ∷ rest) e)) refl
 object_by b rest false e h = rw e refl
 
@@ -27,20 +29,24 @@ empty_body [] e = refl
 empty_body (b ∷ rest) e = absurd (omega (arith, e))
 
 -- one that is no JSON isn't read
-pub unread_body : (body : List ℕ) → 0 < length body → (IsUtf8 body → read body ≡ None) → body_of operation.Join body ≡ None
+pub unread_body : (body : List ℕ) → 0 < length body → (IsUtf8 body → read body ≡ None) → body_of operation.Join body
+    ≡ None
 unfolding body_of
 unread_body body some h = rw (object_err body some h) refl
 
-fitting_is : (o : Option Members) → is_some (option_and_then (fitting operation.Join) o) ≡ true → (option_and_then (fitting operation.Join) o ≡ o) × IsSome o
+fitting_is : (o : Option Members) → is_some (option_and_then (fitting operation.Join) o) ≡ true
+    → (option_and_then (fitting operation.Join) o ≡ o) × IsSome o
 fitting_is None e = absurd (cc)
 fitting_is (Some ms) e = by_fit (members_fit operation.Join ms) refl e
   where
-    by_fit : (t : Bool) → members_fit operation.Join ms ≡ t → is_some (option_and_then (fitting operation.Join) (Some ms)) ≡ true → (option_and_then (fitting operation.Join) (Some ms) ≡ Some ms) × IsSome (Some ms)
+    by_fit : (t : Bool) → members_fit operation.Join ms ≡ t → is_some (option_and_then (fitting operation.Join)
+        (Some ms)) ≡ true → (option_and_then (fitting operation.Join) (Some ms) ≡ Some ms) × IsSome (Some ms)
     by_fit true fits e = (rw fits refl, refl)
     by_fit false fits e = absurd (let h : is_some (option_and_then (fitting operation.Join) (Some ms)) ≡ false = rw fits refl in cc)
 
 -- what is read fits
-pub fitting_body : (body : List ℕ) (d : Data) → 0 < length body → IsUtf8 body → read body ≡ Some d → is_some (option_and_then (fitting operation.Join) (as_object d)) ≡ true
+pub fitting_body : (body : List ℕ) (d : Data) → 0 < length body → IsUtf8 body → read body ≡ Some d
+    → is_some (option_and_then (fitting operation.Join) (as_object d)) ≡ true
     → (body_of operation.Join body ≡ as_object d) × IsSome (as_object d)
 unfolding body_of
 fitting_body body d some text e fits = let (same, there) = fitting_is (as_object d) fits in (rw (object_ok body d some text e) same, there)
@@ -50,6 +56,8 @@ none_of None e = refl
 none_of (Some ms) e = absurd (cc)
 
 -- or doesn't
-pub other_body : (body : List ℕ) (d : Data) → 0 < length body → IsUtf8 body → read body ≡ Some d → is_some (option_and_then (fitting operation.Join) (as_object d)) ≡ false → body_of operation.Join body ≡ None
+pub other_body : (body : List ℕ) (d : Data) → 0 < length body → IsUtf8 body → read body ≡ Some d
+    → is_some (option_and_then (fitting operation.Join) (as_object d)) ≡ false → body_of operation.Join body ≡ None
 unfolding body_of
-other_body body d some text e fits = rw (object_ok body d some text e) (none_of (option_and_then (fitting operation.Join) (as_object d)) fits)
+other_body body d some text e fits = rw (object_ok body d some text e)
+    (none_of (option_and_then (fitting operation.Join) (as_object d)) fits)

@@ -40,13 +40,15 @@ is_let_if rules text = option_map_or (is_let rules) text true
 -- they let each of a member's addresses
 abbrev pub are_let : List (List ℕ) → Addresses → Bool
 are_let rules u =
-    is_let_if rules u.compensate && is_let_if rules u.complete && is_let_if rules u.status && is_let_if rules u.forget && is_let_if rules u.after
+    is_let_if rules u.compensate && is_let_if rules u.complete && is_let_if rules u.status && is_let_if rules u.forget
+    && is_let_if rules u.after
 
 -- ---- requests
 
 -- a body is that of a join, and has an address that the rules don't let
 abbrev pub is_outside_by : List (List ℕ) → List ℕ → Bool
-is_outside_by rules body = option_map_or (λ ms. not (are_let rules (addresses_given ms))) (body_of operation.Join body) false
+is_outside_by rules body = option_map_or (λ ms. not (are_let rules (addresses_given ms))) (body_of operation.Join body)
+    false
 
 -- what is asked for is to join
 abbrev pub joins : Result Operation Denial → Bool

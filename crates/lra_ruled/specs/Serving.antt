@@ -15,7 +15,8 @@ pub record Served (S : Type 0) : Type 0 where
 module _ {S : Type 0} (responds : S → ℕ → Request → Answered → S → Type 0) where
   -- a request that isn't outside the rules is answered as it came
   abbrev pub Answers : Served S → ℕ → Request → Answered → S → Type 0
-  Answers before moment request answered after = (is_outside before.rules request ≡ false) × responds before.inner moment request answered after
+  Answers before moment request answered after = (is_outside before.rules request ≡ false)
+      × responds before.inner moment request answered after
 
   -- one that is refused does nothing
   pub record Refuses (before : Served S) (request : Request) (answered : Answered) (after : S) : Type 0 where

@@ -42,7 +42,8 @@ fn let_text(alloc: Global, rules: &Rules, text: &str) -> Result<bool, Memory>
 
 /// Returns whether rules let the text under a key of a body, where there is one.
 fn let_under(alloc: Global, rules: &Rules, body: &Value, key: &str) -> Result<bool, Memory>
-    ensures { IfOk result (λ told. IfSome (as_object (view body.now)) (λ ms. told ≡ spec.is_let_if rules.now (text_under key.now ms))) }
+    ensures { IfOk result (λ told. IfSome (as_object (view body.now)) (λ ms. told
+        ≡ spec.is_let_if rules.now (text_under key.now ms))) }
 {
     match body.get(key) {
         Some(value) => match value.as_str() {
@@ -55,7 +56,8 @@ fn let_under(alloc: Global, rules: &Rules, body: &Value, key: &str) -> Result<bo
 
 /// Returns whether rules let all addresses in the body of a join.
 pub(crate) fn let_all(alloc: Global, rules: &Rules, body: &Value) -> Result<bool, Memory>
-    ensures { IfOk result (λ told. IfSome (as_object (view body.now)) (λ ms. told ≡ spec.are_let rules.now (addresses_given ms))) }
+    ensures { IfOk result (λ told. IfSome (as_object (view body.now)) (λ ms. told
+        ≡ spec.are_let rules.now (addresses_given ms))) }
 {
     Ok(
         let_under(alloc, rules, body, "compensate")?

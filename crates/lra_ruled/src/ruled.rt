@@ -108,7 +108,8 @@ impl<A: Responder> Responder for Ruled<'_, A> {
         self.inner.rest();
     }
 
-    ghost stays = { λ before after moment request answered h. base_stays A.base_of A.responds A.stays before after moment request answered h };
+    ghost stays = { λ before after moment request answered h. base_stays A.base_of A.responds A.stays before after
+        moment request answered h };
 
     ghost rest_stays = { λ before after h. A.rest_stays before.inner after.inner h.inner };
 }

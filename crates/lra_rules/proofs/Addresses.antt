@@ -15,7 +15,8 @@ mapped : (segments : List ℕ) → IsIpv4Mapped segments → is_mapped segments 
 mapped segments h = (bytes_eq-Decides (take 6 segments) (0 ∷ 0 ∷ 0 ∷ 0 ∷ 0 ∷ 65535 ∷ [])).1 h
 
 unmapped : (segments : List ℕ) → ¬ (IsIpv4Mapped segments) → is_mapped segments ≡ false
-unmapped segments h = false_from_ne_true _ (λ e. h ((bytes_eq-Decides (take 6 segments) (0 ∷ 0 ∷ 0 ∷ 0 ∷ 0 ∷ 65535 ∷ [])).0 e))
+unmapped segments h =
+    false_from_ne_true _ (λ e. h ((bytes_eq-Decides (take 6 segments) (0 ∷ 0 ∷ 0 ∷ 0 ∷ 0 ∷ 65535 ∷ [])).0 e))
 
 -- it is that one
 abbrev pub Canonical : IpAddr → IpAddr → Type 0
@@ -50,5 +51,6 @@ agree_lengths bits (x ∷ xs) (y ∷ ys) h =
 
 -- one octet more
 pub agree_step : (bits : ℕ) (xs ys : List ℕ) (i : ℕ) → i < length xs → i < length ys
-    → agree bits (drop i xs) (drop i ys) ≡ ((first_bits bits (get_or xs i 0) == first_bits bits (get_or ys i 0)) && agree (bits - 8) (drop (i + 1) xs) (drop (i + 1) ys))
+    → agree bits (drop i xs) (drop i ys) ≡ ((first_bits bits (get_or xs i 0) == first_bits bits (get_or ys i 0))
+    && agree (bits - 8) (drop (i + 1) xs) (drop (i + 1) ys))
 agree_step bits xs ys i a b = rw (drop_more xs i 0 a, drop_more ys i 0 b) refl

@@ -11,12 +11,15 @@ use Rattle.std.proofs.lemmas.List.Elements.{All-weaker}
 use Rattle.lra_rules.specs.Texts.{at_last}
 
 -- the last such byte stands at a place
-pub at_last_some : (byte : ℕ) (xs : List ℕ) (i : ℕ) → i < length xs → get_or xs i 0 ≡ byte → ((k : ℕ) → i + 1 ≤ k → k < length xs → get_or xs k 0 ≢ byte)
+pub at_last_some : (byte : ℕ) (xs : List ℕ) (i : ℕ) → i < length xs → get_or xs i 0 ≡ byte
+    → ((k : ℕ) → i + 1 ≤ k → k < length xs → get_or xs k 0 ≢ byte)
     → at_last byte xs ≡ Some (take i xs, drop (i + 1) xs)
 unfolding at_last
 at_last_some byte xs i inside here after =
     let there : list_any (λ b. b == byte) xs ≡ true = list_any_at (λ b. b == byte) xs i 0 inside (eq-eqb _ _ here) in
-    let others = suffix_len_is (λ b. not (b == byte)) xs (i + 1) 0 (omega arith) (λ k low high. ap not (ne_eqb _ _ (after k low high))) (λ _. ap (λ j. not (get_or xs j 0 == byte)) (omega arith) ∙ ap not (eq-eqb _ _ here)) in
+    let others = suffix_len_is (λ b. not (b == byte)) xs (i + 1) 0 (omega arith)
+    (λ k low high. ap not (ne_eqb _ _ (after k low high))) (λ _. ap (λ j. not (get_or xs j 0 == byte))
+    (omega arith) ∙ ap not (eq-eqb _ _ here)) in
     let front : length xs - (length xs - (i + 1)) - 1 ≡ i = omega arith in
     let back : length xs - (length xs - (i + 1)) ≡ i + 1 = omega arith in
     rw (there, others, front, back) refl
@@ -25,7 +28,8 @@ at_last_some byte xs i inside here after =
 pub at_last_none : (byte : ℕ) (xs : List ℕ) → All (λ b. b ≢ byte) xs → at_last byte xs ≡ None
 unfolding at_last
 at_last_none byte xs none =
-    let there : list_any (λ b. b == byte) xs ≡ false = list_any_none (λ b. b == byte) xs (All-weaker (λ b. b ≢ byte) (λ b. (b == byte) ≡ false) (λ b other. ne_eqb _ _ other) xs none) in
+    let there : list_any (λ b. b == byte) xs ≡ false = list_any_none (λ b. b == byte) xs
+    (All-weaker (λ b. b ≢ byte) (λ b. (b == byte) ≡ false) (λ b other. ne_eqb _ _ other) xs none) in
     rw there refl
 
 -- ---- readers
@@ -40,9 +44,11 @@ module _ (read : List ℕ → Option (List ℕ × List ℕ)) (Spells : List ℕ 
   ended : (text value rest : List ℕ) → read text ≡ Some (value, rest) → length rest ≡ 0 → Spells text value
   ended text value rest e none =
       let (front, is, spelled) = sound text value rest e in
-      subst (λ t. Spells t value) (sym (is ∙ ap (λ r. front ++ r) (nil_from_length rest none) ∙ append-nil front)) spelled
+      subst (λ t. Spells t value) (sym (is ∙ ap (λ r. front ++ r) (nil_from_length rest none) ∙ append-nil front))
+      spelled
 
-  none_by : (text : List ℕ) (o : Option (List ℕ × List ℕ)) → read text ≡ o → ((value : List ℕ) → ¬ (Spells text value)) → whole_value o ≡ None
+  none_by : (text : List ℕ) (o : Option (List ℕ × List ℕ)) → read text ≡ o → ((value : List ℕ) → ¬ (Spells text value))
+      → whole_value o ≡ None
   none_by text None e never = refl
   none_by text (Some (value, rest)) e never =
       ⊎_elim

@@ -26,7 +26,8 @@ ipv6 segments = V6 (record { segments = segments })
 
 -- the address that a text writes: four numbers with points between them, or an IPv6 address (RFC 4291, section 2.2)
 unfoldable pub bare_ip_of : List ℕ → Option IpAddr
-bare_ip_of text = option_or (option_map ipv4 (whole_value (read_ipv4 text))) (option_map ipv6 (whole_value (read_ipv6 text)))
+bare_ip_of text = option_or (option_map ipv4 (whole_value (read_ipv4 text)))
+    (option_map ipv6 (whole_value (read_ipv6 text)))
 
 -- a text stands between brackets
 abbrev pub is_bracketed : List ℕ → Bool
@@ -34,7 +35,8 @@ is_bracketed text = nat_le 2 (length text) && slice_index text 0 == 91 && slice_
 
 -- the address that a text writes: an IPv6 address may stand between brackets, as in URLs (RFC 3986, section 3.2.2)
 unfoldable pub ip_of : List ℕ → Option IpAddr
-ip_of text = if is_bracketed text then option_map ipv6 (whole_value (read_ipv6 (drop 1 (take (length text - 1) text)))) else bare_ip_of text
+ip_of text = if is_bracketed text then option_map ipv6
+    (whole_value (read_ipv6 (drop 1 (take (length text - 1) text)))) else bare_ip_of text
 
 -- ---- addresses
 
@@ -106,7 +108,8 @@ address_of ip = record { first = ip; bits = width_of ip }
 
 -- the network that a text writes: an address, or an address, `/` and how many of its bits count
 unfoldable pub network_of : List ℕ → Option Network
-network_of text = option_map_or (λ parts. prefix_of parts.0 parts.1) (at_last 47 text) (option_map address_of (ip_of text))
+network_of text = option_map_or (λ parts. prefix_of parts.0 parts.1) (at_last 47 text)
+    (option_map address_of (ip_of text))
 
 -- ---- special addresses
 

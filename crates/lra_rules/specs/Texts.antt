@@ -6,7 +6,10 @@ use Rattle.std.specs.Char.{is_ascii_digit, is_ascii_alphanumeric}
 
 -- what stands before the last such byte and behind it, where there is one
 unfoldable pub at_last : ℕ → List ℕ → Option (List ℕ × List ℕ)
-at_last byte text = if list_any (λ b. b == byte) text then Some (before_last (λ b. b == byte) text, after_last (λ b. b == byte) text) else None
+at_last byte text = if list_any (λ b. b == byte) text then Some (
+  before_last (λ b. b == byte) text,
+  after_last (λ b. b == byte) text,
+) else None
 
 -- the host in a host and port: what stands before the last colon, or all of what has none
 abbrev pub host_in : List ℕ → List ℕ
@@ -18,12 +21,14 @@ last_label name = option_map_or (λ parts. parts.1) (at_last 46 name) name
 
 -- the number that a digit writes behind those of another, where it is no more than that
 abbrev pub next_number : ℕ → ℕ → ℕ → Option ℕ
-next_number most value digit = if is_ascii_digit digit && nat_le (value * 10 + (digit - 48)) most then Some (value * 10 + (digit - 48)) else None
+next_number most value digit = if is_ascii_digit digit && nat_le (value * 10 + (digit - 48)) most then Some
+    (value * 10 + (digit - 48)) else None
 
 -- the number that digits write behind those of another
 abbrev pub number_after : ℕ → ℕ → List ℕ → Option ℕ
 number_after most value [] = Some value
-number_after most value (digit ∷ digits) = option_and_then (λ next. number_after most next digits) (next_number most value digit)
+number_after most value (digit ∷ digits) = option_and_then (λ next. number_after most next digits)
+    (next_number most value digit)
 
 -- the number that a text of digits alone writes, where it is no more than that
 unfoldable pub number : ℕ → List ℕ → Option ℕ

@@ -11,11 +11,13 @@ use Rattle.lra_commands.specs.Blocks.{block}
 use Rattle.lra_commands.specs.Refusals.{refused}
 use Rattle.lra_commands.specs.Answers.{told_of, answer, growth}
 
-told_grows : {X : Type 0} (r : Option Refusal) (all : List X) (y t : Told) → option_map_or Err r (Ok y) ≡ Ok t → cond (is_some r) [] all ≡ all
+told_grows : {X : Type 0} (r : Option Refusal) (all : List X) (y t : Told) → option_map_or Err r (Ok y) ≡ Ok t
+    → cond (is_some r) [] all ≡ all
 told_grows None all y t e = refl
 told_grows (Some x) all y t e = absurd cc
 
-refused_stays : {X : Type 0} (r : Option Refusal) (all : List X) (y : Told) (x : Refusal) → option_map_or Err r (Ok y) ≡ Err x → cond (is_some r) [] all ≡ []
+refused_stays : {X : Type 0} (r : Option Refusal) (all : List X) (y : Told) (x : Refusal) → option_map_or Err r (Ok y)
+    ≡ Err x → cond (is_some r) [] all ≡ []
 refused_stays None all y x e = absurd cc
 refused_stays (Some z) all y x e = refl
 

@@ -35,28 +35,34 @@ use Rattle.lra_runs.proofs.Growths.{growth_told, growth_refused}
 -- ---- the lines of a block
 
 -- the lines of entries are marked one by one
-marked_are : (v : Version) (es : List Entry) → All (HasLine v) es → flat_map marked (lines_of (flat_map line es)) ≡ marked_entries es
+marked_are : (v : Version) (es : List Entry) → All (HasLine v) es → flat_map marked (lines_of (flat_map line es))
+    ≡ marked_entries es
 marked_are v es h = ap (flat_map marked) (lines_of_entries v es h) ∙ flat_map-map marked line es
 
 -- one line more is marked
-pub marked_more : (text out next rest front others : List ℕ) (n : ℕ) → flat_map marked (lines_of text) ≡ out ++ flat_map marked (lines_of rest) → lines_of rest ≡ take n rest ∷ lines_of (drop n rest) → front ≡ take n rest
-    → others ≡ drop n rest → next ≡ (out ++ codes "+ ") ++ front → flat_map marked (lines_of text) ≡ next ++ flat_map marked (lines_of others)
+pub marked_more : (text out next rest front others : List ℕ) (n : ℕ) → flat_map marked (lines_of text) ≡ out
+    ++ flat_map marked (lines_of rest) → lines_of rest ≡ take n rest ∷ lines_of (drop n rest) → front ≡ take n rest
+    → others ≡ drop n rest → next ≡ (out ++ codes "+ ") ++ front → flat_map marked (lines_of text) ≡ next
+    ++ flat_map marked (lines_of others)
 marked_more text out next rest front others n h first f o made =
     h ∙ ap (λ (ls : List (List ℕ)). out ++ flat_map marked ls) (first ∙ (λ i. sym f i ∷ lines_of (sym o i)))
     ∙ sym (append_assoc out (marked front) (flat_map marked (lines_of others)))
     ∙ ap (λ (t : List ℕ). t ++ flat_map marked (lines_of others)) (sym (append_assoc out (codes "+ ") front) ∙ sym made)
 
 -- all lines are marked
-pub marked_all : (text out rest : List ℕ) → flat_map marked (lines_of text) ≡ out ++ flat_map marked (lines_of rest) → rest ≡ [] → out ≡ flat_map marked (lines_of text)
+pub marked_all : (text out rest : List ℕ) → flat_map marked (lines_of text) ≡ out ++ flat_map marked (lines_of rest)
+    → rest ≡ [] → out ≡ flat_map marked (lines_of text)
 marked_all text out rest h end = sym (h ∙ ap (λ (r : List ℕ). out ++ flat_map marked (lines_of r)) end ∙ append-nil out)
 
 -- so are those of the last entries of a coordinator's history
-pub marked_last : (d : Shape) (J : History) (es : List Entry) → IsCoordinator d → d.history ≡ J ++ es → flat_map marked (lines_of (flat_map line es)) ≡ marked_entries es
+pub marked_last : (d : Shape) (J : History) (es : List Entry) → IsCoordinator d → d.history ≡ J ++ es
+    → flat_map marked (lines_of (flat_map line es)) ≡ marked_entries es
 marked_last d J es h grown =
     let zero_instance : 0 < 2 ^ 60 = omega arith in
     let text = legal_has_text d.setting.version 0 d.history zero_instance h.history.legal in
     let all : All (HasLine d.setting.version) (J ++ es) = subst (All (HasLine d.setting.version)) grown text.lines in
-    marked_are d.setting.version es (subst (All (HasLine d.setting.version)) (front_rest (J ++ es) J es refl) (All-drop (HasLine d.setting.version) (length J) (J ++ es) all))
+    marked_are d.setting.version es (subst (All (HasLine d.setting.version)) (front_rest (J ++ es) J es refl)
+    (All-drop (HasLine d.setting.version) (length J) (J ++ es) all))
 
 -- ---- what came of a call
 
@@ -66,13 +72,18 @@ no_errand r e x h = ap (λ (y : Result Told Refusal). cond (is_err y) None e) h
 its_errand : (r : Result Told Refusal) (e : Option Asking) (t : Told) → r ≡ Ok t → cond (is_err r) None e ≡ e
 its_errand r e t h = ap (λ (y : Result Told Refusal). cond (is_err y) None e) h
 
-pub performed_refused : (c d : Shape) (k : Call) (x : Performed) (r : Refusal) (was now : Option (List ℕ)) → c.setting ≡ player → IsSame c d → answer (terms_of d.setting) d.history k ≡ Err r
+pub performed_refused : (c d : Shape) (k : Call) (x : Performed) (r : Refusal) (was now : Option (List ℕ)) → c.setting
+    ≡ player → IsSame c d → answer (terms_of d.setting) d.history k ≡ Err r
     → x.is_refused ≡ true → x.given ≡ None → Appends was now (answer_line (Err r)) → IsPerformed c k d x was now
 performed_refused c d k x r was now setting same answered is_refused given written =
     record {
       refused = is_refused ∙ sym (ap is_err here);
       given = given ∙ sym none;
-      grown = record { setting = same.setting; history = same.history ∙ sym (ap (λ (es : List Entry). c.history ++ es) nothing ∙ append-nil c.history) };
+      grown = record {
+        setting = same.setting;
+        history = same.history ∙ sym
+            (ap (λ (es : List Entry). c.history ++ es) nothing ∙ append-nil c.history);
+      };
       written = subst (Appends was now) (sym text) written;
     }
   where
@@ -86,16 +97,24 @@ performed_refused c d k x r was now setting same answered is_refused given writt
     nothing = growth_refused (terms_of player) c.history k r here
 
     text : call_text c.history k ≡ answer_line (Err r)
-    text = (λ i. option_map_or errand_line (none i) (answer_line (here i)) ++ marked_entries (nothing i)) ∙ append-nil (answer_line (Err r))
+    text = (λ i. option_map_or errand_line (none i) (answer_line (here i)) ++ marked_entries (nothing i))
+        ∙ append-nil (answer_line (Err r))
 
-pub performed_told : (c m d : Shape) (k : Call) (x : Performed) (t : Told) (e : Option Asking) (es : List Entry) (was now : Option (List ℕ)) → c.setting ≡ player → IsSame c m → answer (terms_of m.setting) m.history k ≡ Ok t
-    → block (terms_of m.setting) m.history k ≡ es → errand_of m.setting m.history k ≡ e → IsGrown m d (m.history ++ es) → x.is_refused ≡ false → x.given ≡ e
-    → Appends was now (option_map_or errand_line e (answer_line (Ok t)) ++ marked_entries es) → IsPerformed c k d x was now
+pub performed_told : (c m d : Shape) (k : Call) (x : Performed) (t : Told) (e : Option Asking) (es : List Entry)
+    (was now : Option (List ℕ)) → c.setting ≡ player → IsSame c m → answer (terms_of m.setting) m.history k ≡ Ok t
+    → block (terms_of m.setting) m.history k ≡ es → errand_of m.setting m.history k ≡ e → IsGrown m d (m.history ++ es)
+    → x.is_refused ≡ false → x.given ≡ e
+    → Appends was now (option_map_or errand_line e (answer_line (Ok t)) ++ marked_entries es)
+    → IsPerformed c k d x was now
 performed_told c m d k x t e es was now setting same answered made asked grown is_refused given written =
     record {
       refused = is_refused ∙ sym (ap is_err here);
       given = given ∙ sym errand;
-      grown = record { setting = grown.setting ∙ same.setting; history = grown.history ∙ (λ i. same.history i ++ sym growing i) };
+      grown = record {
+        setting = grown.setting ∙ same.setting;
+        history = grown.history
+            ∙ (λ i. same.history i ++ sym growing i);
+      };
       written = subst (Appends was now) (sym text) written;
     }
   where
@@ -103,14 +122,18 @@ performed_told c m d k x t e es was now setting same answered made asked grown i
     here = (λ i. answer (terms_of (sym (same.setting ∙ setting) i)) (sym same.history i) k) ∙ answered
 
     growing : growth (terms_of player) c.history k ≡ es
-    growing = growth_told (terms_of player) c.history k t here ∙ (λ i. block (terms_of (sym (same.setting ∙ setting) i)) (sym same.history i) k) ∙ made
+    growing = growth_told (terms_of player) c.history k t here ∙ (λ i. block (terms_of (sym (same.setting ∙ setting) i))
+        (sym same.history i) k) ∙ made
 
     errand : given_by c.history k ≡ e
-    errand = its_errand (answer (terms_of player) c.history k) (errand_of player c.history k) t here ∙ (λ i. errand_of (sym (same.setting ∙ setting) i) (sym same.history i) k) ∙ asked
+    errand = its_errand (answer (terms_of player) c.history k) (errand_of player c.history k) t here
+        ∙ (λ i. errand_of (sym (same.setting ∙ setting) i) (sym same.history i) k) ∙ asked
 
     text : call_text c.history k ≡ option_map_or errand_line e (answer_line (Ok t)) ++ marked_entries es
     text = λ i. option_map_or errand_line (errand i) (answer_line (here i)) ++ marked_entries (growing i)
 
 -- a call that writes nothing gives no errand
-pub none_given : (m : Shape) (k : Call) (t : Told) → answer (terms_of m.setting) m.history k ≡ Ok t → block (terms_of m.setting) m.history k ≡ [] → errand_of m.setting m.history k ≡ None
-none_given m k t answered nothing = sym (told_done m m k t (record { setting = refl; history = refl }) answered nothing).errand
+pub none_given : (m : Shape) (k : Call) (t : Told) → answer (terms_of m.setting) m.history k ≡ Ok t
+    → block (terms_of m.setting) m.history k ≡ [] → errand_of m.setting m.history k ≡ None
+none_given m k t answered nothing = sym (told_done m m k t (record { setting = refl; history = refl }) answered
+    nothing).errand

@@ -16,19 +16,22 @@ use Rattle.lra_runs.specs.inner.Players.{placed}
 abbrev pub called : ℕ → ℕ → Command → Call
 called by m c = record { by = by; moment = m; command = c }
 
-pub answer_placed : (s : Terms) (J : History) (by m : ℕ) (c : Command) → answer s J (called by m (placed c)) ≡ answer s J (called by m c)
+pub answer_placed : (s : Terms) (J : History) (by m : ℕ) (c : Command) → answer s J (called by m (placed c))
+    ≡ answer s J (called by m c)
 unfolding answer refused block
 answer_placed s J by m (command.Join a u) = refl
 answer_placed s J by m (command.Record e o) = refl
 answer_placed s J by m _ = refl
 
-pub growth_placed : (s : Terms) (J : History) (by m : ℕ) (c : Command) → growth s J (called by m (placed c)) ≡ growth s J (called by m c)
+pub growth_placed : (s : Terms) (J : History) (by m : ℕ) (c : Command) → growth s J (called by m (placed c))
+    ≡ growth s J (called by m c)
 unfolding growth refused block
 growth_placed s J by m (command.Join a u) = refl
 growth_placed s J by m (command.Record e o) = refl
 growth_placed s J by m _ = refl
 
-pub errand_placed : (g : Setting) (J : History) (by m : ℕ) (c : Command) → errand_of g J (called by m (placed c)) ≡ errand_of g J (called by m c)
+pub errand_placed : (g : Setting) (J : History) (by m : ℕ) (c : Command) → errand_of g J (called by m (placed c))
+    ≡ errand_of g J (called by m c)
 errand_placed g J by m (command.Join a u) = refl
 errand_placed g J by m (command.Record e o) = refl
 errand_placed g J by m _ = refl

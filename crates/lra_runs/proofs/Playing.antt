@@ -28,15 +28,18 @@ use Rattle.lra_runs.proofs.RequestLines.{lacks_feed}
 
 -- ---- one line more
 
-after_push : (s : Stage) (ls : List RequestLine) (l : RequestLine) → after_lines s (ls ++ l ∷ []) ≡ after_line (after_lines s ls) l
+after_push : (s : Stage) (ls : List RequestLine) (l : RequestLine) → after_lines s (ls ++ l ∷ [])
+    ≡ after_line (after_lines s ls) l
 after_push s [] l = refl
 after_push s (k ∷ ls) l = after_push (after_line s k) ls l
 
-playable_push : (s : Stage) (ls : List RequestLine) (l : RequestLine) → ArePlayable s ls → IsTrue (is_playable (after_lines s ls) l) → ArePlayable s (ls ++ l ∷ [])
+playable_push : (s : Stage) (ls : List RequestLine) (l : RequestLine) → ArePlayable s ls
+    → IsTrue (is_playable (after_lines s ls) l) → ArePlayable s (ls ++ l ∷ [])
 playable_push s [] l h may = (may, tt)
 playable_push s (k ∷ ls) l h may = (h.0, playable_push (after_line s k) ls l h.1 may)
 
-played_push : (s : Stage) (ls : List RequestLine) (l : RequestLine) → played_lines s (ls ++ l ∷ []) ≡ played_lines s ls ++ played_line (after_lines s ls) l
+played_push : (s : Stage) (ls : List RequestLine) (l : RequestLine) → played_lines s (ls ++ l ∷ []) ≡ played_lines s ls
+    ++ played_line (after_lines s ls) l
 played_push s [] l = append-nil (played_line s l)
 played_push s (k ∷ ls) l =
     ap (λ (t : List ℕ). played_line s k ++ t) (played_push (after_line s k) ls l)
@@ -50,28 +53,35 @@ or_assoc : (a b c : Bool) → (a || (b || c)) ≡ ((a || b) || c)
 or_assoc true b c = refl
 or_assoc false b c = refl
 
-refused_push : (s : Stage) (ls : List RequestLine) (l : RequestLine) → some_refused s (ls ++ l ∷ []) ≡ (some_refused s ls || is_err (line_answer (after_lines s ls) l))
+refused_push : (s : Stage) (ls : List RequestLine) (l : RequestLine) → some_refused s (ls ++ l ∷ [])
+    ≡ (some_refused s ls || is_err (line_answer (after_lines s ls) l))
 refused_push s [] l = or_none (is_err (line_answer s l))
 refused_push s (k ∷ ls) l =
     let first = is_err (line_answer s k) in
     let next : Stage = after_line s k in
-    ap (λ (b : Bool). first || b) (refused_push next ls l) ∙ or_assoc first (some_refused next ls) (is_err (line_answer (after_lines next ls) l))
+    ap (λ (b : Bool). first || b) (refused_push next ls l) ∙ or_assoc first (some_refused next ls)
+    (is_err (line_answer (after_lines next ls) l))
 
 -- ---- what a script doesn't begin with
 
 pub none_torn : (s : Stage) (rest : List ℕ) → All (λ b. b ≢ 10) rest → BeginsWithNone s rest
 none_torn s rest h = λ l more has may same.
-    let whole : rest ≡ join_with_byte 32 (words_of_request_line l) ++ (10 ∷ more) = same ∙ append_assoc (join_with_byte 32 (words_of_request_line l)) (10 ∷ []) more in
+    let whole : rest ≡ join_with_byte 32 (words_of_request_line l) ++ (10 ∷ more) = same
+    ∙ append_assoc (join_with_byte 32 (words_of_request_line l)) (10 ∷ []) more in
     feed_in (join_with_byte 32 (words_of_request_line l)) more (subst (All (λ b. b ≢ 10)) whole h)
 
 -- whatever line of a script bytes begin with, it is the first line of them
-first_is : (rest : List ℕ) (n : ℕ) (more : List ℕ) (l : RequestLine) → IsLine (take n rest) → IsRequestLine l → rest ≡ request_line l ++ more → take n rest ≡ request_line l
-first_is rest n more l is has same = line_front (take n rest) (drop n rest) (join_with_byte 32 (words_of_request_line l)) more is (lacks_feed l has) (take-append-drop n rest ∙ same)
+first_is : (rest : List ℕ) (n : ℕ) (more : List ℕ) (l : RequestLine) → IsLine (take n rest) → IsRequestLine l → rest
+    ≡ request_line l ++ more → take n rest ≡ request_line l
+first_is rest n more l is has same = line_front (take n rest) (drop n rest)
+    (join_with_byte 32 (words_of_request_line l)) more is (lacks_feed l has) (take-append-drop n rest ∙ same)
 
-pub none_at : (s : Stage) (rest : List ℕ) (n : ℕ) → IsLine (take n rest) → ((l : RequestLine) → IsRequestLine l → take n rest ≡ request_line l → None ≡ Some l) → BeginsWithNone s rest
+pub none_at : (s : Stage) (rest : List ℕ) (n : ℕ) → IsLine (take n rest)
+    → ((l : RequestLine) → IsRequestLine l → take n rest ≡ request_line l → None ≡ Some l) → BeginsWithNone s rest
 none_at s rest n is none = λ l more has may same. none-some l (none l has (first_is rest n more l is has same))
 
-pub none_playable : (s : Stage) (rest : List ℕ) (n : ℕ) (x : RequestLine) → IsLine (take n rest) → ((l : RequestLine) → IsRequestLine l → take n rest ≡ request_line l → Some x ≡ Some l) → is_playable s x ≡ false
+pub none_playable : (s : Stage) (rest : List ℕ) (n : ℕ) (x : RequestLine) → IsLine (take n rest)
+    → ((l : RequestLine) → IsRequestLine l → take n rest ≡ request_line l → Some x ≡ Some l) → is_playable s x ≡ false
     → BeginsWithNone s rest
 none_playable s rest n x is one bad = λ l more has may same.
     let equal : x ≡ l = same_Some x l (one l has (first_is rest n more l is has same)) in
@@ -79,7 +89,8 @@ none_playable s rest n x is one bad = λ l more has may same.
 
 -- ---- between two lines
 
-pub played_none : (script : List ℕ) (before now : Option (List ℕ)) (p : Player) → stage_of p ≡ first_stage → Appends before now (marked (header Two 7)) → IsPlayed script before now p false 0 script
+pub played_none : (script : List ℕ) (before now : Option (List ℕ)) (p : Player) → stage_of p ≡ first_stage
+    → Appends before now (marked (header Two 7)) → IsPlayed script before now p false 0 script
 played_none script before now p first written =
     record {
       lines = [];
@@ -91,14 +102,17 @@ played_none script before now p first written =
     }
 
 -- a coordinator with no history, and no errand that is held
-pub stands_first : (p : Player) (d : Shape) → p.coordinator ≡ d → d.history ≡ [] → ((ask : ℕ) → holding p.held ask ≡ None) → stage_of p ≡ first_stage
+pub stands_first : (p : Player) (d : Shape) → p.coordinator ≡ d → d.history ≡ []
+    → ((ask : ℕ) → holding p.held ask ≡ None) → stage_of p ≡ first_stage
 stands_first p d same none held = λ i. record { history = history i; held = λ ask. held ask i }
   where
     history : p.coordinator.history ≡ []
     history = ap (λ (c : Shape). c.history) same ∙ none
 
-pub played_more : (script : List ℕ) (before now next : Option (List ℕ)) (p q : Player) (b r : Bool) (n : ℕ) (rest front others : List ℕ) (l : RequestLine) → IsPlayed script before now p b n rest
-    → IsRequestLine l → rest ≡ front ++ others → front ≡ request_line l → IsPlayedLine (stage_of p) l (stage_of q) r now next
+pub played_more : (script : List ℕ) (before now next : Option (List ℕ)) (p q : Player) (b r : Bool) (n : ℕ)
+    (rest front others : List ℕ) (l : RequestLine) → IsPlayed script before now p b n rest
+    → IsRequestLine l → rest ≡ front ++ others → front ≡ request_line l
+    → IsPlayedLine (stage_of p) l (stage_of q) r now next
     → IsPlayed script before next q (b || r) (n + 1) others
 played_more script before now next p q b r n rest front others l d has parts is h =
     record {
@@ -108,7 +122,8 @@ played_more script before now next p q b r n rest front others l d has parts is 
         playable = playable_push first_stage d.lines l d.read.playable k.playable;
         whole = one_more request_line script rest front others d.lines l d.read.whole parts is;
       };
-      written = subst (Appends before next) (sym whole) (Appends-trans before now next (played d.lines) (played_line (after_lines first_stage d.lines) l) d.written k.written);
+      written = subst (Appends before next) (sym whole) (Appends-trans before now next (played d.lines)
+          (played_line (after_lines first_stage d.lines) l) d.written k.written);
       stage = k.stage ∙ sym (after_push first_stage d.lines l);
       refused = (λ i. d.refused i || k.refused i) ∙ sym (refused_push first_stage d.lines l);
       counted = omega (arith, d.counted, length_push d.lines l);
@@ -119,13 +134,21 @@ played_more script before now next p q b r n rest front others l d has parts is 
 
     whole : played (d.lines ++ l ∷ []) ≡ played d.lines ++ played_line (after_lines first_stage d.lines) l
     whole = ap (λ (t : List ℕ). marked (header Two 7) ++ t) (played_push first_stage d.lines l)
-        ∙ sym (append_assoc (marked (header Two 7)) (played_lines first_stage d.lines) (played_line (after_lines first_stage d.lines) l))
+        ∙ sym (append_assoc (marked (header Two 7)) (played_lines first_stage d.lines)
+        (played_line (after_lines first_stage d.lines) l))
 
-pub plays_whole : (script : List ℕ) (before now : Option (List ℕ)) (p : Player) (b : Bool) (n status : ℕ) (rest : List ℕ) → IsPlayed script before now p b n rest → rest ≡ [] → status ≡ cond b 1 0 → Plays script status before now
+pub plays_whole : (script : List ℕ) (before now : Option (List ℕ)) (p : Player) (b : Bool) (n status : ℕ)
+    (rest : List ℕ) → IsPlayed script before now p b n rest → rest ≡ [] → status ≡ cond b 1 0
+    → Plays script status before now
 plays_whole script before now p b n status rest d end e =
     record {
       lines = d.lines;
-      read = record { allowed = d.read.allowed; playable = d.read.playable; whole = d.read.whole ∙ ap (λ (r : List ℕ). flat_map request_line d.lines ++ r) end };
+      read = record {
+        allowed = d.read.allowed;
+        playable = d.read.playable;
+        whole = d.read.whole
+            ∙ ap (λ (r : List ℕ). flat_map request_line d.lines ++ r) end;
+      };
       written = d.written;
       answered = e ∙ ap (λ (x : Bool). cond x 1 0) d.refused;
     }
@@ -137,8 +160,10 @@ number_of (Err (fault.Line n)) = n
 number_of _ = 0
 
 -- the fault that names the next line, where more is to come of which no line can be played
-pub stops_here : (script : List ℕ) (before now : Option (List ℕ)) (p : Player) (b : Bool) (n m : ℕ) (rest : List ℕ) (r : Result ℕ RunFault) → IsPlayed script before now p b n rest → eqb (length rest) 0 ≡ false
-    → BeginsWithNone (stage_of p) rest → r ≡ Err (fault.Line (n + 1)) → r ≡ Err (fault.Line m) → PlaysUpToLine script m before now
+pub stops_here : (script : List ℕ) (before now : Option (List ℕ)) (p : Player) (b : Bool) (n m : ℕ) (rest : List ℕ)
+    (r : Result ℕ RunFault) → IsPlayed script before now p b n rest → eqb (length rest) 0 ≡ false
+    → BeginsWithNone (stage_of p) rest → r ≡ Err (fault.Line (n + 1)) → r ≡ Err (fault.Line m)
+    → PlaysUpToLine script m before now
 unfolding number_of
 stops_here script before now p b n m rest r d some bad named is =
     let more : length rest ≢ 0 = eqb-false _ _ some in
@@ -163,6 +188,7 @@ output_is_play fault.Changed h = absurd h
 output_is_play (fault.Line n) h = absurd h
 
 -- so is what comes of it
-pub play_fault : {X : Type 0} (r : Result X RunFault) (f : RunFault) → IsErrAnd r (λ g. g ≡ f) → IsOfOutput f → IfErr r IsOfPlay
+pub play_fault : {X : Type 0} (r : Result X RunFault) (f : RunFault) → IsErrAnd r (λ g. g ≡ f) → IsOfOutput f
+    → IfErr r IsOfPlay
 play_fault (Ok x) f h k = absurd h
 play_fault (Err g) f h k = subst IsOfPlay (sym h) (output_is_play f k)

@@ -15,7 +15,8 @@ pub no_text : (bytes : List ℕ) → ((body : List ℕ) → unended bytes ≢ So
 unfolding text_of
 no_text bytes h = one (unended bytes) h
   where
-    one : (o : Option (List ℕ)) → ((body : List ℕ) → o ≢ Some body) → (o >>= λ body. cond (is_utf8 body) (Some body) None) ≡ None
+    one : (o : Option (List ℕ)) → ((body : List ℕ) → o ≢ Some body) → (o >>= λ body. cond (is_utf8 body) (Some body)
+        None) ≡ None
     one None h = refl
     one (Some body) h = absurd (h body refl)
 
@@ -24,7 +25,8 @@ no_utf8 bytes false e h = refl
 no_utf8 bytes true e h = absurd (h (IsUtf8-from_is_utf8 bytes e))
 
 -- what a reading of the text gives
-pub text_by : {E : Type 0} (V : E → Type 0) (bytes body : List ℕ) (r : Result (Bor (List ℕ)) E) → unended bytes ≡ Some body → ((x : E) → V x → IsUtf8 body → ⊥) → MatchResult r (λ s. (s.now ≡ body) × IsUtf8 body) V
+pub text_by : {E : Type 0} (V : E → Type 0) (bytes body : List ℕ) (r : Result (Bor (List ℕ)) E) → unended bytes
+    ≡ Some body → ((x : E) → V x → IsUtf8 body → ⊥) → MatchResult r (λ s. (s.now ≡ body) × IsUtf8 body) V
     → option_copied (result_ok r) ≡ text_of bytes
 unfolding text_of
 text_by V bytes body (Ok s) e out h = ap (λ (x : List ℕ). some x) h.0 ∙ sym (rw (e, is_utf8-from_IsUtf8 body h.1) refl)

@@ -67,7 +67,8 @@ answer_line (Err r) = joined (codes "refused " ∷ refusal_name r ∷ refusal_de
 
 -- the line of an errand: what is asked of whom, and where
 abbrev pub errand_line : Asking → List ℕ
-errand_line e = joined (codes "ask " ∷ decimal e.ask ∷ codes " " ∷ decimal e.member ∷ codes " " ∷ ask_kind_name e.kind ∷ codes " " ∷ e.address ∷ line_feed ∷ [])
+errand_line e = joined (codes "ask " ∷ decimal e.ask ∷ codes " " ∷ decimal e.member ∷ codes " " ∷ ask_kind_name e.kind
+    ∷ codes " " ∷ e.address ∷ line_feed ∷ [])
 
 -- a new line of the journal
 abbrev pub marked : List ℕ → List ℕ
@@ -79,7 +80,8 @@ marked_entries es = flat_map (λ (e : Entry). marked (line e)) es
 
 -- what is printed of a call: the errand that it gives, else its answer; then each new line of the journal
 abbrev pub call_text : History → Call → List ℕ
-call_text J c = option_map_or errand_line (given_by J c) (answer_line (answer (terms_of player) J c)) ++ marked_entries (growth (terms_of player) J c)
+call_text J c = option_map_or errand_line (given_by J c) (answer_line (answer (terms_of player) J c))
+    ++ marked_entries (growth (terms_of player) J c)
 
 -- what is printed of a script's line: what is printed of its call; and where it makes none, its answer
 abbrev pub played_line : Stage → RequestLine → List ℕ

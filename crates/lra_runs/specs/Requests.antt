@@ -15,7 +15,8 @@ abbrev pub request_words : Request → List (List ℕ)
 request_words request.Enrol = codes "enrol" ∷ []
 request_words (request.Start parent limit) = codes "start" ∷ or_star (option_map decimal parent) ∷ decimal limit ∷ []
 request_words (request.Join action uris) = codes "join" ∷ decimal action
-    ∷ or_star uris.compensate ∷ or_star uris.complete ∷ or_star uris.status ∷ or_star uris.forget ∷ or_star uris.after ∷ []
+    ∷ or_star uris.compensate ∷ or_star uris.complete ∷ or_star uris.status ∷ or_star uris.forget ∷ or_star uris.after
+    ∷ []
 request_words (request.Leave action member) = codes "leave" ∷ decimal action ∷ decimal member ∷ []
 request_words (request.Close action) = codes "close" ∷ decimal action ∷ []
 request_words (request.Cancel action) = codes "cancel" ∷ decimal action ∷ []

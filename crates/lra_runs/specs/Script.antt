@@ -62,7 +62,8 @@ command_of held (request.Member member) = Some (command.MemberStatus member)
 
 -- the call that a line makes, if it makes one
 abbrev pub call_of : Stage → RequestLine → Option Call
-call_of s l = option_map (λ (c : Command). record { by = l.by; moment = l.moment; command = c }) (command_of s.held l.request)
+call_of s l = option_map (λ (c : Command). record { by = l.by; moment = l.moment; command = c })
+    (command_of s.held l.request)
 
 -- whether a line can be played: an outcome that it records is one that its ask may have
 abbrev pub is_playable : Stage → RequestLine → Bool
@@ -115,4 +116,5 @@ pub record Begins (input : List ℕ) (lines : List RequestLine) (rest : List ℕ
 
 -- bytes that don't begin with a line of a script that can be played here
 abbrev pub BeginsWithNone : Stage → List ℕ → Type 0
-BeginsWithNone s rest = (l : RequestLine) (more : List ℕ) → IsRequestLine l → IsTrue (is_playable s l) → rest ≡ request_line l ++ more → ⊥
+BeginsWithNone s rest = (l : RequestLine) (more : List ℕ) → IsRequestLine l → IsTrue (is_playable s l) → rest
+    ≡ request_line l ++ more → ⊥

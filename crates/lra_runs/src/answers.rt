@@ -62,7 +62,8 @@ fn line_of_request(alloc: Global, request: &Request) -> Result<String, Memory>
 
 /// The line of a block: of what it asks a member, else of what is told.
 pub(crate) fn line_of_block(alloc: Global, block: &Block) -> Result<String, Memory>
-    ensures { IfOk result (λ text. string_bytes text ≡ option_map_or errand_line block.now.errand (answer_line (Ok block.now.told))) }
+    ensures { IfOk result (λ text. string_bytes text ≡ option_map_or errand_line block.now.errand
+        (answer_line (Ok block.now.told))) }
 {
     match block.request() {
         Some(request) => line_of_request(alloc, request),

@@ -51,7 +51,8 @@ fn service_of<'a>(
     workers: &str,
 ) -> Result<Task<'a>, Usage>
     ensures task { IfOk result (IsTask (verb.now ∷ address.now ∷ file.now ∷ workers.now ∷ [])) }
-    ensures usage { IfErr result (λ _. (task : Task) → IsTask (verb.now ∷ address.now ∷ file.now ∷ workers.now ∷ []) task → ⊥) }
+    ensures usage { IfErr result (λ _. (task : Task) → IsTask (verb.now ∷ address.now ∷ file.now ∷ workers.now ∷ [])
+        task → ⊥) }
 {
     match (verb, workers_in(workers)) {
         ("serve", Some(workers)) => Ok(Task::Serve {

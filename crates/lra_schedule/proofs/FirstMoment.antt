@@ -27,7 +27,8 @@ module _ (moments : Moments) (word : ℕ → Option ℕ) (top : ℕ) (tells : (n
   is_none now none = ap (λ (o : Option ℕ). is_some o) (sym (tells now None (λ _. none, λ _. refl) tt))
 
   -- where all that is planned has come at one moment, and nothing has come then, the word never finds any
-  pub first_none : ((n moment : ℕ) → map.get moments n ≡ Some moment → moment ≤ top) → NoneDue moments top → IsFirst (λ n. is_some (word n)) None
+  pub first_none : ((n moment : ℕ) → map.get moments n ≡ Some moment → moment ≤ top) → NoneDue moments top
+      → IsFirst (λ n. is_some (word n)) None
   first_none fits none n = is_none n (λ p m e. absurd (let early = none p m e in let high = fits p m e in omega arith))
 
   -- the word finds one from the moment on of what comes first
@@ -51,14 +52,20 @@ retry_fits : (l : Limits) (J : History) (p moment : ℕ) → retry_in l J p ≡ 
 retry_fits l J p moment h = one (wants J p) h
   where
     timed : AskKind → Timed
-    timed kind = record { number = p; moment = due_after l (repeat_count J p (stage_wanted J p kind)) (last_repeat J p (stage_wanted J p kind)) }
+    timed kind = record {
+      number = p;
+      moment = due_after l (repeat_count J p (stage_wanted J p kind))
+          (last_repeat J p (stage_wanted J p kind));
+    }
 
     one : (o : Option AskKind) → moment_of (option_map timed o) ≡ Some moment → moment ≤ 2 ^ 64 - 1
     one None e = absurd cc
     one (Some kind) e =
-        let same : (timed kind).moment ≡ moment = cc in subst (λ (m : ℕ). m ≤ 2 ^ 64 - 1) same (after_fits l (repeat_count J p (stage_wanted J p kind)) (last_repeat J p (stage_wanted J p kind)))
+        let same : (timed kind).moment ≡ moment = cc in subst (λ (m : ℕ). m ≤ 2 ^ 64 - 1) same
+        (after_fits l (repeat_count J p (stage_wanted J p kind)) (last_repeat J p (stage_wanted J p kind)))
 
-passing_fits : (v : Version) (t : List ℕ → Bool) (J : History) → is_legal v t J ≡ true → (a moment : ℕ) → limit_in J a ≡ Some moment → moment ≤ 2 ^ 64 - 1
+passing_fits : (v : Version) (t : List ℕ → Bool) (J : History) → is_legal v t J ≡ true → (a moment : ℕ) → limit_in J a
+    ≡ Some moment → moment ≤ 2 ^ 64 - 1
 passing_fits v t J legal a moment h = one (action_is is_active J a && not ((limit_in_force J a).length_of == 0)) h
   where
     timed : Timed
@@ -70,19 +77,23 @@ passing_fits v t J legal a moment h = one (action_is is_active J a && not ((limi
 
 module _ (l : Limits) (J : History) (s : Planned) (is : IsScheduleOf l s J) where
   pub want_none : NoneDue s.retries (2 ^ 64 - 1) → IsFirst (λ n. is_some (due l J n)) None
-  want_none none = first_none s.retries (due l J) (2 ^ 64 - 1) (λ now r n f. due_is l J now s r is n f) (λ p m e. retry_fits l J p m (sym (is.retries p) ∙ e)) none
+  want_none none = first_none s.retries (due l J) (2 ^ 64 - 1) (λ now r n f. due_is l J now s r is n f)
+      (λ p m e. retry_fits l J p m (sym (is.retries p) ∙ e)) none
 
   pub want_some : (p : ℕ) → IsFirstDue s.retries (2 ^ 64 - 1) p → IsFirst (λ n. is_some (due l J n)) (retry_in l J p)
   want_some p first =
-      subst (IsFirst (λ n. is_some (due l J n))) (sym first.has ∙ is.retries p) (first_some s.retries (due l J) (2 ^ 64 - 1) (λ now r n f. due_is l J now s r is n f) p first)
+      subst (IsFirst (λ n. is_some (due l J n))) (sym first.has ∙ is.retries p)
+      (first_some s.retries (due l J) (2 ^ 64 - 1) (λ now r n f. due_is l J now s r is n f) p first)
 
   pub limit_none : NoneDue s.limits (2 ^ 64 - 1) → IsFirst (λ n. is_some (late J n)) None
   limit_none none =
-      first_none s.limits (late J) (2 ^ 64 - 1) (λ now r n f. late_is l J now s r is n f) (λ a m e. passing_fits is.version is.is_address J is.legal a m (sym (is.limits a) ∙ e)) none
+      first_none s.limits (late J) (2 ^ 64 - 1) (λ now r n f. late_is l J now s r is n f)
+      (λ a m e. passing_fits is.version is.is_address J is.legal a m (sym (is.limits a) ∙ e)) none
 
   pub limit_some : (a : ℕ) → IsFirstDue s.limits (2 ^ 64 - 1) a → IsFirst (λ n. is_some (late J n)) (limit_in J a)
   limit_some a first =
-      subst (IsFirst (λ n. is_some (late J n))) (sym first.has ∙ is.limits a) (first_some s.limits (late J) (2 ^ 64 - 1) (λ now r n f. late_is l J now s r is n f) a first)
+      subst (IsFirst (λ n. is_some (late J n))) (sym first.has ∙ is.limits a)
+      (first_some s.limits (late J) (2 ^ 64 - 1) (λ now r n f. late_is l J now s r is n f) a first)
 
 -- ---- of two tests
 

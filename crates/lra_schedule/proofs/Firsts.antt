@@ -28,9 +28,11 @@ module _ (f : ℕ → Option Timed) (now : ℕ) where
   none_come [] early = refl
   none_come (n ∷ ns) early = one (f n) refl (none_come ns early)
     where
-      one : (o : Option Timed) → f n ≡ o → come now (filter_map f ns) ≡ [] → come now (cons_option o (filter_map f ns)) ≡ []
+      one : (o : Option Timed) → f n ≡ o → come now (filter_map f ns) ≡ [] → come now (cons_option o (filter_map f ns))
+          ≡ []
       one None e rest = rest
-      one (Some x) e rest = ap (λ (b : Bool). cons_option (when b x) (come now (filter_map f ns))) (lt-leb x.moment now (early n x e)) ∙ rest
+      one (Some x) e rest = ap (λ (b : Bool). cons_option (when b x) (come now (filter_map f ns)))
+          (lt-leb x.moment now (early n x e)) ∙ rest
 
   -- the earliest of those that have come is no earlier than one that none is earlier than
   module _ (w : Timed) (least : (n : ℕ) (x : Timed) → f n ≡ Some x → w.moment ≤ x.moment) where
@@ -38,7 +40,8 @@ module _ (f : ℕ → Option Timed) (now : ℕ) where
     not_earlier [] y e = absurd cc
     not_earlier (n ∷ ns) y e = one (f n) refl e (not_earlier ns)
       where
-        two : (x : Timed) → w.moment ≤ x.moment → (o : Option Timed) → ((z : Timed) → o ≡ Some z → w.moment ≤ z.moment) → ◌≡◌ {A = Option Timed} (Some (earlier x o)) (Some y) → w.moment ≤ y.moment
+        two : (x : Timed) → w.moment ≤ x.moment → (o : Option Timed) → ((z : Timed) → o ≡ Some z → w.moment ≤ z.moment)
+            → ◌≡◌ {A = Option Timed} (Some (earlier x o)) (Some y) → w.moment ≤ y.moment
         two x h None rest g = let same : x ≡ y = cc in subst (λ (z : Timed). w.moment ≤ z.moment) same h
         two x h (Some z) rest g = three (nat_le x.moment z.moment) g
           where
@@ -46,11 +49,13 @@ module _ (f : ℕ → Option Timed) (now : ℕ) where
             three true i = let same : x ≡ y = cc in subst (λ (u : Timed). w.moment ≤ u.moment) same h
             three false i = let same : z ≡ y = cc in subst (λ (u : Timed). w.moment ≤ u.moment) same (rest z refl)
 
-        one : (o : Option Timed) → f n ≡ o → earliest (come now (cons_option o (filter_map f ns))) ≡ Some y → ((z : Timed) → earliest (come now (filter_map f ns)) ≡ Some z → w.moment ≤ z.moment) → w.moment ≤ y.moment
+        one : (o : Option Timed) → f n ≡ o → earliest (come now (cons_option o (filter_map f ns))) ≡ Some y
+            → ((z : Timed) → earliest (come now (filter_map f ns)) ≡ Some z → w.moment ≤ z.moment) → w.moment ≤ y.moment
         one None g i rest = rest y i
         one (Some x) g i rest = four (nat_le x.moment now) i
           where
-            four : (b : Bool) → earliest (cons_option (when b x) (come now (filter_map f ns))) ≡ Some y → w.moment ≤ y.moment
+            four : (b : Bool) → earliest (cons_option (when b x) (come now (filter_map f ns))) ≡ Some y → w.moment
+                ≤ y.moment
             four true j = two x (least n x g) (earliest (come now (filter_map f ns))) rest j
             four false j = rest y j
 
@@ -69,22 +74,27 @@ module _ (f : ℕ → Option Timed) (now : ℕ) where
 
         here : a ≡ number → earliest (come now (filter_map f (range_with_len a (suc k)))) ≡ Some w
         here same =
-            ap (λ (o : Option Timed). earliest (come now (cons_option o (filter_map f (range_with_len (a + 1) k))))) (ap f same ∙ is)
+            ap (λ (o : Option Timed). earliest (come now (cons_option o (filter_map f (range_with_len (a + 1) k)))))
+            (ap f same ∙ is)
             ∙ ap (λ (b : Bool). earliest (cons_option (when b w) tail)) (le-leb w.moment now due)
             ∙ first_of (earliest tail) (not_earlier w (λ n x e. (least n x e).0) (range_with_len (a + 1) k))
 
-        after : (x : Timed) → f a ≡ Some x → a < number → earliest tail ≡ Some w → (b : Bool) → earliest (cons_option (when b x) tail) ≡ Some w
+        after : (x : Timed) → f a ≡ Some x → a < number → earliest tail ≡ Some w → (b : Bool)
+            → earliest (cons_option (when b x) tail) ≡ Some w
         after x e lower rest false = rest
         after x e lower rest true =
             let first = least a x e in
             let no_later = first.0 in
             let behind : w.moment < x.moment = elim (cases_eq w.moment x.moment) [ inl same ↦ (let k = first.1 same in absurd (omega arith)) | inr other ↦ omega arith ] in
-            ap (λ (o : Option Timed). Some (earlier x o)) rest ∙ ap (λ (b : Bool). Some (cond b x w)) (lt-leb x.moment w.moment behind)
+            ap (λ (o : Option Timed). Some (earlier x o)) rest ∙ ap (λ (b : Bool). Some (cond b x w))
+            (lt-leb x.moment w.moment behind)
 
-        later : a < number → earliest tail ≡ Some w → earliest (come now (filter_map f (range_with_len a (suc k)))) ≡ Some w
+        later : a < number → earliest tail ≡ Some w → earliest (come now (filter_map f (range_with_len a (suc k))))
+            ≡ Some w
         later lower rest = one (f a) refl
           where
-            one : (o : Option Timed) → f a ≡ o → earliest (come now (cons_option o (filter_map f (range_with_len (a + 1) k)))) ≡ Some w
+            one : (o : Option Timed) → f a ≡ o
+                → earliest (come now (cons_option o (filter_map f (range_with_len (a + 1) k)))) ≡ Some w
             one None e = rest
             one (Some x) e = after x e lower rest (nat_le x.moment now)
 
@@ -113,26 +123,32 @@ module _ (moments : Moments) (f : ℕ → Option Timed) (ns : List ℕ) where
 
   first_none : Has → (now : ℕ) → NoneDue moments now → None ≡ first_due now (filter_map f ns)
   first_none h now none =
-      sym (ap (λ (xs : List Timed). option_map (λ (x : Timed). x.number) (earliest xs)) (none_come f now ns (λ n x e. none n x.moment (moment_here h n x e))))
+      sym (ap (λ (xs : List Timed). option_map (λ (x : Timed). x.number) (earliest xs))
+      (none_come f now ns (λ n x e. none n x.moment (moment_here h n x e))))
 
   first_some : Has → (now n : ℕ) → IsFirstDue moments now n → Some n ≡ first_due now (filter_map f ns)
   first_some h now n first =
       let seen = found (f n) first.moment (sym (h.has n) ∙ first.has) in
       let within = numbered_among ns h.numbered n (h.there n first.moment (sym (h.has n) ∙ first.has)) in
       let due : seen.timed.moment ≤ now = omega (arith, first.due, seen.same) in
-      let is_chosen = chosen f now n seen.timed seen.is due (least seen) 1 (length ns) within.0 (omega (arith, within.1)) in
-      sym (ap (λ (ms : List ℕ). first_due now (filter_map f ms)) h.numbered ∙ ap (option_map (λ (x : Timed). x.number)) is_chosen ∙ ap (λ (k : ℕ). some k) (h.number n seen.timed seen.is))
+      let is_chosen = chosen f now n seen.timed seen.is due (least seen) 1 (length ns) within.0
+      (omega (arith, within.1)) in
+      sym (ap (λ (ms : List ℕ). first_due now (filter_map f ms)) h.numbered
+      ∙ ap (option_map (λ (x : Timed). x.number)) is_chosen ∙ ap (λ (k : ℕ). some k)
+      (h.number n seen.timed seen.is))
     where
       some : ℕ → Option ℕ
       some k = Some k
 
-      least : (seen : Found (f n) first.moment) → (m : ℕ) (x : Timed) → f m ≡ Some x → (seen.timed.moment ≤ x.moment) × (seen.timed.moment ≡ x.moment → n ≤ m)
+      least : (seen : Found (f n) first.moment) → (m : ℕ) (x : Timed) → f m ≡ Some x → (seen.timed.moment ≤ x.moment)
+          × (seen.timed.moment ≡ x.moment → n ≤ m)
       least seen m x e =
           let known = first.least m x.moment (moment_here h m x e) in
           (omega (arith, known.0, seen.same), λ same. omega (arith, known.1 (sym seen.same ∙ same)))
 
   -- what tells the first of the map tells the first of the list
-  pub first_is : Has → (now : ℕ) (r : Option ℕ) → (IsNone r ↔ NoneDue moments now) → IfSome r (IsFirstDue moments now) → r ≡ first_due now (filter_map f ns)
+  pub first_is : Has → (now : ℕ) (r : Option ℕ) → (IsNone r ↔ NoneDue moments now) → IfSome r (IsFirstDue moments now)
+      → r ≡ first_due now (filter_map f ns)
   first_is h now None none first = first_none h now (none.0 refl)
   first_is h now (Some n) none first = first_some h now n first
 
@@ -142,7 +158,11 @@ retry_number : (l : Limits) (J : History) (p : ℕ) (x : Timed) → want_of l J 
 retry_number l J p x h = one (wants J p) h
   where
     timed : AskKind → Timed
-    timed kind = record { number = p; moment = due_after l (repeat_count J p (stage_wanted J p kind)) (last_repeat J p (stage_wanted J p kind)) }
+    timed kind = record {
+      number = p;
+      moment = due_after l (repeat_count J p (stage_wanted J p kind))
+          (last_repeat J p (stage_wanted J p kind));
+    }
 
     one : (o : Option AskKind) → option_map timed o ≡ Some x → x.number ≡ p
     one None e = absurd cc
@@ -158,12 +178,27 @@ limit_number J a x h = one (action_is is_active J a && not ((limit_in_force J a)
     one false e = absurd cc
     one true e = let same : timed ≡ x = cc in sym (ap (λ (y : Timed). y.number) same)
 
-pub due_is : (l : Limits) (J : History) (now : ℕ) (s : Planned) (r : Option ℕ) → IsScheduleOf l s J → (IsNone r ↔ NoneDue s.retries now) → IfSome r (IsFirstDue s.retries now) → r ≡ due l J now
+pub due_is : (l : Limits) (J : History) (now : ℕ) (s : Planned) (r : Option ℕ) → IsScheduleOf l s J
+    → (IsNone r ↔ NoneDue s.retries now) → IfSome r (IsFirstDue s.retries now) → r ≡ due l J now
 unfolding due
 due_is l J now s r h none first =
-    first_is s.retries (want_of l J) (members J) (record { has = h.retries; number = retry_number l J; there = wants_there l J; numbered = members_numbered h.version h.is_address J h.legal }) now r none first
+    first_is s.retries (want_of l J) (members J)
+    (record {
+      has = h.retries;
+      number = retry_number l J;
+      there = wants_there l J;
+      numbered =
+          members_numbered h.version h.is_address J h.legal;
+    }) now r none first
 
-pub late_is : (l : Limits) (J : History) (now : ℕ) (s : Planned) (r : Option ℕ) → IsScheduleOf l s J → (IsNone r ↔ NoneDue s.limits now) → IfSome r (IsFirstDue s.limits now) → r ≡ late J now
+pub late_is : (l : Limits) (J : History) (now : ℕ) (s : Planned) (r : Option ℕ) → IsScheduleOf l s J
+    → (IsNone r ↔ NoneDue s.limits now) → IfSome r (IsFirstDue s.limits now) → r ≡ late J now
 unfolding late
 late_is l J now s r h none first =
-    first_is s.limits (deadline_of J) (actions J) (record { has = h.limits; number = limit_number J; there = limit_there h.version h.is_address J h.legal; numbered = actions_numbered h.version h.is_address J h.legal }) now r none first
+    first_is s.limits (deadline_of J) (actions J)
+    (record {
+      has = h.limits;
+      number = limit_number J;
+      there = limit_there h.version h.is_address J h.legal;
+      numbered = actions_numbered h.version h.is_address J h.legal;
+    }) now r none first

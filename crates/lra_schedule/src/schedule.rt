@@ -82,7 +82,8 @@ impl Schedule {
 
     /// The first moment at which a want is due.
     fn first_want(&self, limits: &Limits, tables: &Tables) -> Option<u64>
-        ensures { (J : History) → IsScheduleOf limits.now self.now J → StandsFor tables.now.sheet J → IsFirst (λ n. is_some (due limits.now J n)) result }
+        ensures { (J : History) → IsScheduleOf limits.now self.now J → StandsFor tables.now.sheet J
+            → IsFirst (λ n. is_some (due limits.now J n)) result }
     {
         match self.agenda.next_retry(u64::MAX) {
             Some(member) => retry_of(limits, tables, member),
@@ -92,7 +93,8 @@ impl Schedule {
 
     /// The first moment at which a limit has passed.
     fn first_limit(&self, tables: &Tables) -> Option<u64>
-        ensures { (l : LimitsValue) (J : History) → IsScheduleOf l self.now J → StandsFor tables.now.sheet J → IsFirst (λ n. is_some (late J n)) result }
+        ensures { (l : LimitsValue) (J : History) → IsScheduleOf l self.now J → StandsFor tables.now.sheet J
+            → IsFirst (λ n. is_some (late J n)) result }
     {
         match self.agenda.first_due(u64::MAX) {
             Some(action) => limit_of(tables, action),
@@ -102,7 +104,8 @@ impl Schedule {
 
     /// The first moment at which a want is due or a limit has passed, by the same limits as before: one that has come lies back. Where there is none, neither ever is.
     pub fn next(&self, limits: &Limits, tables: &Tables) -> Option<u64>
-        ensures { (J : History) → IsScheduleOf limits.now self.now J → StandsFor tables.now.sheet J → IsFirstMoment limits.now J result }
+        ensures { (J : History) → IsScheduleOf limits.now self.now J → StandsFor tables.now.sheet J
+            → IsFirstMoment limits.now J result }
     {
         earlier(self.first_want(limits, tables), self.first_limit(tables))
     }
@@ -133,7 +136,8 @@ impl Schedule {
 
     fn refresh_members(&mut self, limits: &Limits, tables: &Tables, members: &[u64])
         requires { length members.now ≤ self.old.room }
-        ensures retries { (K : History) → StandsFor tables.now.sheet K → AreRenewed (retry_in limits.now K) self.old.retries self.new.retries members.now }
+        ensures retries { (K : History) → StandsFor tables.now.sheet K
+            → AreRenewed (retry_in limits.now K) self.old.retries self.new.retries members.now }
         ensures limits { self.new.limits ≡ self.old.limits }
         ensures room { self.old.room ≤ self.new.room + length members.now }
     {
@@ -144,7 +148,8 @@ impl Schedule {
 
     fn refresh_actions(&mut self, tables: &Tables, actions: &[u64])
         requires { length actions.now ≤ self.old.room }
-        ensures limits { (K : History) → StandsFor tables.now.sheet K → AreRenewed (limit_in K) self.old.limits self.new.limits actions.now }
+        ensures limits { (K : History) → StandsFor tables.now.sheet K → AreRenewed (limit_in K) self.old.limits
+            self.new.limits actions.now }
         ensures retries { self.new.retries ≡ self.old.retries }
         ensures room { self.old.room ≤ self.new.room + length actions.now }
     {
@@ -156,7 +161,8 @@ impl Schedule {
     /// Brings these members and actions up to date with the tables, by the same limits as before. This takes no memory.
     pub fn refresh(&mut self, limits: &Limits, tables: &Tables, members: &[u64], actions: &[u64])
         requires { length members.now + length actions.now ≤ self.old.room }
-        ensures schedule { (J K : History) → IsScheduleOf limits.now self.old J → StandsFor tables.now.sheet K → CoversWants members.now J K → CoversLimits actions.now J K → IsScheduleOf limits.now self.new K }
+        ensures schedule { (J K : History) → IsScheduleOf limits.now self.old J → StandsFor tables.now.sheet K
+            → CoversWants members.now J K → CoversLimits actions.now J K → IsScheduleOf limits.now self.new K }
         ensures room { self.old.room ≤ self.new.room + (length members.now + length actions.now) }
     {
         self.refresh_members(limits, tables, members);
@@ -164,7 +170,8 @@ impl Schedule {
     }
 
     fn fill_members(&mut self, limits: &Limits, tables: &Tables, count: u64) -> Result<(), Memory>
-        ensures retries { OnOk result ((K : History) → StandsFor tables.now.sheet K → AreRenewed (retry_in limits.now K) self.old.retries self.new.retries (range_with_len 1 count)) }
+        ensures retries { OnOk result ((K : History) → StandsFor tables.now.sheet K
+            → AreRenewed (retry_in limits.now K) self.old.retries self.new.retries (range_with_len 1 count)) }
         ensures limits { self.new.limits ≡ self.old.limits }
     {
         for place in 0..count {
@@ -175,7 +182,8 @@ impl Schedule {
     }
 
     fn fill_actions(&mut self, tables: &Tables, count: u64) -> Result<(), Memory>
-        ensures limits { OnOk result ((K : History) → StandsFor tables.now.sheet K → AreRenewed (limit_in K) self.old.limits self.new.limits (range_with_len 1 count)) }
+        ensures limits { OnOk result ((K : History) → StandsFor tables.now.sheet K
+            → AreRenewed (limit_in K) self.old.limits self.new.limits (range_with_len 1 count)) }
         ensures retries { self.new.retries ≡ self.old.retries }
     {
         for place in 0..count {
@@ -188,7 +196,8 @@ impl Schedule {
     /// The moments of the history that tables stand for, as for a coordinator that is opened again. There is room for those that are there,
     /// and for few more.
     pub fn of(alloc: Global, limits: &Limits, tables: &Tables) -> Result<Schedule, Memory>
-        ensures { IfOk result (λ schedule. (K : History) → StandsFor tables.now.sheet K → IsScheduleOf limits.now schedule K) }
+        ensures { IfOk result (λ schedule. (K : History) → StandsFor tables.now.sheet K
+            → IsScheduleOf limits.now schedule K) }
     {
         let mut schedule = Schedule::new(alloc);
         schedule.fill_members(limits, tables, tables.count_members())?;

@@ -108,8 +108,10 @@ pub fn check_place<P: Place, W: Write>(
     settings: &Settings,
     writer: &mut W,
 ) -> Result<u8, ServeFault>
-    ensures unsound { IfOk result (λ status. status ≢ 0 → IsRefused (P.had place.now) (W.contents writer.old) (W.contents writer.new) status) }
-    ensures base { base ≡ None → IsFalse (is_base (base_text address.now)) → IsErrAnd result IsOfAddress × (W.contents writer.new ≡ W.contents writer.old) }
+    ensures unsound { IfOk result (λ status. status ≢ 0 → IsRefused (P.had place.now) (W.contents writer.old)
+        (W.contents writer.new) status) }
+    ensures base { base ≡ None → IsFalse (is_base (base_text address.now)) → IsErrAnd result IsOfAddress
+        × (W.contents writer.new ≡ W.contents writer.old) }
 {
     let site = site_at(alloc, address, base)?;
     let (found, opening) = find_journal(alloc, place)?;

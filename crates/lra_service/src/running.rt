@@ -197,8 +197,10 @@ impl<
         clerk: Clerk<Desk<K>>,
         writer: &mut W,
     ) -> Result<(), ServeFault>
-        requires { IsOpenAt (P.had self.now.place.now) self.now.site.now.base (limits_of self.now.settings) shift.now.moment office.now clerk }
-        ensures said { OnOk result (Appends (W.contents writer.old) (W.contents writer.new) (serving_line self.now.address.now)) }
+        requires { IsOpenAt (P.had self.now.place.now) self.now.site.now.base (limits_of self.now.settings)
+            shift.now.moment office.now clerk }
+        ensures said { OnOk result (Appends (W.contents writer.old) (W.contents writer.new)
+            (serving_line self.now.address.now)) }
         ensures fault { IfErr result (IsSaid self.now.address.now (W.contents writer.old) (W.contents writer.new)) }
     {
         let jobs = hire_all(
@@ -221,7 +223,8 @@ impl<
         moment: u64,
     ) -> Result<(Office<K>, Clerk<Desk<K>>), ServeFault>
         requires journal { IsRead (P.had self.now.place.now) opening }
-        ensures opened { IfOk result (λ opened. IsOpenAt (P.had self.now.place.now) self.now.site.now.base (limits_of self.now.settings) moment opened.0 opened.1) }
+        ensures opened { IfOk result (λ opened. IsOpenAt (P.had self.now.place.now) self.now.site.now.base
+            (limits_of self.now.settings) moment opened.0 opened.1) }
         ensures fault { IfErr result IsOfNoScript }
     {
         let Ok(base) = self.site.base.copy() else {
@@ -243,7 +246,8 @@ impl<
         writer: &mut W,
     ) -> Result<(), ServeFault>
         requires journal { IsRead (P.had self.now.place.now) opening }
-        ensures said { OnOk result (Appends (W.contents writer.old) (W.contents writer.new) (serving_line self.now.address.now)) }
+        ensures said { OnOk result (Appends (W.contents writer.old) (W.contents writer.new)
+            (serving_line self.now.address.now)) }
         ensures fault { IfErr result (IsSaid self.now.address.now (W.contents writer.old) (W.contents writer.new)) }
     {
         let (office, clerk) = self.open(opening, keeper, shift.moment)?;
@@ -265,7 +269,8 @@ impl<
         writer: &mut W,
     ) -> Result<Served, ServeFault>
         requires journal { IsRead (P.had self.now.place.now) opening }
-        ensures ended { IfOk result (HasSaid (P.had self.now.place.now) self.now.address.now (W.contents writer.old) (W.contents writer.new)) }
+        ensures ended { IfOk result (HasSaid (P.had self.now.place.now) self.now.address.now (W.contents writer.old)
+            (W.contents writer.new)) }
         ensures fault { IfErr result (IsSaid self.now.address.now (W.contents writer.old) (W.contents writer.new)) }
     {
         let Stand {
@@ -361,7 +366,8 @@ impl<
     ) -> Result<Served, ServeFault>
         requires found { IsFound P.contents (P.had self.now.place.now) found }
         requires journal { IsRead (P.had self.now.place.now) opening }
-        ensures ended { IfOk result (HasSaid (P.had self.now.place.now) self.now.address.now (W.contents writer.old) (W.contents writer.new)) }
+        ensures ended { IfOk result (HasSaid (P.had self.now.place.now) self.now.address.now (W.contents writer.old)
+            (W.contents writer.new)) }
         ensures fault { IfErr result (IsSaid self.now.address.now (W.contents writer.old) (W.contents writer.new)) }
     {
         match self.make_ready(found, &opening, entry) {
@@ -379,7 +385,8 @@ impl<
         entry: Entry<I>,
         writer: &mut W,
     ) -> Result<Served, ServeFault>
-        ensures ended { IfOk result (HasSaid (P.had self.now.place.now) self.now.address.now (W.contents writer.old) (W.contents writer.new)) }
+        ensures ended { IfOk result (HasSaid (P.had self.now.place.now) self.now.address.now (W.contents writer.old)
+            (W.contents writer.new)) }
         ensures fault { IfErr result (IsSaid self.now.address.now (W.contents writer.old) (W.contents writer.new)) }
     {
         let (found, opening) = find_journal(self.alloc, self.place)?;
@@ -429,9 +436,11 @@ pub fn serve_with<
     herald: &H,
     writer: &mut W,
 ) -> Result<Served, ServeFault>
-    ensures ended { IfOk result (HasSaid (P.had place.now) address.now (W.contents writer.old) (W.contents writer.new)) }
+    ensures ended { IfOk result (HasSaid (P.had place.now) address.now (W.contents writer.old)
+        (W.contents writer.new)) }
     ensures fault { IfErr result (IsSaid address.now (W.contents writer.old) (W.contents writer.new)) }
-    ensures base { base ≡ None → IsFalse (is_base (base_text address.now)) → IsErrAnd result IsOfAddress × (W.contents writer.new ≡ W.contents writer.old) }
+    ensures base { base ≡ None → IsFalse (is_base (base_text address.now)) → IsErrAnd result IsOfAddress
+        × (W.contents writer.new ≡ W.contents writer.old) }
 {
     let alloc = rt.alloc();
     let site = site_at(alloc, address, base)?;
@@ -464,7 +473,8 @@ pub fn serve_from<
 >(rt: &R, address: &str, place: &P, workers: u32, writer: &mut W) -> Result<u8, ServeFault>
     ensures unsound { IfOk result (IsRefused (P.had place.now) (W.contents writer.old) (W.contents writer.new)) }
     ensures fault { IfErr result (IsSaid address.now (W.contents writer.old) (W.contents writer.new)) }
-    ensures base { IsFalse (is_base (base_text address.now)) → IsErrAnd result IsOfAddress × (W.contents writer.new ≡ W.contents writer.old) }
+    ensures base { IsFalse (is_base (base_text address.now)) → IsErrAnd result IsOfAddress
+        × (W.contents writer.new ≡ W.contents writer.old) }
 {
     let usual = Settings::usual();
     let rules = Rules::none(rt.alloc());
@@ -505,7 +515,8 @@ pub fn serve<
 >(rt: &R, address: &str, file: &str, workers: u32, writer: &mut W) -> Result<u8, ServeFault>
     ensures unsound { IfOk result (IsRefused None (W.contents writer.old) (W.contents writer.new)) }
     ensures fault { IfErr result (IsSaid address.now (W.contents writer.old) (W.contents writer.new)) }
-    ensures base { IsFalse (is_base (base_text address.now)) → IsErrAnd result IsOfAddress × (W.contents writer.new ≡ W.contents writer.old) }
+    ensures base { IsFalse (is_base (base_text address.now)) → IsErrAnd result IsOfAddress
+        × (W.contents writer.new ≡ W.contents writer.old) }
 {
     serve_from(rt, address, &NamedFile::new(rt, file), workers, writer)
 }

@@ -45,9 +45,12 @@ pub(crate) fn work<
         thread::scope_env(),
         shift.rt,
         move |scope|
-            requires { IsSync R.row × IsSync H.row × IsSend V.row × All (λ job. IsAt V.setting V.covers office.now job.1) jobs.items }
-            ensures said { OnOk result.0 (Appends (W.contents writer.entry.now) (W.contents result.1.now) (serving_line address.entry.now)) }
-            ensures fault { IfErr result.0 (IsSaid address.entry.now (W.contents writer.entry.now) (W.contents result.1.now)) }
+            requires { IsSync R.row × IsSync H.row × IsSend V.row × All
+                (λ job. IsAt V.setting V.covers office.now job.1) jobs.items }
+            ensures said { OnOk result.0 (Appends (W.contents writer.entry.now) (W.contents result.1.now)
+                (serving_line address.entry.now)) }
+            ensures fault { IfErr result.0 (IsSaid address.entry.now (W.contents writer.entry.now)
+                (W.contents result.1.now)) }
             ensures back { result.1.ghost_name ≡ writer.entry.ghost_name }
         {
             for job in jobs {

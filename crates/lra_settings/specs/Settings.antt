@@ -45,9 +45,13 @@ value_of s Site = s.site
 -- each parameter may be what it is
 abbrev pub are_in_range : Settings → Bool
 are_in_range s =
-    ((((((((((((fits Connections s.connections && fits Callbacks s.callbacks) && fits HostShare s.host_share) && fits IdleTimeout s.idle_seconds) && fits RequestTimeout s.request_seconds)
-    && fits ReplyTimeout s.reply_seconds) && fits ConnectTimeout s.connect_seconds) && fits CallbackTimeout s.callback_seconds) && fits SyncSeconds s.sync_seconds) && fits RetryFirst s.retry_first_ms)
-    && fits RetryLast s.retry_last_ms) && fits RollAfter s.roll_after) && fits Remember s.remember_seconds) && fits Site s.site
+    ((((((((((((fits Connections s.connections && fits Callbacks s.callbacks) && fits HostShare s.host_share)
+    && fits IdleTimeout s.idle_seconds) && fits RequestTimeout s.request_seconds)
+    && fits ReplyTimeout s.reply_seconds) && fits ConnectTimeout s.connect_seconds)
+    && fits CallbackTimeout s.callback_seconds) && fits SyncSeconds s.sync_seconds)
+    && fits RetryFirst s.retry_first_ms)
+    && fits RetryLast s.retry_last_ms) && fits RollAfter s.roll_after) && fits Remember s.remember_seconds)
+    && fits Site s.site
 
 -- a service may be run by them: each parameter may be what it is, and the first pause is no longer than the last
 abbrev pub are_fit : Settings → Bool

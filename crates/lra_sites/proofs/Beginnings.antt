@@ -28,7 +28,8 @@ first : (i n : ℕ) → i < 2 ^ 60 → n < 2 ^ 62 → id_number i n / 2 ^ 112 �
 unfolding id_number
 first i n is_instance is_number = omega arith
 
-by_digits : (x site : ℕ) → x / 2 ^ 112 ≡ site → x < 2 ^ 128 → take 4 (hyphenated_text lower (to_be_bytes w128 x)) ≡ site_text site
+by_digits : (x site : ℕ) → x / 2 ^ 112 ≡ site → x < 2 ^ 128 → take 4 (hyphenated_text lower (to_be_bytes w128 x))
+    ≡ site_text site
 unfolding site_text
 by_digits x site top fits =
     let a : x / 256 ^ 15 % 256 / 16 % 16 ≡ digit_of site (16 ^ 3) = omega (arith, top) in
@@ -50,14 +51,19 @@ begins i n (is_instance, is_number) =
 
 -- a text that a part is put before begins with that part and its own beginning
 begun : (before id start : List ℕ) → take 4 id ≡ start → IsPrefix (before ++ start) (before ++ id)
-begun before id start is =
-    (drop 4 id, append_assoc before start (drop 4 id) ∙ ap (λ (t : List ℕ). before ++ t) (ap (λ (s : List ℕ). s ++ drop 4 id) (sym is) ∙ take-append-drop 4 id))
+begun before id start is = (
+  drop 4 id,
+  append_assoc before start (drop 4 id) ∙ ap (λ (t : List ℕ). before ++ t)
+      (ap (λ (s : List ℕ). s ++ drop 4 id) (sym is) ∙ take-append-drop 4 id),
+)
 
 pub action_begins : ActionsBeginWithTheirSite
-action_begins i n base borne = begun (base ++ codes "lra-coordinator/") (id_text i n) (site_text (site_of i)) (begins i n borne)
+action_begins i n base borne = begun (base ++ codes "lra-coordinator/") (id_text i n) (site_text (site_of i))
+    (begins i n borne)
 
 pub recovery_begins : RecoveriesBeginWithTheirSite
-recovery_begins i n base borne = begun (base ++ codes "lra-recovery/") (id_text i n) (site_text (site_of i)) (begins i n borne)
+recovery_begins i n base borne = begun (base ++ codes "lra-recovery/") (id_text i n) (site_text (site_of i))
+    (begins i n borne)
 
 -- what a URI is read as
 read_uri : (i : ℕ) (uri : List ℕ) → IsUriOf i uri → instance_at_end uri ≡ Some i
@@ -75,7 +81,8 @@ never_meet i j uri one other =
 hex_injective : (a b : ℕ) → a < 16 → b < 16 → hex_digit lower a ≡ hex_digit lower b → a ≡ b
 hex_injective a b a_small b_small same = grind (arith, nat_tests)
 
-same_digit : (s t place : ℕ) → hex_digit lower (digit_of s place) ≡ hex_digit lower (digit_of t place) → digit_of s place ≡ digit_of t place
+same_digit : (s t place : ℕ) → hex_digit lower (digit_of s place) ≡ hex_digit lower (digit_of t place)
+    → digit_of s place ≡ digit_of t place
 same_digit s t place same = hex_injective (digit_of s place) (digit_of t place) (remainder (s / place)) (remainder (t / place)) same where
   remainder : (n : ℕ) → n % 16 < 16
   remainder n = omega arith

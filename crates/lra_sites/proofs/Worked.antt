@@ -22,12 +22,14 @@ early_digits : site_text 258 ≡ codes "0102"
 unfolding sites_on_literals
 early_digits = refl
 
-early_action : action_uri early (codes "http://a.example/") 7 ≡ codes "http://a.example/lra-coordinator/01020000-0000-8005-8000-000000000007"
+early_action : action_uri early (codes "http://a.example/") 7
+    ≡ codes "http://a.example/lra-coordinator/01020000-0000-8005-8000-000000000007"
 unfolding early sites_on_literals
 early_action = refl
 
 -- the last instance and the last number of the last site
-last_recovery : recovery_uri (2 ^ 60 - 1) (codes "http://a.example/") (2 ^ 62 - 1) ≡ codes "http://a.example/lra-recovery/ffffffff-ffff-8fff-bfff-ffffffffffff"
+last_recovery : recovery_uri (2 ^ 60 - 1) (codes "http://a.example/") (2 ^ 62 - 1)
+    ≡ codes "http://a.example/lra-recovery/ffffffff-ffff-8fff-bfff-ffffffffffff"
 unfolding sites_on_literals
 last_recovery = refl
 

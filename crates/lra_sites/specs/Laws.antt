@@ -21,7 +21,8 @@ RecoveriesBeginWithTheirSite = (i n : ℕ) (base : List ℕ) → IsBorne i n
 
 -- identifiers whose first four characters are the same are of one site
 abbrev pub TellSitesApart : Type 0
-TellSitesApart = (i j n m : ℕ) → IsBorne i n → IsBorne j m → take 4 (id_text i n) ≡ take 4 (id_text j m) → site_of i ≡ site_of j
+TellSitesApart = (i j n m : ℕ) → IsBorne i n → IsBorne j m → take 4 (id_text i n) ≡ take 4 (id_text j m) → site_of i
+    ≡ site_of j
 
 -- a URI is of one site alone
 abbrev pub NeverMeet : Type 0

@@ -26,14 +26,17 @@ AllCountTo-more n k rows h all a = by_row (row_at rows a) (all a)
     by_row (Some r) c = CountsTo-more n k r h c
 
 -- rows whose counts are bounded, and one among them that is replaced by another that is
-pub AllCountTo-with_row : (k : ℕ) (rows : List ActionRow) (a : ℕ) (r now : ActionRow) → AllCountTo k rows → row_at rows a ≡ Some r → CountsTo k now → AllCountTo k (with_row a now rows)
+pub AllCountTo-with_row : (k : ℕ) (rows : List ActionRow) (a : ℕ) (r now : ActionRow) → AllCountTo k rows
+    → row_at rows a ≡ Some r → CountsTo k now → AllCountTo k (with_row a now rows)
 AllCountTo-with_row k rows a r now all there few n =
     elim (cases_eq n a) [
-      | inl same ↦ subst (λ (m : ℕ). IfSome (row_at (with_row a now rows) m) (CountsTo k)) (sym same) (rw (row_at-with_row_same a rows r now there) few)
+      | inl same ↦ subst (λ (m : ℕ). IfSome (row_at (with_row a now rows) m) (CountsTo k)) (sym same)
+          (rw (row_at-with_row_same a rows r now there) few)
       | inr apart ↦ rw (row_at-with_row_other a rows now n apart) (all n)
     ]
 
-pub CountsTo-status : (k : ℕ) (r : ActionRow) (status : ActionStatus) → CountsTo k r → CountsTo k (record r { status = status })
+pub CountsTo-status : (k : ℕ) (r : ActionRow) (status : ActionStatus) → CountsTo k r
+    → CountsTo k (record r { status = status })
 CountsTo-status k r status c = record {
   completing = c.completing;
   compensating = c.compensating;

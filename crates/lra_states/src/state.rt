@@ -38,9 +38,22 @@ impl Model for Presence {
 
     ghost Value = { texts.Presence };
 
-    ghost view = { λ p. record { compensate = p.compensate; complete = p.complete; status = p.status; forget = p.forget; after = p.after } };
+    ghost view = { λ p. record {
+      compensate = p.compensate;
+      complete = p.complete;
+      status = p.status;
+      forget = p.forget;
+      after = p.after;
+    } };
 
-    ghost inverse = { λ p. record { compensate = p.compensate; complete = p.complete; status = p.status; forget = p.forget; after = p.after } };
+    ghost inverse = { λ p. record {
+      compensate = p.compensate;
+      complete = p.complete;
+      status = p.status;
+      forget =
+          p.forget;
+      after = p.after;
+    } };
 }
 
 /// An ask that its member hasn't answered; a restart may have made it void.

@@ -23,7 +23,8 @@ use Rattle.lra_steps.proofs.TurnLemmas.{Spells-more, StandsAt-more, Spells-next,
 -- ---- bytes come
 
 -- there is room while the stream goes on
-room_open : (closed : Bool) (ended : Option StreamEnd) (n m : ℕ) → 0 < m → m ≤ cond (closed || is_some ended) 0 (73728 - n) → (ended ≡ None) × (m + n ≤ 73728)
+room_open : (closed : Bool) (ended : Option StreamEnd) (n m : ℕ) → 0 < m → m
+    ≤ cond (closed || is_some ended) 0 (73728 - n) → (ended ≡ None) × (m + n ≤ 73728)
 room_open true ended n m some h = absurd (omega (arith, some, h))
 room_open false (Some end) n m some h = absurd (omega (arith, some, h))
 room_open false None n m some h = (refl, omega (arith, some, h))
@@ -37,7 +38,8 @@ replied_took None h more e r = r
 replied_took (Some end) h more e r = absurd cc
 
 pub served_took : (h : History) (more : List ℕ) → IsServed h → length more ≤ room_of h → IsServed (took h more)
-served_took h [] s fits = subst IsServed (λ i. record h { taken = sym (append-nil h.taken) i; kept = sym (append-nil h.kept) i }) s
+served_took h [] s fits =
+    subst IsServed (λ i. record h { taken = sym (append-nil h.taken) i; kept = sym (append-nil h.kept) i }) s
 served_took h (b ∷ more) s fits =
     let room = room_open h.closed h.ended (length h.kept) (length (b ∷ more)) (omega arith) fits in
     record {
@@ -73,11 +75,13 @@ served_finished h s = record {
 
 -- ---- a request is read
 
-open_ordered : (o : Option StreamEnd) (h : History) (request : Request) (rest : List ℕ) → o ≡ None → IsOpenSo o h → IsOpenSo o (ordered h request rest)
+open_ordered : (o : Option StreamEnd) (h : History) (request : Request) (rest : List ℕ) → o ≡ None → IsOpenSo o h
+    → IsOpenSo o (ordered h request rest)
 open_ordered None h request rest e s = s
 open_ordered (Some end) h request rest e s = absurd cc
 
-replied_ordered : (o : Option StreamEnd) (h : History) (request : Request) (rest : List ℕ) → o ≡ None → Replies o h → Replies o (ordered h request rest)
+replied_ordered : (o : Option StreamEnd) (h : History) (request : Request) (rest : List ℕ) → o ≡ None → Replies o h
+    → Replies o (ordered h request rest)
 replied_ordered None h request rest e r = r
 replied_ordered (Some end) h request rest e r = absurd cc
 
@@ -85,7 +89,8 @@ replied_ordered (Some end) h request rest e r = absurd cc
 pub all_read : (h : History) → IsServed h → h.stands ≡ None → Spells h.taken (map plain h.turns) h.kept
 all_read h s none = let here : s.behind ≡ h.kept = subst (λ (o : Option Request). StandsAt o s.behind h.kept) none s.standing in subst (Spells h.taken (map plain h.turns)) here s.spelled
 
-pub served_ordered : (h : History) (request : Request) (n : ℕ) → IsServed h → IsFree h → IsRequest h.kept request (drop n h.kept) → IsServed (ordered h request (drop n h.kept))
+pub served_ordered : (h : History) (request : Request) (n : ℕ) → IsServed h → IsFree h
+    → IsRequest h.kept request (drop n h.kept) → IsServed (ordered h request (drop n h.kept))
 served_ordered h request n s free is = record {
   behind = h.kept;
   spelled = all_read h s free.1;
@@ -102,7 +107,8 @@ goes_on : (o : Option StreamEnd) (h : History) (request : Request) → IsOpenSo 
 goes_on None h request s e = refl
 goes_on (Some end) h request s e = let none : None ≡ Some request = sym s.0 ∙ e in absurd cc
 
-open_answered : (b : Bool) (h : History) (turn : Turn) → closes_after (is_last h) turn.request ≡ b → IsOpenSo None h → IsOpenSo (cond b (Some Done) None) (answered h turn)
+open_answered : (b : Bool) (h : History) (turn : Turn) → closes_after (is_last h) turn.request ≡ b → IsOpenSo None h
+    → IsOpenSo (cond b (Some Done) None) (answered h turn)
 open_answered true h turn e s = (refl, inl (closes-push 999 h.turns turn s e))
 open_answered false h turn e s = stays-push 999 h.turns turn s e
 
@@ -120,16 +126,19 @@ replied_answered b h turn e s r = go b e
     go true e = (whole, inr (closes-push 999 h.turns turn s e))
     go false e = whole
 
-pub served_answered : (h : History) (turn : Turn) → IsServed h → h.stands ≡ Some turn.request → IsServed (answered h turn)
+pub served_answered : (h : History) (turn : Turn) → IsServed h → h.stands ≡ Some turn.request
+    → IsServed (answered h turn)
 served_answered h turn s stands =
     let none = goes_on h.ended h turn.request s.open_so stands in
     let so : IsOpenSo None h = subst (λ (o : Option StreamEnd). IsOpenSo o h) none s.open_so in
     record {
       behind = h.kept;
-      spelled = Spells-next h.taken h.turns s.behind turn h.kept s.spelled (subst (λ (o : Option Request). StandsAt o s.behind h.kept) stands s.standing);
+      spelled = Spells-next h.taken h.turns s.behind turn h.kept s.spelled
+          (subst (λ (o : Option Request). StandsAt o s.behind h.kept) stands s.standing);
       standing = refl;
       open_so = open_answered (closes_after (is_last h) turn.request) h turn refl so;
-      replied = replied_answered (closes_after (is_last h) turn.request) h turn refl so (subst (λ (o : Option StreamEnd). Replies o h) none s.replied);
+      replied = replied_answered (closes_after (is_last h) turn.request) h turn refl so
+          (subst (λ (o : Option StreamEnd). Replies o h) none s.replied);
       bound = s.bound;
     }
 
@@ -140,7 +149,8 @@ lost_front h turn s r =
       (
         text,
         replies-push h.base 999 h.turns turn ∙ ap (λ xs. xs ++ text) (sym r),
-        reply_some turn.answered.instance h.base turn.answered.answer (is_head turn.request) (closes_after (is_last h) turn.request),
+        reply_some turn.answered.instance h.base turn.answered.answer (is_head turn.request)
+            (closes_after (is_last h) turn.request),
       ),
       before-push 999 h.turns turn s,
     )
@@ -151,7 +161,8 @@ served_lost h turn s stands =
     let so : IsOpenSo None h = subst (λ (o : Option StreamEnd). IsOpenSo o h) none s.open_so in
     record {
       behind = h.kept;
-      spelled = Spells-next h.taken h.turns s.behind turn h.kept s.spelled (subst (λ (o : Option Request). StandsAt o s.behind h.kept) stands s.standing);
+      spelled = Spells-next h.taken h.turns s.behind turn h.kept s.spelled
+          (subst (λ (o : Option Request). StandsAt o s.behind h.kept) stands s.standing);
       standing = refl;
       open_so = (refl, inl tt);
       replied = lost_front h turn so (subst (λ (o : Option StreamEnd). Replies o h) none s.replied);
@@ -169,10 +180,12 @@ refuses bytes Memory h = h
 refuses bytes Cut h = absurd h
 refuses bytes Io h = absurd h
 
-ends_after : (end : StreamEnd) (h : History) → IsOpenSo None h → h.sent ++ h.out ≡ replies h.base 999 h.turns → Ends end h → Replies (Some end) (ended_by h end)
+ends_after : (end : StreamEnd) (h : History) → IsOpenSo None h → h.sent ++ h.out ≡ replies h.base 999 h.turns
+    → Ends end h → Replies (Some end) (ended_by h end)
 ends_after Done h s r e = (ap (λ xs. h.sent ++ xs) (append-nil h.out) ∙ r, inl (e.1, s))
 ends_after (Refused fault) h s r e = (
-  sym (append_assoc h.sent h.out (fault_reply h.instance h.base fault)) ∙ ap (λ xs. xs ++ fault_reply h.instance h.base fault) r,
+  sym (append_assoc h.sent h.out (fault_reply h.instance h.base fault))
+      ∙ ap (λ xs. xs ++ fault_reply h.instance h.base fault) r,
   why e,
   s,
 )
@@ -207,13 +220,18 @@ open_went None h n s = s
 open_went (Some end) h n s = s
 
 all_out : (h : History) (n : ℕ) → h.sent ++ h.out ≡ (h.sent ++ take n h.out) ++ drop n h.out
-all_out h n = ap (λ xs. h.sent ++ xs) (sym (take-append-drop n h.out)) ∙ sym (append_assoc h.sent (take n h.out) (drop n h.out))
+all_out h n = ap (λ xs. h.sent ++ xs) (sym (take-append-drop n h.out))
+    ∙ sym (append_assoc h.sent (take n h.out) (drop n h.out))
 
 replied_went : (o : Option StreamEnd) (h : History) (n : ℕ) → Replies o h → Replies o (went h n)
 replied_went None h n r = sym (all_out h n) ∙ r
 replied_went (Some Done) h n r = (sym (all_out h n) ∙ r.0, r.1)
 replied_went (Some (Refused fault)) h n r = (sym (all_out h n) ∙ r.0, r.1, r.2)
-replied_went (Some WriteFault) h n r = (subst (λ (xs : List ℕ). IsFront xs (replies h.base 999 h.turns)) (all_out h n) r.0, r.1)
+replied_went (Some WriteFault) h n r = (
+  subst (λ (xs : List ℕ). IsFront xs (replies h.base 999 h.turns)) (all_out h n)
+      r.0,
+  r.1,
+)
 
 pub served_went : (h : History) (n : ℕ) → IsServed h → IsServed (went h n)
 served_went h n s = record {
@@ -238,19 +256,23 @@ pub took_is : (h : History) (more kept : List ℕ) (old new : List (List ℕ)) (
 took_is h more kept old new place t p k n =
     let last : drop place kept ≡ more = ap (λ x. drop x kept) p ∙ ap (drop (length h.kept)) k ∙ dropped h.kept more in
     let all : flat_map (λ t. t) new ≡ h.taken ++ more =
-    ap (flat_map (λ t. t)) (n ∙ ap (λ x. old ++ x ∷ []) last) ∙ sym (flat_map_more (λ (t : List ℕ). t) [] old more) ∙ ap (λ xs. xs ++ more) (sym t) in
+    ap (flat_map (λ t. t)) (n ∙ ap (λ x. old ++ x ∷ []) last) ∙ sym (flat_map_more (λ (t : List ℕ). t) [] old more)
+    ∙ ap (λ xs. xs ++ more) (sym t) in
     λ i. record h { taken = all i; kept = k i }
 
 -- bytes were handed out
-pub went_is : (h : History) (count : ℕ) (out : List ℕ) (old new : List (List ℕ)) → h.sent ≡ flat_map (λ t. t) old → new ≡ old ++ take count h.out ∷ [] → out ≡ drop count h.out
+pub went_is : (h : History) (count : ℕ) (out : List ℕ) (old new : List (List ℕ)) → h.sent ≡ flat_map (λ t. t) old → new
+    ≡ old ++ take count h.out ∷ [] → out ≡ drop count h.out
     → record h { sent = flat_map (λ t. t) new; out = out } ≡ went h count
 went_is h count out old new s n o =
     let all : flat_map (λ t. t) new ≡ h.sent ++ take count h.out =
-    ap (flat_map (λ t. t)) n ∙ sym (flat_map_more (λ (t : List ℕ). t) [] old (take count h.out)) ∙ ap (λ xs. xs ++ take count h.out) (sym s) in
+    ap (flat_map (λ t. t)) n ∙ sym (flat_map_more (λ (t : List ℕ). t) [] old (take count h.out))
+    ∙ ap (λ xs. xs ++ take count h.out) (sym s) in
     λ i. record h { sent = all i; out = o i }
 
 -- a request was read
-pub ordered_is : (h : History) (n : ℕ) (kept : List ℕ) (request : Request) → kept ≡ drop n h.kept → record h { kept = kept; stands = Some request } ≡ ordered h request (drop n h.kept)
+pub ordered_is : (h : History) (n : ℕ) (kept : List ℕ) (request : Request) → kept ≡ drop n h.kept
+    → record h { kept = kept; stands = Some request } ≡ ordered h request (drop n h.kept)
 ordered_is h n kept request k = λ i. record h { kept = k i; stands = Some request }
 
 -- none stands
@@ -259,7 +281,8 @@ none_stands None e = refl
 none_stands (Some request) e = absurd cc
 
 -- it ended
-pub ended_is : (h : History) (end : StreamEnd) (out : List ℕ) → out ≡ h.out ++ end_reply h.instance h.base end → record h { out = out; ended = Some end } ≡ ended_by h end
+pub ended_is : (h : History) (end : StreamEnd) (out : List ℕ) → out ≡ h.out ++ end_reply h.instance h.base end
+    → record h { out = out; ended = Some end } ≡ ended_by h end
 ended_is h end out o = λ i. record h { out = o i; ended = Some end }
 
 pub ends_without : (h : History) (end : StreamEnd) → EndsWithout h.closed h.kept (Some end) → Ends end h
@@ -268,9 +291,11 @@ ends_without h (Refused fault) e = inr e
 ends_without h WriteFault e = absurd e
 
 -- and nothing is replied where no more bytes come
-pub quiet_end : (h : History) (end : StreamEnd) → EndsWithout h.closed h.kept (Some end) → h.out ≡ h.out ++ end_reply h.instance h.base end
+pub quiet_end : (h : History) (end : StreamEnd) → EndsWithout h.closed h.kept (Some end) → h.out ≡ h.out
+    ++ end_reply h.instance h.base end
 quiet_end h Done e = sym (append-nil h.out)
-quiet_end h (Refused fault) e = sym (append-nil h.out) ∙ ap (λ f. h.out ++ end_reply h.instance h.base (Refused f)) (sym e.1)
+quiet_end h (Refused fault) e = sym (append-nil h.out) ∙ ap (λ f. h.out ++ end_reply h.instance h.base (Refused f))
+    (sym e.1)
 quiet_end h WriteFault e = absurd e
 
 -- how many requests are left, beside a last one
@@ -278,30 +303,41 @@ pub last_is : (left n : ℕ) → left ≡ 999 - n → (left == 0) ≡ nat_le 999
 last_is left n e = grind (arith, nat_tests)
 
 -- the reply to a turn, by what its request says
-pub reply_is : (h : History) (turn : Turn) (base : List ℕ) (left : ℕ) (head close : Bool) → base ≡ h.base → left ≡ 999 - length h.turns → head ≡ is_head turn.request
-    → close ≡ closes_after (left == 0) turn.request → reply_bytes turn.answered.instance base turn.answered.answer head close ≡ turn_reply h.base (is_last h) turn
+pub reply_is : (h : History) (turn : Turn) (base : List ℕ) (left : ℕ) (head close : Bool) → base ≡ h.base → left
+    ≡ 999 - length h.turns → head ≡ is_head turn.request
+    → close ≡ closes_after (left == 0) turn.request → reply_bytes turn.answered.instance base turn.answered.answer head
+    close ≡ turn_reply h.base (is_last h) turn
 reply_is h turn base left head close b l d c =
     let instance = turn.answered.instance in
     let a = turn.answered.answer in
     ap (λ p. reply_bytes instance p a head close) b ∙ ap (λ x. reply_bytes instance h.base a x close) d
-    ∙ ap (λ x. reply_bytes instance h.base a (is_head turn.request) x) (c ∙ ap (λ x. closes_after x turn.request) (last_is left (length h.turns) l))
+    ∙ ap (λ x. reply_bytes instance h.base a (is_head turn.request) x)
+    (c ∙ ap (λ x. closes_after x turn.request) (last_is left (length h.turns) l))
 
-closing : (h : History) (turn : Turn) (left : ℕ) (close : Bool) → left ≡ 999 - length h.turns → close ≡ closes_after (left == 0) turn.request
+closing : (h : History) (turn : Turn) (left : ℕ) (close : Bool) → left ≡ 999 - length h.turns → close
+    ≡ closes_after (left == 0) turn.request
     → cond close (Some Done) None ≡ cond (closes_after (is_last h) turn.request) (Some Done) None
-closing h turn left close l c = ap (λ x. cond x (Some Done) None) (c ∙ ap (λ x. closes_after x turn.request) (last_is left (length h.turns) l))
+closing h turn left close l c = ap (λ x. cond x (Some Done) None) (c ∙ ap (λ x. closes_after x turn.request)
+    (last_is left (length h.turns) l))
 
 -- the answer to the request that stands was told
-pub served_told : (h : History) (turn : Turn) (base : List ℕ) (left : ℕ) (head close : Bool) (replied : Result (Unit {0}) AllocError) (turns : List Turn) (ended : Option StreamEnd) (out : List ℕ)
-    → IsServed h → h.stands ≡ Some turn.request → base ≡ h.base → left ≡ 999 - length h.turns → head ≡ is_head turn.request → close ≡ closes_after (left == 0) turn.request
+pub served_told : (h : History) (turn : Turn) (base : List ℕ) (left : ℕ) (head close : Bool)
+    (replied : Result (Unit {0}) AllocError) (turns : List Turn) (ended : Option StreamEnd) (out : List ℕ)
+    → IsServed h → h.stands ≡ Some turn.request → base ≡ h.base → left ≡ 999 - length h.turns → head
+    ≡ is_head turn.request → close ≡ closes_after (left == 0) turn.request
     → turns ≡ h.turns ++ turn ∷ [] → ended ≡ cond (is_ok replied) (cond close (Some Done) None) (Some WriteFault)
-    → OnOk replied (out ≡ h.out ++ reply_bytes turn.answered.instance base turn.answered.answer head close) → OnErr replied (out ≡ h.out)
+    → OnOk replied (out ≡ h.out ++ reply_bytes turn.answered.instance base turn.answered.answer head close)
+    → OnErr replied (out ≡ h.out)
     → IsServed (record h { turns = turns; stands = None; ended = ended; out = out })
 served_told h turn base left head close (Ok u) turns ended out s stands b l d c t e ok err =
     let so = e ∙ closing h turn left close l c in
     let text = ok ∙ ap (λ xs. h.out ++ xs) (reply_is h turn base left head close b l d c) in
-    subst IsServed (sym (λ i. record h { turns = t i; stands = None; ended = so i; out = text i })) (served_answered h turn s stands)
+    subst IsServed (sym (λ i. record h { turns = t i; stands = None; ended = so i; out = text i }))
+    (served_answered h turn s stands)
 served_told h turn base left head close (Err f) turns ended out s stands b l d c t e ok err =
-    subst IsServed (sym (λ i. record h { turns = t i; stands = None; ended = e i; out = err i })) (served_lost h turn s stands)
+    subst IsServed (sym (λ i. record h { turns = t i; stands = None; ended = e i; out = err i }))
+    (served_lost h turn s stands)
 
-pub left_one : (h : History) (turn : Turn) (left now : ℕ) (turns : List Turn) → left ≡ 999 - length h.turns → now ≡ left - 1 → turns ≡ h.turns ++ turn ∷ [] → now ≡ 999 - length turns
+pub left_one : (h : History) (turn : Turn) (left now : ℕ) (turns : List Turn) → left ≡ 999 - length h.turns → now
+    ≡ left - 1 → turns ≡ h.turns ++ turn ∷ [] → now ≡ 999 - length turns
 left_one h turn left now turns l n t = omega (arith, l, n, ap length t, length-append h.turns (turn ∷ []))

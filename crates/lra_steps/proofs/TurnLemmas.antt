@@ -22,24 +22,37 @@ plain-push turns turn = sym (map-append plain turns (turn ∷ []))
 -- ---- what is spelled
 
 -- more bytes come
-pub Spells-more : (bytes : List ℕ) (turns : List FrontTurn) (rest more : List ℕ) → Spells bytes turns rest → Spells (bytes ++ more) turns (rest ++ more)
+pub Spells-more : (bytes : List ℕ) (turns : List FrontTurn) (rest more : List ℕ) → Spells bytes turns rest
+    → Spells (bytes ++ more) turns (rest ++ more)
 Spells-more bytes [] rest more h = ap (λ xs. xs ++ more) h
-Spells-more bytes (turn ∷ turns) rest more h = (h.0 ++ more, request_more bytes more turn.request h.0 h.1, Spells-more h.0 turns rest more h.2)
+Spells-more bytes (turn ∷ turns) rest more h = (
+  h.0 ++ more,
+  request_more bytes more turn.request h.0 h.1,
+  Spells-more h.0 turns rest more h.2,
+)
 
-pub StandsAt-more : (stands : Option Request) (bytes rest more : List ℕ) → StandsAt stands bytes rest → StandsAt stands (bytes ++ more) (rest ++ more)
+pub StandsAt-more : (stands : Option Request) (bytes rest more : List ℕ) → StandsAt stands bytes rest
+    → StandsAt stands (bytes ++ more) (rest ++ more)
 StandsAt-more None bytes rest more h = ap (λ xs. xs ++ more) h
 StandsAt-more (Some request) bytes rest more h = request_more bytes more request rest h
 
 -- the first request of the rest is one more
-front-next : (bytes : List ℕ) (turns : List FrontTurn) (rest : List ℕ) (turn : FrontTurn) (after : List ℕ) → Spells bytes turns rest → IsRequest rest turn.request after
+front-next : (bytes : List ℕ) (turns : List FrontTurn) (rest : List ℕ) (turn : FrontTurn) (after : List ℕ)
+    → Spells bytes turns rest → IsRequest rest turn.request after
     → Spells bytes (turns ++ turn ∷ []) after
-front-next bytes [] rest turn after h r = (after, subst (λ (xs : List ℕ). IsRequest xs turn.request after) (sym h) r, refl)
+front-next bytes [] rest turn after h r = (
+  after,
+  subst (λ (xs : List ℕ). IsRequest xs turn.request after) (sym h) r,
+  refl,
+)
 front-next bytes (first ∷ turns) rest turn after h r = (h.0, h.1, front-next h.0 turns rest turn after h.2 r)
 
-pub Spells-next : (bytes : List ℕ) (turns : List Turn) (rest : List ℕ) (turn : Turn) (after : List ℕ) → Spells bytes (map plain turns) rest → IsRequest rest turn.request after
+pub Spells-next : (bytes : List ℕ) (turns : List Turn) (rest : List ℕ) (turn : Turn) (after : List ℕ)
+    → Spells bytes (map plain turns) rest → IsRequest rest turn.request after
     → Spells bytes (map plain (turns ++ turn ∷ [])) after
 Spells-next bytes turns rest turn after h r =
-    subst (λ (ts : List FrontTurn). Spells bytes ts after) (plain-push turns turn) (front-next bytes (map plain turns) rest (plain turn) after h r)
+    subst (λ (ts : List FrontTurn). Spells bytes ts after) (plain-push turns turn)
+    (front-next bytes (map plain turns) rest (plain turn) after h r)
 
 -- ---- what is replied
 
@@ -54,7 +67,8 @@ reaches_is zero turns = grind (arith, nat_tests)
 reaches_is (suc n) [] = grind (arith, nat_tests)
 reaches_is (suc n) (turn ∷ turns) = let one : nat_le (suc n) (length (turn ∷ turns)) ≡ nat_le n (length turns) = grind (arith, nat_tests) in one ∙ reaches_is n turns
 
-one_more : (base : List ℕ) (n : ℕ) (turns : List Turn) (turn : Turn) → replies base n (turns ++ turn ∷ []) ≡ replies base n turns ++ turn_reply base (reaches n turns) turn
+one_more : (base : List ℕ) (n : ℕ) (turns : List Turn) (turn : Turn) → replies base n (turns ++ turn ∷ [])
+    ≡ replies base n turns ++ turn_reply base (reaches n turns) turn
 one_more base zero [] turn = append-nil (turn_reply base true turn)
 one_more base (suc n) [] turn = append-nil (turn_reply base false turn)
 one_more base zero (first ∷ turns) turn =
@@ -65,8 +79,10 @@ one_more base (suc n) (first ∷ turns) turn =
     ∙ sym (append_assoc (turn_reply base false first) (replies base n turns) (turn_reply base (reaches n turns) turn))
 
 -- one more request is answered, which may be the last that is taken
-pub replies-push : (base : List ℕ) (n : ℕ) (turns : List Turn) (turn : Turn) → replies base n (turns ++ turn ∷ []) ≡ replies base n turns ++ turn_reply base (nat_le n (length turns)) turn
-replies-push base n turns turn = one_more base n turns turn ∙ ap (λ b. replies base n turns ++ turn_reply base b turn) (sym (reaches_is n turns))
+pub replies-push : (base : List ℕ) (n : ℕ) (turns : List Turn) (turn : Turn) → replies base n (turns ++ turn ∷ [])
+    ≡ replies base n turns ++ turn_reply base (nat_le n (length turns)) turn
+replies-push base n turns turn = one_more base n turns turn ∙ ap (λ b. replies base n turns ++ turn_reply base b turn)
+    (sym (reaches_is n turns))
 
 reaches_plain : (n : ℕ) (turns : List Turn) → reaches n (map plain turns) ≡ reaches n turns
 reaches_plain zero turns = refl
@@ -79,44 +95,54 @@ last_closes : (b : Bool) → (b || true) ≡ false → ⊥
 last_closes true e = cc
 last_closes false e = cc
 
-stays : (n : ℕ) (turns : List FrontTurn) (turn : FrontTurn) → StaysOpen n turns → closes_after (reaches n turns) turn.request ≡ false → StaysOpen n (turns ++ turn ∷ [])
+stays : (n : ℕ) (turns : List FrontTurn) (turn : FrontTurn) → StaysOpen n turns
+    → closes_after (reaches n turns) turn.request ≡ false → StaysOpen n (turns ++ turn ∷ [])
 stays zero [] turn h e = absurd (last_closes turn.request.close e)
 stays (suc n) [] turn h e = (e, tt)
 stays zero (first ∷ turns) turn h e = absurd h
 stays (suc n) (first ∷ turns) turn h e = (h.0, stays n turns turn h.1 e)
 
 -- the stream stays open after it
-pub stays-push : (n : ℕ) (turns : List Turn) (turn : Turn) → StaysOpen n (map plain turns) → closes_after (nat_le n (length turns)) turn.request ≡ false
+pub stays-push : (n : ℕ) (turns : List Turn) (turn : Turn) → StaysOpen n (map plain turns)
+    → closes_after (nat_le n (length turns)) turn.request ≡ false
     → StaysOpen n (map plain (turns ++ turn ∷ []))
 stays-push n turns turn h e =
     subst (StaysOpen n) (plain-push turns turn)
-    (stays n (map plain turns) (plain turn) h (ap (λ b. closes_after b turn.request) (reaches_plain n turns ∙ sym (reaches_is n turns)) ∙ e))
+    (stays n (map plain turns) (plain turn) h (ap (λ b. closes_after b turn.request)
+    (reaches_plain n turns ∙ sym (reaches_is n turns)) ∙ e))
 
-closes : (n : ℕ) (turns : List FrontTurn) (turn : FrontTurn) → StaysOpen n turns → closes_after (reaches n turns) turn.request ≡ true → ClosesLast n (turns ++ turn ∷ [])
+closes : (n : ℕ) (turns : List FrontTurn) (turn : FrontTurn) → StaysOpen n turns
+    → closes_after (reaches n turns) turn.request ≡ true → ClosesLast n (turns ++ turn ∷ [])
 closes zero [] turn h e = tt
 closes (suc n) [] turn h e = e
 closes zero (first ∷ turns) turn h e = absurd h
 closes (suc n) (first ∷ turns) turn h e = closes_more n first (turns ++ turn ∷ []) h.0 (closes n turns turn h.1 e)
 
 -- or is closed
-pub closes-push : (n : ℕ) (turns : List Turn) (turn : Turn) → StaysOpen n (map plain turns) → closes_after (nat_le n (length turns)) turn.request ≡ true
+pub closes-push : (n : ℕ) (turns : List Turn) (turn : Turn) → StaysOpen n (map plain turns)
+    → closes_after (nat_le n (length turns)) turn.request ≡ true
     → ClosesLast n (map plain (turns ++ turn ∷ []))
 closes-push n turns turn h e =
     subst (ClosesLast n) (plain-push turns turn)
-    (closes n (map plain turns) (plain turn) h (ap (λ b. closes_after b turn.request) (reaches_plain n turns ∙ sym (reaches_is n turns)) ∙ e))
+    (closes n (map plain turns) (plain turn) h (ap (λ b. closes_after b turn.request)
+    (reaches_plain n turns ∙ sym (reaches_is n turns)) ∙ e))
 
-before : (n : ℕ) (turns : List FrontTurn) (turn : FrontTurn) → StaysOpen n turns → StaysOpenBefore n (turns ++ turn ∷ [])
+before : (n : ℕ) (turns : List FrontTurn) (turn : FrontTurn) → StaysOpen n turns
+    → StaysOpenBefore n (turns ++ turn ∷ [])
 before zero [] turn h = tt
 before (suc n) [] turn h = tt
 before zero (first ∷ turns) turn h = absurd h
 before (suc n) (first ∷ turns) turn h = before_more n first (turns ++ turn ∷ []) h.0 (before n turns turn h.1)
 
 -- or its reply is lost
-pub before-push : (n : ℕ) (turns : List Turn) (turn : Turn) → StaysOpen n (map plain turns) → StaysOpenBefore n (map plain (turns ++ turn ∷ []))
-before-push n turns turn h = subst (StaysOpenBefore n) (plain-push turns turn) (before n (map plain turns) (plain turn) h)
+pub before-push : (n : ℕ) (turns : List Turn) (turn : Turn) → StaysOpen n (map plain turns)
+    → StaysOpenBefore n (map plain (turns ++ turn ∷ []))
+before-push n turns turn h = subst (StaysOpenBefore n) (plain-push turns turn)
+    (before n (map plain turns) (plain turn) h)
 
 -- a reply has some bytes
-pub reply_some : (instance : ℕ) (base : List ℕ) (a : Answer) (head close : Bool) → 0 < length (reply_bytes instance base a head close)
+pub reply_some : (instance : ℕ) (base : List ℕ) (a : Answer) (head close : Bool) → 0
+    < length (reply_bytes instance base a head close)
 unfolding reply_bytes
 reply_some instance base a head close = omega arith
 
@@ -127,13 +153,18 @@ abbrev pub AreOf : ℕ → List Turn → Type 0
 AreOf instance [] = ⊤
 AreOf instance (turn ∷ turns) = (turn.answered.instance ≡ instance) × AreOf instance turns
 
-one_reply : (c : Setting) (last : Bool) (turn : Turn) → turn.answered.instance ≡ c.instance → turn_reply c.base last turn ≡ turn_text c last (plain turn)
-one_reply c last turn e = ap (λ i. reply_bytes i c.base turn.answered.answer (is_head turn.request) (closes_after last turn.request)) e
+one_reply : (c : Setting) (last : Bool) (turn : Turn) → turn.answered.instance ≡ c.instance
+    → turn_reply c.base last turn ≡ turn_text c last (plain turn)
+one_reply c last turn e = ap (λ i. reply_bytes i c.base turn.answered.answer (is_head turn.request)
+    (closes_after last turn.request)) e
 
 -- they are replied as the front does
-pub replies_plain : (c : Setting) (n : ℕ) (turns : List Turn) → AreOf c.instance turns → replies c.base n turns ≡ front_replies c n (map plain turns)
+pub replies_plain : (c : Setting) (n : ℕ) (turns : List Turn) → AreOf c.instance turns → replies c.base n turns
+    ≡ front_replies c n (map plain turns)
 replies_plain c n [] of = refl
 replies_plain c zero (turn ∷ turns) of =
-    ap (λ xs. xs ++ replies c.base zero turns) (one_reply c true turn of.0) ∙ ap (λ xs. turn_text c true (plain turn) ++ xs) (replies_plain c zero turns of.1)
+    ap (λ xs. xs ++ replies c.base zero turns) (one_reply c true turn of.0)
+    ∙ ap (λ xs. turn_text c true (plain turn) ++ xs) (replies_plain c zero turns of.1)
 replies_plain c (suc n) (turn ∷ turns) of =
-    ap (λ xs. xs ++ replies c.base n turns) (one_reply c false turn of.0) ∙ ap (λ xs. turn_text c false (plain turn) ++ xs) (replies_plain c n turns of.1)
+    ap (λ xs. xs ++ replies c.base n turns) (one_reply c false turn of.0)
+    ∙ ap (λ xs. turn_text c false (plain turn) ++ xs) (replies_plain c n turns of.1)

@@ -41,7 +41,8 @@ pub record History : Type 0 where
 
 -- the reply to a turn, the last that is taken or not: it names the identifiers of the coordinator whose answer it is
 abbrev pub turn_reply : List ℕ → Bool → Turn → List ℕ
-turn_reply base last turn = reply_bytes turn.answered.instance base turn.answered.answer (is_head turn.request) (closes_after last turn.request)
+turn_reply base last turn = reply_bytes turn.answered.instance base turn.answered.answer (is_head turn.request)
+    (closes_after last turn.request)
 
 -- the replies to turns, one after another, of which so many are taken and one more
 abbrev pub replies : List ℕ → ℕ → List Turn → List ℕ
@@ -72,10 +73,13 @@ IsOpenSo (Some end) h = (h.stands ≡ None) × (IsLasting end h.turns h.kept ⊎
 -- Why a stream has ended after these turns, where the rest was still to be read, and what went out by then: the replies to the requests that were
 -- answered, in order, and to a fault of reading; where the last reply was lost, a proper front of them.
 abbrev pub EndsAfter : ℕ → List ℕ → List Turn → List ℕ → List ℕ → StreamEnd → Type 0
-EndsAfter instance base turns rest out Done = (out ≡ replies base 999 turns) × (((rest ≡ []) × StaysOpen 999 (map plain turns)) ⊎ ClosesLast 999 (map plain turns))
+EndsAfter instance base turns rest out Done = (out ≡ replies base 999 turns)
+    × (((rest ≡ []) × StaysOpen 999 (map plain turns)) ⊎ ClosesLast 999 (map plain turns))
 EndsAfter instance base turns rest out (Refused fault) =
-    (out ≡ replies base 999 turns ++ fault_reply instance base fault) × RefusesRequest rest fault × StaysOpen 999 (map plain turns)
-EndsAfter instance base turns rest out WriteFault = IsFront out (replies base 999 turns) × StaysOpenBefore 999 (map plain turns)
+    (out ≡ replies base 999 turns ++ fault_reply instance base fault) × RefusesRequest rest fault
+    × StaysOpen 999 (map plain turns)
+EndsAfter instance base turns rest out WriteFault = IsFront out (replies base 999 turns)
+    × StaysOpenBefore 999 (map plain turns)
 
 -- What went out and what may is the replies to the requests that were answered, in order, and at the end what that comes to.
 abbrev pub Replies : Option StreamEnd → History → Type 0

@@ -16,7 +16,8 @@ use Rattle.lra_steps.specs.Steps.{Tells}
 
 -- A session that answers by itself: what the front does over it. The answer names its identifiers, and where it has a position, that covers all that
 -- the session has seen by then.
-pub record AnswersAlone {C : Type 0} (sight : C → Sight) (covers : C → ℕ → Bool) (gives : Sight → ℕ → Order → Result Told CounterFault → Sight → Type 0)
+pub record AnswersAlone {C : Type 0} (sight : C → Sight) (covers : C → ℕ → Bool)
+    (gives : Sight → ℕ → Order → Result Told CounterFault → Sight → Type 0)
     (before : C) (moment : ℕ) (request : Request) (answered : Answered) (after : C) : Type 0 where
   pub instance : answered.instance ≡ (sight before).setting.instance
   pub ordered : AnswersOrdered gives (sight before) moment request answered (sight after)
@@ -27,7 +28,8 @@ module _ {S K : Type 0} (responds : S → ℕ → Request → Answered → S →
   abbrev pub Chain : S → K → List Turn → S → K → Type 0
   Chain v k [] w l = (w ≡ v) × (l ≡ k)
   Chain v k (turn ∷ turns) w l =
-      (u : S) × (j : K) × tells k turn.moment j × responds v turn.moment turn.request turn.answered u × Chain u j turns w l
+      (u : S) × (j : K) × tells k turn.moment j × responds v turn.moment turn.request turn.answered u
+      × Chain u j turns w l
 
   -- a request is answered so at a moment that the clock tells, and replied, unless memory for that is refused
   pub record Answers (request : Request) (answered : Answered) (v w : S) (k l : K) (old new : History) : Type 0 where
@@ -53,7 +55,8 @@ module _ {S K : Type 0} (responds : S → ℕ → Request → Answered → S →
   abbrev pub Course : S → K → List (Option Turn) → S → K → Type 0
   Course v k [] w l = (w ≡ v) × (l ≡ k)
   Course v k (Some turn ∷ xs) w l =
-      (u : S) × (j : K) × tells k turn.moment j × responds v turn.moment turn.request turn.answered u × Course u j xs w l
+      (u : S) × (j : K) × tells k turn.moment j × responds v turn.moment turn.request turn.answered u
+      × Course u j xs w l
   Course v k (None ∷ xs) w l = (u : S) × rests v u × Course u k xs w l
 
 -- the turns of a course, in order
@@ -65,4 +68,5 @@ turns_in (None ∷ xs) = turns_in xs
 module _ {K : Type 0} (gives : Sight → ℕ → Order → Result Told CounterFault → Sight → Type 0) (tells : K → ℕ → K → Type 0) where
   -- what these bytes come to is what a stream of them does (`AreTranscripts`), where its end and what went out are known
   abbrev pub ServesBytes : List ℕ → List ℕ → Sight → K → StreamEnd → List ℕ → Sight → K → Type 0
-  ServesBytes bytes old v k end new w l = Transcript gives tells 999 bytes old (standing (Some bytes) v k (Some old)) end (standing None w l (Some new))
+  ServesBytes bytes old v k end new w l = Transcript gives tells 999 bytes old (standing (Some bytes) v k (Some old))
+      end (standing None w l (Some new))

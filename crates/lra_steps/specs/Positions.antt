@@ -15,7 +15,8 @@ abbrev pub denied : ℕ → Denial → Answered
 denied instance denial = record { instance = instance; answer = Denied denial; position = None }
 
 -- what the front does over a counter: an order was given where the answer has a position, and none where it has none
-abbrev pub AnswersOrdered : (Sight → ℕ → Order → Result Told CounterFault → Sight → Type 0) → Sight → ℕ → Request → Answered → Sight → Type 0
+abbrev pub AnswersOrdered : (Sight → ℕ → Order → Result Told CounterFault → Sight → Type 0) → Sight → ℕ → Request
+    → Answered → Sight → Type 0
 AnswersOrdered gives before moment request answered after =
     Orders gives before moment request after answered.answer (is_some answered.position)
 

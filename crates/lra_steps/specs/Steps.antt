@@ -17,15 +17,19 @@ IsFree h = (h.ended ≡ None) × (h.stands ≡ None)
 -- Why it ends: no more bytes come and none are kept, or what is kept is no request and can't become one.
 abbrev pub Ends : StreamEnd → History → Type 0
 Ends Done h = IsTrue h.closed × (h.kept ≡ [])
-Ends (Refused fault) h = ((fault ≢ Memory) × RefusesFront h.kept fault) ⊎ (IsTrue h.closed × (fault ≡ Cut) × RefusesRequest h.kept Cut)
+Ends (Refused fault) h = ((fault ≢ Memory) × RefusesFront h.kept fault)
+    ⊎ (IsTrue h.closed × (fault ≡ Cut) × RefusesRequest h.kept Cut)
 Ends WriteFault h = ⊥
 
 -- what a step says of the history before it, and what it changes
 abbrev pub StepsTo : Step → History → History → Type 0
-StepsTo Wants old new = IsFree old × IsFalse old.closed × AwaitsRequest old.kept × (length old.kept < 73728) × (new ≡ old)
-StepsTo Stands old new = (request : Request) × (rest : List ℕ) × IsFree old × IsRequest old.kept request rest × (new ≡ ordered old request rest)
+StepsTo Wants old new = IsFree old × IsFalse old.closed × AwaitsRequest old.kept × (length old.kept < 73728)
+    × (new ≡ old)
+StepsTo Stands old new = (request : Request) × (rest : List ℕ) × IsFree old × IsRequest old.kept request rest
+    × (new ≡ ordered old request rest)
 StepsTo Waits old new = (old.ended ≡ None) × IsSome old.stands × (new ≡ old)
-StepsTo (Ended end) old new = ((old.ended ≡ Some end) × (new ≡ old)) ⊎ (IsFree old × Ends end old × (new ≡ ended_by old end))
+StepsTo (Ended end) old new = ((old.ended ≡ Some end) × (new ≡ old)) ⊎
+    (IsFree old × Ends end old × (new ≡ ended_by old end))
 
 -- where memory is refused nothing changes
 abbrev pub Steps : Result Step AllocError → History → History → Type 0

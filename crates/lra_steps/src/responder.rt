@@ -138,7 +138,8 @@ impl<C: Session> Responder for C {
 
     fn rest(&mut self) {}
 
-    ghost stays = { λ before after moment request answered h. session_stays C.sight C.covers C.gives C.keeps before after moment request answered h };
+    ghost stays = { λ before after moment request answered h. session_stays C.sight C.covers C.gives C.keeps before
+        after moment request answered h };
 
     ghost rest_stays = { λ before after h. rested_base C.sight before after h };
 }

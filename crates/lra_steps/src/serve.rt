@@ -48,8 +48,10 @@ fn feed<A: Responder, K: Clock>(
 ) -> Result<Option<StreamEnd>, Memory>
     requires none { connection.old.stands ≡ None }
     requires base { connection.old.base ≡ A.base_of (A.sight responder.old) }
-    ensures { IfOk result (λ end. (v : A.State) (k : K) → Follows A.base_of A.responds K.tells v k connection.old (A.sight responder.old) clock.old
-        → Fed A.base_of A.responds K.tells end piece.now v k connection.old connection.new (A.sight responder.new) clock.new) }
+    ensures { IfOk result (λ end. (v : A.State) (k : K) → Follows A.base_of A.responds K.tells v k connection.old
+        (A.sight responder.old) clock.old
+        → Fed A.base_of A.responds K.tells end piece.now v k connection.old connection.new (A.sight responder.new)
+        clock.new) }
 {
     let mut at = 0;
     loop {
@@ -97,7 +99,8 @@ fn serve_through<A: Responder, K: Clock>(
 ) -> Result<StreamEnd, Memory>
     requires { IsFresh (A.base_of (A.sight responder.old)) connection.old }
     ensures { IfOk result (λ end. Serves A.responds K.tells connection.old.instance (A.base_of (A.sight responder.old))
-        (flat_map (λ piece. piece.items) pieces.now) sent.old.items (A.sight responder.old) clock.old end sent.new.items (A.sight responder.new) clock.new) }
+        (flat_map (λ piece. piece.items) pieces.now) sent.old.items (A.sight responder.old) clock.old end sent.new.items
+        (A.sight responder.new) clock.new) }
 {
     for piece in pieces {
         let end = feed(
@@ -134,7 +137,8 @@ fn serve_new<A: Responder, K: Clock>(
     clock: &mut K,
 ) -> Result<StreamEnd, Memory>
     ensures { IfOk result (λ end. Serves A.responds K.tells instance (A.base_of (A.sight responder.old))
-        (flat_map (λ piece. piece.items) pieces.now) sent.old.items (A.sight responder.old) clock.old end sent.new.items (A.sight responder.new) clock.new) }
+        (flat_map (λ piece. piece.items) pieces.now) sent.old.items (A.sight responder.old) clock.old end sent.new.items
+        (A.sight responder.new) clock.new) }
 {
     let routes = Routes::new(alloc)?;
     let mut connection = Connection::new(alloc, instance, responder.base());
@@ -161,8 +165,10 @@ pub fn answer_pieces<A: Responder, K: Clock>(
     responder: &mut A,
     clock: &mut K,
 ) -> Result<StreamEnd, Memory>
-    ensures { IfOk result (λ end. (instance : ℕ) × Serves A.responds K.tells instance (A.base_of (A.sight responder.old))
-        (flat_map (λ piece. piece.items) pieces.now) sent.old.items (A.sight responder.old) clock.old end sent.new.items (A.sight responder.new) clock.new) }
+    ensures { IfOk result (λ end. (instance : ℕ) × Serves A.responds K.tells instance
+        (A.base_of (A.sight responder.old))
+        (flat_map (λ piece. piece.items) pieces.now) sent.old.items (A.sight responder.old) clock.old end sent.new.items
+        (A.sight responder.new) clock.new) }
 {
     let instance = responder.instance();
     serve_new(alloc, instance, pieces, sent, responder, clock)
@@ -177,7 +183,8 @@ pub fn serve_pieces<C: Session, K: Clock>(
     counter: &mut C,
     clock: &mut K,
 ) -> Result<StreamEnd, Memory>
-    ensures { IfOk result (λ end. ServesBytes C.gives K.tells (flat_map (λ piece. piece.items) pieces.now) sent.old.items
+    ensures { IfOk result (λ end. ServesBytes C.gives K.tells (flat_map (λ piece. piece.items) pieces.now)
+        sent.old.items
         (C.sight counter.old) clock.old end sent.new.items (C.sight counter.new) clock.new) }
 {
     let instance = counter.instance();

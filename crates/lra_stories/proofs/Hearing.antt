@@ -26,25 +26,49 @@ use Rattle.lra_stories.specs.declared.facts.Told.{Told}
 use Rattle.lra_stories.specs.Facts.{fact_in, status_now, told_of, told_at, told}
 
 -- rows of what was heard stand for it
-pub heard_stands : (h : Heard) (s : Sheet) (e : Entry) → s ≡ sheet_of h.entries → is_legal h.version is_address (h.entries ++ e ∷ []) ≡ true → StandsFor s h.entries
-heard_stands h s e k l = record { version = h.version; is_address = is_address; legal = (legal_push h.version is_address h.entries e l).0; sheet = k }
+pub heard_stands : (h : Heard) (s : Sheet) (e : Entry) → s ≡ sheet_of h.entries
+    → is_legal h.version is_address (h.entries ++ e ∷ []) ≡ true → StandsFor s h.entries
+heard_stands h s e k l = record {
+  version = h.version;
+  is_address = is_address;
+  legal =
+      (legal_push h.version is_address h.entries e l).0;
+  sheet = k;
+}
 
 -- what is heard next is allowed
-pub heard_allows : (h : Heard) (e d : Entry) → is_legal h.version is_address (h.entries ++ e ∷ []) ≡ true → d ≡ e → allows h.version is_address h.entries d ≡ true
-heard_allows h e d l same = ap (λ (x : Entry). allows h.version is_address h.entries x) same ∙ allows_from h.version is_address h.entries e (legal_push h.version is_address h.entries e l).1
+pub heard_allows : (h : Heard) (e d : Entry) → is_legal h.version is_address (h.entries ++ e ∷ []) ≡ true → d ≡ e
+    → allows h.version is_address h.entries d ≡ true
+heard_allows h e d l same = ap (λ (x : Entry). allows h.version is_address h.entries x) same
+    ∙ allows_from h.version is_address h.entries e (legal_push h.version is_address h.entries e l).1
 
-pub heard_follows : (h : Heard) (s : Sheet) (e d : Entry) → s ≡ sheet_of h.entries → is_legal h.version is_address (h.entries ++ e ∷ []) ≡ true → d ≡ e → Follows s d
+pub heard_follows : (h : Heard) (s : Sheet) (e d : Entry) → s ≡ sheet_of h.entries
+    → is_legal h.version is_address (h.entries ++ e ∷ []) ≡ true → d ≡ e → Follows s d
 heard_follows h s e d k l same = record {
   history = h.entries;
-  stands = record { version = h.version; is_address = is_address; legal = (legal_push h.version is_address h.entries e l).0; sheet = k };
+  stands = record {
+    version = h.version;
+    is_address = is_address;
+    legal =
+        (legal_push h.version is_address h.entries e l).0;
+    sheet = k;
+  };
   allowed = heard_allows h e d l same;
 }
 
 -- the rows with one more entry stand for what was heard
-pub stands_on : (h : Heard) (s t : Sheet) (e d : Entry) → s ≡ sheet_of h.entries → is_legal h.version is_address (h.entries ++ e ∷ []) ≡ true → d ≡ e
-    → ((J : History) (k : StandsFor s J) → allows k.version k.is_address J d ≡ true → StandsFor t (J ++ d ∷ [])) → StandsFor t (h.entries ++ d ∷ [])
+pub stands_on : (h : Heard) (s t : Sheet) (e d : Entry) → s ≡ sheet_of h.entries
+    → is_legal h.version is_address (h.entries ++ e ∷ []) ≡ true → d ≡ e
+    → ((J : History) (k : StandsFor s J) → allows k.version k.is_address J d ≡ true → StandsFor t (J ++ d ∷ []))
+    → StandsFor t (h.entries ++ d ∷ [])
 stands_on h s t e d k l same next =
-    next h.entries (record { version = h.version; is_address = is_address; legal = (legal_push h.version is_address h.entries e l).0; sheet = k }) (heard_allows h e d l same)
+    next h.entries (record {
+      version = h.version;
+      is_address = is_address;
+      legal =
+          (legal_push h.version is_address h.entries e l).0;
+      sheet = k;
+    }) (heard_allows h e d l same)
 
 -- nothing is told of no entries
 pub told_none : (a : ℕ) → told a [] ≡ []
@@ -52,13 +76,16 @@ unfolding told steps
 told_none a = refl
 
 -- one more entry is told of
-pub told_push : (a : ℕ) (J : History) (e : Entry) → told a (J ++ e ∷ []) ≡ told a J ++ told_of (length J + 2) e.moment (status_now (J ++ e ∷ []) a) (fact_in a J e)
+pub told_push : (a : ℕ) (J : History) (e : Entry) → told a (J ++ e ∷ []) ≡ told a J
+    ++ told_of (length J + 2) e.moment (status_now (J ++ e ∷ []) a) (fact_in a J e)
 unfolding told
 told_push a J e = ap (flat_map (told_at a)) (steps_push J e) ∙ sym (flat_map_more (told_at a) [] (steps J) (step J e))
 
 -- what is told with one more entry
-pub told_on : (a : ℕ) (J : History) (e d : Entry) (before after : List Told) (line : ℕ) (status : ActionStatus) (fact : Option Fact) → d ≡ e → before ≡ told a J
-    → line ≡ length J + 2 → status ≡ status_now (J ++ d ∷ []) a → fact ≡ fact_in a J d → after ≡ before ++ told_of line d.moment status fact → after ≡ told a (J ++ e ∷ [])
+pub told_on : (a : ℕ) (J : History) (e d : Entry) (before after : List Told) (line : ℕ) (status : ActionStatus)
+    (fact : Option Fact) → d ≡ e → before ≡ told a J
+    → line ≡ length J + 2 → status ≡ status_now (J ++ d ∷ []) a → fact ≡ fact_in a J d → after ≡ before
+    ++ told_of line d.moment status fact → after ≡ told a (J ++ e ∷ [])
 told_on a J e d before after line status fact same had at now is more =
     more
     ∙ ap (λ (ts : List Told). ts ++ told_of line d.moment status fact) had
@@ -68,7 +95,8 @@ told_on a J e d before after line status fact same had at now is more =
     ∙ sym (told_push a J d)
     ∙ ap (λ (x : Entry). told a (J ++ x ∷ [])) same
 
-pub sheet_same : (J : History) (t : Sheet) (e d : Entry) → StandsFor t (J ++ d ∷ []) → d ≡ e → t ≡ sheet_of (J ++ e ∷ [])
+pub sheet_same : (J : History) (t : Sheet) (e d : Entry) → StandsFor t (J ++ d ∷ []) → d ≡ e → t
+    ≡ sheet_of (J ++ e ∷ [])
 sheet_same J t e d s same = s.sheet ∙ ap (λ (x : Entry). sheet_of (J ++ x ∷ [])) same
 
 -- ---- before the first line
@@ -79,10 +107,19 @@ line_some ws = omega (arith, length-append (join_with_byte 32 ws) (10 ∷ []))
 
 -- a journal has a header
 text_some : (v : Version) (i : ℕ) (J : History) → 0 < length (text v i J)
-text_some One i J = omega (arith, line_some (codes "lra-journal" ∷ version_name One ∷ decimal i ∷ []), length-append (header One i) (flat_map line J))
-text_some Two i J = omega (arith, line_some (codes "lra-journal" ∷ version_name Two ∷ decimal i ∷ []), length-append (header Two i) (flat_map line J))
+text_some One i J = omega (
+  arith,
+  line_some (codes "lra-journal" ∷ version_name One ∷ decimal i ∷ []),
+  length-append (header One i) (flat_map line J),
+)
+text_some Two i J = omega (
+  arith,
+  line_some (codes "lra-journal" ∷ version_name Two ∷ decimal i ∷ []),
+  length-append (header Two i) (flat_map line J),
+)
 
-reads_nothing : (H : Option Heard → Type 0) (s : Stage) (unfinished : List ℕ) → H None → Reads (λ _. ⊤) s unfinished [] → Reads H s unfinished []
+reads_nothing : (H : Option Heard → Type 0) (s : Stage) (unfinished : List ℕ) → H None → Reads (λ _. ⊤) s unfinished []
+    → Reads H s unfinished []
 reads_nothing H Header unfinished n (lines, (none, _), lacks, same) = (lines, (none, n), lacks, same)
 reads_nothing H (Entries c) unfinished n (lines, (i, J, t, come, _), lacks, same) =
     absurd (omega (arith, ap length same, length-append lines unfinished, ap length t.whole, text_some c.version i J))

@@ -54,20 +54,23 @@ begun_more None moment ns bs same = same
 
 begun_all : (J : History) → read_deeds started_by J ≡ map (λ (b : Begun). b.action) (filter_map begun_by J)
 begun_all [] = refl
-begun_all (e ∷ J) = begun_more (started_by e.deed) e.moment (read_deeds started_by J) (filter_map begun_by J) (begun_all J)
+begun_all (e ∷ J) = begun_more (started_by e.deed) e.moment (read_deeds started_by J) (filter_map begun_by J)
+    (begun_all J)
 
 -- the actions of a history are those that start in it
 pub actions_begun : (J : History) → actions J ≡ map (λ (b : Begun). b.action) (starts J)
 unfolding actions starts
 actions_begun J = begun_all J
 
-moment_one : (o : Option ℕ) (moment : ℕ) → map (λ (b : Begun). b.moment) (option_to_list (option_map (begun_at moment) o))
+moment_one : (o : Option ℕ) (moment : ℕ) → map (λ (b : Begun). b.moment)
+    (option_to_list (option_map (begun_at moment) o))
     ≡ option_to_list (option_map (λ (b : Begun). b.moment) (option_map (begun_at moment) o))
 moment_one (Some a) moment = refl
 moment_one None moment = refl
 
 -- the moments of starts with one more entry
-pub moments_push : (J : History) (e : Entry) → start_moments (J ++ e ∷ []) ≡ start_moments J ++ option_to_list (option_map (λ (b : Begun). b.moment) (begun_by e))
+pub moments_push : (J : History) (e : Entry) → start_moments (J ++ e ∷ []) ≡ start_moments J
+    ++ option_to_list (option_map (λ (b : Begun). b.moment) (begun_by e))
 unfolding starts
 moments_push J e =
     ap (map (λ (b : Begun). b.moment)) (read_push begun_by J e)
@@ -75,10 +78,12 @@ moments_push J e =
     ∙ ap (λ (t : List ℕ). start_moments J ++ t) (moment_one (started_by e.deed) e.moment)
 
 -- the moments that a register has with one more entry
-pub moments_on : (J : History) (e : Entry) (before after : List ℕ) (o : Option ℕ) → before ≡ start_moments J → o ≡ option_map (λ (b : Begun). b.moment) (begun_by e)
+pub moments_on : (J : History) (e : Entry) (before after : List ℕ) (o : Option ℕ) → before ≡ start_moments J → o
+    ≡ option_map (λ (b : Begun). b.moment) (begun_by e)
     → after ≡ before ++ option_to_list o → after ≡ start_moments (J ++ e ∷ [])
 moments_on J e before after o was is now =
-    now ∙ ap (λ (ns : List ℕ). ns ++ option_to_list o) was ∙ ap (λ (x : Option ℕ). start_moments J ++ option_to_list x) is ∙ sym (moments_push J e)
+    now ∙ ap (λ (ns : List ℕ). ns ++ option_to_list o) was ∙ ap (λ (x : Option ℕ). start_moments J ++ option_to_list x)
+    is ∙ sym (moments_push J e)
 
 -- nothing starts in no history, which has no moment
 pub moments_none : start_moments [] ≡ []
@@ -92,29 +97,36 @@ last_none = refl
 -- ---- lines
 
 -- an item of a list that another was made of
-item_made : {X Y : Type 0} (f : X → Y) (o : Option X) (y : Y) → option_map f o ≡ Some y → (x : X) × (o ≡ Some x) × (y ≡ f x)
+item_made : {X Y : Type 0} (f : X → Y) (o : Option X) (y : Y) → option_map f o ≡ Some y → (x : X) × (o ≡ Some x)
+    × (y ≡ f x)
 item_made f (Some x) y same = (x, refl, sym (same_Some (f x) y same))
 item_made f None y same = absurd (none-some y same)
 
 -- the start at a place, of which the action that is listed there and the moment are
-pub start_at : (J : History) (xs : List ListedAction) (ms : List ℕ) (i : ℕ) (x : ListedAction) (m d : ℕ) → xs ≡ map (λ (b : Begun). listed_action J b.action) (starts J) → ms ≡ start_moments J
-    → row_at xs (i + 1) ≡ Some x → m ≡ get_or ms i d → (b : Begun) × (row_at (starts J) (i + 1) ≡ Some b) × (x ≡ listed_action J b.action) × (m ≡ b.moment)
+pub start_at : (J : History) (xs : List ListedAction) (ms : List ℕ) (i : ℕ) (x : ListedAction) (m d : ℕ) → xs
+    ≡ map (λ (b : Begun). listed_action J b.action) (starts J) → ms ≡ start_moments J
+    → row_at xs (i + 1) ≡ Some x → m ≡ get_or ms i d → (b : Begun) × (row_at (starts J) (i + 1) ≡ Some b)
+    × (x ≡ listed_action J b.action) × (m ≡ b.moment)
 start_at J xs ms i x m d is_xs is_ms here at =
     let on : i + 1 ≡ suc i = omega arith in
     let found = item_made (λ (b : Begun). listed_action J b.action) (slice_get (starts J) i) x
-    (sym (slice_get-map (λ (b : Begun). listed_action J b.action) (starts J) i) ∙ ap (λ (ys : List ListedAction). slice_get ys i) (sym is_xs) ∙ sym (ap (row_at xs) on) ∙ here) in
+    (sym (slice_get-map (λ (b : Begun). listed_action J b.action) (starts J) i)
+    ∙ ap (λ (ys : List ListedAction). slice_get ys i) (sym is_xs) ∙ sym (ap (row_at xs) on) ∙ here) in
     let b = found.0 in
     let moment : slice_get ms i ≡ Some b.moment =
-    ap (λ (ns : List ℕ). slice_get ns i) is_ms ∙ slice_get-map (λ (c : Begun). c.moment) (starts J) i ∙ ap (option_map (λ (c : Begun). c.moment)) found.1 in
+    ap (λ (ns : List ℕ). slice_get ns i) is_ms ∙ slice_get-map (λ (c : Begun). c.moment) (starts J) i
+    ∙ ap (option_map (λ (c : Begun). c.moment)) found.1 in
     (b, ap (row_at (starts J)) on ∙ found.1, found.2, at ∙ get_or_from_slice_get ms i b.moment d moment)
 
 -- the actions that are listed are those that start
-pub listed_begun : (J : History) (l : Listed) → l ≡ listing J → l.actions ≡ map (λ (b : Begun). listed_action J b.action) (starts J)
+pub listed_begun : (J : History) (l : Listed) → l ≡ listing J → l.actions
+    ≡ map (λ (b : Begun). listed_action J b.action) (starts J)
 unfolding listing
 listed_begun J l is =
     ap (λ (x : Listed). x.actions) is ∙ ap (map (listed_action J)) (actions_begun J) ∙ map_twice (starts J)
   where
-    map_twice : (bs : List Begun) → map (listed_action J) (map (λ (b : Begun). b.action) bs) ≡ map (λ (b : Begun). listed_action J b.action) bs
+    map_twice : (bs : List Begun) → map (listed_action J) (map (λ (b : Begun). b.action) bs)
+        ≡ map (λ (b : Begun). listed_action J b.action) bs
     map_twice [] = refl
     map_twice (b ∷ bs) = ap (λ (t : List ListedAction). listed_action J b.action ∷ t) (map_twice bs)
 
@@ -158,11 +170,13 @@ line_more c prefix i J l ms place x m d end text k p q r s t is_l is_ms here at 
     (start_told c prefix i J l b x m end text is_l is_x is_m is_end told) before now
 
 -- and all of them are the lines of a history
-pub lines_whole : (c : Choice) (prefix : List ℕ) (i : ℕ) (J : History) (ms : List ℕ) (n : ℕ) → ms ≡ start_moments J → length ms ≤ n
+pub lines_whole : (c : Choice) (prefix : List ℕ) (i : ℕ) (J : History) (ms : List ℕ) (n : ℕ) → ms ≡ start_moments J
+    → length ms ≤ n
     → flat_map (start_lines c prefix i J) (take n (starts J)) ≡ lines_text c prefix i J
 unfolding lines_text
 lines_whole c prefix i J ms n is_ms all =
-    let size : length (starts J) ≡ length ms = sym (length-map (starts J) (λ (b : Begun). b.moment)) ∙ ap length (sym is_ms) in
+    let size : length (starts J) ≡ length ms = sym (length-map (starts J) (λ (b : Begun). b.moment))
+    ∙ ap length (sym is_ms) in
     ap (flat_map (start_lines c prefix i J)) (take_all n (starts J) (omega (arith, size, all)))
 
 -- ---- an auditor and a register
@@ -172,7 +186,8 @@ pub followed_anyway : (H : Option Heard → Type 0) (a : Feed) (b : List ℕ) �
 followed_anyway H a b s = record { fed = s.fed; reads = read_anyway H a.stage a.unfinished b s.reads }
 
 -- a register that heard the history of a journal is one of it
-pub heard_registers : (r : Register) (v w : Version) (i j : ℕ) (J K : History) (b : List ℕ) → IsTextOf v i J b → IsTextOf w j K b → Hears r (Some (record { version = w; instance = j; entries = K }))
+pub heard_registers : (r : Register) (v w : Version) (i j : ℕ) (J K : History) (b : List ℕ) → IsTextOf v i J b
+    → IsTextOf w j K b → Hears r (Some (record { version = w; instance = j; entries = K }))
     → Registers r i J
 heard_registers r v w i j J K b t u (instance, moments, end, keeps) =
     let same = texts_apart v w i j J K t.spelled u.spelled (sym t.whole ∙ u.whole) in
@@ -184,7 +199,8 @@ heard_registers r v w i j J K b t u (instance, moments, end, keeps) =
     }
 
 -- what holds of a result for each input that may be known
-pub ok_for_some : {E : Type 0} (o : Option (List ℕ)) (r : Result ℕ E) (P : List ℕ → ℕ → Type 0) → ((b : List ℕ) → o ≡ Some b → IfOk r (P b)) → IfOk r (λ status. IfSome o (λ b. P b status))
+pub ok_for_some : {E : Type 0} (o : Option (List ℕ)) (r : Result ℕ E) (P : List ℕ → ℕ → Type 0)
+    → ((b : List ℕ) → o ≡ Some b → IfOk r (P b)) → IfOk r (λ status. IfSome o (λ b. P b status))
 ok_for_some (Some b) (Ok status) P holds = holds b refl
 ok_for_some None (Ok status) P holds = tt
 ok_for_some o (Err e) P holds = tt
@@ -192,7 +208,8 @@ ok_for_some o (Err e) P holds = tt
 -- ---- identifiers
 
 -- the end of an action's URI is its UUID
-pub id_at_end : (uri base id : List ℕ) (i n : ℕ) → uri ≡ action_uri i base n → id ≡ drop (length uri - 36) uri → id ≡ id_text i n
+pub id_at_end : (uri base id : List ℕ) (i n : ℕ) → uri ≡ action_uri i base n → id ≡ drop (length uri - 36) uri → id
+    ≡ id_text i n
 id_at_end uri base id i n is at =
     let front = base ++ codes "lra-coordinator/" in
     let whole : uri ≡ front ++ id_text i n = is in
@@ -229,12 +246,14 @@ counted_elsewhere m a p apart = elim (eqb_tells m.action a) [
 ]
 
 -- the counts with one more member
-pub tallied_more : (ms : List ListedMember) (i : ℕ) (d : ListedMember) (before after : List ℕ) → i < length ms → IsMore (get_or ms i d) before after → Tallied (take i ms) before
+pub tallied_more : (ms : List ListedMember) (i : ℕ) (d : ListedMember) (before after : List ℕ) → i < length ms
+    → IsMore (get_or ms i d) before after → Tallied (take i ms) before
     → Tallied (take (i + 1) ms) after
 tallied_more ms i d before after lt more was slot a p place small within =
     let m = get_or ms i d in
     let counts = length-filter_more (is_counted a p) ms i d lt in
-    let size : length after ≡ length before = ap length more.changed ∙ length-set before more.slot (get_or before more.slot 0 + 1) in
+    let size : length after ≡ length before = ap length more.changed ∙ length-set before more.slot
+    (get_or before more.slot 0 + 1) in
     let inside : slot < length before = omega (arith, size, within) in
     let old = was slot a p place small inside in
     elim (eqb_tells slot more.slot) [
@@ -253,7 +272,8 @@ tallied_more ms i d before after lt more was slot a p place small within =
       | inr x ↦
           let no = counted_elsewhere m a p (λ one other. x.1 (let stands = more.place in omega (arith, one, other, place, stands))) in
           let now : get_or after slot 0 ≡ get_or before slot 0 =
-          ap (λ (xs : List ℕ). get_or xs slot 0) more.changed ∙ get_or-set_other before more.slot slot (get_or before more.slot 0 + 1) 0 x.1 in
+          ap (λ (xs : List ℕ). get_or xs slot 0) more.changed ∙ get_or-set_other before more.slot slot
+          (get_or before more.slot 0 + 1) 0 x.1 in
           let same : count_of (take i ms) a p + cond false 1 0 ≡ count_of (take i ms) a p = omega arith in
           now ∙ old ∙ sym (counts ∙ ap (λ (b : Bool). count_of (take i ms) a p + cond b 1 0) no ∙ same)
     ]
@@ -263,12 +283,14 @@ pub tallied_none : (counts : List ℕ) → ((slot : ℕ) → get_or counts slot 
 tallied_none counts none slot a p place small within = none slot
 
 -- the same, by the member that stands there
-pub tallied_next : (ms : List ListedMember) (i : ℕ) (m : ListedMember) (before after : List ℕ) → row_at ms (i + 1) ≡ Some m → IsMore m before after → Tallied (take i ms) before
+pub tallied_next : (ms : List ListedMember) (i : ℕ) (m : ListedMember) (before after : List ℕ) → row_at ms (i + 1)
+    ≡ Some m → IsMore m before after → Tallied (take i ms) before
     → Tallied (take (i + 1) ms) after
 tallied_next ms i m before after here more was =
     let on : i + 1 ≡ suc i = omega arith in
     let at : slice_get ms i ≡ Some m = sym (ap (row_at ms) on) ∙ here in
-    tallied_more ms i m before after (slice_get_within ms i m at) (subst (λ (x : ListedMember). IsMore x before after) (sym (get_or_from_slice_get ms i m m at)) more) was
+    tallied_more ms i m before after (slice_get_within ms i m at) (subst (λ (x : ListedMember). IsMore x before after)
+    (sym (get_or_from_slice_get ms i m m at)) more) was
 
 -- ---- words
 
@@ -278,28 +300,35 @@ pub word_pushed : (s : MemberStatus) (n : ℕ) (before after : List (String Glob
     → map string_bytes after ≡ map string_bytes before ++ option_to_list (counted s n)
 word_pushed s zero before after word some is now = absurd (some refl)
 word_pushed s (suc n) before after word some is now =
-    ap (map string_bytes) now ∙ map-append string_bytes before (word ∷ []) ∙ ap (λ (t : List ℕ). map string_bytes before ++ t ∷ []) is
+    ap (map string_bytes) now ∙ map-append string_bytes before (word ∷ [])
+    ∙ ap (λ (t : List ℕ). map string_bytes before ++ t ∷ []) is
 
-commas_same : (ws : List (String Global)) → flat_map (λ (w : String Global). codes "," ++ string_bytes w) ws ≡ flat_map (λ (u : List ℕ). codes "," ++ u) (map string_bytes ws)
+commas_same : (ws : List (String Global)) → flat_map (λ (w : String Global). codes "," ++ string_bytes w) ws
+    ≡ flat_map (λ (u : List ℕ). codes "," ++ u) (map string_bytes ws)
 commas_same [] = refl
 commas_same (w ∷ ws) = ap (λ (t : List ℕ). (codes "," ++ string_bytes w) ++ t) (commas_same ws)
 
 -- words with commas between them, of which there is one
-pub listed_same : (ws : List (String Global)) → false ≡ (length ws == 0) → join_by string_bytes (codes ",") ws ≡ listed_words (map string_bytes ws)
+pub listed_same : (ws : List (String Global)) → false ≡ (length ws == 0) → join_by string_bytes (codes ",") ws
+    ≡ listed_words (map string_bytes ws)
 listed_same [] some = absurd (false≢true some)
 listed_same (w ∷ ws) some = ap (λ (t : List ℕ). string_bytes w ++ t) (commas_same ws)
 
 -- the words of one status more
-pub words_more : (f : MemberStatus → Option (List ℕ)) (ss : List MemberStatus) (i : ℕ) (d : MemberStatus) (before after : List (List ℕ)) → i < length ss
-    → before ≡ filter_map f (take i ss) → after ≡ before ++ option_to_list (f (get_or ss i d)) → after ≡ filter_map f (take (i + 1) ss)
+pub words_more : (f : MemberStatus → Option (List ℕ)) (ss : List MemberStatus) (i : ℕ) (d : MemberStatus)
+    (before after : List (List ℕ)) → i < length ss
+    → before ≡ filter_map f (take i ss) → after ≡ before ++ option_to_list (f (get_or ss i d)) → after
+    ≡ filter_map f (take (i + 1) ss)
 words_more f ss i d before after lt was now =
     now ∙ ap (λ (t : List (List ℕ)). t ++ option_to_list (f (get_or ss i d))) was
     ∙ sym (read_push f (take i ss) (get_or ss i d)) ∙ ap (filter_map f) (sym (take_more ss i d lt))
 
 -- the words of all statuses
 pub words_whole : (count : ℕ → ℕ) (ws items : List (String Global)) (n : ℕ) → ws ≡ items
-    → map string_bytes items ≡ filter_map (λ s. counted s (count (place_of s))) (take n statuses) → 8 ≤ n → listed_words (map string_bytes ws) ≡ tally_text count
+    → map string_bytes items ≡ filter_map (λ s. counted s (count (place_of s))) (take n statuses) → 8 ≤ n
+    → listed_words (map string_bytes ws) ≡ tally_text count
 words_whole count ws items n same was all =
     ap (λ (xs : List (String Global)). listed_words (map string_bytes xs)) same
     ∙ ap listed_words was
-    ∙ ap (λ (ss : List MemberStatus). listed_words (filter_map (λ s. counted s (count (place_of s))) ss)) (take_all n statuses all)
+    ∙ ap (λ (ss : List MemberStatus). listed_words (filter_map (λ s. counted s (count (place_of s))) ss))
+    (take_all n statuses all)

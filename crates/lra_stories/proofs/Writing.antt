@@ -21,8 +21,10 @@ use Rattle.lra_stories.specs.inner.Hears.{Hears, Tells}
 use Rattle.lra_stories.proofs.Rows.{one_more}
 
 -- the texts of one item more
-pub note_more : {X : Type 0} (f : X → List ℕ) (xs : List X) (i : ℕ) (d : X) (first before after : List (String Global)) (note : String Global) → i < length xs
-    → string_bytes note ≡ f (get_or xs i d) → map string_bytes before ≡ map string_bytes first ++ map f (take i xs) → after ≡ before ++ note ∷ []
+pub note_more : {X : Type 0} (f : X → List ℕ) (xs : List X) (i : ℕ) (d : X) (first before after : List (String Global))
+    (note : String Global) → i < length xs
+    → string_bytes note ≡ f (get_or xs i d) → map string_bytes before ≡ map string_bytes first ++ map f (take i xs)
+    → after ≡ before ++ note ∷ []
     → map string_bytes after ≡ map string_bytes first ++ map f (take (i + 1) xs)
 note_more f xs i d first before after note lt is was now =
     ap (map string_bytes) now
@@ -32,7 +34,8 @@ note_more f xs i d first before after note lt is was now =
     ∙ one_more f xs i d (map string_bytes first) lt
 
 -- what is made of one item more
-pub more_of : {X Y : Type 0} (f : X → List Y) (xs : List X) (i : ℕ) (d : X) (first before after more : List Y) → i < length xs → more ≡ f (get_or xs i d)
+pub more_of : {X Y : Type 0} (f : X → List Y) (xs : List X) (i : ℕ) (d : X) (first before after more : List Y) → i
+    < length xs → more ≡ f (get_or xs i d)
     → before ≡ first ++ flat_map f (take i xs) → after ≡ before ++ more → after ≡ first ++ flat_map f (take (i + 1) xs)
 more_of f xs i d first before after more lt is was now =
     now
@@ -47,29 +50,45 @@ joined_texts [] = refl
 joined_texts (note ∷ notes) = ap (λ (t : List ℕ). string_bytes note ++ t) (joined_texts notes)
 
 -- what is printed of an action that is there
-pub explained_some : (form : Form) (w : Wanted) (name : List ℕ) (i : ℕ) (J : History) (o : Option ActionRow) (row : ActionRow) (a : ℕ) (bytes : List ℕ) → o ≡ found w i J → o ≡ Some row → a ≡ w.action
+pub explained_some : (form : Form) (w : Wanted) (name : List ℕ) (i : ℕ) (J : History) (o : Option ActionRow)
+    (row : ActionRow) (a : ℕ) (bytes : List ℕ) → o ≡ found w i J → o ≡ Some row → a ≡ w.action
     → bytes ≡ story_text form J a row → bytes ≡ explained form w name i J
 explained_some form w name i J o row a bytes at is same text =
-    text ∙ ap (λ (b : ℕ). story_text form J b row) same ∙ sym (ap (λ (x : Option ActionRow). option_map_or (story_text form J w.action) x (missing_line name)) (sym at ∙ is))
+    text ∙ ap (λ (b : ℕ). story_text form J b row) same
+    ∙ sym (ap (λ (x : Option ActionRow). option_map_or (story_text form J w.action) x (missing_line name))
+    (sym at ∙ is))
 
 -- and of one that isn't
-pub explained_none : (form : Form) (w : Wanted) (name : List ℕ) (i : ℕ) (J : History) (o : Option ActionRow) (bytes : List ℕ) → o ≡ found w i J → o ≡ None → bytes ≡ missing_line name → bytes ≡ explained form w name i J
+pub explained_none : (form : Form) (w : Wanted) (name : List ℕ) (i : ℕ) (J : History) (o : Option ActionRow)
+    (bytes : List ℕ) → o ≡ found w i J → o ≡ None → bytes ≡ missing_line name → bytes ≡ explained form w name i J
 explained_none form w name i J o bytes at is text =
-    text ∙ sym (ap (λ (x : Option ActionRow). option_map_or (story_text form J w.action) x (missing_line name)) (sym at ∙ is))
+    text ∙ sym (ap (λ (x : Option ActionRow). option_map_or (story_text form J w.action) x (missing_line name))
+    (sym at ∙ is))
 
 -- a story that heard the history of a journal tells of it
-pub heard_tells : (s : Story) (v : Version) (i : ℕ) (J : History) (b : List ℕ) → IsTextOf v i J b → Hears s (Some (record { version = v; instance = i; entries = J })) → Tells s i J
-heard_tells s v i J b t h = record { instance = h.0; stands = record { version = v; is_address = is_address; legal = t.legal; sheet = h.1 }; told = h.2 }
+pub heard_tells : (s : Story) (v : Version) (i : ℕ) (J : History) (b : List ℕ) → IsTextOf v i J b
+    → Hears s (Some (record { version = v; instance = i; entries = J })) → Tells s i J
+heard_tells s v i J b t h =
+    record {
+      instance = h.0;
+      stands = record { version = v; is_address = is_address; legal = t.legal; sheet = h.1 };
+      told = h.2;
+    }
 
 -- what is written of a fault
-pub fault_explains : (form : Form) (w : Wanted) (name b : List ℕ) (line : ℕ) (rule : Rule) (r : Result ℕ RunFault) (before after : Option (List ℕ))
-    → IfOk r (λ status. (input : List ℕ) → IsFault input line rule → ReportsAudit input status before after) → IfOk r (λ status. status ≡ 1) → IsFault b line rule
+pub fault_explains : (form : Form) (w : Wanted) (name b : List ℕ) (line : ℕ) (rule : Rule) (r : Result ℕ RunFault)
+    (before after : Option (List ℕ))
+    → IfOk r (λ status. (input : List ℕ) → IsFault input line rule → ReportsAudit input status before after)
+    → IfOk r (λ status. status ≡ 1) → IsFault b line rule
     → IfOk r (λ status. Explains form w name b status before after)
 fault_explains form w name b line rule (Ok status) before after reports one f = inr (one, reports b f)
 fault_explains form w name b line rule (Err e) before after reports one f = tt
 
 -- what is written of a sound journal
-pub story_explains : (form : Form) (w : Wanted) (name b : List ℕ) (v : Version) (i : ℕ) (J : History) (r : Result ℕ RunFault) (before after : Option (List ℕ)) → IsTextOf v i J b
-    → OnOk r (Appends before after (explained form w name i J)) → IfOk r (λ status. status ≡ explained_status w i J) → IfOk r (λ status. Explains form w name b status before after)
-story_explains form w name b v i J (Ok status) before after t written answered = inl (v, i, J, record { sound = t; written = written; answered = answered })
+pub story_explains : (form : Form) (w : Wanted) (name b : List ℕ) (v : Version) (i : ℕ) (J : History)
+    (r : Result ℕ RunFault) (before after : Option (List ℕ)) → IsTextOf v i J b
+    → OnOk r (Appends before after (explained form w name i J)) → IfOk r (λ status. status ≡ explained_status w i J)
+    → IfOk r (λ status. Explains form w name b status before after)
+story_explains form w name b v i J (Ok status) before after t written answered =
+    inl (v, i, J, record { sound = t; written = written; answered = answered })
 story_explains form w name b v i J (Err e) before after t written answered = tt

@@ -110,7 +110,8 @@ lanes height = joined (codes "<path class=\"lane\" d=\"M56 26V" ∷ decimal heig
 
 -- a picture of these rows, as high as they are together
 abbrev pub framed : List ℕ → List (List ℕ) → List ℕ
-framed head cs = joined (opening head (top_of (length cs)) ∷ LOOKS.now ∷ lanes (top_of (length cs)) ∷ rows 0 cs ∷ codes "</svg>\n" ∷ [])
+framed head cs = joined (opening head (top_of (length cs)) ∷ LOOKS.now ∷ lanes (top_of (length cs)) ∷ rows 0 cs
+    ∷ codes "</svg>\n" ∷ [])
 
 -- the picture of a story of a history by its parts: how the action is now, what is told of it, and what is noted at the end
 unfoldable pub picture : History → List ℕ → List Told → List (List ℕ) → List ℕ

@@ -54,7 +54,8 @@ of_start a b parent own = cond (b == a) (Some own) (when (is_at a parent) (fact.
 
 -- what a reply to an ask is: the answer of the member that was asked, in the stage of the ask
 abbrev pub of_reply : History → ℕ → ℕ → Outcome → Option Fact
-of_reply J a n o = option_and_then (λ (x : AskRow). when (is_member_of J a x.member) (fact.Answered n x.member (stage_of x.kind x.direction) o)) (found_ask J n)
+of_reply J a n o = option_and_then (λ (x : AskRow). when (is_member_of J a x.member)
+    (fact.Answered n x.member (stage_of x.kind x.direction) o)) (found_ask J n)
 
 -- the stage that a report belongs to, by the member's status before it
 abbrev pub stage_reported : MemberStatus → AskKind
@@ -62,7 +63,8 @@ stage_reported s = cond (is_compensating s) ask.Compensate ask.Complete
 
 -- what a report is
 abbrev pub of_report : History → ℕ → ℕ → Outcome → Option Fact
-of_report J a p o = option_and_then (λ (r : MemberRow). when (r.action == a) (fact.Reported p (stage_reported r.status) o)) (found_member J p)
+of_report J a p o = option_and_then (λ (r : MemberRow). when (r.action == a)
+    (fact.Reported p (stage_reported r.status) o)) (found_member J p)
 
 -- what an entry that comes after a history is to an action: nothing where it concerns neither the action, nor one of its members, nor an action
 -- that is nested directly in it
@@ -96,7 +98,8 @@ told_of line moment status (Some f) = record { line = line; moment = moment; sta
 -- what is told of a step: its line in the journal, of which the header is the first, its moment, the action's status after it, and what it is to
 -- the action
 abbrev pub told_at : ℕ → Step → List Told
-told_at a s = told_of (length s.past + 2) s.entry.moment (status_now (s.past ++ s.entry ∷ []) a) (fact_in a s.past s.entry)
+told_at a s = told_of (length s.past + 2) s.entry.moment (status_now (s.past ++ s.entry ∷ []) a)
+    (fact_in a s.past s.entry)
 
 -- what is told of an action: each entry of a history that concerns it, in order
 unfoldable pub told : ℕ → History → List Told

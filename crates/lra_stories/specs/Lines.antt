@@ -69,7 +69,8 @@ place_of member.Left = 7
 -- all of them, in that order
 abbrev pub statuses : List MemberStatus
 statuses =
-    member.Active ∷ member.Completing ∷ member.Completed ∷ member.FailedToComplete ∷ member.Compensating ∷ member.Compensated ∷ member.FailedToCompensate ∷ member.Left ∷ []
+    member.Active ∷ member.Completing ∷ member.Completed ∷ member.FailedToComplete ∷ member.Compensating
+    ∷ member.Compensated ∷ member.FailedToCompensate ∷ member.Left ∷ []
 
 -- whether a member is of an action, and has the status of a place
 abbrev pub is_counted : ℕ → ℕ → ListedMember → Bool
@@ -95,12 +96,14 @@ tally_text count = listed_words (filter_map (λ s. counted s (count (place_of s)
 
 -- the first half of the line of an action of an instance: its number, its UUID and its status
 abbrev pub line_front : List ℕ → ℕ → ListedAction → List ℕ
-line_front prefix i x = joined (prefix ∷ decimal x.action ∷ codes " " ∷ id_text i x.action ∷ codes " " ∷ action_status_name x.status ∷ [])
+line_front prefix i x = joined (prefix ∷ decimal x.action ∷ codes " " ∷ id_text i x.action ∷ codes " "
+    ∷ action_status_name x.status ∷ [])
 
 -- the second half: its parent's number or *, its age in seconds, and how many of its members have each status
 abbrev pub line_end : List ListedMember → ListedAction → ℕ → List ℕ
 line_end ms x n =
-    joined (codes " " ∷ or_star (option_map decimal x.parent) ∷ codes " " ∷ seconds_text n ∷ codes " " ∷ tally_text (count_of ms x.action) ∷ line_feed ∷ [])
+    joined (codes " " ∷ or_star (option_map decimal x.parent) ∷ codes " " ∷ seconds_text n ∷ codes " "
+    ∷ tally_text (count_of ms x.action) ∷ line_feed ∷ [])
 
 -- the line of an action of an instance, by its age
 abbrev pub action_line : List ℕ → ℕ → List ListedMember → ListedAction → ℕ → List ℕ
@@ -152,4 +155,5 @@ pub record WritesFault (prefix input : List ℕ) (status : ℕ) (before after : 
 -- what is written of a sound journal, and of an unsound one
 abbrev pub ListsActions : Choice → List ℕ → List ℕ → ℕ → Option (List ℕ) → Option (List ℕ) → Type 0
 ListsActions c prefix input status before after =
-    ((v : Version) × (i : ℕ) × (J : History) × WritesLines c prefix input status before after v i J) ⊎ WritesFault prefix input status before after
+    ((v : Version) × (i : ℕ) × (J : History) × WritesLines c prefix input status before after v i J)
+    ⊎ WritesFault prefix input status before after

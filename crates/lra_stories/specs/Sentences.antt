@@ -32,7 +32,8 @@ limit_text (suc n) = joined (codes ", with a limit of " ∷ length_text (suc n) 
 -- who started an action and when, in which one, and with which limit
 abbrev pub started_text : ℕ → ℕ → Option ℕ → ℕ → List ℕ
 started_text by moment parent limit =
-    joined (codes "started by clerk " ∷ decimal by ∷ codes " at " ∷ moment_text moment ∷ below_text parent ∷ limit_text limit ∷ [])
+    joined (codes "started by clerk " ∷ decimal by ∷ codes " at " ∷ moment_text moment ∷ below_text parent
+    ∷ limit_text limit ∷ [])
 
 -- why an action is closed
 abbrev pub close_reason : Cause → List ℕ
@@ -54,7 +55,8 @@ turned_text reason status = joined (reason ∷ codes ": it is " ∷ action_statu
 abbrev pub ended_text : ActionStatus → List ℕ
 ended_text status =
     cond (has_failed status)
-    (joined (codes "it is " ∷ action_status_name status ∷ codes ": all that it waited for has ended, and not all of it well" ∷ []))
+    (joined (codes "it is " ∷ action_status_name status
+    ∷ codes ": all that it waited for has ended, and not all of it well" ∷ []))
     (joined (codes "it is " ∷ action_status_name status ∷ codes ": all that it waited for has ended well" ∷ []))
 
 -- an address with its name
@@ -93,7 +95,8 @@ ask_words ask.After = codes "told how the action ended"
 
 -- that a member is asked, by the ask of a number
 abbrev pub asked_text : ℕ → ℕ → AskKind → List ℕ
-asked_text n p kind = joined (codes "member " ∷ decimal p ∷ codes " is " ∷ ask_words kind ∷ codes " (ask " ∷ decimal n ∷ codes ")" ∷ [])
+asked_text n p kind = joined (codes "member " ∷ decimal p ∷ codes " is " ∷ ask_words kind ∷ codes " (ask " ∷ decimal n
+    ∷ codes ")" ∷ [])
 
 -- what a member says that has done what a stage is for
 abbrev pub done_words : AskKind → List ℕ
@@ -149,7 +152,8 @@ renewed_text (suc n) = joined (codes "its limit is set anew, to " ∷ length_tex
 
 -- how a nested action ended
 abbrev pub nested_ended_text : ℕ → ActionStatus → List ℕ
-nested_ended_text b status = joined (codes "action " ∷ decimal b ∷ codes " below it is " ∷ action_status_name status ∷ [])
+nested_ended_text b status = joined (codes "action " ∷ decimal b ∷ codes " below it is " ∷ action_status_name status
+    ∷ [])
 
 -- what is told of a fact of a history, where the action has this status after it
 abbrev pub fact_text : History → ActionStatus → Fact → List ℕ
@@ -176,5 +180,7 @@ told_line J t = joined (codes "line " ∷ decimal t.line ∷ codes ": " ∷ fact
 
 -- the line that tells how an action is now
 abbrev pub head_line : ℕ → Option ℕ → ActionStatus → List ℕ
-head_line a None status = joined (codes "action " ∷ decimal a ∷ codes " is " ∷ action_status_name status ∷ line_feed ∷ [])
-head_line a (Some b) status = joined (codes "action " ∷ decimal a ∷ codes " (nested in " ∷ decimal b ∷ codes ") is " ∷ action_status_name status ∷ line_feed ∷ [])
+head_line a None status = joined (codes "action " ∷ decimal a ∷ codes " is " ∷ action_status_name status ∷ line_feed
+    ∷ [])
+head_line a (Some b) status = joined (codes "action " ∷ decimal a ∷ codes " (nested in " ∷ decimal b ∷ codes ") is "
+    ∷ action_status_name status ∷ line_feed ∷ [])

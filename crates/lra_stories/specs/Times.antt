@@ -22,7 +22,8 @@ date_in year day march =
 -- the date of a day of the cycles of four hundred years that begin with March of the year 0
 abbrev pub date_from : ℕ → Date
 date_from day =
-    date_in (year_of (day % 146097) + day / 146097 * 400) (day_of_year (day % 146097)) ((5 * day_of_year (day % 146097) + 2) / 153)
+    date_in (year_of (day % 146097) + day / 146097 * 400) (day_of_year (day % 146097))
+    ((5 * day_of_year (day % 146097) + 2) / 153)
 
 -- the date of a day, counted from 1970, by the Gregorian calendar
 abbrev pub date_of : ℕ → Date
@@ -30,19 +31,23 @@ date_of days = date_from (days + 719468)
 
 -- a date as `2026-11-26`
 abbrev pub date_text : Date → List ℕ
-date_text d = joined (decimal d.year ∷ codes "-" ∷ decimal (d.month / 10) ∷ decimal (d.month % 10) ∷ codes "-" ∷ decimal (d.day / 10) ∷ decimal (d.day % 10) ∷ [])
+date_text d = joined (decimal d.year ∷ codes "-" ∷ decimal (d.month / 10) ∷ decimal (d.month % 10) ∷ codes "-"
+    ∷ decimal (d.day / 10) ∷ decimal (d.day % 10) ∷ [])
 
 -- the hour and the minute of a day's minute, as `22:15`
 abbrev pub minute_text : ℕ → List ℕ
-minute_text m = joined (decimal (m / 600) ∷ decimal (m / 60 % 10) ∷ codes ":" ∷ decimal (m / 10 % 6) ∷ decimal (m % 10) ∷ [])
+minute_text m = joined (decimal (m / 600) ∷ decimal (m / 60 % 10) ∷ codes ":" ∷ decimal (m / 10 % 6) ∷ decimal (m % 10)
+    ∷ [])
 
 -- the second of a minute's millisecond with three places, as `01.250`
 abbrev pub second_text : ℕ → List ℕ
-second_text m = joined (decimal (m / 10000) ∷ decimal (m / 1000 % 10) ∷ codes "." ∷ decimal (m / 100 % 10) ∷ decimal (m / 10 % 10) ∷ decimal (m % 10) ∷ [])
+second_text m = joined (decimal (m / 10000) ∷ decimal (m / 1000 % 10) ∷ codes "." ∷ decimal (m / 100 % 10)
+    ∷ decimal (m / 10 % 10) ∷ decimal (m % 10) ∷ [])
 
 -- a moment in milliseconds from 1970 on, by RFC 3339
 abbrev pub full_text : ℕ → List ℕ
-full_text m = joined (date_text (date_of (m / 86400000)) ∷ codes "T" ∷ minute_text (m % 86400000 / 60000) ∷ codes ":" ∷ second_text (m % 60000) ∷ codes "Z" ∷ [])
+full_text m = joined (date_text (date_of (m / 86400000)) ∷ codes "T" ∷ minute_text (m % 86400000 / 60000) ∷ codes ":"
+    ∷ second_text (m % 60000) ∷ codes "Z" ∷ [])
 
 -- a moment before the year 10000 by RFC 3339, and a later one as its number of milliseconds
 abbrev pub moment_text : ℕ → List ℕ
@@ -50,7 +55,8 @@ moment_text m = cond (nat_lt m 253402300800000) (full_text m) (codes "moment " +
 
 -- so many milliseconds as seconds with three places
 abbrev pub seconds_text : ℕ → List ℕ
-seconds_text m = joined (decimal (m / 1000) ∷ codes "." ∷ decimal (m / 100 % 10) ∷ decimal (m / 10 % 10) ∷ decimal (m % 10) ∷ [])
+seconds_text m = joined (decimal (m / 1000) ∷ codes "." ∷ decimal (m / 100 % 10) ∷ decimal (m / 10 % 10)
+    ∷ decimal (m % 10) ∷ [])
 
 -- so many milliseconds, in seconds
 abbrev pub length_text : ℕ → List ℕ

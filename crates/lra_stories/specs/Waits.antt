@@ -56,7 +56,8 @@ is_ask n t = of_fact t.fact
 
 -- which line asked, and since which moment there is no answer
 abbrev pub open_text : ℕ → ℕ → ℕ → List ℕ
-open_text n line moment = joined (codes "ask " ∷ decimal n ∷ codes ", of line " ∷ decimal line ∷ codes ", has no answer since " ∷ moment_text moment ∷ [])
+open_text n line moment = joined (codes "ask " ∷ decimal n ∷ codes ", of line " ∷ decimal line
+    ∷ codes ", has no answer since " ∷ moment_text moment ∷ [])
 
 -- the same of an ask that is told of
 abbrev pub since_text : ℕ → Option Told → List ℕ
@@ -65,7 +66,8 @@ since_text n None = joined (codes "ask " ∷ decimal n ∷ codes " has no answer
 
 -- that an action waits for a member
 abbrev pub waiting_line : ℕ → MemberStatus → List ℕ
-waiting_line p s = joined (codes "waits for member " ∷ decimal p ∷ codes ", which is " ∷ member_status_name s ∷ line_feed ∷ [])
+waiting_line p s = joined (codes "waits for member " ∷ decimal p ∷ codes ", which is " ∷ member_status_name s
+    ∷ line_feed ∷ [])
 
 -- that a member has failed
 abbrev pub failed_line : ℕ → MemberStatus → List ℕ
@@ -92,7 +94,8 @@ at_text (Some u) = place_text u
 
 -- that a member is asked, at which address, and since when
 abbrev pub open_line : ℕ → AskKind → Option (List ℕ) → List ℕ → List ℕ
-open_line p kind u since = joined (codes "member " ∷ decimal p ∷ codes " is " ∷ ask_words kind ∷ at_text u ∷ codes ": " ∷ since ∷ line_feed ∷ [])
+open_line p kind u since = joined (codes "member " ∷ decimal p ∷ codes " is " ∷ ask_words kind ∷ at_text u ∷ codes ": "
+    ∷ since ∷ line_feed ∷ [])
 
 -- that a member is asked again from a moment on
 abbrev pub from_text : ℕ → List ℕ
@@ -104,7 +107,8 @@ again_text k before = cond (k == 0) [] (from_text (due_after usual k before))
 
 -- that a member is to be asked, at which address, and when
 abbrev pub want_line : ℕ → AskKind → Option (List ℕ) → List ℕ → List ℕ
-want_line p kind u again = joined (codes "member " ∷ decimal p ∷ codes " is to be " ∷ ask_words kind ∷ at_text u ∷ again ∷ line_feed ∷ [])
+want_line p kind u again = joined (codes "member " ∷ decimal p ∷ codes " is to be " ∷ ask_words kind ∷ at_text u ∷ again
+    ∷ line_feed ∷ [])
 
 -- what is noted of the ask that was made of a member, and is outstanding
 abbrev pub asked_note : History → List Told → ℕ → ℕ → AskRow → List ℕ
@@ -154,13 +158,15 @@ last_text t = of_fact t.fact
     of_fact : Fact → List ℕ
     of_fact (Answered n q s o) =
         cond (is_silent o)
-        (joined (codes "without an answer (line " ∷ decimal t.line ∷ codes "): the operators' page has the reason" ∷ []))
+        (joined (codes "without an answer (line " ∷ decimal t.line ∷ codes "): the operators' page has the reason"
+        ∷ []))
         (joined (codes "with the answer that it goes on (line " ∷ decimal t.line ∷ codes ")" ∷ []))
     of_fact _ = []
 
 -- that a member was called so often, and what came of the last call
 abbrev pub called_line : ℕ → ℕ → Told → List ℕ
-called_line p n t = joined (codes "member " ∷ decimal p ∷ codes " was called " ∷ times_text n ∷ codes " for that, last " ∷ last_text t ∷ line_feed ∷ [])
+called_line p n t = joined (codes "member " ∷ decimal p ∷ codes " was called " ∷ times_text n ∷ codes " for that, last "
+    ∷ last_text t ∷ line_feed ∷ [])
 
 -- how often a member was called for what it is asked now, and what came of the last call
 abbrev pub repeats_line : ℕ → List Told → List ℕ
@@ -168,7 +174,8 @@ repeats_line p ts = option_map_or (called_line p (length ts)) (slice_get ts (len
 
 -- what is noted of how often a member was called for what it is asked, or is to be asked next
 abbrev pub repeats_note : History → List Told → ℕ → MemberRow → List ℕ
-repeats_note J ts p r = option_map_or (λ (stage : AskKind). repeats_line p (filter (is_repeat p stage) ts)) (stage_now J r) []
+repeats_note J ts p r = option_map_or (λ (stage : AskKind). repeats_line p (filter (is_repeat p stage) ts))
+    (stage_now J r) []
 
 -- what is noted of a member's row: a line each, or nothing
 abbrev pub row_notes : History → List Told → ActionStatus → ℕ → MemberRow → List (List ℕ)
@@ -181,8 +188,10 @@ member_notes J ts status p = option_map_or (row_notes J ts status p) (found_memb
 -- what is noted of a nested action that has a status now: that the action waits for it; or, of an action that has failed, that it failed
 abbrev pub nested_note : ActionStatus → ℕ → ActionStatus → List ℕ
 nested_note status b now =
-    cond (waits_for_action status now) (joined (codes "waits for action " ∷ decimal b ∷ codes " below it, which is " ∷ action_status_name now ∷ line_feed ∷ []))
-    (cond (has_failed status && has_failed now) (joined (codes "action " ∷ decimal b ∷ codes " below it is " ∷ action_status_name now ∷ line_feed ∷ [])) [])
+    cond (waits_for_action status now) (joined (codes "waits for action " ∷ decimal b ∷ codes " below it, which is "
+    ∷ action_status_name now ∷ line_feed ∷ []))
+    (cond (has_failed status && has_failed now) (joined (codes "action " ∷ decimal b ∷ codes " below it is "
+    ∷ action_status_name now ∷ line_feed ∷ [])) [])
 
 -- what is noted of a nested action
 abbrev pub action_note : History → ActionStatus → ℕ → List ℕ
@@ -192,7 +201,8 @@ action_note J status b = option_map_or (λ (r : ActionRow). nested_note status b
 abbrev pub client_line : ℕ → ℕ → List ℕ
 client_line limit since =
     cond (limit == 0) (codes "waits for its client to close or cancel it\n")
-    (joined (codes "waits for its client to close or cancel it, within " ∷ length_text limit ∷ codes " of " ∷ moment_text since ∷ line_feed ∷ []))
+    (joined (codes "waits for its client to close or cancel it, within " ∷ length_text limit ∷ codes " of "
+    ∷ moment_text since ∷ line_feed ∷ []))
 
 -- what is noted of the action itself
 abbrev pub own_note : ActionRow → List ℕ
@@ -200,4 +210,5 @@ own_note r = cond (is_active r.status) (client_line r.limit r.since) []
 
 -- what is noted of an action, then of its members, and then of those nested directly in it: a line each, or nothing
 abbrev pub notes : History → List Told → ℕ → ActionRow → List (List ℕ)
-notes J ts a r = own_note r ∷ [] ++ flat_map (member_notes J ts r.status) (members_of J a) ++ map (action_note J r.status) (children J a)
+notes J ts a r = own_note r ∷ [] ++ flat_map (member_notes J ts r.status) (members_of J a)
+    ++ map (action_note J r.status) (children J a)

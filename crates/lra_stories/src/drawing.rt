@@ -143,7 +143,8 @@ fn words(alloc: Global, line: &str) -> Result<String, Memory>
 
 /// The line that tells of an entry.
 fn told_words(alloc: Global, rows: &Rows, told: &Told) -> Result<String, Memory>
-    ensures { (J : History) → StandsFor rows.now.sheet J → IfOk result (λ text. string_bytes text ≡ drawn.words (told_words J told.now)) }
+    ensures { (J : History) → StandsFor rows.now.sheet J → IfOk result
+        (λ text. string_bytes text ≡ drawn.words (told_words J told.now)) }
 {
     let line = told_line(alloc, rows, told)?;
     words(alloc, &line)
@@ -158,7 +159,8 @@ fn head_row(alloc: Global, head: &str) -> Result<String, Memory>
 
 /// Returns what stands in the row of an entry.
 fn told_row(alloc: Global, rows: &Rows, told: &Told) -> Result<String, Memory>
-    ensures { (J : History) → StandsFor rows.now.sheet J → IfOk result (λ text. string_bytes text ≡ drawn.told_row J told.now) }
+    ensures { (J : History) → StandsFor rows.now.sheet J → IfOk result
+        (λ text. string_bytes text ≡ drawn.told_row J told.now) }
 {
     let stretch = stretch(alloc, told.status)?;
     let mark = mark(alloc, told.status, told.fact)?;
@@ -200,7 +202,8 @@ impl Drawing {
 
     /// Adds the row of a note, where something is noted.
     fn put_note(&mut self, note: &str) -> Result<(), Memory>
-        ensures { (cs : List (List ℕ)) → Draws self.old cs → OnOk result (Draws self.new (cs ++ drawn.note_rows note.now)) }
+        ensures { (cs : List (List ℕ)) → Draws self.old cs → OnOk result
+            (Draws self.new (cs ++ drawn.note_rows note.now)) }
     {
         if note.is_empty() {
             return Ok(());
@@ -224,7 +227,8 @@ fn put_told(drawing: &mut Drawing, rows: &Rows, told: &[Told]) -> Result<(), Mem
 
 /// Adds the row of each note.
 fn put_notes(drawing: &mut Drawing, notes: &[String]) -> Result<(), Memory>
-    ensures { (cs : List (List ℕ)) → Draws drawing.old cs → OnOk result (Draws drawing.new (cs ++ flat_map drawn.note_rows (map string_bytes notes.now))) }
+    ensures { (cs : List (List ℕ)) → Draws drawing.old cs → OnOk result
+        (Draws drawing.new (cs ++ flat_map drawn.note_rows (map string_bytes notes.now))) }
 {
     for place in 0..notes.len() {
         drawing.put_note(&notes[place])?;
@@ -250,7 +254,8 @@ fn lanes(alloc: Global, height: u64) -> Result<String, Memory>
 
 /// A picture of the rows that are drawn.
 fn framed(drawing: &Drawing, head: &str) -> Result<String, Memory>
-    ensures { (cs : List (List ℕ)) → Draws drawing.now cs → IfOk result (λ text. string_bytes text ≡ drawn.framed head.now cs) }
+    ensures { (cs : List (List ℕ)) → Draws drawing.now cs → IfOk result
+        (λ text. string_bytes text ≡ drawn.framed head.now cs) }
 {
     let height = top_of(drawing.count)?;
     let opening = opening(drawing.alloc, head, height)?;
@@ -267,7 +272,8 @@ pub(crate) fn draw(
     told: &[Told],
     notes: &[String],
 ) -> Result<String, Memory>
-    ensures { (J : History) → StandsFor rows.now.sheet J → IfOk result (λ text. string_bytes text ≡ drawn.picture J head.now told.now (map string_bytes notes.now)) }
+    ensures { (J : History) → StandsFor rows.now.sheet J → IfOk result
+        (λ text. string_bytes text ≡ drawn.picture J head.now told.now (map string_bytes notes.now)) }
 {
     let mut drawing = Drawing::new(alloc);
     let first = head_row(alloc, head)?;

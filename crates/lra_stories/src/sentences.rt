@@ -124,7 +124,8 @@ fn addresses_text(alloc: Global, uris: &Packed) -> Result<String, Memory>
 
 /// That a member joined, and with which addresses.
 fn joined_text(alloc: Global, rows: &Rows, member: u64) -> Result<String, Memory>
-    ensures { (J : History) → StandsFor rows.now.sheet J → IfOk result (λ text. string_bytes text ≡ sentences.joined_text member (found_addresses J member)) }
+    ensures { (J : History) → StandsFor rows.now.sheet J → IfOk result
+        (λ text. string_bytes text ≡ sentences.joined_text member (found_addresses J member)) }
 {
     match rows.addresses(member) {
         Some(uris) => {
@@ -275,7 +276,8 @@ fn nested_ended_text(alloc: Global, action: u64, status: ActionStatus) -> Result
 
 /// Returns what is told of a fact, where the action has this status after it.
 fn fact_text(alloc: Global, rows: &Rows, status: ActionStatus, fact: Fact) -> Result<String, Memory>
-    ensures { (J : History) → StandsFor rows.now.sheet J → IfOk result (λ text. string_bytes text ≡ sentences.fact_text J status fact) }
+    ensures { (J : History) → StandsFor rows.now.sheet J → IfOk result
+        (λ text. string_bytes text ≡ sentences.fact_text J status fact) }
 {
     match fact {
         Fact::Started {
@@ -315,7 +317,8 @@ fn fact_text(alloc: Global, rows: &Rows, status: ActionStatus, fact: Fact) -> Re
 
 /// The line that tells of an entry.
 pub(crate) fn told_line(alloc: Global, rows: &Rows, told: &Told) -> Result<String, Memory>
-    ensures { (J : History) → StandsFor rows.now.sheet J → IfOk result (λ text. string_bytes text ≡ sentences.told_line J told.now) }
+    ensures { (J : History) → StandsFor rows.now.sheet J → IfOk result
+        (λ text. string_bytes text ≡ sentences.told_line J told.now) }
 {
     let line = told.line;
     let words = fact_text(alloc, rows, told.status, told.fact)?;

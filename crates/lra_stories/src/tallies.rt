@@ -92,7 +92,8 @@ pub(crate) fn tallies_of(alloc: Global, listing: &Listing) -> Result<Vec<u64>, M
 
 /// Returns how many members of an action have a status.
 fn count_at(counts: &[u64], action: u64, status: MemberStatus) -> Result<u64, Memory>
-    ensures { (ms : List ListedMemberValue) → Tallied ms counts.now → IfOk result (λ count. count ≡ lines.count_of ms action (lines.place_of status)) }
+    ensures { (ms : List ListedMemberValue) → Tallied ms counts.now → IfOk result
+        (λ count. count ≡ lines.count_of ms action (lines.place_of status)) }
 {
     match slot_of(action, place_of(status)) {
         Some(slot) => match counts.get(slot) {
@@ -110,7 +111,8 @@ fn push_counted(
     status: MemberStatus,
     count: u64,
 ) -> Result<(), Memory>
-    ensures { OnOk result (map string_bytes words.new.items ≡ map string_bytes words.old.items ++ option_to_list (lines.counted status count)) }
+    ensures { OnOk result (map string_bytes words.new.items ≡ map string_bytes words.old.items
+        ++ option_to_list (lines.counted status count)) }
 {
     if count == 0 {
         return Ok(());
@@ -134,7 +136,8 @@ fn listed_words(alloc: Global, words: &[String]) -> Result<String, Memory>
 
 /// Returns how many members of an action have each status that one has, or `*` where it has no member.
 pub(crate) fn tally_text(alloc: Global, counts: &[u64], action: u64) -> Result<String, Memory>
-    ensures { (ms : List ListedMemberValue) → Tallied ms counts.now → IfOk result (λ text. string_bytes text ≡ lines.tally_text (lines.count_of ms action)) }
+    ensures { (ms : List ListedMemberValue) → Tallied ms counts.now → IfOk result
+        (λ text. string_bytes text ≡ lines.tally_text (lines.count_of ms action)) }
 {
     let mut words = Vec::new(alloc);
     for place in 0..STATUSES.len() {

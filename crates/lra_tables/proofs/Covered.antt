@@ -36,8 +36,10 @@ pick : {R S : Type 0} (f : R → S) (b : Bool) (r : R) → option_map f (cond b 
 pick f true r = refl
 pick f false r = refl
 
-wanting_is : (J : History) (p : ℕ) → wanting J p ≡ cond (is_among (members J) p) (Some (wanting_for J p (wants J p))) None
-wanting_is J p = pick (λ (m : MemberRow). record { want = m.want; count = m.k; last = m.last }) (is_among (members J) p) _
+wanting_is : (J : History) (p : ℕ) → wanting J p ≡ cond (is_among (members J) p) (Some (wanting_for J p (wants J p)))
+    None
+wanting_is J p = pick (λ (m : MemberRow). record { want = m.want; count = m.k; last = m.last }) (is_among (members J) p)
+    _
 
 pub same_wanting : (J K : History) (p : ℕ) → SameWants J K p → wanting K p ≡ wanting J p
 same_wanting J K p x =
@@ -46,11 +48,14 @@ same_wanting J K p x =
     ∙ either (is_among (members J) p) refl
     ∙ sym (wanting_is J p)
   where
-    by_want : is_among (members J) p ≡ true → (o : Option AskKind) → wants J p ≡ o → wanting_for K p o ≡ wanting_for J p o
+    by_want : is_among (members J) p ≡ true → (o : Option AskKind) → wants J p ≡ o → wanting_for K p o
+        ≡ wanting_for J p o
     by_want h None e = refl
-    by_want h (Some kind) e = ap (λ (ms : List ℕ). record { want = Some kind; count = length ms; last = last ms }) (x.repeats h kind e)
+    by_want h (Some kind) e = ap (λ (ms : List ℕ). record { want = Some kind; count = length ms; last = last ms })
+        (x.repeats h kind e)
 
-    either : (b : Bool) → is_among (members J) p ≡ b → cond b (Some (wanting_for K p (wants K p))) None ≡ cond b (Some (wanting_for J p (wants J p))) None
+    either : (b : Bool) → is_among (members J) p ≡ b → cond b (Some (wanting_for K p (wants K p))) None
+        ≡ cond b (Some (wanting_for J p (wants J p))) None
     either true h = ap (λ (w : Wanting). Some w) (ap (wanting_for K p) (x.want h) ∙ by_want h (wants J p) refl)
     either false h = refl
 
@@ -58,10 +63,16 @@ same_wanting J K p x =
 
 -- what an action's deadline goes by, by its status and its limit
 abbrev limiting_by : Option ActionStatus → Limit → Limiting
-limiting_by status limit = record { active = is_active (unwrap_or status action.Active); limit = limit.length_of; since = limit.since }
+limiting_by status limit = record {
+  active = is_active (unwrap_or status action.Active);
+  limit = limit.length_of;
+  since = limit.since;
+}
 
-limiting_is : (J : History) (a : ℕ) → limiting J a ≡ cond (is_among (actions J) a) (Some (limiting_by (action_status J a) (limit_in_force J a))) None
-limiting_is J a = pick (λ (r : ActionRow). record { active = is_active r.status; limit = r.limit; since = r.since }) (is_among (actions J) a) _
+limiting_is : (J : History) (a : ℕ) → limiting J a ≡ cond (is_among (actions J) a)
+    (Some (limiting_by (action_status J a) (limit_in_force J a))) None
+limiting_is J a = pick (λ (r : ActionRow). record { active = is_active r.status; limit = r.limit; since = r.since })
+    (is_among (actions J) a) _
 
 pub same_limiting : (J K : History) (a : ℕ) → SameLimit J K a → limiting K a ≡ limiting J a
 same_limiting J K a x =
@@ -72,12 +83,16 @@ same_limiting J K a x =
 -- ---- blocks
 
 -- a list that has them all
-pub covers_wants : (s : Sheet) (e : Entry) (J : History) (es : List Entry) (ps : List ℕ) → Follows s e → StandsFor s J → es ≡ with_settling J e → ps ≡ members_changed_by J es → CoversWants ps J (J ++ es)
+pub covers_wants : (s : Sheet) (e : Entry) (J : History) (es : List Entry) (ps : List ℕ) → Follows s e → StandsFor s J
+    → es ≡ with_settling J e → ps ≡ members_changed_by J es → CoversWants ps J (J ++ es)
 covers_wants s e J es ps f h block listed p out =
     let x = follows_each s e J f h in
     same_wanting J (J ++ es) p
     (subst (λ (fs : List Entry). SameWants J (J ++ fs) p) (sym block)
-    (block_wants Two any_text J e p x.0 x.1 (ap (λ (fs : List Entry). is_among (members_changed_by J fs) p) (sym block) ∙ ap (λ (ns : List ℕ). is_among ns p) (sym listed) ∙ out)))
+    (block_wants Two any_text J e p x.0 x.1 (ap (λ (fs : List Entry). is_among (members_changed_by J fs) p) (sym block)
+    ∙ ap (λ (ns : List ℕ). is_among ns p) (sym listed) ∙ out)))
 
-pub covers_limits : (J : History) (es : List Entry) (xs : List ℕ) → xs ≡ actions_changed_by es → CoversLimits xs J (J ++ es)
-covers_limits J es xs listed a out = same_limiting J (J ++ es) a (block_limits J es a (ap (λ (ns : List ℕ). is_among ns a) (sym listed) ∙ out))
+pub covers_limits : (J : History) (es : List Entry) (xs : List ℕ) → xs ≡ actions_changed_by es
+    → CoversLimits xs J (J ++ es)
+covers_limits J es xs listed a out = same_limiting J (J ++ es) a (block_limits J es a
+    (ap (λ (ns : List ℕ). is_among ns a) (sym listed) ∙ out))

@@ -24,9 +24,11 @@ abbrev pub now : (i : Indexed) (e : Entry) (s : Sheet) → IsKeptBefore i e s �
 now i e s b = b.follows.history ++ e ∷ []
 
 pub stands_now : (i : Indexed) (e : Entry) (s : Sheet) (b : IsKeptBefore i e s) → StandsFor s (now i e s b)
-stands_now i e s b = subst (λ (x : Sheet). StandsFor x (now i e s b)) (sym b.after) (StandsFor-push b.before b.follows.history e b.follows.stands b.follows.allowed)
+stands_now i e s b = subst (λ (x : Sheet). StandsFor x (now i e s b)) (sym b.after)
+    (StandsFor-push b.before b.follows.history e b.follows.stands b.follows.allowed)
 
-may_follow : (i : Indexed) (e : Entry) (s : Sheet) (b : IsKeptBefore i e s) → Allowed b.follows.stands.version b.follows.stands.is_address b.follows.history e
+may_follow : (i : Indexed) (e : Entry) (s : Sheet) (b : IsKeptBefore i e s)
+    → Allowed b.follows.stands.version b.follows.stands.is_address b.follows.history e
 may_follow i e s b = allowed b.follows.stands.version b.follows.stands.is_address b.follows.history e b.follows.allowed
 
 -- what is under a digest can be counted
@@ -37,19 +39,25 @@ counted i e s b digest =
     (staying_with i.key digest J, b.kept J h digest, staying_few h.version h.is_address J h.legal i.key digest)
 
 -- kept of one history, it is kept of each
-keeping : (i new : Indexed) (e : Entry) (s : Sheet) (b : IsKeptBefore i e s) → new.key ≡ i.key → ((digest : ℕ) → IsListed new digest (staying_with i.key digest (now i e s b))) → IsKept new s
+keeping : (i new : Indexed) (e : Entry) (s : Sheet) (b : IsKeptBefore i e s) → new.key ≡ i.key
+    → ((digest : ℕ) → IsListed new digest (staying_with i.key digest (now i e s b))) → IsKept new s
 keeping i new e s b same listed J h digest =
     subst (IsListed new digest)
-    (sym (one_staying s (now i e s b) J (stands_now i e s b) h new.key digest ∙ ap (λ (key : ℕ). staying_with key digest (now i e s b)) same))
+    (sym (one_staying s (now i e s b) J (stands_now i e s b) h new.key digest
+    ∙ ap (λ (key : ℕ). staying_with key digest (now i e s b)) same))
     (listed digest)
 
 -- one joins
-pub kept_joined : (i new : Indexed) (e : Entry) (s : Sheet) (b : IsKeptBefore i e s) (p a : ℕ) (u : Addresses) (digest : ℕ) → e.deed ≡ Join p a u → digest ≡ digest_of i.key a u → new.key ≡ i.key
-    → ((other : ℕ) (ns : List ℕ) → IsListed i other ns → IsListed new other (cond (digest == other) (ns ++ p ∷ []) ns)) → IsKept new s
+pub kept_joined : (i new : Indexed) (e : Entry) (s : Sheet) (b : IsKeptBefore i e s) (p a : ℕ) (u : Addresses)
+    (digest : ℕ) → e.deed ≡ Join p a u → digest ≡ digest_of i.key a u → new.key ≡ i.key
+    → ((other : ℕ) (ns : List ℕ) → IsListed i other ns → IsListed new other (cond (digest == other) (ns ++ p ∷ []) ns))
+    → IsKept new s
 kept_joined i new e s b p a u digest is at same listed = keeping i new e s b same (λ other.
     subst (IsListed new other)
     (ap (λ (d : ℕ). cond (d == other) (staying_with i.key other J ++ p ∷ []) (staying_with i.key other J)) at
-    ∙ sym (staying_joined h.version h.is_address J e.by e.moment p a u h.legal (subst (λ (d : Deed). Allowed h.version h.is_address J (entry e.by e.moment d)) is (may_follow i e s b)) i.key other)
+    ∙ sym (staying_joined h.version h.is_address J e.by e.moment p a u h.legal
+    (subst (λ (d : Deed). Allowed h.version h.is_address J (entry e.by e.moment d)) is (may_follow i e s b)) i.key
+    other)
     ∙ ap (λ (d : Deed). staying_with i.key other (J ++ entry e.by e.moment d ∷ [])) (sym is))
     (listed other (staying_with i.key other J) (b.kept J h other)))
   where
@@ -60,8 +68,10 @@ kept_joined i new e s b p a u digest is at same listed = keeping i new e s b sam
     h = b.follows.stands
 
 -- one leaves
-pub kept_left : (i new : Indexed) (e : Entry) (s : Sheet) (b : IsKeptBefore i e s) (p digest : ℕ) → e.deed ≡ Leave p → digest ≡ digest_of i.key (action_of (now i e s b) p) (addresses_of (now i e s b) p) → new.key ≡ i.key
-    → ((other : ℕ) (ns : List ℕ) → IsListed i other ns → IsListed new other (cond (digest == other) (without p ns) ns)) → IsKept new s
+pub kept_left : (i new : Indexed) (e : Entry) (s : Sheet) (b : IsKeptBefore i e s) (p digest : ℕ) → e.deed ≡ Leave p
+    → digest ≡ digest_of i.key (action_of (now i e s b) p) (addresses_of (now i e s b) p) → new.key ≡ i.key
+    → ((other : ℕ) (ns : List ℕ) → IsListed i other ns → IsListed new other (cond (digest == other) (without p ns) ns))
+    → IsKept new s
 kept_left i new e s b p digest is at same listed = keeping i new e s b same (λ other.
     subst (IsListed new other)
     (ap (λ (d : ℕ). cond (d == other) (without p (staying_with i.key other J)) (staying_with i.key other J)) stayed
@@ -76,24 +86,31 @@ kept_left i new e s b p digest is at same listed = keeping i new e s b same (λ 
     h = b.follows.stands
 
     there : is_among (members b.follows.history) p ≡ true
-    there = told h.version h.is_address J e.by e.moment (Leave p) (subst (λ (d : Deed). Allowed h.version h.is_address J (entry e.by e.moment d)) is (may_follow i e s b))
+    there = told h.version h.is_address J e.by e.moment (Leave p) (subst
+        (λ (d : Deed). Allowed h.version h.is_address J (entry e.by e.moment d)) is (may_follow i e s b))
 
     stayed : digest ≡ digest_of i.key (action_of b.follows.history p) (addresses_of b.follows.history p)
     stayed =
         at
-        ∙ ap (λ (d : Deed). digest_of i.key (action_of (J ++ entry e.by e.moment d ∷ []) p) (addresses_of (J ++ entry e.by e.moment d ∷ []) p)) is
-        ∙ (λ k. digest_of i.key (action_kept J e.by e.moment (Leave p) p refl k) (addresses_kept J e.by e.moment (Leave p) p refl k))
+        ∙ ap (λ (d : Deed). digest_of i.key (action_of (J ++ entry e.by e.moment d ∷ []) p)
+        (addresses_of (J ++ entry e.by e.moment d ∷ []) p)) is
+        ∙ (λ k. digest_of i.key (action_kept J e.by e.moment (Leave p) p refl k)
+        (addresses_kept J e.by e.moment (Leave p) p refl k))
 
 -- one that leaves is there
-pub leaves_there : (i : Indexed) (e : Entry) (s : Sheet) (b : IsKeptBefore i e s) (p : ℕ) → e.deed ≡ Leave p → is_among (members (now i e s b)) p ≡ true
+pub leaves_there : (i : Indexed) (e : Entry) (s : Sheet) (b : IsKeptBefore i e s) (p : ℕ) → e.deed ≡ Leave p
+    → is_among (members (now i e s b)) p ≡ true
 leaves_there i e s b p is =
     let J : History = b.follows.history in
     let h : StandsFor b.before J = b.follows.stands in
-    member_there_push J e p (told h.version h.is_address J e.by e.moment (Leave p) (subst (λ (d : Deed). Allowed h.version h.is_address J (entry e.by e.moment d)) is (may_follow i e s b)))
+    member_there_push J e p (told h.version h.is_address J e.by e.moment (Leave p)
+    (subst (λ (d : Deed). Allowed h.version h.is_address J (entry e.by e.moment d)) is (may_follow i e s b)))
 
 -- no one joins or leaves
-pub kept_same : (i : Indexed) (e : Entry) (s : Sheet) (b : IsKeptBefore i e s) → ((p a : ℕ) (u : Addresses) → e.deed ≡ Join p a u → ⊥) → ((p : ℕ) → e.deed ≡ Leave p → ⊥) → IsKept i s
-kept_same i e s b no_join no_leave = keeping i i e s b refl (λ other. subst (IsListed i other) (sym (still e.deed no_join no_leave other)) (b.kept J h other))
+pub kept_same : (i : Indexed) (e : Entry) (s : Sheet) (b : IsKeptBefore i e s)
+    → ((p a : ℕ) (u : Addresses) → e.deed ≡ Join p a u → ⊥) → ((p : ℕ) → e.deed ≡ Leave p → ⊥) → IsKept i s
+kept_same i e s b no_join no_leave = keeping i i e s b refl (λ other. subst (IsListed i other)
+    (sym (still e.deed no_join no_leave other)) (b.kept J h other))
   where
     J : History
     J = b.follows.history
@@ -101,7 +118,8 @@ kept_same i e s b no_join no_leave = keeping i i e s b refl (λ other. subst (Is
     h : StandsFor b.before b.follows.history
     h = b.follows.stands
 
-    still : (d : Deed) → ((p a : ℕ) (u : Addresses) → d ≡ Join p a u → ⊥) → ((p : ℕ) → d ≡ Leave p → ⊥) → (other : ℕ) → staying_with i.key other (J ++ entry e.by e.moment d ∷ []) ≡ staying_with i.key other J
+    still : (d : Deed) → ((p a : ℕ) (u : Addresses) → d ≡ Join p a u → ⊥) → ((p : ℕ) → d ≡ Leave p → ⊥) → (other : ℕ)
+        → staying_with i.key other (J ++ entry e.by e.moment d ∷ []) ≡ staying_with i.key other J
     still (Join p a u) x y other = absurd (x p a u refl)
     still (Leave p) x y other = absurd (y p refl)
     still d x y other = staying_still J e.by e.moment d i.key other refl (λ p. refl)

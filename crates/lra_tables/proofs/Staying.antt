@@ -36,7 +36,8 @@ filter_shorter : (f : ℕ → Bool) (xs : List ℕ) → length (filter f xs) ≤
 filter_shorter f [] = omega arith
 filter_shorter f (x ∷ xs) = either (f x) (filter_shorter f xs)
   where
-    either : (b : Bool) → length (filter f xs) ≤ length xs → length (cond b (x ∷ filter f xs) (filter f xs)) ≤ length (x ∷ xs)
+    either : (b : Bool) → length (filter f xs) ≤ length xs → length (cond b (x ∷ filter f xs) (filter f xs))
+        ≤ length (x ∷ xs)
     either true h = omega arith
     either false h = omega arith
 
@@ -45,17 +46,21 @@ members_few v t J l = few (length (members J)) refl
   where
     few : (n : ℕ) → length (members J) ≡ n → n < 2 ^ 64
     few zero e = omega arith
-    few (suc n) e = ltb-true (suc n) (2 ^ 64) (member_in_range v t J l (suc n) (numbered_there (members J) (members_numbered v t J l) (suc n) (omega arith) (omega arith)))
+    few (suc n) e = ltb-true (suc n) (2 ^ 64) (member_in_range v t J l (suc n)
+        (numbered_there (members J) (members_numbered v t J l) (suc n) (omega arith) (omega arith)))
 
 -- a u64 counts them
-pub staying_few : (v : Version) (t : List ℕ → Bool) (J : History) → is_legal v t J ≡ true → (key digest : ℕ) → length (staying_with key digest J) < 2 ^ 64
+pub staying_few : (v : Version) (t : List ℕ → Bool) (J : History) → is_legal v t J ≡ true → (key digest : ℕ)
+    → length (staying_with key digest J) < 2 ^ 64
 staying_few v t J l key digest = let a = filter_shorter (has_digest key digest J) (members J) in let b = members_few v t J l in omega arith
 
 -- ---- one sheet
 
 -- the histories that one sheet stands for have the same
-pub one_staying : (s : Sheet) (J K : History) → StandsFor s J → StandsFor s K → (key digest : ℕ) → staying_with key digest K ≡ staying_with key digest J
-one_staying s J K h k key digest = filter_same (has_digest key digest K) (has_digest key digest J) (members K) same ∙ ap (filter (has_digest key digest J)) all
+pub one_staying : (s : Sheet) (J K : History) → StandsFor s J → StandsFor s K → (key digest : ℕ)
+    → staying_with key digest K ≡ staying_with key digest J
+one_staying s J K h k key digest = filter_same (has_digest key digest K) (has_digest key digest J) (members K) same
+    ∙ ap (filter (has_digest key digest J)) all
   where
     rows : map (member_row K) (members K) ≡ map (member_row J) (members J)
     rows = ap (λ (x : Sheet). x.state.members) (sym k.sheet ∙ h.sheet)
@@ -67,7 +72,8 @@ one_staying s J K h k key digest = filter_same (has_digest key digest K) (has_di
     numbered = members_numbered k.version k.is_address K k.legal
 
     count : length (members K) ≡ length (members J)
-    count = sym (length-map (members K) (member_row K)) ∙ ap (λ (rs : List MemberRow). length rs) rows ∙ length-map (members J) (member_row J)
+    count = sym (length-map (members K) (member_row K)) ∙ ap (λ (rs : List MemberRow). length rs) rows
+        ∙ length-map (members J) (member_row J)
 
     all : members K ≡ members J
     all = numbered ∙ ap (range_with_len 1) count ∙ sym (members_numbered h.version h.is_address J h.legal)
@@ -79,10 +85,12 @@ one_staying s J K h k key digest = filter_same (has_digest key digest K) (has_di
     same p there =
         let row : member_row K p ≡ member_row J p = same_Some _ _
         (sym (row_there (member_row K) (members K) p numbered there) ∙ ap (λ (rs : List MemberRow). row_at rs p) rows
-        ∙ row_there (member_row J) (members J) p (members_numbered h.version h.is_address J h.legal) (ap (λ (ns : List ℕ). is_among ns p) (sym all) ∙ there)) in
+        ∙ row_there (member_row J) (members J) p (members_numbered h.version h.is_address J h.legal)
+        (ap (λ (ns : List ℕ). is_among ns p) (sym all) ∙ there)) in
         let contact : contact_of K p ≡ contact_of J p = same_Some _ _
         (sym (row_there (contact_of K) (members K) p numbered there) ∙ ap (λ (rs : List Contact). row_at rs p) contacts
-        ∙ row_there (contact_of J) (members J) p (members_numbered h.version h.is_address J h.legal) (ap (λ (ns : List ℕ). is_among ns p) (sym all) ∙ there)) in
+        ∙ row_there (contact_of J) (members J) p (members_numbered h.version h.is_address J h.legal)
+        (ap (λ (ns : List ℕ). is_among ns p) (sym all) ∙ there)) in
         (λ i. not (left_is K p i) && (digest_of key (action_of K p) (addresses_of K p) == digest))
         ∙ (λ i. not (has_gone (row i).status) && (digest_of key (row i).action (contact i).addresses == digest))
         ∙ (λ i. not (sym (left_is J p) i) && (digest_of key (action_of J p) (addresses_of J p) == digest))
@@ -90,27 +98,34 @@ one_staying s J K h k key digest = filter_same (has_digest key digest K) (has_di
 -- ---- one more entry
 
 -- a member whose words stay
-pub digest_stays : (J : History) (by m : ℕ) (d : Deed) (p key digest : ℕ) → is_among (members J) p ≡ true → is_leave_of p d ≡ false → has_digest key digest (more J by m d) p ≡ has_digest key digest J p
+pub digest_stays : (J : History) (by m : ℕ) (d : Deed) (p key digest : ℕ) → is_among (members J) p ≡ true
+    → is_leave_of p d ≡ false → has_digest key digest (more J by m d) p ≡ has_digest key digest J p
 digest_stays J by m d p key digest there stays =
-    λ i. not (left_quiet J by m d p stays i) && (digest_of key (action_of_stays J (entry by m d) p there i) (addresses_stay J (entry by m d) p there i) == digest)
+    λ i. not (left_quiet J by m d p stays i) && (digest_of key (action_of_stays J (entry by m d) p there i)
+    (addresses_stay J (entry by m d) p there i) == digest)
 
 -- no one joins or leaves
-pub staying_still : (J : History) (by m : ℕ) (d : Deed) (key digest : ℕ) → joined_by d ≡ None → ((p : ℕ) → is_leave_of p d ≡ false) → staying_with key digest (more J by m d) ≡ staying_with key digest J
+pub staying_still : (J : History) (by m : ℕ) (d : Deed) (key digest : ℕ) → joined_by d ≡ None
+    → ((p : ℕ) → is_leave_of p d ≡ false) → staying_with key digest (more J by m d) ≡ staying_with key digest J
 staying_still J by m d key digest none stays =
     ap (filter (has_digest key digest (more J by m d))) (members_stay J by m d none)
-    ∙ filter_same (has_digest key digest (more J by m d)) (has_digest key digest J) (members J) (λ p there. digest_stays J by m d p key digest there (stays p))
+    ∙ filter_same (has_digest key digest (more J by m d)) (has_digest key digest J) (members J)
+    (λ p there. digest_stays J by m d p key digest there (stays p))
 
 not_both : (b : Bool) → b ≡ true → b ≡ false → ⊥
 not_both true e h = cc
 not_both false e h = cc
 
 -- one joins
-pub staying_joined : (v : Version) (t : List ℕ → Bool) (J : History) (by m p a : ℕ) (u : Addresses) → is_legal v t J ≡ true → Allowed v t J (entry by m (Join p a u)) → (key digest : ℕ)
-    → staying_with key digest (more J by m (Join p a u)) ≡ cond (digest_of key a u == digest) (staying_with key digest J ++ p ∷ []) (staying_with key digest J)
+pub staying_joined : (v : Version) (t : List ℕ → Bool) (J : History) (by m p a : ℕ) (u : Addresses) → is_legal v t J
+    ≡ true → Allowed v t J (entry by m (Join p a u)) → (key digest : ℕ)
+    → staying_with key digest (more J by m (Join p a u)) ≡ cond (digest_of key a u == digest)
+    (staying_with key digest J ++ p ∷ []) (staying_with key digest J)
 staying_joined v t J by m p a u l k key digest =
     ap (filter (has_digest key digest K)) (members_push J (entry by m (Join p a u)))
     ∙ filter-append (has_digest key digest K) (members J) (p ∷ [])
-    ∙ (λ i. filter_same (has_digest key digest K) (has_digest key digest J) (members J) (λ q there. digest_stays J by m (Join p a u) q key digest there refl) i ++ cond (new i) (p ∷ []) [])
+    ∙ (λ i. filter_same (has_digest key digest K) (has_digest key digest J) (members J)
+    (λ q there. digest_stays J by m (Join p a u) q key digest there refl) i ++ cond (new i) (p ∷ []) [])
     ∙ either (digest_of key a u == digest)
   where
     K : History
@@ -126,63 +141,84 @@ staying_joined v t J by m p a u l k key digest =
     new : has_digest key digest K p ≡ (digest_of key a u == digest)
     new =
         (λ i. not ((left_quiet J by m (Join p a u) p refl ∙ stayed (has_left J p) refl) i)
-        && (digest_of key ((action_of_new J (entry by m (Join p a u)) p fresh ∙ ap (λ (b : Bool). unwrap_or (when b a) 0) (eqb_self p)) i)
-        ((addresses_of_new J (entry by m (Join p a u)) p fresh ∙ ap (λ (b : Bool). unwrap_or (when b u) no_addresses) (eqb_self p)) i) == digest))
+        && (digest_of key ((action_of_new J (entry by m (Join p a u)) p fresh
+        ∙ ap (λ (b : Bool). unwrap_or (when b a) 0) (eqb_self p)) i)
+        ((addresses_of_new J (entry by m (Join p a u)) p fresh ∙ ap (λ (b : Bool). unwrap_or (when b u) no_addresses)
+        (eqb_self p)) i) == digest))
 
-    either : (b : Bool) → staying_with key digest J ++ cond b (p ∷ []) [] ≡ cond b (staying_with key digest J ++ p ∷ []) (staying_with key digest J)
+    either : (b : Bool) → staying_with key digest J ++ cond b (p ∷ []) []
+        ≡ cond b (staying_with key digest J ++ p ∷ []) (staying_with key digest J)
     either true = refl
     either false = append-nil (staying_with key digest J)
 
 -- a list of different numbers without one
-without_filter : (f g : ℕ → Bool) (p : ℕ) → ((q : ℕ) → q ≢ p → g q ≡ f q) → g p ≡ false → (a n : ℕ) → without p (filter f (range_with_len a n)) ≡ filter g (range_with_len a n)
+without_filter : (f g : ℕ → Bool) (p : ℕ) → ((q : ℕ) → q ≢ p → g q ≡ f q) → g p ≡ false → (a n : ℕ)
+    → without p (filter f (range_with_len a n)) ≡ filter g (range_with_len a n)
 without_filter f g p same gone a zero = refl
 without_filter f g p same gone a (suc n) =
     elim (cases_eq a p) [
       | inl here ↦ at_it here (f a) (without_filter f g p same gone (a + 1) n)
-          ∙ sym (ap (λ (b : Bool). cond b (a ∷ filter g (range_with_len (a + 1) n)) (filter g (range_with_len (a + 1) n))) (ap g here ∙ gone))
+          ∙ sym (ap (λ (b : Bool). cond b (a ∷ filter g (range_with_len (a + 1) n))
+          (filter g (range_with_len (a + 1) n))) (ap g here ∙ gone))
       | inr apart ↦ past (f a) (ne_eqb a p apart) (without_filter f g p same gone (a + 1) n)
-          ∙ sym (ap (λ (b : Bool). cond b (a ∷ filter g (range_with_len (a + 1) n)) (filter g (range_with_len (a + 1) n))) (same a apart))
+          ∙ sym (ap (λ (b : Bool). cond b (a ∷ filter g (range_with_len (a + 1) n))
+          (filter g (range_with_len (a + 1) n))) (same a apart))
     ]
   where
     beyond : a ≡ p → filter f (range_with_len (a + 1) n) ≡ filter g (range_with_len (a + 1) n)
     beyond here = filter_same f g (range_with_len (a + 1) n) (λ q h. sym (same q (λ e. let r = range_among (a + 1) n q h in omega arith)))
 
     at_it : a ≡ p → (b : Bool) → without p (filter f (range_with_len (a + 1) n)) ≡ filter g (range_with_len (a + 1) n)
-        → without p (cond b (a ∷ filter f (range_with_len (a + 1) n)) (filter f (range_with_len (a + 1) n))) ≡ filter g (range_with_len (a + 1) n)
-    at_it here true rest = ap (λ (b : Bool). cond b (filter f (range_with_len (a + 1) n)) (a ∷ without p (filter f (range_with_len (a + 1) n)))) (eq-eqb a p here) ∙ beyond here
+        → without p (cond b (a ∷ filter f (range_with_len (a + 1) n)) (filter f (range_with_len (a + 1) n)))
+        ≡ filter g (range_with_len (a + 1) n)
+    at_it here true rest = ap (λ (b : Bool). cond b (filter f (range_with_len (a + 1) n))
+        (a ∷ without p (filter f (range_with_len (a + 1) n)))) (eq-eqb a p here) ∙ beyond here
     at_it here false rest = rest
 
-    past : (b : Bool) → (a == p) ≡ false → without p (filter f (range_with_len (a + 1) n)) ≡ filter g (range_with_len (a + 1) n)
-        → without p (cond b (a ∷ filter f (range_with_len (a + 1) n)) (filter f (range_with_len (a + 1) n))) ≡ cond b (a ∷ filter g (range_with_len (a + 1) n)) (filter g (range_with_len (a + 1) n))
-    past true apart rest = ap (λ (b : Bool). cond b (filter f (range_with_len (a + 1) n)) (a ∷ without p (filter f (range_with_len (a + 1) n)))) apart ∙ ap (λ (ns : List ℕ). a ∷ ns) rest
+    past : (b : Bool) → (a == p) ≡ false → without p (filter f (range_with_len (a + 1) n))
+        ≡ filter g (range_with_len (a + 1) n)
+        → without p (cond b (a ∷ filter f (range_with_len (a + 1) n)) (filter f (range_with_len (a + 1) n)))
+        ≡ cond b (a ∷ filter g (range_with_len (a + 1) n)) (filter g (range_with_len (a + 1) n))
+    past true apart rest = ap (λ (b : Bool). cond b (filter f (range_with_len (a + 1) n))
+        (a ∷ without p (filter f (range_with_len (a + 1) n)))) apart ∙ ap (λ (ns : List ℕ). a ∷ ns) rest
     past false apart rest = rest
 
 -- one leaves
-pub staying_left : (v : Version) (t : List ℕ → Bool) (J : History) (by m p : ℕ) → is_legal v t J ≡ true → is_among (members J) p ≡ true → (key digest : ℕ)
-    → staying_with key digest (more J by m (Leave p)) ≡ cond (digest_of key (action_of J p) (addresses_of J p) == digest) (without p (staying_with key digest J)) (staying_with key digest J)
+pub staying_left : (v : Version) (t : List ℕ → Bool) (J : History) (by m p : ℕ) → is_legal v t J ≡ true
+    → is_among (members J) p ≡ true → (key digest : ℕ)
+    → staying_with key digest (more J by m (Leave p)) ≡ cond (digest_of key (action_of J p) (addresses_of J p)
+    == digest) (without p (staying_with key digest J)) (staying_with key digest J)
 staying_left v t J by m p l there key digest =
-    ap (filter (has_digest key digest K)) (members_stay J by m (Leave p) refl) ∙ either (digest_of key (action_of J p) (addresses_of J p) == digest) refl
+    ap (filter (has_digest key digest K)) (members_stay J by m (Leave p) refl)
+    ∙ either (digest_of key (action_of J p) (addresses_of J p) == digest) refl
   where
     K : History
     K = more J by m (Leave p)
 
     gone : has_digest key digest K p ≡ false
-    gone = ap (λ (b : Bool). not b && (digest_of key (action_of K p) (addresses_of K p) == digest)) (has_left_push J (entry by m (Leave p)) p ∙ ap (λ (b : Bool). has_left J p || b) (eqb_self p) ∙ or-true (has_left J p))
+    gone = ap (λ (b : Bool). not b && (digest_of key (action_of K p) (addresses_of K p) == digest))
+        (has_left_push J (entry by m (Leave p)) p ∙ ap (λ (b : Bool). has_left J p || b) (eqb_self p)
+        ∙ or-true (has_left J p))
 
     others : (q : ℕ) → q ≢ p → has_digest key digest K q ≡ has_digest key digest J q
     others q apart =
         λ i. not (left_quiet J by m (Leave p) q (ne_eqb p q (λ e. apart (sym e))) i)
         && (digest_of key (action_kept J by m (Leave p) q refl i) (addresses_kept J by m (Leave p) q refl i) == digest)
 
-    either : (b : Bool) → (digest_of key (action_of J p) (addresses_of J p) == digest) ≡ b → filter (has_digest key digest K) (members J) ≡ cond b (without p (staying_with key digest J)) (staying_with key digest J)
+    either : (b : Bool) → (digest_of key (action_of J p) (addresses_of J p) == digest) ≡ b
+        → filter (has_digest key digest K) (members J) ≡ cond b (without p (staying_with key digest J))
+        (staying_with key digest J)
     either true e =
         let numbered : members J ≡ range_with_len 1 (length (members J)) = members_numbered v t J l in
         ap (filter (has_digest key digest K)) numbered
-        ∙ sym (ap (λ (ns : List ℕ). without p (filter (has_digest key digest J) ns)) numbered ∙ without_filter (has_digest key digest J) (has_digest key digest K) p others gone 1 (length (members J)))
-    either false e = filter_same (has_digest key digest K) (has_digest key digest J) (members J) (λ q h. elim (cases_eq q p) [
-      | inl same ↦ ap (has_digest key digest K) same ∙ gone ∙ sym (ap (has_digest key digest J) same ∙ ap (λ (b : Bool). not (has_left J p) && b) e ∙ and-false (not (has_left J p)))
-      | inr apart ↦ others q apart
-    ])
+        ∙ sym (ap (λ (ns : List ℕ). without p (filter (has_digest key digest J) ns)) numbered
+        ∙ without_filter (has_digest key digest J) (has_digest key digest K) p others gone 1 (length (members J)))
+    either false e = filter_same (has_digest key digest K) (has_digest key digest J) (members J)
+        (λ q h. elim (cases_eq q p) [
+          | inl same ↦ ap (has_digest key digest K) same ∙ gone ∙ sym (ap (has_digest key digest J) same
+              ∙ ap (λ (b : Bool). not (has_left J p) && b) e ∙ and-false (not (has_left J p)))
+          | inr apart ↦ others q apart
+        ])
 
 -- of no entries there are none
 pub none_staying : (key digest : ℕ) → staying_with key digest [] ≡ []

@@ -28,7 +28,13 @@ pub record Tabled : Type 0 where
 
 -- the rows, with the room beside them
 abbrev pub board_of : Tabled → Boarded
-board_of t = record { rows = record { sheet = t.sheet; capacity = t.capacity }; skips = t.skips; turns = t.turns; ends = t.ends }
+board_of t = record {
+  rows = record { sheet = t.sheet; capacity = t.capacity };
+  skips = t.skips;
+  turns = t.turns;
+  ends =
+      t.ends;
+}
 
 -- whether there is room for one that joins, where an entry lets one join
 abbrev pub takes_one : Deed → ℕ → Bool
@@ -38,7 +44,8 @@ takes_one d places = true
 -- whether there is room for entries of which the first is a command's own, and the others settle what follows from it
 abbrev pub has_room : Tabled → List Entry → Bool
 has_room t [] = true
-has_room t (e ∷ es) = boards.has_room e (board_of t) && takes_one e.deed t.places && nat_le (t.sheet.entries + length (e ∷ es)) (2 ^ 63)
+has_room t (e ∷ es) = boards.has_room e (board_of t) && takes_one e.deed t.places
+    && nat_le (t.sheet.entries + length (e ∷ es)) (2 ^ 63)
 
 -- a plan: the entries that are to come, the members whose wants they may change, and the actions whose deadlines they may change
 pub record Planned : Type 0 where
@@ -64,7 +71,8 @@ pub record Limiting : Type 0 where
 
 -- what an action's deadline goes by, if it is there
 abbrev pub limiting : History → ℕ → Option Limiting
-limiting J a = option_map (λ (r : ActionRow). record { active = is_active r.status; limit = r.limit; since = r.since }) (found_action J a)
+limiting J a = option_map (λ (r : ActionRow). record { active = is_active r.status; limit = r.limit; since = r.since })
+    (found_action J a)
 
 -- the members listed are all whose wants differ in the longer history
 abbrev pub CoversWants : List ℕ → History → History → Type 0

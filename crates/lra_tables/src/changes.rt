@@ -20,7 +20,8 @@ pub(crate) struct Changes {
 
 /// The member of an ask, where it is outstanding.
 fn add_awaited(rows: &Rows, ask: u64, members: &mut Vec<u64>) -> Result<(), Memory>
-    ensures { OnOk result ((J : History) → StandsFor rows.now.sheet J → members.new.items ≡ members.old.items ++ option_to_list (member_awaited J ask)) }
+    ensures { OnOk result ((J : History) → StandsFor rows.now.sheet J → members.new.items ≡ members.old.items
+        ++ option_to_list (member_awaited J ask)) }
 {
     if let Some(asked) = rows.ask(ask) {
         if asked.outstanding {
@@ -32,7 +33,8 @@ fn add_awaited(rows: &Rows, ask: u64, members: &mut Vec<u64>) -> Result<(), Memo
 
 /// The members of all asks that are outstanding, of which there are none before the last restart.
 fn add_all_awaited(rows: &Rows, members: &mut Vec<u64>) -> Result<(), Memory>
-    ensures { OnOk result ((J : History) → StandsFor rows.now.sheet J → members.new.items ≡ members.old.items ++ members_awaited J) }
+    ensures { OnOk result ((J : History) → StandsFor rows.now.sheet J → members.new.items ≡ members.old.items
+        ++ members_awaited J) }
 {
     for place in rows.count_void()..rows.count_asks() {
         add_awaited(rows, place + 1, members)?;
@@ -52,7 +54,8 @@ fn is_nested(rows: &Rows, action: u64) -> bool
 
 /// The members of an action that ends, and of all below it where it is an outermost one.
 fn ended(rows: &Rows, action: u64) -> &[u64]
-    ensures { (J : History) → StandsFor rows.now.sheet J → result.now ≡ cond (is_some (parent J action)) (members_of J action) (members_under J action) }
+    ensures { (J : History) → StandsFor rows.now.sheet J → result.now ≡ cond (is_some (parent J action))
+        (members_of J action) (members_under J action) }
 {
     if is_nested(rows, action) {
         rows.members(action)
@@ -63,7 +66,8 @@ fn ended(rows: &Rows, action: u64) -> &[u64]
 
 /// The members whose wants a deed may change.
 fn add_members(rows: &Rows, deed: &Deed, members: &mut Vec<u64>) -> Result<(), Memory>
-    ensures { OnOk result ((J : History) → StandsFor rows.now.sheet J → members.new.items ≡ members.old.items ++ members_changed J deed.now) }
+    ensures { OnOk result ((J : History) → StandsFor rows.now.sheet J → members.new.items ≡ members.old.items
+        ++ members_changed J deed.now) }
 {
     match deed {
         Deed::Join { member, .. } => members.push(*member)?,
@@ -104,7 +108,8 @@ impl Changes {
     /// Lists what entries change that are to come after those of the rows, in time linear in what is listed: a number
     /// may come twice.
     pub(crate) fn of(alloc: Global, rows: &Rows, entries: &[Entry]) -> Result<Changes, Memory>
-        ensures members { IfOk result (λ c. (J : History) → StandsFor rows.now.sheet J → c.members.items ≡ members_changed_by J entries.now) }
+        ensures members { IfOk result (λ c. (J : History) → StandsFor rows.now.sheet J → c.members.items
+            ≡ members_changed_by J entries.now) }
         ensures actions { IfOk result (λ c. c.actions.items ≡ actions_changed_by entries.now) }
     {
         let mut members = Vec::new(alloc);

@@ -8,22 +8,43 @@ use native.Mathlib.Decide.{ℕ_discrete}
 use lib.ListN.{get_elem?}
 
 module _ {A : Type 0} (f : A → ℕ) where
-  pub sum_by-at : (l : List A) (j : ℕ) (v w : A) → get_elem? l j ≡ some v → sum_by f (set l j w) + f v ≡ sum_by f l + f w
+  pub sum_by-at : (l : List A) (j : ℕ) (v w : A) → get_elem? l j ≡ some v → sum_by f (set l j w) + f v ≡ sum_by f l
+      + f w
   sum_by-at [] j v w e = absurd (some-ne-none v (sym e))
   sum_by-at (x ∷ xs) zero v w e = omega (arith, ap f (some-injective x v e), sum_by-cons f x xs, sum_by-cons f w xs)
-  sum_by-at (x ∷ xs) (suc j) v w e = omega (arith, sum_by-at xs j v w e, sum_by-cons f x xs, sum_by-cons f x (set xs j w))
+  sum_by-at (x ∷ xs) (suc j) v w e = omega (
+    arith,
+    sum_by-at xs j v w e,
+    sum_by-cons f x xs,
+    sum_by-cons f x (set xs j w),
+  )
 
   pub term_le : (l : List A) (j : ℕ) (v : A) → get_elem? l j ≡ some v → f v ≤ sum_by f l
   term_le [] j v e = absurd (some-ne-none v (sym e))
   term_le (x ∷ xs) zero v e = omega (arith, ap f (some-injective x v e), sum_by-cons f x xs)
   term_le (x ∷ xs) (suc j) v e = omega (arith, term_le xs j v e, sum_by-cons f x xs)
 
-  pub terms_le : (l : List A) (j k : ℕ) (v u : A) → k ≢ j → get_elem? l j ≡ some v → get_elem? l k ≡ some u → f v + f u ≤ sum_by f l
+  pub terms_le : (l : List A) (j k : ℕ) (v u : A) → k ≢ j → get_elem? l j ≡ some v → get_elem? l k ≡ some u → f v + f u
+      ≤ sum_by f l
   terms_le [] j k v u n e d = absurd (some-ne-none v (sym e))
   terms_le (x ∷ xs) zero zero v u n e d = absurd (n refl)
-  terms_le (x ∷ xs) zero (suc k) v u n e d = omega (arith, ap f (some-injective x v e), term_le xs k u d, sum_by-cons f x xs)
-  terms_le (x ∷ xs) (suc j) zero v u n e d = omega (arith, ap f (some-injective x u d), term_le xs j v e, sum_by-cons f x xs)
-  terms_le (x ∷ xs) (suc j) (suc k) v u n e d = omega (arith, terms_le xs j k v u (λ h. n (ap suc h)) e d, sum_by-cons f x xs)
+  terms_le (x ∷ xs) zero (suc k) v u n e d = omega (
+    arith,
+    ap f (some-injective x v e),
+    term_le xs k u d,
+    sum_by-cons f x xs,
+  )
+  terms_le (x ∷ xs) (suc j) zero v u n e d = omega (
+    arith,
+    ap f (some-injective x u d),
+    term_le xs j v e,
+    sum_by-cons f x xs,
+  )
+  terms_le (x ∷ xs) (suc j) (suc k) v u n e d = omega (
+    arith,
+    terms_le xs j k v u (λ h. n (ap suc h)) e d,
+    sum_by-cons f x xs,
+  )
 
   -- a sum that is not 0 has a term that is not 0
   pub some_term : (l : List A) → 0 < sum_by f l → (j : ℕ) × (v : A) × (get_elem? l j ≡ some v) × (0 < f v)

@@ -56,7 +56,15 @@ bearers n (s ∷ ss) = (if s.number == n then 1 else 0) + bearers n ss
 
 -- a view, by its parts in their order
 abbrev pub view : {O : Type 0} → ℕ → O → List Entry → List Entry → ℕ → Place → View O
-view number origin seen mine tries place = record { number = number; origin = origin; seen = seen; mine = mine; tries = tries; place = place }
+view number origin seen mine tries place = record {
+  number = number;
+  origin = origin;
+  seen = seen;
+  mine = mine;
+  tries =
+      tries;
+  place = place;
+}
 
 -- make: the first pass, with all of the first value's history seen
 abbrev pub first_view : {O : Type 0} → ℕ → O → List Entry → View O

@@ -13,7 +13,8 @@ impl<V: Kept> TicketLock<V> {
     pub fn close(self, pass: Pass<V>) -> Result<V, (TicketLock<V>, Pass<V>)>
         requires { pass_id pass ≡ lock_id self }
         ensures value { IfOk result (λ x. Suits V.origin V.history V.lawful (pass_view pass) x) }
-        ensures refused { IfErr result (λ e. (e.0 ≡ self) × (pass_id e.1 ≡ lock_id self) × HasMissed (pass_view pass) (pass_view e.1)) }
+        ensures refused { IfErr result (λ e. (e.0 ≡ self) × (pass_id e.1 ≡ lock_id self)
+            × HasMissed (pass_view pass) (pass_view e.1)) }
     {
         let (served, pass) = self.peek(pass);
         if served == u64::MAX {

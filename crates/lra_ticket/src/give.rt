@@ -54,7 +54,8 @@ impl<V: Kept> TicketLock<V> {
         requires lawful { V.lawful value }
         requires origin { V.origin value ≡ (held_view held).origin }
         requires extends { IsPrefix (held_view held).seen (V.history value) }
-        requires own { MayAdd (held_view held).number (held_view held).seen (block_after (held_view held).seen (V.history value)) }
+        requires own { MayAdd (held_view held).number (held_view held).seen
+            (block_after (held_view held).seen (V.history value)) }
         ensures lock { pass_id result ≡ lock_id self.now }
         ensures view { pass_view result ≡ given (held_view held) (V.history value) }
     {

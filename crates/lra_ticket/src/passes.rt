@@ -29,9 +29,11 @@ impl<V: Kept> TicketLock<V> {
         requires { (pass_id first ≡ lock_id self.now) × (pass_id second ≡ lock_id self.now) }
         ensures lock { (pass_id result.0 ≡ lock_id self.now) × (pass_id result.1 ≡ lock_id self.now) }
         ensures first { pass_view result.0 ≡ moved (pass_view first) Idle }
-        ensures second { pass_view result.1 ≡ record (pass_view second) { origin = (pass_view first).origin; tries = 0; place = Idle } }
+        ensures second { pass_view result.1 ≡ record (pass_view second)
+            { origin = (pass_view first).origin; tries = 0; place = Idle } }
         ensures in_line { Comparable (pass_view first).seen (pass_view second).seen }
-        ensures complete { IsPrefix (pass_view first).seen (pass_view second).seen → entries_by (pass_view first).number (pass_view second).seen ≡ (pass_view first).mine }
+        ensures complete { IsPrefix (pass_view first).seen (pass_view second).seen
+            → entries_by (pass_view first).number (pass_view second).seen ≡ (pass_view first).mine }
         ensures apart { (pass_view first).number ≢ 0 → (pass_view first).number ≢ (pass_view second).number }
     {
         let Pass { mut seat } = first;
@@ -47,8 +49,13 @@ impl<V: Kept> TicketLock<V> {
     pub fn join(&self, first: Pass<V>, second: Pass<V>) -> Pass<V>
         requires { (pass_id first ≡ lock_id self.now) × (pass_id second ≡ lock_id self.now) }
         ensures lock { pass_id result ≡ lock_id self.now }
-        ensures view { pass_view result ≡ record (pass_view first) { seen = longer (pass_view first).seen (pass_view second).seen; place = Idle } }
-        ensures seen { IsPrefix (pass_view first).seen (pass_view result).seen × IsPrefix (pass_view second).seen (pass_view result).seen }
+        ensures view { pass_view result ≡ record (pass_view first) {
+          seen =
+              longer (pass_view first).seen (pass_view second).seen;
+          place = Idle;
+        } }
+        ensures seen { IsPrefix (pass_view first).seen (pass_view result).seen
+            × IsPrefix (pass_view second).seen (pass_view result).seen }
     {
         let (first, second) = self.meet(first, second);
         let Pass { mut seat } = first;

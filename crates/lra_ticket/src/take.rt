@@ -36,7 +36,8 @@ impl<V: Kept> TicketLock<V> {
         ensures lock { IfOk result (λ r. held_id r.0 ≡ lock_id self.now) }
         ensures view { IfOk result (λ r. HasTaken (pass_view pass) (V.history r.1) (held_view r.0)) }
         ensures value { IfOk result (λ r. Suits V.origin V.history V.lawful (pass_view pass) r.1) }
-        ensures worn { IfErr result (λ e. (pass_id e.0 ≡ lock_id self.now) × (pass_view e.0 ≡ moved (pass_view pass) (Looked last_ticket))) }
+        ensures worn { IfErr result (λ e. (pass_id e.0 ≡ lock_id self.now)
+            × (pass_view e.0 ≡ moved (pass_view pass) (Looked last_ticket))) }
     {
         self.linger(rt);
         let queued = self.draw(rt, pass)?;
@@ -77,8 +78,10 @@ impl<V: Kept> TicketLock<V> {
 
     fn draw<R: Wait>(&self, rt: &R, pass: Pass<V>) -> Result<Queued<V>, (Pass<V>, Worn)>
         requires { pass_id pass ≡ lock_id self.now }
-        ensures ok { IfOk result (λ q. (queued_id q ≡ lock_id self.now) × (queued_view q ≡ moved (pass_view pass) (Waiting q.ticket))) }
-        ensures worn { IfErr result (λ e. (pass_id e.0 ≡ lock_id self.now) × (pass_view e.0 ≡ moved (pass_view pass) (Looked last_ticket))) }
+        ensures ok { IfOk result (λ q. (queued_id q ≡ lock_id self.now)
+            × (queued_view q ≡ moved (pass_view pass) (Waiting q.ticket))) }
+        ensures worn { IfErr result (λ e. (pass_id e.0 ≡ lock_id self.now)
+            × (pass_view e.0 ≡ moved (pass_view pass) (Looked last_ticket))) }
     {
         let Pass { mut seat } = pass;
         let shared = &self.table.shared;
@@ -119,7 +122,8 @@ impl<V: Kept> TicketLock<V> {
         ensures lock { IfOk result (λ r. held_id r.0 ≡ lock_id self.now) }
         ensures view { IfOk result (λ r. HasTaken (tried (pass_view pass)) (V.history r.1) (held_view r.0)) }
         ensures value { IfOk result (λ r. Suits V.origin V.history V.lawful (pass_view pass) r.1) }
-        ensures fault { IfErr result (λ e. (pass_id e.0 ≡ lock_id self.now) × HasFailed (pass_view pass) e.1 (pass_view e.0)) }
+        ensures fault { IfErr result (λ e. (pass_id e.0 ≡ lock_id self.now)
+            × HasFailed (pass_view pass) e.1 (pass_view e.0)) }
     {
         let (served, pass) = self.peek(pass);
         if served == u64::MAX {
@@ -150,7 +154,8 @@ impl<V: Kept> TicketLock<V> {
         ensures lock { IfOk result (λ r. held_id r.0 ≡ lock_id self.now) }
         ensures view { IfOk result (λ r. held_view r.0 ≡ taking (pass_view pass) served (V.history r.1)) }
         ensures value { IfOk result (λ r. Suits V.origin V.history V.lawful (pass_view pass) r.1) }
-        ensures missed { IfErr result (λ p. (pass_id p ≡ lock_id self.now) × ((n : ℕ) × (n ≢ served) × (pass_view p ≡ moved (pass_view pass) (Missed served n)))) }
+        ensures missed { IfErr result (λ p. (pass_id p ≡ lock_id self.now)
+            × ((n : ℕ) × (n ≢ served) × (pass_view p ≡ moved (pass_view pass) (Missed served n)))) }
     {
         let Pass { mut seat } = pass;
         let shared = &self.table.shared;

@@ -18,12 +18,21 @@ record StandsAt (places : Places) (deadlines : List Deadline) (number moment : �
   is_moment : (node deadlines place).moment ≡ moment
 
 module _ (places : Places) (deadlines : List Deadline) (index : IsIndex places deadlines) where
-  stands_at : (number moment : ℕ) → finite.get (moments_at places deadlines) number ≡ Some moment → StandsAt places deadlines number moment
-  stands_at number moment has = from_place (get nat_eq places number) refl (sym (get-moments_at places deadlines number) ∙ has)
+  stands_at : (number moment : ℕ) → finite.get (moments_at places deadlines) number ≡ Some moment
+      → StandsAt places deadlines number moment
+  stands_at number moment has = from_place (get nat_eq places number) refl
+      (sym (get-moments_at places deadlines number) ∙ has)
     where
-      from_place : (o : Option ℕ) → get nat_eq places number ≡ o → option_map (moment_of deadlines) o ≡ Some moment → StandsAt places deadlines number moment
+      from_place : (o : Option ℕ) → get nat_eq places number ≡ o → option_map (moment_of deadlines) o ≡ Some moment
+          → StandsAt places deadlines number moment
       from_place None at e = cc
-      from_place (Some place) at e = record { place = place; within = index.within number place at; is_number = index.found number place at; is_moment = cc }
+      from_place (Some place) at e = record {
+        place = place;
+        within = index.within number place at;
+        is_number =
+            index.found number place at;
+        is_moment = cc;
+      }
 
   pub NoneDue-empty : (now : ℕ) → deadlines ≡ [] → NoneDue (moments_at places deadlines) now
   NoneDue-empty now empty number moment has =
@@ -33,13 +42,21 @@ module _ (places : Places) (deadlines : List Deadline) (index : IsIndex places d
 
   module _ (first : Deadline) (is : IsFirstOf deadlines first) where
     has_first : finite.get (moments_at places deadlines) first.number ≡ Some first.moment
-    has_first = moment_at places deadlines first.number is.place first (ap (λ d. get nat_eq places d.number) (sym is.here) ∙ index.placed is.place is.within) is.here
+    has_first = moment_at places deadlines first.number is.place first
+        (ap (λ d. get nat_eq places d.number) (sym is.here) ∙ index.placed is.place is.within) is.here
 
-    not_after : (number moment : ℕ) → finite.get (moments_at places deadlines) number ≡ Some moment → (first.moment ≤ moment) × (first.moment ≡ moment → first.number ≤ number)
+    not_after : (number moment : ℕ) → finite.get (moments_at places deadlines) number ≡ Some moment
+        → (first.moment ≤ moment) × (first.moment ≡ moment → first.number ≤ number)
     not_after number moment has =
         let stands = stands_at number moment has in
-        let least = is.least stands.place stands.within in
-        (omega (arith, least.moment, stands.is_moment), λ same. omega (arith, least.number (same ∙ sym stands.is_moment), stands.is_number))
+        let least = is.least stands.place stands.within in (
+          omega (arith, least.moment, stands.is_moment),
+          λ same. omega (
+            arith,
+            least.number (same ∙ sym stands.is_moment),
+            stands.is_number,
+          ),
+        )
 
     pub IsFirstDue-first : (now : ℕ) → first.moment ≤ now → IsFirstDue (moments_at places deadlines) now first.number
     IsFirstDue-first now due = record { moment = first.moment; has = has_first; due = due; least = not_after }

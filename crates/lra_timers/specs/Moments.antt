@@ -17,7 +17,8 @@ pub record IsFirstDue (moments : Moments) (now number : ℕ) : Type 0 where
   pub moment : ℕ
   pub has : map.get moments number ≡ Some moment
   pub due : moment ≤ now
-  pub least : (other other_moment : ℕ) → map.get moments other ≡ Some other_moment → (moment ≤ other_moment) × (moment ≡ other_moment → number ≤ other)
+  pub least : (other other_moment : ℕ) → map.get moments other ≡ Some other_moment → (moment ≤ other_moment)
+      × (moment ≡ other_moment → number ≤ other)
 
 -- no number's moment has come at `now`
 abbrev pub NoneDue : Moments → ℕ → Type 0

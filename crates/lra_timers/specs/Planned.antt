@@ -12,4 +12,5 @@ pub record Planned : Type 0 where
 -- how an agenda is stored in a model
 abbrev pub planned_code : Coded Planned
 planned_code =
-    code_by (Moments × (Moments × ℕ)) (coded× moments_code (coded× moments_code coded_ℕ)) (λ p. (p.limits, (p.retries, p.room))) (λ p. record { limits = p.0; retries = p.1.0; room = p.1.1 }) (λ _. refl)
+    code_by (Moments × (Moments × ℕ)) (coded× moments_code (coded× moments_code coded_ℕ))
+    (λ p. (p.limits, (p.retries, p.room))) (λ p. record { limits = p.0; retries = p.1.0; room = p.1.1 }) (λ _. refl)

@@ -26,7 +26,12 @@ impl Model for Agenda {
 
     ghost coded = { planned_code };
 
-    ghost view = { λ a. record { limits = a.limits.moments; retries = a.retries.moments; room = min a.limits.room a.retries.room } };
+    ghost view = { λ a. record {
+      limits = a.limits.moments;
+      retries = a.retries.moments;
+      room =
+          min a.limits.room a.retries.room;
+    } };
 }
 
 impl Agenda {

@@ -25,7 +25,11 @@ impl Model for Schedule {
 
     ghost coded = { timetable_code };
 
-    ghost view = { λ s. record { moments = moments_at s.places s.deadlines.items; room = min (spare s.places) s.deadlines.room } };
+    ghost view = { λ s. record {
+      moments = moments_at s.places s.deadlines.items;
+      room =
+          min (spare s.places) s.deadlines.room;
+    } };
 
     ghost invariant = { λ s. IsIndex s.places s.deadlines.items };
 }

@@ -10,7 +10,15 @@ use Rattle.lra_ids.specs.Addresses.{is_address}
 use Rattle.lra_core.proofs.Reopening.{one_more, next_may, next_allowed}
 
 -- the sheet after an entry is that of one entry more
-pub next_sheet : (v : Version) (s u : Sheet) (J : History) (i : ℕ) (e : Entry) → is_legal v is_address J ≡ true → i < length J → e ≡ get_or J i e → s ≡ sheet_of (take i J) → u ≡ sheet_after e s → u ≡ sheet_of (take (i + 1) J)
+pub next_sheet : (v : Version) (s u : Sheet) (J : History) (i : ℕ) (e : Entry) → is_legal v is_address J ≡ true → i
+    < length J → e ≡ get_or J i e → s ≡ sheet_of (take i J) → u ≡ sheet_after e s → u ≡ sheet_of (take (i + 1) J)
 next_sheet v s u J i e l lt is h after =
-    let stands : StandsFor s (take i J) = record { version = v; is_address = is_address; legal = (next_may v is_address J i e l lt is).0; sheet = h } in
-    after ∙ (StandsFor-push s (take i J) e stands (next_allowed v J i e l lt is)).sheet ∙ ap sheet_of (sym (one_more J i e lt is))
+    let stands : StandsFor s (take i J) = record {
+      version = v;
+      is_address = is_address;
+      legal =
+          (next_may v is_address J i e l lt is).0;
+      sheet = h;
+    } in
+    after ∙ (StandsFor-push s (take i J) e stands (next_allowed v J i e l lt is)).sheet
+    ∙ ap sheet_of (sym (one_more J i e lt is))

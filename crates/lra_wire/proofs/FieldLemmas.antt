@@ -26,17 +26,24 @@ value_if name field = cond (is_named name field) (field.1 ∷ []) []
 pub values_of-push : (name : List ℕ) (fields : List (List ℕ × List ℕ)) (field : List ℕ × List ℕ)
     → values_of name (fields ++ field ∷ []) ≡ values_of name fields ++ value_if name field
 values_of-push name [] field =
-    elim (is_named name field) as (λ b. cond b (field.1 ∷ []) [] ≡ cond b (field.1 ∷ []) []) [ true ↦ refl | false ↦ refl ]
+    elim (is_named name field) as (λ b. cond b (field.1 ∷ []) [] ≡ cond b (field.1 ∷ []) []) [
+      | true ↦ refl
+      | false ↦
+          refl
+    ]
 values_of-push name (x ∷ fields) field =
     let e = values_of-push name fields field in
-    elim (is_named name x) as (λ b. cond b (x.1 ∷ values_of name (fields ++ field ∷ [])) (values_of name (fields ++ field ∷ []))
+    elim (is_named name x) as (λ b. cond b (x.1 ∷ values_of name (fields ++ field ∷ []))
+    (values_of name (fields ++ field ∷ []))
     ≡ cond b (x.1 ∷ values_of name fields) (values_of name fields) ++ value_if name field)
     [ true ↦ ap (λ vs. x.1 ∷ vs) e | false ↦ e ]
 
 -- the values of the fields up to one more
-pub values_more : (bytes : List ℕ) (fields : List HeaderSpan) (i : ℕ) (d : HeaderSpan) (name : List ℕ) → i < length fields
+pub values_more : (bytes : List ℕ) (fields : List HeaderSpan) (i : ℕ) (d : HeaderSpan) (name : List ℕ) → i
+    < length fields
     → values_of name (map (header_bytes bytes) (take (i + 1) fields))
-    ≡ values_of name (map (header_bytes bytes) (take i fields)) ++ value_if name (header_bytes bytes (get_or fields i d))
+    ≡ values_of name (map (header_bytes bytes) (take i fields)) ++ value_if name
+    (header_bytes bytes (get_or fields i d))
 values_more bytes fields i d name h =
     ap (λ spans. values_of name (map (header_bytes bytes) spans)) (take_more fields i d h)
     ∙ ap (values_of name) (map-append (header_bytes bytes) (take i fields) (get_or fields i d ∷ []))
@@ -56,10 +63,12 @@ digits_take (suc i) (b ∷ bytes) h =
     let both = and_true (is_ascii_digit b) (list_all is_ascii_digit bytes) h in
     (digit_is b both.0, digits_take i bytes both.1)
 
-pub digit_at : (i : ℕ) (bytes : List ℕ) → list_all is_ascii_digit bytes ≡ true → i < length bytes → is_ascii_digit (get_or bytes i 0) ≡ true
+pub digit_at : (i : ℕ) (bytes : List ℕ) → list_all is_ascii_digit bytes ≡ true → i < length bytes
+    → is_ascii_digit (get_or bytes i 0) ≡ true
 digit_at i [] h l = absurd (omega arith)
 digit_at zero (b ∷ bytes) h l = (and_true (is_ascii_digit b) (list_all is_ascii_digit bytes) h).0
-digit_at (suc i) (b ∷ bytes) h l = digit_at i bytes (and_true (is_ascii_digit b) (list_all is_ascii_digit bytes) h).1 (omega arith)
+digit_at (suc i) (b ∷ bytes) h l = digit_at i bytes (and_true (is_ascii_digit b) (list_all is_ascii_digit bytes) h).1
+    (omega arith)
 
 -- a digit's byte, and what it stands for
 pub digit_byte : (i : ℕ) (bytes : List ℕ) → list_all is_ascii_digit bytes ≡ true → i < length bytes
@@ -72,30 +81,37 @@ digit_byte i bytes h l = go (get_or bytes i 0) (digit_at i bytes h l)
 -- 18 digits give a number of 18 digits
 pub short_number : (i : ℕ) (bytes : List ℕ) → list_all is_ascii_digit bytes ≡ true → length (take i bytes) ≤ 18
     → digits_value 10 (take i bytes) < 1000000000000000000
-short_number i bytes h l = digits_value_short (numerals_by_value (AllDigits 10) tells_digits) (take i bytes) 18 (digits_take i bytes h) l
+short_number i bytes h l = digits_value_short (numerals_by_value (AllDigits 10) tells_digits) (take i bytes) 18
+    (digits_take i bytes h) l
 
 -- a span of no bytes
 abbrev pub blank : HeaderSpan
 blank = record { name = record { start = 0; end = 0 }; value = record { start = 0; end = 0 } }
 
 pub values_hit : (bytes : List ℕ) (fields : List HeaderSpan) (i : ℕ) (name key value : List ℕ) → i < length fields
-    → key ≡ (header_bytes bytes (get_or fields i blank)).0 → value ≡ (header_bytes bytes (get_or fields i blank)).1 → is_alike key name ≡ true
-    → values_of name (map (header_bytes bytes) (take (i + 1) fields)) ≡ values_of name (map (header_bytes bytes) (take i fields)) ++ value ∷ []
+    → key ≡ (header_bytes bytes (get_or fields i blank)).0 → value ≡ (header_bytes bytes (get_or fields i blank)).1
+    → is_alike key name ≡ true
+    → values_of name (map (header_bytes bytes) (take (i + 1) fields)) ≡ values_of name
+    (map (header_bytes bytes) (take i fields)) ++ value ∷ []
 values_hit bytes fields i name key value h e v t =
     values_more bytes fields i blank name h
-    ∙ ap (λ b. values_of name (map (header_bytes bytes) (take i fields)) ++ cond b ((header_bytes bytes (get_or fields i blank)).1 ∷ []) []) (ap (λ k. is_alike k name) (sym e) ∙ t)
+    ∙ ap (λ b. values_of name (map (header_bytes bytes) (take i fields))
+    ++ cond b ((header_bytes bytes (get_or fields i blank)).1 ∷ []) []) (ap (λ k. is_alike k name) (sym e) ∙ t)
     ∙ ap (λ w. values_of name (map (header_bytes bytes) (take i fields)) ++ w ∷ []) (sym v)
 
 pub values_miss : (bytes : List ℕ) (fields : List HeaderSpan) (i : ℕ) (name key : List ℕ) → i < length fields
     → key ≡ (header_bytes bytes (get_or fields i blank)).0 → is_alike key name ≡ false
-    → values_of name (map (header_bytes bytes) (take (i + 1) fields)) ≡ values_of name (map (header_bytes bytes) (take i fields))
+    → values_of name (map (header_bytes bytes) (take (i + 1) fields)) ≡ values_of name
+    (map (header_bytes bytes) (take i fields))
 values_miss bytes fields i name key h e t =
     values_more bytes fields i blank name h
-    ∙ ap (λ b. values_of name (map (header_bytes bytes) (take i fields)) ++ cond b ((header_bytes bytes (get_or fields i blank)).1 ∷ []) []) (ap (λ k. is_alike k name) (sym e) ∙ t)
+    ∙ ap (λ b. values_of name (map (header_bytes bytes) (take i fields))
+    ++ cond b ((header_bytes bytes (get_or fields i blank)).1 ∷ []) []) (ap (λ k. is_alike k name) (sym e) ∙ t)
     ∙ append-nil _
 
 -- the same of what equals both
-pub shown : {found other : Named} {values others : List (List ℕ)} → other ≡ found → others ≡ values → Shows found values → Shows other others
+pub shown : {found other : Named} {values others : List (List ℕ)} → other ≡ found → others ≡ values → Shows found values
+    → Shows other others
 shown {found} {other} {values} {others} e f h =
     let P : Named → Type 0 = λ n. Shows n others in
     let Q : List (List ℕ) → Type 0 = λ vs. Shows found vs in

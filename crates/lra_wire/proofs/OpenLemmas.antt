@@ -21,37 +21,52 @@ none_more bytes [] few = refl
 none_more bytes (b ∷ more) few = absurd (omega (arith, few, length-append bytes (b ∷ more)))
 
 -- no line feed came behind what was there
-pub feed_none : (bytes more : List ℕ) → list_any (λ b. b == 10) (drop (length bytes) (bytes ++ more)) ≡ false → list_any (λ b. b == 10) more ≡ false
-feed_none bytes more none = subst (λ (bs : List ℕ). list_any (λ b. b == 10) bs ≡ false) (drop-append_seam bytes more) none
+pub feed_none : (bytes more : List ℕ) → list_any (λ b. b == 10) (drop (length bytes) (bytes ++ more)) ≡ false
+    → list_any (λ b. b == 10) more ≡ false
+feed_none bytes more none = subst (λ (bs : List ℕ). list_any (λ b. b == 10) bs ≡ false) (drop-append_seam bytes more)
+    none
 
-new_feed : (text more : List ℕ) → list_any (λ b. b == 10) more ≡ false → list_any (λ b. b == 10) (slice_range (text ++ more) (length text) (length (text ++ more))) ≡ false
+new_feed : (text more : List ℕ) → list_any (λ b. b == 10) more ≡ false
+    → list_any (λ b. b == 10) (slice_range (text ++ more) (length text) (length (text ++ more))) ≡ false
 new_feed text more none =
-    subst (λ (bs : List ℕ). list_any (λ b. b == 10) bs ≡ false) (sym (behind_in {bytes = text ++ more} {kept = text ++ more} (length text) refl ∙ drop-append_seam text more)) none
+    subst (λ (bs : List ℕ). list_any (λ b. b == 10) bs ≡ false)
+    (sym (behind_in {bytes = text ++ more} {kept = text ++ more} (length text) refl ∙ drop-append_seam text more))
+    none
 
 -- what is open stays so until one comes: a head, a chunk line, a trailer
-pub response_stays : (text more : List ℕ) → IsOpenResponse text → list_any (λ b. b == 10) more ≡ false → IsOpenResponse (text ++ more)
+pub response_stays : (text more : List ℕ) → IsOpenResponse text → list_any (λ b. b == 10) more ≡ false
+    → IsOpenResponse (text ++ more)
 response_stays text more here none =
-    no_response (text ++ more) (length text) (omega (arith, length-append text more)) (subst IsOpenResponse (sym (take_at text more (length text) refl)) here) (new_feed text more none)
+    no_response (text ++ more) (length text) (omega (arith, length-append text more))
+    (subst IsOpenResponse (sym (take_at text more (length text) refl)) here) (new_feed text more none)
 
-pub line_stays : (text more : List ℕ) → HasNoChunkLine text → list_any (λ b. b == 10) more ≡ false → HasNoChunkLine (text ++ more)
+pub line_stays : (text more : List ℕ) → HasNoChunkLine text → list_any (λ b. b == 10) more ≡ false
+    → HasNoChunkLine (text ++ more)
 line_stays text more here none =
-    no_line (text ++ more) (length text) (omega (arith, length-append text more)) (subst HasNoChunkLine (sym (take_at text more (length text) refl)) here) (new_feed text more none)
+    no_line (text ++ more) (length text) (omega (arith, length-append text more))
+    (subst HasNoChunkLine (sym (take_at text more (length text) refl)) here) (new_feed text more none)
 
-pub section_stays : (text more : List ℕ) → HasNoSection text → list_any (λ b. b == 10) more ≡ false → HasNoSection (text ++ more)
+pub section_stays : (text more : List ℕ) → HasNoSection text → list_any (λ b. b == 10) more ≡ false
+    → HasNoSection (text ++ more)
 section_stays text more here none =
-    no_section (text ++ more) (length text) (omega (arith, length-append text more)) (subst HasNoSection (sym (take_at text more (length text) refl)) here) (new_feed text more none)
+    no_section (text ++ more) (length text) (omega (arith, length-append text more))
+    (subst HasNoSection (sym (take_at text more (length text) refl)) here) (new_feed text more none)
 
 -- such a text is open at the end of the bytes
-pub open_now : (Awaits : List ℕ → Type 0) → ((text more : List ℕ) → Awaits text → list_any (λ b. b == 10) more ≡ false → Awaits (text ++ more)) → (start : ℕ) (bytes : List ℕ)
-    → start ≤ length bytes → Awaits (drop start bytes) → length bytes < 1048576 → IsOpenAt Awaits start bytes (Feed (length bytes))
+pub open_now : (Awaits : List ℕ → Type 0) → ((text more : List ℕ) → Awaits text → list_any (λ b. b == 10) more ≡ false
+    → Awaits (text ++ more)) → (start : ℕ) (bytes : List ℕ)
+    → start ≤ length bytes → Awaits (drop start bytes) → length bytes < 1048576
+    → IsOpenAt Awaits start bytes (Feed (length bytes))
 open_now Awaits stays start bytes within there room = record {
   next = refl;
   bound = omega (arith, room);
-  awaits = λ more missing. subst Awaits (drop_more_bytes start bytes more within) (stays (drop start bytes) more there (feed_none bytes more missing));
+  awaits = λ more missing. subst Awaits (drop_more_bytes start bytes more within)
+      (stays (drop start bytes) more there (feed_none bytes more missing));
 }
 
 -- a fault that lasts, from one reason to another
-pub lasts_map : (P Q : List ℕ → WireFault → Type 0) (bytes : List ℕ) (fault : WireFault) → ((more : List ℕ) (f : WireFault) → P (bytes ++ more) f → Q (bytes ++ more) f)
+pub lasts_map : (P Q : List ℕ → WireFault → Type 0) (bytes : List ℕ) (fault : WireFault)
+    → ((more : List ℕ) (f : WireFault) → P (bytes ++ more) f → Q (bytes ++ more) f)
     → Lasts P bytes fault → Lasts Q bytes fault
 lasts_map P Q bytes BadHead h p = λ more. h more BadHead (p more)
 lasts_map P Q bytes Chunked h p = λ more. h more Chunked (p more)

@@ -32,7 +32,8 @@ length_part : (bytes : List ℕ) (a n : ℕ) → a + n ≤ length bytes → leng
 length_part bytes a n h = omega (arith, length-take (a + n - a) (drop a bytes), length-drop a bytes)
 
 -- The head in the bytes that came first, and the body in those and more.
-pub request_there : (bytes more rest : List ℕ) (headers : List HeaderSpan) (spans : RequestSpans) (size : ℕ) (request : Request) → IsHeadAt bytes headers spans
+pub request_there : (bytes more rest : List ℕ) (headers : List HeaderSpan) (spans : RequestSpans) (size : ℕ)
+    (request : Request) → IsHeadAt bytes headers spans
     → body_length_of (map (header_bytes bytes) (take spans.headers headers)) ≡ Ok size
     → spans.len + size ≤ length (bytes ++ more)
     → record request { body = [] } ≡ request_at bytes headers spans
@@ -41,48 +42,71 @@ pub request_there : (bytes more rest : List ℕ) (headers : List HeaderSpan) (sp
 request_there bytes more rest headers spans size request at stated whole parts body =
     let kept : List ℕ = bytes ++ more in
     let end : ℕ = spans.len + size in
-    let reads : ReadsRequest kept at.head (drop spans.len bytes ++ more) = ReadsRequest-append bytes at.head (drop spans.len bytes) more at.places.reads in
+    let reads : ReadsRequest kept at.head (drop spans.len bytes ++ more) =
+    ReadsRequest-append bytes at.head (drop spans.len bytes) more at.places.reads in
     let behind : drop spans.len bytes ++ more ≡ request.body ++ drop end kept =
-    sym (drop-append-le spans.len bytes more at.within.section.len_fits) ∙ part_of kept spans.len size ∙ ap (λ b. b ++ drop end kept) (sym body) in
-    let reading : ReadsRequest (kept ++ rest) at.head ((drop spans.len bytes ++ more) ++ rest) = ReadsRequest-append kept at.head (drop spans.len bytes ++ more) rest reads in
+    sym (drop-append-le spans.len bytes more at.within.section.len_fits) ∙ part_of kept spans.len size
+    ∙ ap (λ b. b ++ drop end kept) (sym body) in
+    let reading : ReadsRequest (kept ++ rest) at.head ((drop spans.len bytes ++ more) ++ rest) =
+    ReadsRequest-append kept at.head (drop spans.len bytes ++ more) rest reads in
     record {
       head = at.head;
       found = record {
-        reads = subst (λ (bs : List ℕ). ReadsRequest (kept ++ rest) at.head bs) (ap (λ bs. bs ++ rest) behind ∙ append_assoc request.body (drop end kept) rest) reading;
+        reads = subst (λ (bs : List ℕ). ReadsRequest (kept ++ rest) at.head bs)
+            (ap (λ bs. bs ++ rest) behind ∙ append_assoc request.body (drop end kept) rest) reading;
         lawful = at.lawful;
       };
-      length = ap body_length_of (sym at.places.fields) ∙ stated ∙ ap Ok (sym (length_part kept spans.len size whole) ∙ ap length (sym body));
+      length = ap body_length_of (sym at.places.fields) ∙ stated ∙ ap Ok
+          (sym (length_part kept spans.len size whole) ∙ ap length (sym body));
       method = ap (λ (r : Request). r.method) parts ∙ at.places.method;
       target = ap (λ (r : Request). r.target) parts ∙ at.places.path;
       minor = ap (λ (r : Request). r.minor) parts ∙ at.places.version;
-      close = ap (λ (r : Request). r.close) parts ∙ ap (λ minor. (minor == 0) || lists_close (map (header_bytes bytes) (take spans.headers headers))) at.places.version
+      close = ap (λ (r : Request). r.close) parts ∙ ap (λ minor. (minor == 0)
+          || lists_close (map (header_bytes bytes) (take spans.headers headers))) at.places.version
           ∙ ap (λ fields. (at.head.minor == 0) || lists_close fields) at.places.fields;
       fields = ap (λ (r : Request). r.fields) parts ∙ ap told_by at.places.fields;
     }
 
 -- a lawful head stands there, and not all of the body behind it
-pub lacks_body : (bytes more : List ℕ) (headers : List HeaderSpan) (spans : RequestSpans) (size : ℕ) → IsHeadAt bytes headers spans
-    → body_length_of (map (header_bytes bytes) (take spans.headers headers)) ≡ Ok size → length (bytes ++ more) < spans.len + size → EndsInBody (bytes ++ more)
+pub lacks_body : (bytes more : List ℕ) (headers : List HeaderSpan) (spans : RequestSpans) (size : ℕ)
+    → IsHeadAt bytes headers spans
+    → body_length_of (map (header_bytes bytes) (take spans.headers headers)) ≡ Ok size → length (bytes ++ more)
+    < spans.len + size → EndsInBody (bytes ++ more)
 lacks_body bytes more headers spans size at stated few =
-    let front : drop spans.len (bytes ++ more) ≡ drop spans.len bytes ++ more = drop-append-le spans.len bytes more at.within.section.len_fits in
+    let front : drop spans.len (bytes ++ more) ≡ drop spans.len bytes ++ more =
+    drop-append-le spans.len bytes more at.within.section.len_fits in
     record {
       head = at.head;
       rest = drop spans.len bytes ++ more;
-      found = record { reads = ReadsRequest-append bytes at.head (drop spans.len bytes) more at.places.reads; lawful = at.lawful };
+      found = record {
+        reads = ReadsRequest-append bytes at.head (drop spans.len bytes) more at.places.reads;
+        lawful =
+            at.lawful;
+      };
       size = size;
       stated = ap body_length_of (sym at.places.fields) ∙ stated;
-      short = omega (arith, ap length front, length-drop spans.len (bytes ++ more), few, at.within.section.len_fits, length-append bytes more);
+      short = omega (
+        arith,
+        ap length front,
+        length-drop spans.len (bytes ++ more),
+        few,
+        at.within.section.len_fits,
+        length-append bytes more,
+      );
     }
 
 -- a lawful head stands there, and the length of its body is refused
-pub length_fault : (fields : List (List ℕ × List ℕ)) (fault : WireFault) → body_length_of fields ≡ Err fault → (fault ≡ Chunked) ⊎ ((fault ≡ BadLength) ⊎ (fault ≡ TooLarge))
+pub length_fault : (fields : List (List ℕ × List ℕ)) (fault : WireFault) → body_length_of fields ≡ Err fault
+    → (fault ≡ Chunked) ⊎ ((fault ≡ BadLength) ⊎ (fault ≡ TooLarge))
 length_fault fields fault e = go (is_coded fields) (stated_of fields) e
   where
-    within : (b : Bool) (n : ℕ) → ◌≡◌ {A = Result ℕ WireFault} (cond b (Ok n) (Err TooLarge)) (Err fault) → (fault ≡ Chunked) ⊎ ((fault ≡ BadLength) ⊎ (fault ≡ TooLarge))
+    within : (b : Bool) (n : ℕ) → ◌≡◌ {A = Result ℕ WireFault} (cond b (Ok n) (Err TooLarge)) (Err fault)
+        → (fault ≡ Chunked) ⊎ ((fault ≡ BadLength) ⊎ (fault ≡ TooLarge))
     within true n f = absurd (ok_is_no_err f)
     within false n f = inr (inr (sym (same_err f)))
 
-    go : (b : Bool) (s : Stated) → ◌≡◌ {A = Result ℕ WireFault} (cond b (Err Chunked) (stated_body s)) (Err fault) → (fault ≡ Chunked) ⊎ ((fault ≡ BadLength) ⊎ (fault ≡ TooLarge))
+    go : (b : Bool) (s : Stated) → ◌≡◌ {A = Result ℕ WireFault} (cond b (Err Chunked) (stated_body s)) (Err fault)
+        → (fault ≡ Chunked) ⊎ ((fault ≡ BadLength) ⊎ (fault ≡ TooLarge))
     go true s f = inl (sym (same_err f))
     go false Nothing f = absurd (ok_is_no_err f)
     go false (Length n) f = within (nat_le n 65536) n f

@@ -17,7 +17,8 @@ use Rattle.lra_wire.specs.inner.Heads.{has_host}
 use Rattle.lra_wire.specs.Request.{IsLawful, NeverLawful, fields_of}
 
 -- a head stands there that isn't lawful
-pub never_after_head : (bytes : List ℕ) (head : RequestHead) (rest : List ℕ) → ReadsRequest bytes head rest → ¬ (IsLawful head) → NeverLawful bytes
+pub never_after_head : (bytes : List ℕ) (head : RequestHead) (rest : List ℕ) → ReadsRequest bytes head rest
+    → ¬ (IsLawful head) → NeverLawful bytes
 never_after_head bytes head rest reads bad more other tail found =
     let same = request_prefix_free bytes more head other rest tail reads found.reads in
     bad (subst IsLawful (sym same.0) found.lawful)
@@ -27,7 +28,8 @@ pub never_after_front : (bytes : List ℕ) → HasNoRequest bytes → 8192 ≤ l
 never_after_front bytes none long more head rest found =
     let n = length (print_request head) in
     let short : n ≤ length bytes = omega (arith, found.lawful.size) in
-    let front : take n bytes ≡ print_request head = sym (take-append-le n bytes more short) ∙ ap (take n) found.reads.1 ∙ take_at (print_request head) rest n refl in
+    let front : take n bytes ≡ print_request head = sym (take-append-le n bytes more short) ∙ ap (take n) found.reads.1
+    ∙ take_at (print_request head) rest n refl in
     none head (drop n bytes) (found.reads.0, sym (take-append-drop n bytes) ∙ ap (λ bs. bs ++ drop n bytes) front)
 
 -- a head of HTTP/1.1 without exactly one Host
@@ -39,11 +41,13 @@ no_host minor fields small missing host = go minor (length (values_of (codes "ho
     go m n small missing host = grind (arith, nat_tests)
 
 -- the same, where the fields stand in the bytes
-pub no_host_at : (bytes : List ℕ) (headers : List HeaderSpan) (spans : RequestSpans) (head : RequestHead) → IsRequestAt bytes headers spans head
+pub no_host_at : (bytes : List ℕ) (headers : List HeaderSpan) (spans : RequestSpans) (head : RequestHead)
+    → IsRequestAt bytes headers spans head
     → has_host spans.version (map (header_bytes bytes) (take spans.headers headers)) ≡ false → ¬ (IsLawful head)
 no_host_at bytes headers spans head at missing lawful =
     no_host head.minor (fields_of head) at.reads.0.minor
-    (ap (λ minor. has_host minor (fields_of head)) (sym at.version) ∙ ap (has_host spans.version) (sym at.fields) ∙ missing) lawful.host
+    (ap (λ minor. has_host minor (fields_of head)) (sym at.version) ∙ ap (has_host spans.version) (sym at.fields)
+    ∙ missing) lawful.host
 
 token_ascii : (b : ℕ) → is_token_byte b ≡ true → b < 128
 unfolding is_token_byte
@@ -51,4 +55,5 @@ token_ascii b token = grind (arith, nat_tests)
 
 -- a token is a text
 pub token_text : (bytes : List ℕ) → AllPass is_token_byte bytes → IsUtf8 bytes
-token_text bytes all = IsUtf8-from_ascii bytes (IsAscii-from_all bytes (All-weaker (λ b. is_token_byte b ≡ true) (λ b. b < 128) token_ascii bytes all))
+token_text bytes all = IsUtf8-from_ascii bytes (IsAscii-from_all bytes
+    (All-weaker (λ b. is_token_byte b ≡ true) (λ b. b < 128) token_ascii bytes all))

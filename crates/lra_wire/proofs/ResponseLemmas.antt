@@ -21,7 +21,8 @@ use Rattle.lra_wire.proofs.StreamLemmas.{drop_more_bytes}
 -- ---- heads
 
 -- a head stands there that is past the limits
-pub never_after_response : (bytes : List ℕ) (head : ResponseHead) (rest : List ℕ) → ReadsResponse bytes head rest → ¬ (IsShort head) → NeverShort bytes
+pub never_after_response : (bytes : List ℕ) (head : ResponseHead) (rest : List ℕ) → ReadsResponse bytes head rest
+    → ¬ (IsShort head) → NeverShort bytes
 never_after_response bytes head rest reads bad more other tail found =
     let same = response_prefix_free bytes more head other rest tail reads found.reads in
     bad (subst IsShort (sym same.0) found.short)
@@ -31,34 +32,42 @@ pub never_after_open : (bytes : List ℕ) → HasNoResponse bytes → 8192 ≤ l
 never_after_open bytes none long more head rest found =
     let n = length (print_response head) in
     let short : n ≤ length bytes = omega (arith, found.short.size) in
-    let front : take n bytes ≡ print_response head = sym (take-append-le n bytes more short) ∙ ap (take n) found.reads.1 ∙ take_at (print_response head) rest n refl in
+    let front : take n bytes ≡ print_response head = sym (take-append-le n bytes more short) ∙ ap (take n) found.reads.1
+    ∙ take_at (print_response head) rest n refl in
     none head (drop n bytes) (found.reads.0, sym (take-append-drop n bytes) ∙ ap (λ bs. bs ++ drop n bytes) front)
 
 pub NeverShort-append : (text rest : List ℕ) → NeverShort text → NeverShort (text ++ rest)
 NeverShort-append text rest never more head behind found =
-    never (rest ++ more) head behind (subst (λ (bs : List ℕ). HasResponse bs head behind) (append_assoc text rest more) found)
+    never (rest ++ more) head behind (subst (λ (bs : List ℕ). HasResponse bs head behind) (append_assoc text rest more)
+    found)
 
 -- the head that was read, in more bytes
-pub response_there : (start : ℕ) (kept rest : List ℕ) (found : Head) → start ≤ length kept → (at : IsHeadOf (drop start kept) found)
+pub response_there : (start : ℕ) (kept rest : List ℕ) (found : Head) → start ≤ length kept
+    → (at : IsHeadOf (drop start kept) found)
     → HasResponse (drop start (kept ++ rest)) at.head (drop (start + found.len) (kept ++ rest))
 response_there start kept rest found within at =
     let inside : start + found.len ≤ length kept = omega (arith, at.within, length-drop start kept) in
     record {
-      reads = subst (λ (bs : List ℕ). ReadsResponse bs at.head (drop (start + found.len) (kept ++ rest))) (drop_more_bytes start kept rest within)
+      reads = subst (λ (bs : List ℕ). ReadsResponse bs at.head (drop (start + found.len) (kept ++ rest)))
+          (drop_more_bytes start kept rest within)
           (subst (λ (bs : List ℕ). ReadsResponse (drop start kept ++ rest) at.head bs)
-          (ap (λ bs. bs ++ rest) (drop-drop found.len start kept) ∙ drop_more_bytes (start + found.len) kept rest inside)
+          (ap (λ bs. bs ++ rest) (drop-drop found.len start kept) ∙ drop_more_bytes (start + found.len) kept rest
+          inside)
           (ReadsResponse-append (drop start kept) at.head (drop found.len (drop start kept)) rest at.has.reads));
       short = at.has.short;
     }
 
 -- a length that is stated is within the limit
-pub framing_small : (code : ℕ) (fields : List (List ℕ × List ℕ)) (framing : Framing) → framing_of code fields ≡ Ok framing → IsSmall framing
-framing_small code fields framing e = go ((code == 204) || (code == 304)) (values_of (codes "transfer-encoding") fields) (stated_of fields) e
+pub framing_small : (code : ℕ) (fields : List (List ℕ × List ℕ)) (framing : Framing) → framing_of code fields
+    ≡ Ok framing → IsSmall framing
+framing_small code fields framing e = go ((code == 204) || (code == 304)) (values_of (codes "transfer-encoding") fields)
+    (stated_of fields) e
   where
     is : (f : Framing) → IsSmall f → ◌≡◌ {A = Result Framing WireFault} (Ok f) (Ok framing) → IsSmall framing
     is f small same = let e : f ≡ framing = cc in subst IsSmall e small
 
-    within : (b : Bool) (n : ℕ) → b ≡ nat_le n 65536 → ◌≡◌ {A = Result Framing WireFault} (cond b (Ok (Sized n)) (Err TooLarge)) (Ok framing) → IsSmall framing
+    within : (b : Bool) (n : ℕ) → b ≡ nat_le n 65536 → ◌≡◌ {A = Result Framing WireFault}
+        (cond b (Ok (Sized n)) (Err TooLarge)) (Ok framing) → IsSmall framing
     within true n fits same = is (Sized n) (leb-true n 65536 (sym fits)) same
     within false n fits same = absurd cc
 
@@ -67,11 +76,13 @@ framing_small code fields framing e = go ((code == 204) || (code == 304)) (value
     stated (Length n) same = within (nat_le n 65536) n refl same
     stated Malformed same = absurd cc
 
-    coded : (b : Bool) → ◌≡◌ {A = Result Framing WireFault} (cond b (Ok Chunks) (Err Chunked)) (Ok framing) → IsSmall framing
+    coded : (b : Bool) → ◌≡◌ {A = Result Framing WireFault} (cond b (Ok Chunks) (Err Chunked)) (Ok framing)
+        → IsSmall framing
     coded true same = is Chunks tt same
     coded false same = absurd cc
 
-    go : (b : Bool) (codings : List (List ℕ)) (s : Stated) → ◌≡◌ {A = Result Framing WireFault} (cond b (Ok (Sized 0)) (coded_framing codings s)) (Ok framing) → IsSmall framing
+    go : (b : Bool) (codings : List (List ℕ)) (s : Stated) → ◌≡◌ {A = Result Framing WireFault}
+        (cond b (Ok (Sized 0)) (coded_framing codings s)) (Ok framing) → IsSmall framing
     go true codings s same = is (Sized 0) (omega arith) same
     go false [] s same = stated s same
     go false (coding ∷ []) s same = coded (is_alike coding (codes "chunked")) same
@@ -80,7 +91,8 @@ framing_small code fields framing e = go ((code == 204) || (code == 304)) (value
 -- ---- behind the final head
 
 -- the faults of a framing are among those of a body
-pub rest_says : (stream : List ℕ) (fault : WireFault) → fault ≢ BadHead → RefusesRest stream fault → RefusesResponse stream fault
+pub rest_says : (stream : List ℕ) (fault : WireFault) → fault ≢ BadHead → RefusesRest stream fault
+    → RefusesResponse stream fault
 rest_says stream BadHead other refused = absurd (other refl)
 rest_says stream Chunked other refused = refused
 rest_says stream BadLength other refused = refused
@@ -111,7 +123,8 @@ coded_other (coding ∷ other ∷ codings) stated e = cc
 pub framing_other : (code : ℕ) (fields : List (List ℕ × List ℕ)) → framing_of code fields ≢ Err BadHead
 framing_other code fields e = go ((code == 204) || (code == 304)) e
   where
-    go : (b : Bool) → cond b (Ok (Sized 0)) (coded_framing (values_of (codes "transfer-encoding") fields) (stated_of fields)) ≡ Err BadHead → ⊥
+    go : (b : Bool) → cond b (Ok (Sized 0)) (coded_framing (values_of (codes "transfer-encoding") fields)
+        (stated_of fields)) ≡ Err BadHead → ⊥
     go true f = cc
     go false f = coded_other (values_of (codes "transfer-encoding") fields) (stated_of fields) f
 
@@ -134,10 +147,13 @@ content_other place room size text (inr (inr (e, h))) = cc
 behind_other : {place room : ℕ} {text : List ℕ} → ¬ (RefusesBehind place room text BadHead)
 behind_other {place} {room} {text} refused = go refused.refused
   where
-    go : (((chunk_size refused.line ≡ 0) × RefusesTrailer (place + length (print_chunk_line refused.line)) refused.behind BadHead)
-        ⊎ ((0 < chunk_size refused.line) × RefusesContent (place + length (print_chunk_line refused.line)) room (chunk_size refused.line) refused.behind BadHead)) → ⊥
+    go : (((chunk_size refused.line ≡ 0) × RefusesTrailer (place + length (print_chunk_line refused.line))
+        refused.behind BadHead)
+        ⊎ ((0 < chunk_size refused.line) × RefusesContent (place + length (print_chunk_line refused.line)) room
+        (chunk_size refused.line) refused.behind BadHead)) → ⊥
     go (inl (e, h)) = trailer_other (place + length (print_chunk_line refused.line)) refused.behind h
-    go (inr (e, h)) = content_other (place + length (print_chunk_line refused.line)) room (chunk_size refused.line) refused.behind h
+    go (inr (e, h)) = content_other (place + length (print_chunk_line refused.line)) room (chunk_size refused.line)
+        refused.behind h
 
 chunk_other : (place room : ℕ) (text : List ℕ) → ¬ (RefusesChunk place room text BadHead)
 chunk_other place room text (inl refused) = line_other place text refused
@@ -145,5 +161,6 @@ chunk_other place room text (inr refused) = behind_other refused
 
 pub framed_other : (framing : Framing) (place : ℕ) (bytes : List ℕ) → ¬ (RefusesFramed framing place bytes BadHead)
 framed_other (Sized n) place bytes (e, h) = cc
-framed_other Chunks place bytes refused = chunk_other (place + (length bytes - length refused.text)) (65536 - length (content_of refused.chunks)) refused.text refused.refused
+framed_other Chunks place bytes refused = chunk_other (place + (length bytes - length refused.text))
+    (65536 - length (content_of refused.chunks)) refused.text refused.refused
 framed_other ToTheEnd place bytes (e, h) = cc

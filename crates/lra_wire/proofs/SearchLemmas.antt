@@ -29,9 +29,13 @@ any_feed [] rest = refl
 any_feed (b ∷ front) rest = grind (arith, any_feed front rest)
 
 -- a text that ends in a line feed and begins the bytes, of which none comes behind a place, stands before it
-pub ends_before : (bytes text rest : List ℕ) (n : ℕ) → EndsLine text → n ≤ length bytes → bytes ≡ text ++ rest → list_any (λ b. b == 10) (drop n bytes) ≡ false
+pub ends_before : (bytes text rest : List ℕ) (n : ℕ) → EndsLine text → n ≤ length bytes → bytes ≡ text ++ rest
+    → list_any (λ b. b == 10) (drop n bytes) ≡ false
     → (left : List ℕ) × (take n bytes ≡ text ++ left)
-ends_before bytes text rest n (front, ends) within is none = (drop m (take n bytes), sym (take-append-drop m (take n bytes)) ∙ ap (λ bs. bs ++ drop m (take n bytes)) same)
+ends_before bytes text rest n (front, ends) within is none = (
+  drop m (take n bytes),
+  sym (take-append-drop m (take n bytes)) ∙ ap (λ bs. bs ++ drop m (take n bytes)) same,
+)
   where
     m : ℕ
     m = length text
@@ -40,7 +44,8 @@ ends_before bytes text rest n (front, ends) within is none = (drop m (take n byt
     whole = is ∙ ap (λ bs. bs ++ rest) ends ∙ append_assoc front (10 ∷ []) rest
 
     shown : n ≤ length front → list_any (λ b. b == 10) (drop n bytes) ≡ true
-    shown h = ap (λ bs. list_any (λ b. b == 10) (drop n bs)) whole ∙ ap (list_any (λ b. b == 10)) (drop-append-le n front (10 ∷ rest) h) ∙ any_feed (drop n front) rest
+    shown h = ap (λ bs. list_any (λ b. b == 10) (drop n bs)) whole ∙ ap (list_any (λ b. b == 10))
+        (drop-append-le n front (10 ∷ rest) h) ∙ any_feed (drop n front) rest
 
     never : n ≤ length front → ⊥
     never h = let e : true ≡ false = sym (shown h) ∙ none in cc
@@ -49,21 +54,33 @@ ends_before bytes text rest n (front, ends) within is none = (drop m (take n byt
     before = omega (arith, never, ap length ends, length-append front (10 ∷ []), length-take n bytes)
 
     same : take m (take n bytes) ≡ text
-    same = sym (take-append-le m (take n bytes) (drop n bytes) before) ∙ ap (take m) (take-append-drop n bytes ∙ is) ∙ take_at text rest m refl
+    same = sym (take-append-le m (take n bytes) (drop n bytes) before) ∙ ap (take m) (take-append-drop n bytes ∙ is)
+        ∙ take_at text rest m refl
 
 -- none comes in what is new
-pub no_feed : (bytes : List ℕ) (n : ℕ) → list_any (λ b. b == 10) (slice_range bytes n (length bytes)) ≡ false → list_any (λ b. b == 10) (drop n bytes) ≡ false
+pub no_feed : (bytes : List ℕ) (n : ℕ) → list_any (λ b. b == 10) (slice_range bytes n (length bytes)) ≡ false
+    → list_any (λ b. b == 10) (drop n bytes) ≡ false
 no_feed bytes n none = subst (λ (bs : List ℕ). list_any (λ b. b == 10) bs ≡ false) (behind_in n refl) none
 
-pub no_line : (bytes : List ℕ) (n : ℕ) → n ≤ length bytes → HasNoChunkLine (take n bytes) → list_any (λ b. b == 10) (slice_range bytes n (length bytes)) ≡ false → HasNoChunkLine bytes
+pub no_line : (bytes : List ℕ) (n : ℕ) → n ≤ length bytes → HasNoChunkLine (take n bytes)
+    → list_any (λ b. b == 10) (slice_range bytes n (length bytes)) ≡ false → HasNoChunkLine bytes
 no_line bytes n within none feed line rest reads =
-    let there = ends_before bytes (print_chunk_line line) rest n (line_ends line) within reads.1 (no_feed bytes n feed) in
+    let there = ends_before bytes (print_chunk_line line) rest n (line_ends line) within reads.1
+    (no_feed bytes n feed) in
     none line there.0 (reads.0, there.1)
 
-pub no_section : (bytes : List ℕ) (n : ℕ) → n ≤ length bytes → HasNoSection (take n bytes) → list_any (λ b. b == 10) (slice_range bytes n (length bytes)) ≡ false → HasNoSection bytes
+pub no_section : (bytes : List ℕ) (n : ℕ) → n ≤ length bytes → HasNoSection (take n bytes)
+    → list_any (λ b. b == 10) (slice_range bytes n (length bytes)) ≡ false → HasNoSection bytes
 no_section bytes n within none feed fields last rest reads =
-    let there = ends_before bytes (print_section fields last) rest n (section_ends fields last) within reads.1 (no_feed bytes n feed) in
+    let there = ends_before bytes (print_section fields last) rest n (section_ends fields last) within reads.1
+    (no_feed bytes n feed) in
     none fields last there.0 (reads.0, there.1)
 
 pub ends_some : (text rest : List ℕ) → EndsLine text → ¬ ([] ≡ text ++ rest)
-ends_some text rest (front, ends) e = omega (arith, ap length e, length-append text rest, ap length ends, length-append front (10 ∷ []))
+ends_some text rest (front, ends) e = omega (
+  arith,
+  ap length e,
+  length-append text rest,
+  ap length ends,
+  length-append front (10 ∷ []),
+)

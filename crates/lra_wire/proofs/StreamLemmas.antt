@@ -15,12 +15,15 @@ split_known (Some xs) kept None P keeps h = absurd keeps
 split_known (Some xs) kept (Some ys) P keeps h = subst P keeps (h ys refl)
 
 -- a fact of the stream, of the bytes that were kept and any more
-pub on_stream : {R : Type 0} {remaining : R → Option (List ℕ)} {old new : Inbox R} → Grows remaining old new → (P : List ℕ → Type 0)
+pub on_stream : {R : Type 0} {remaining : R → Option (List ℕ)} {old new : Inbox R} → Grows remaining old new
+    → (P : List ℕ → Type 0)
     → ((rest : List ℕ) → P (kept_bytes new ++ rest)) → IfSome (stream_of remaining old) P
-on_stream {R} {remaining} {old} {new} grows P h = split_known (stream_of remaining old) (kept_bytes new) (remaining new.reader) P grows.stream (λ rest _. h rest)
+on_stream {R} {remaining} {old} {new} grows P h = split_known (stream_of remaining old) (kept_bytes new)
+    (remaining new.reader) P grows.stream (λ rest _. h rest)
 
 -- the same at the end of the stream
-pub on_stream_end : {R : Type 0} {remaining : R → Option (List ℕ)} {old new : Inbox R} → Grows remaining old new → (P : List ℕ → Type 0)
+pub on_stream_end : {R : Type 0} {remaining : R → Option (List ℕ)} {old new : Inbox R} → Grows remaining old new
+    → (P : List ℕ → Type 0)
     → IsAtEnd (remaining new.reader) → P (kept_bytes new) → IfSome (stream_of remaining old) P
 on_stream_end {R} {remaining} {old} {new} grows P end h =
     split_known (stream_of remaining old) (kept_bytes new) (remaining new.reader) P grows.stream
@@ -43,4 +46,5 @@ prepend_none kept (Some xs) e = ap (λ bs. Some (bs ++ xs)) e
 
 -- the bytes from a place on
 pub behind_in : {bytes kept : List ℕ} (n : ℕ) → bytes ≡ kept → slice_range bytes n (length bytes) ≡ drop n kept
-behind_in {bytes} {kept} n same = take_all (length bytes - n) (drop n bytes) (omega (arith, length-drop n bytes)) ∙ ap (drop n) same
+behind_in {bytes} {kept} n same = take_all (length bytes - n) (drop n bytes) (omega (arith, length-drop n bytes))
+    ∙ ap (drop n) same

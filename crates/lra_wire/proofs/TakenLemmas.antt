@@ -31,7 +31,8 @@ both_known (Some xs) kept (Some ys) n P keeps h = let Q : List ℕ → Type 0 = 
 
 -- the same at the end of the stream
 both_known_end : (old : Option (List ℕ)) (kept : List ℕ) (left : Option (List ℕ)) (n : ℕ) (P : List ℕ → List ℕ → Type 0)
-    → Keeps old (prepend_known kept left) → IsAtEnd left → P kept (drop n kept) → IfBothKnown old (prepend_known (drop n kept) left) P
+    → Keeps old (prepend_known kept left) → IsAtEnd left → P kept (drop n kept)
+    → IfBothKnown old (prepend_known (drop n kept) left) P
 both_known_end None kept left n P keeps end h = tt
 both_known_end (Some xs) kept None n P keeps end h = absurd keeps
 both_known_end (Some xs) kept (Some ys) n P keeps end h =
@@ -42,27 +43,34 @@ both_known_end (Some xs) kept (Some ys) n P keeps end h =
     subst Q keeps (subst S (sym end) (subst T (sym (append-nil kept)) (subst U (sym (append-nil (drop n kept))) h)))
 
 -- the first bytes that came were a message's, whatever follows
-pub taken : {R : Type 0} (remaining : R → Option (List ℕ)) (old mid new : Inbox R) (n : ℕ) (P : List ℕ → List ℕ → Type 0) → Grows remaining old mid
-    → ((rest : List ℕ) → P (kept_bytes mid ++ rest) (drop n (kept_bytes mid) ++ rest)) → kept_bytes new ≡ drop n (kept_bytes mid) → new.reader ≡ mid.reader
+pub taken : {R : Type 0} (remaining : R → Option (List ℕ)) (old mid new : Inbox R) (n : ℕ)
+    (P : List ℕ → List ℕ → Type 0) → Grows remaining old mid
+    → ((rest : List ℕ) → P (kept_bytes mid ++ rest) (drop n (kept_bytes mid) ++ rest)) → kept_bytes new
+    ≡ drop n (kept_bytes mid) → new.reader ≡ mid.reader
     → IfBothKnown (stream_of remaining old) (stream_of remaining new) P
 taken {R} remaining old mid new n P grows h kept reader =
     subst (λ (s : Option (List ℕ)). IfBothKnown (stream_of remaining old) s P)
-    (ap (λ bs. prepend_known bs (remaining mid.reader)) (sym kept) ∙ ap (λ r. prepend_known (kept_bytes new) (remaining r)) (sym reader))
+    (ap (λ bs. prepend_known bs (remaining mid.reader)) (sym kept) ∙ ap
+    (λ r. prepend_known (kept_bytes new) (remaining r)) (sym reader))
     (both_known (stream_of remaining old) (kept_bytes mid) (remaining mid.reader) n P grows.stream h)
 
 -- the first of all the bytes were
-pub taken_at_end : {R : Type 0} (remaining : R → Option (List ℕ)) (old mid new : Inbox R) (n : ℕ) (P : List ℕ → List ℕ → Type 0) → Grows remaining old mid
-    → IsAtEnd (remaining mid.reader) → P (kept_bytes mid) (drop n (kept_bytes mid)) → kept_bytes new ≡ drop n (kept_bytes mid) → new.reader ≡ mid.reader
+pub taken_at_end : {R : Type 0} (remaining : R → Option (List ℕ)) (old mid new : Inbox R) (n : ℕ)
+    (P : List ℕ → List ℕ → Type 0) → Grows remaining old mid
+    → IsAtEnd (remaining mid.reader) → P (kept_bytes mid) (drop n (kept_bytes mid)) → kept_bytes new
+    ≡ drop n (kept_bytes mid) → new.reader ≡ mid.reader
     → IfBothKnown (stream_of remaining old) (stream_of remaining new) P
 taken_at_end {R} remaining old mid new n P grows end h kept reader =
     subst (λ (s : Option (List ℕ)). IfBothKnown (stream_of remaining old) s P)
-    (ap (λ bs. prepend_known bs (remaining mid.reader)) (sym kept) ∙ ap (λ r. prepend_known (kept_bytes new) (remaining r)) (sym reader))
+    (ap (λ bs. prepend_known bs (remaining mid.reader)) (sym kept) ∙ ap
+    (λ r. prepend_known (kept_bytes new) (remaining r)) (sym reader))
     (both_known_end (stream_of remaining old) (kept_bytes mid) (remaining mid.reader) n P grows.stream end h)
 
 -- ---- requests
 
 -- a failing reader, or want of memory
-pub request_outside : (stream : Option (List ℕ)) (fault : WireFault) → IsOutside fault → IfSome stream (λ bytes. RefusesRequest bytes fault)
+pub request_outside : (stream : Option (List ℕ)) (fault : WireFault) → IsOutside fault
+    → IfSome stream (λ bytes. RefusesRequest bytes fault)
 request_outside stream Io h = known stream (λ bytes. RefusesRequest bytes Io) (λ bytes. tt)
 request_outside stream Memory h = known stream (λ bytes. RefusesRequest bytes Memory) (λ bytes. tt)
 request_outside stream BadHead h = absurd h
@@ -81,36 +89,48 @@ front_says bytes Memory h = h
 front_says bytes Cut h = absurd h
 front_says bytes Io h = absurd h
 
-pub request_refused : {R : Type 0} (remaining : R → Option (List ℕ)) (old mid : Inbox R) (fault : WireFault) → Grows remaining old mid → RefusesFront (kept_bytes mid) fault
+pub request_refused : {R : Type 0} (remaining : R → Option (List ℕ)) (old mid : Inbox R) (fault : WireFault)
+    → Grows remaining old mid → RefusesFront (kept_bytes mid) fault
     → IfSome (stream_of remaining old) (λ bytes. RefusesRequest bytes fault)
 request_refused remaining old mid fault grows refused =
-    on_stream grows (λ bytes. RefusesRequest bytes fault) (λ rest. front_says (kept_bytes mid ++ rest) fault (refused_more (kept_bytes mid) rest fault refused))
+    on_stream grows (λ bytes. RefusesRequest bytes fault) (λ rest. front_says (kept_bytes mid ++ rest) fault
+    (refused_more (kept_bytes mid) rest fault refused))
 
-pub request_taken : {R : Type 0} (remaining : R → Option (List ℕ)) (old mid new : Inbox R) (front : Front) → Grows remaining old mid → IsFront (kept_bytes mid) (Ok (Some front))
-    → kept_bytes new ≡ drop front.len (kept_bytes mid) → new.reader ≡ mid.reader → IfBothKnown (stream_of remaining old) (stream_of remaining new) (GivesRequest (Some front.request))
+pub request_taken : {R : Type 0} (remaining : R → Option (List ℕ)) (old mid new : Inbox R) (front : Front)
+    → Grows remaining old mid → IsFront (kept_bytes mid) (Ok (Some front))
+    → kept_bytes new ≡ drop front.len (kept_bytes mid) → new.reader ≡ mid.reader
+    → IfBothKnown (stream_of remaining old) (stream_of remaining new) (GivesRequest (Some front.request))
 request_taken remaining old mid new front grows is kept reader =
     taken remaining old mid new front.len (GivesRequest (Some front.request)) grows
-    (λ rest. request_more (kept_bytes mid) rest (request_of front.request) (drop front.len (kept_bytes mid)) is.1) kept reader
+    (λ rest. request_more (kept_bytes mid) rest (request_of front.request) (drop front.len (kept_bytes mid)) is.1) kept
+    reader
 
 -- more is wanted
-pub request_open : (bytes kept : List ℕ) (found : Option Front) → bytes ≡ kept → found ≡ None → IsFrontSeen bytes (Ok found) → AwaitsRequest kept × (length kept < 73728)
+pub request_open : (bytes kept : List ℕ) (found : Option Front) → bytes ≡ kept → found ≡ None
+    → IsFrontSeen bytes (Ok found) → AwaitsRequest kept × (length kept < 73728)
 request_open bytes kept found same is front =
-    subst (λ (bs : List ℕ). AwaitsRequest bs × (length bs < 73728)) same (subst (λ (o : Option Front). IsFrontSeen bytes (Ok o)) is front)
+    subst (λ (bs : List ℕ). AwaitsRequest bs × (length bs < 73728)) same
+    (subst (λ (o : Option Front). IsFrontSeen bytes (Ok o)) is front)
 
 -- the stream ends with no further byte
-pub requests_end : {R : Type 0} (remaining : R → Option (List ℕ)) (old new : Inbox R) → Grows remaining old new → IsAtEnd (remaining new.reader) → kept_bytes new ≡ []
+pub requests_end : {R : Type 0} (remaining : R → Option (List ℕ)) (old new : Inbox R) → Grows remaining old new
+    → IsAtEnd (remaining new.reader) → kept_bytes new ≡ []
     → IfBothKnown (stream_of remaining old) (stream_of remaining new) (GivesRequest None)
-requests_end remaining old new grows end none = taken_at_end remaining old new new 0 (GivesRequest None) grows end (none, none) refl refl
+requests_end remaining old new grows end none = taken_at_end remaining old new new 0 (GivesRequest None) grows end
+    (none, none) refl refl
 
 -- it ends in a request
-pub request_cut : {R : Type 0} (remaining : R → Option (List ℕ)) (old new : Inbox R) (fault : WireFault) → Grows remaining old new → IsAtEnd (remaining new.reader) → EndsAt (kept_bytes new) (Err fault)
+pub request_cut : {R : Type 0} (remaining : R → Option (List ℕ)) (old new : Inbox R) (fault : WireFault)
+    → Grows remaining old new → IsAtEnd (remaining new.reader) → EndsAt (kept_bytes new) (Err fault)
     → IfSome (stream_of remaining old) (λ bytes. RefusesRequest bytes fault)
-request_cut remaining old new fault grows end refused = on_stream_end grows (λ bytes. RefusesRequest bytes fault) end refused
+request_cut remaining old new fault grows end refused = on_stream_end grows (λ bytes. RefusesRequest bytes fault) end
+    refused
 
 -- ---- responses
 
 -- a failing reader, or want of memory
-pub response_outside : (stream : Option (List ℕ)) (fault : WireFault) → IsOutside fault → IfSome stream (λ bytes. RefusesResponse bytes fault)
+pub response_outside : (stream : Option (List ℕ)) (fault : WireFault) → IsOutside fault
+    → IfSome stream (λ bytes. RefusesResponse bytes fault)
 response_outside stream Io h = known stream (λ bytes. RefusesResponse bytes Io) (λ bytes. tt)
 response_outside stream Memory h = known stream (λ bytes. RefusesResponse bytes Memory) (λ bytes. tt)
 response_outside stream BadHead h = absurd h
@@ -120,7 +140,8 @@ response_outside stream TooLarge h = absurd h
 response_outside stream Cut h = absurd h
 
 -- a fault that lasts is one of the stream
-lasts_says : (bytes more : List ℕ) (fault : WireFault) → Lasts RefusesResponse bytes fault → RefusesResponse (bytes ++ more) fault
+lasts_says : (bytes more : List ℕ) (fault : WireFault) → Lasts RefusesResponse bytes fault
+    → RefusesResponse (bytes ++ more) fault
 lasts_says bytes more BadHead h = h more
 lasts_says bytes more Chunked h = h more
 lasts_says bytes more BadLength h = h more
@@ -129,37 +150,47 @@ lasts_says bytes more Memory h = tt
 lasts_says bytes more Cut h = absurd h
 lasts_says bytes more Io h = absurd h
 
-pub response_refused : {R : Type 0} (remaining : R → Option (List ℕ)) (old mid : Inbox R) (fault : WireFault) → Grows remaining old mid → Lasts RefusesResponse (kept_bytes mid) fault
+pub response_refused : {R : Type 0} (remaining : R → Option (List ℕ)) (old mid : Inbox R) (fault : WireFault)
+    → Grows remaining old mid → Lasts RefusesResponse (kept_bytes mid) fault
     → IfSome (stream_of remaining old) (λ bytes. RefusesResponse bytes fault)
-response_refused remaining old mid fault grows refused = on_stream grows (λ bytes. RefusesResponse bytes fault) (λ rest. lasts_says (kept_bytes mid) rest fault refused)
+response_refused remaining old mid fault grows refused = on_stream grows (λ bytes. RefusesResponse bytes fault)
+    (λ rest. lasts_says (kept_bytes mid) rest fault refused)
 
 -- the same of bytes that may be all
 pub lasts_now : (bytes : List ℕ) (fault : WireFault) → Lasts RefusesResponse bytes fault → RefusesResponse bytes fault
-lasts_now bytes fault h = subst (λ (bs : List ℕ). RefusesResponse bs fault) (append-nil bytes) (lasts_says bytes [] fault h)
+lasts_now bytes fault h = subst (λ (bs : List ℕ). RefusesResponse bs fault) (append-nil bytes)
+    (lasts_says bytes [] fault h)
 
-pub response_taken : {R : Type 0} (remaining : R → Option (List ℕ)) (old mid new : Inbox R) (code : ℕ) (body : List ℕ) (len : ℕ) → Grows remaining old mid → IsWhole (kept_bytes mid) code body len
+pub response_taken : {R : Type 0} (remaining : R → Option (List ℕ)) (old mid new : Inbox R) (code : ℕ) (body : List ℕ)
+    (len : ℕ) → Grows remaining old mid → IsWhole (kept_bytes mid) code body len
     → kept_bytes new ≡ drop len (kept_bytes mid) → new.reader ≡ mid.reader
     → IfBothKnown (stream_of remaining old) (stream_of remaining new) (λ bytes rest. IsResponse bytes code body rest)
 response_taken remaining old mid new code body len grows whole kept reader =
     taken remaining old mid new len (λ bytes rest. IsResponse bytes code body rest) grows whole.stays kept reader
 
 -- a whole response, where nothing follows
-pub whole_last : (bytes : List ℕ) (code : ℕ) (body : List ℕ) (len : ℕ) → IsWhole bytes code body len → (len ≤ length bytes) × IsResponse bytes code body (drop len bytes)
+pub whole_last : (bytes : List ℕ) (code : ℕ) (body : List ℕ) (len : ℕ) → IsWhole bytes code body len
+    → (len ≤ length bytes) × IsResponse bytes code body (drop len bytes)
 whole_last bytes code body len whole = (
   whole.within,
   subst (λ (bs : List ℕ). IsResponse bs code body (drop len bytes)) (append-nil bytes)
       (subst (λ (bs : List ℕ). IsResponse (bytes ++ []) code body bs) (append-nil (drop len bytes)) (whole.stays [])),
 )
 
-pub last_taken : {R : Type 0} (remaining : R → Option (List ℕ)) (old mid new : Inbox R) (found : ResponseRead × ℕ) → Grows remaining old mid → IsAtEnd (remaining mid.reader)
+pub last_taken : {R : Type 0} (remaining : R → Option (List ℕ)) (old mid new : Inbox R) (found : ResponseRead × ℕ)
+    → Grows remaining old mid → IsAtEnd (remaining mid.reader)
     → IsLast (kept_bytes mid) (Ok found) → kept_bytes new ≡ drop found.1 (kept_bytes mid) → new.reader ≡ mid.reader
-    → IfBothKnown (stream_of remaining old) (stream_of remaining new) (λ bytes rest. IsResponse bytes found.0.code found.0.body.items rest)
+    → IfBothKnown (stream_of remaining old) (stream_of remaining new) (λ bytes rest. IsResponse bytes found.0.code
+    found.0.body.items rest)
 last_taken remaining old mid new found grows end last kept reader =
-    taken_at_end remaining old mid new found.1 (λ bytes rest. IsResponse bytes found.0.code found.0.body.items rest) grows end last.1 kept reader
+    taken_at_end remaining old mid new found.1 (λ bytes rest. IsResponse bytes found.0.code found.0.body.items rest)
+    grows end last.1 kept reader
 
-pub response_cut : {R : Type 0} (remaining : R → Option (List ℕ)) (old new : Inbox R) (fault : WireFault) → Grows remaining old new → IsAtEnd (remaining new.reader)
+pub response_cut : {R : Type 0} (remaining : R → Option (List ℕ)) (old new : Inbox R) (fault : WireFault)
+    → Grows remaining old new → IsAtEnd (remaining new.reader)
     → IsLast (kept_bytes new) (Err fault) → IfSome (stream_of remaining old) (λ bytes. RefusesResponse bytes fault)
-response_cut remaining old new fault grows end refused = on_stream_end grows (λ bytes. RefusesResponse bytes fault) end refused
+response_cut remaining old new fault grows end refused = on_stream_end grows (λ bytes. RefusesResponse bytes fault) end
+    refused
 
 -- more is wanted
 pub response_open : (bytes : List ℕ) (wanted : ℕ) → IsOpen bytes wanted → AwaitsResponse bytes

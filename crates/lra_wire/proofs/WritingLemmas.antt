@@ -18,10 +18,15 @@ Appends_more (Some ws) (Some bs) None xs ys x y = absurd y
 Appends_more (Some ws) (Some bs) (Some cs) xs ys x y = y ∙ ap (λ zs. zs ++ ys) x ∙ append_assoc ws xs ys
 
 -- a message has its line ends at least
-pub message_long : (line : List ℕ) (fields : List (Bor (List ℕ) × Bor (List ℕ))) (body : List ℕ) → 0 < length (message_text line fields body)
+pub message_long : (line : List ℕ) (fields : List (Bor (List ℕ) × Bor (List ℕ))) (body : List ℕ) → 0
+    < length (message_text line fields body)
 message_long line fields body =
     let after : List ℕ = flat_map field_line fields in
-    omega (arith, length-append (line ++ crlf_bytes ++ after ++ crlf_bytes) body, length-append (line ++ crlf_bytes ++ after) crlf_bytes)
+    omega (
+      arith,
+      length-append (line ++ crlf_bytes ++ after ++ crlf_bytes) body,
+      length-append (line ++ crlf_bytes ++ after) crlf_bytes,
+    )
 
 -- nothing went out of a text that isn't empty
 pub nothing_sent : (known : Option (List ℕ)) (text : List ℕ) → 0 < length text → AppendsFront known known text
@@ -32,5 +37,7 @@ Keeps_same None = tt
 Keeps_same (Some xs) = refl
 
 -- one more write
-pub whole_more : (text front rest : List ℕ) (n : ℕ) → text ≡ front ++ rest → text ≡ (front ++ take n rest) ++ drop n rest
-whole_more text front rest n e = e ∙ ap (λ zs. front ++ zs) (sym (take-append-drop n rest)) ∙ sym (append_assoc front (take n rest) (drop n rest))
+pub whole_more : (text front rest : List ℕ) (n : ℕ) → text ≡ front ++ rest → text ≡ (front ++ take n rest)
+    ++ drop n rest
+whole_more text front rest n e = e ∙ ap (λ zs. front ++ zs) (sym (take-append-drop n rest))
+    ∙ sym (append_assoc front (take n rest) (drop n rest))

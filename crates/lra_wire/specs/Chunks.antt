@@ -99,7 +99,8 @@ pub record RefusesBehind (place room : ℕ) (text : List ℕ) (fault : WireFault
   pub behind : List ℕ
   pub reads : ReadsChunkLine text line behind
   pub refused : ((chunk_size line ≡ 0) × RefusesTrailer (place + length (print_chunk_line line)) behind fault)
-      ⊎ ((0 < chunk_size line) × RefusesContent (place + length (print_chunk_line line)) room (chunk_size line) behind fault)
+      ⊎ ((0 < chunk_size line) × RefusesContent (place + length (print_chunk_line line)) room (chunk_size line) behind
+      fault)
 
 -- Why no chunk and no end of the body is read there. Where several faults hold, each is right.
 abbrev pub RefusesChunk : ℕ → ℕ → List ℕ → WireFault → Type 0

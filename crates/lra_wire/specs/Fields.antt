@@ -29,7 +29,8 @@ has_field name fields = nat_lt 0 (length (values_of name fields))
 
 -- A number of a Content-Length: 1 to 19 digits (RFC 9110, section 8.6; that many fit 64 bits).
 abbrev pub spelled_length : List ℕ → Stated
-spelled_length value = if nat_lt 0 (length value) && nat_le (length value) 19 && list_all is_ascii_digit value then Length (digits_value 10 value) else Malformed
+spelled_length value = if nat_lt 0 (length value) && nat_le (length value) 19
+    && list_all is_ascii_digit value then Length (digits_value 10 value) else Malformed
 
 -- what the values of Content-Length say: one number, and not the same one twice
 abbrev pub stated_by : List (List ℕ) → Stated
@@ -43,7 +44,8 @@ stated_of fields = stated_by (values_of (codes "content-length") fields)
 
 -- A coding or an expectation, which isn't served (this project's choice; RFC 9110, sections 8.4 and 10.1.1, and RFC 9112, section 6.1).
 abbrev pub is_coded : List (List ℕ × List ℕ) → Bool
-is_coded fields = has_field (codes "transfer-encoding") fields || has_field (codes "content-encoding") fields || has_field (codes "expect") fields
+is_coded fields = has_field (codes "transfer-encoding") fields || has_field (codes "content-encoding") fields
+    || has_field (codes "expect") fields
 
 -- a body of at most 65,536 bytes
 abbrev pub limited : ℕ → Result ℕ WireFault

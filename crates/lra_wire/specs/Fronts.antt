@@ -23,7 +23,8 @@ IsUnfinished bytes = (bytes ≡ []) ⊎ RefusesRequest bytes Cut
 -- A whole request and how many bytes it takes; or more bytes are wanted, of which fewer came than a head of 8,192 bytes and a body of 65,536; or
 -- no request begins the bytes.
 abbrev pub IsFront : List ℕ → Result (Option Front) WireFault → Type 0
-IsFront bytes (Ok (Some front)) = (front.len ≤ length bytes) × IsRequest bytes (request_of front.request) (drop front.len bytes)
+IsFront bytes (Ok (Some front)) = (front.len ≤ length bytes) × IsRequest bytes (request_of front.request)
+    (drop front.len bytes)
 IsFront bytes (Ok None) = IsUnfinished bytes × (length bytes < 73728)
 IsFront bytes (Err fault) = RefusesFront bytes fault
 
@@ -32,7 +33,8 @@ IsFront bytes (Err fault) = RefusesFront bytes fault
 pub record Sees (seen : Seen) (bytes : List ℕ) : Type 0 where
   pub within : seen.looked ≤ length bytes
   pub head : seen.wanted ≡ 0 → IsOpenRequest (take seen.looked bytes)
-  pub body : 0 < seen.wanted → (seen.wanted ≤ 73728) × ((more : List ℕ) → length (bytes ++ more) < seen.wanted → EndsInBody (bytes ++ more))
+  pub body : 0 < seen.wanted → (seen.wanted ≤ 73728) × ((more : List ℕ) → length (bytes ++ more) < seen.wanted
+      → EndsInBody (bytes ++ more))
 
 -- the same of bytes of which a front was seen: a head that isn't whole goes by the grammar at least up to its last line feed
 abbrev pub IsFrontSeen : List ℕ → Result (Option Front) WireFault → Type 0

@@ -51,7 +51,14 @@ pub record Request : Type 0 where
 
 -- what a request that was read says
 abbrev pub request_of : RequestRead → Request
-request_of read = record { method = string_bytes read.method; target = string_bytes read.target; minor = read.minor; close = read.close; body = read.body.items; fields = what_fields read.fields }
+request_of read = record {
+  method = string_bytes read.method;
+  target = string_bytes read.target;
+  minor = read.minor;
+  close = read.close;
+  body = read.body.items;
+  fields = what_fields read.fields;
+}
 
 -- the names and the values of a head's fields
 abbrev pub fields_of : RequestHead → List (List ℕ × List ℕ)

@@ -69,7 +69,8 @@ coded_framing (coding ∷ other ∷ codings) stated = Err Chunked
 
 -- how the body of a response with this status and these fields ends (RFC 9112, section 6.3): 204 and 304 have none
 abbrev pub framing_of : ℕ → List (List ℕ × List ℕ) → Result Framing WireFault
-framing_of code fields = if (code == 204) || (code == 304) then Ok (Sized 0) else coded_framing (values_of (codes "transfer-encoding") fields) (stated_of fields)
+framing_of code fields = if (code == 204) || (code == 304) then Ok (Sized 0) else coded_framing
+    (values_of (codes "transfer-encoding") fields) (stated_of fields)
 
 -- the bytes are that body, and then the rest
 abbrev pub IsBody : Framing → List ℕ → List ℕ → List ℕ → Type 0
@@ -100,7 +101,8 @@ pub record RefusesRest (bytes : List ℕ) (fault : WireFault) : Type 0 where
   pub behind : List ℕ
   pub final : HasFinal bytes head behind
   pub refused : (framing_of (status_code head) (fields_in head) ≡ Err fault)
-      ⊎ ((framing : Framing) × (framing_of (status_code head) (fields_in head) ≡ Ok framing) × RefusesFramed framing (length bytes - length behind) behind fault)
+      ⊎ ((framing : Framing) × (framing_of (status_code head) (fields_in head) ≡ Ok framing)
+      × RefusesFramed framing (length bytes - length behind) behind fault)
 
 -- behind interim heads stands what never becomes a head within the limits, or a ninth interim head
 pub record RefusesHead (bytes : List ℕ) : Type 0 where
@@ -108,7 +110,8 @@ pub record RefusesHead (bytes : List ℕ) : Type 0 where
   pub rest : List ℕ
   pub skips : Skips bytes interim rest
   pub refused : NeverShort rest
-      ⊎ ((length interim ≡ 8) × (head : ResponseHead) × (behind : List ℕ) × HasResponse rest head behind × (is_interim (status_code head) ≡ true))
+      ⊎ ((length interim ≡ 8) × (head : ResponseHead) × (behind : List ℕ) × HasResponse rest head behind
+      × (is_interim (status_code head) ≡ true))
 
 -- the stream ends in a head, which goes by the grammar so far, or before it
 pub record EndsInResponse (bytes : List ℕ) : Type 0 where

@@ -20,15 +20,18 @@ message_text line fields body = line ++ crlf_bytes ++ flat_map field_line fields
 
 -- METHOD TARGET HTTP/1.1, and the rest
 abbrev pub request_text : RequestWrite → List ℕ
-request_text request = message_text (request.method.now ++ (codes " " ++ (request.target.now ++ codes " HTTP/1.1"))) request.fields.now request.body.now
+request_text request = message_text (request.method.now ++ (codes " " ++ (request.target.now ++ codes " HTTP/1.1")))
+    request.fields.now request.body.now
 
 -- HTTP/1.1 CODE PHRASE, and the rest
 abbrev pub reply_text : ReplyWrite → List ℕ
-reply_text reply = message_text (codes "HTTP/1.1 " ++ (decimal reply.code ++ (codes " " ++ reply.phrase.now))) reply.fields.now reply.body.now
+reply_text reply = message_text (codes "HTTP/1.1 " ++ (decimal reply.code ++ (codes " " ++ reply.phrase.now)))
+    reply.fields.now reply.body.now
 
 -- a proper front of the text went out
 abbrev pub AppendsFront : Option (List ℕ) → Option (List ℕ) → List ℕ → Type 0
-AppendsFront old new text = (front : List ℕ) × (rest : List ℕ) × (text ≡ front ++ rest) × (0 < length rest) × Appends old new front
+AppendsFront old new text = (front : List ℕ) × (rest : List ℕ) × (text ≡ front ++ rest) × (0 < length rest)
+    × Appends old new front
 
 -- All of the text went out, or a proper front of it, since the writer failed or took nothing, or since memory was refused.
 abbrev pub Sends : Option (List ℕ) → Option (List ℕ) → List ℕ → Result (Unit {0}) WireFault → Type 0

@@ -15,7 +15,8 @@ fn read_piece<R: Read>(reader: &mut R, piece: &mut Vec<u8>) -> Result<usize, Wir
     requires { 0 < vec_len piece.old }
     ensures len { vec_len piece.new ≡ vec_len piece.old }
     ensures bound { IfOk result (λ n. n ≤ vec_len piece.new) }
-    ensures ok { IfOk result (λ n. Consumes (R.remaining reader.old) (R.remaining reader.new) (take n piece.new.items)) }
+    ensures ok { IfOk result (λ n. Consumes (R.remaining reader.old) (R.remaining reader.new)
+        (take n piece.new.items)) }
     ensures end { result ≡ Ok 0 → IsAtEnd (R.remaining reader.new) }
     ensures err { IfErr result (λ fault. fault ≡ WireFault.Io) }
 {

@@ -40,7 +40,8 @@ fn sole(
     name: &[u8],
 ) -> Result<Option<Vec<u8>>, AllocError>
     requires { All (IsHeaderWithin (length bytes.now)) fields.now }
-    ensures { IfOk result (λ value. option_map (λ v. v.items) value ≡ sole (values_of name.now (map (header_bytes bytes.now) fields.now))) }
+    ensures { IfOk result (λ value. option_map (λ v. v.items) value ≡ sole
+        (values_of name.now (map (header_bytes bytes.now) fields.now))) }
 {
     match lookup(bytes, fields, name) {
         Named::Once(value) => Ok(Some(Vec::from_slice(alloc, value)?)),

@@ -38,42 +38,59 @@ keeps_on u v w h k = record {
 -- ---- one order
 
 -- an order's history begins with what was seen
-since_seen : (g : Setting) (seen : History) (c : Call) (reply : Result Told CounterFault) (K : History) → IsGivenSince g seen c reply K → IsPrefix seen K
-since_seen g seen c (Ok t) K (more, none, given) = (more ++ growth (terms_of g) (seen ++ more) c, sym (append_assoc seen more (growth (terms_of g) (seen ++ more) c)) ∙ sym given.told.1)
+since_seen : (g : Setting) (seen : History) (c : Call) (reply : Result Told CounterFault) (K : History)
+    → IsGivenSince g seen c reply K → IsPrefix seen K
+since_seen g seen c (Ok t) K (more, none, given) = (
+  more ++ growth (terms_of g) (seen ++ more) c,
+  sym (append_assoc seen more (growth (terms_of g) (seen ++ more) c)) ∙ sym given.told.1,
+)
 since_seen g seen c (Err (Refused r)) K (more, none, given) = (more, sym given.told.1)
 since_seen g seen c (Err Worn) K (more, none, given) = (more, sym given.told)
 
-after_seen : (g : Setting) (seen : History) (c : Call) (reply : Result Told CounterFault) (K : History) → IsSeenAfter g seen c reply K → IsPrefix seen K
+after_seen : (g : Setting) (seen : History) (c : Call) (reply : Result Told CounterFault) (K : History)
+    → IsSeenAfter g seen c reply K → IsPrefix seen K
 after_seen g seen c (Ok t) K h = since_seen g seen c (Ok t) K h
 after_seen g seen c (Err (Refused r)) K h = since_seen g seen c (Err (Refused r)) K h
 after_seen g seen c (Err Worn) K h = subst (IsPrefix seen) (sym h) (prefix_refl seen)
 
-keeps_given : (v w : Sight) (moment : ℕ) (o : Order) (reply : Result Told CounterFault) → KeepsHistory v moment o reply w → Keeps v w
-keeps_given v w moment o reply h = record { same = h.same; seen = after_seen v.setting v.seen (call_of v.number moment o) reply w.seen h.seen }
+keeps_given : (v w : Sight) (moment : ℕ) (o : Order) (reply : Result Told CounterFault)
+    → KeepsHistory v moment o reply w → Keeps v w
+keeps_given v w moment o reply h = record {
+  same = h.same;
+  seen = after_seen v.setting v.seen
+      (call_of v.number moment o) reply w.seen h.seen;
+}
 
-module _ {K : Type 0} (gives : Sight → ℕ → Order → Result Told CounterFault → Sight → Type 0) (tells : K → ℕ → K → Type 0)
+module _ {K : Type 0} (gives : Sight → ℕ → Order → Result Told CounterFault → Sight → Type 0)
+    (tells : K → ℕ → K → Type 0)
     (law : (v w : Sight) (moment : ℕ) (o : Order) (reply : Result Told CounterFault) → gives v moment o reply w → KeepsHistory v moment o reply w) where
   -- ---- one request
 
   keeps_responding : (v w : Sight) (moment : ℕ) (r : _) (a : Answer) → Responds gives v moment r w a → Keeps v w
-  keeps_responding v w moment r a (Ok wish, asks, h) = keeps_given v w moment h.order h.reply (law v w moment h.order h.reply h.given)
+  keeps_responding v w moment r a (Ok wish, asks, h) = keeps_given v w moment h.order h.reply
+      (law v w moment h.order h.reply h.given)
   keeps_responding v w moment r a (Err d, asks, h) = keeps_still v w h.1
 
   -- ---- one stream
 
-  keeps_ending : (last : Bool) (s t : Standing K) (end : StreamEnd) → EndsAt gives tells last s end t → Keeps s.sight t.sight
+  keeps_ending : (last : Bool) (s t : Standing K) (end : StreamEnd) → EndsAt gives tells last s end t
+      → Keeps s.sight t.sight
   keeps_ending last s t Done (inl f) = keeps_still s.sight t.sight f.rests.sight
-  keeps_ending last s t Done (inr r) = keeps_responding s.sight t.sight r.exchange.moment r.request r.answer r.exchange.responds
+  keeps_ending last s t Done (inr r) = keeps_responding s.sight t.sight r.exchange.moment r.request r.answer
+      r.exchange.responds
   keeps_ending last s t (StreamRefused fault) f = keeps_still s.sight t.sight f.rests.sight
-  keeps_ending last s t WriteFault (inl r) = keeps_responding s.sight t.sight r.exchange.moment r.request r.answer r.exchange.responds
+  keeps_ending last s t WriteFault (inl r) = keeps_responding s.sight t.sight r.exchange.moment r.request r.answer
+      r.exchange.responds
   keeps_ending last s t WriteFault (inr (fault, f)) = keeps_still s.sight t.sight f.rests.sight
 
-  keeps_serving : (n : ℕ) (s t : Standing K) (end : StreamEnd) → ServesUpTo gives tells n s end t → Keeps s.sight t.sight
+  keeps_serving : (n : ℕ) (s t : Standing K) (end : StreamEnd) → ServesUpTo gives tells n s end t
+      → Keeps s.sight t.sight
   unfolding ServesUpTo
   keeps_serving zero s t end h = keeps_ending true s t end h
   keeps_serving (suc n) s t end (inl h) = keeps_ending false s t end h
   keeps_serving (suc n) s t end (inr (u, r, rest)) =
-      keeps_on s.sight u.sight t.sight (keeps_responding s.sight u.sight r.exchange.moment r.request r.answer r.exchange.responds) (keeps_serving n u t end rest)
+      keeps_on s.sight u.sight t.sight (keeps_responding s.sight u.sight r.exchange.moment r.request r.answer
+      r.exchange.responds) (keeps_serving n u t end rest)
 
   keeps_stream : (s t : Standing K) (end : StreamEnd) → ServesStream gives tells s end t → Keeps s.sight t.sight
   keeps_stream s t end (inl h) = keeps_still s.sight t.sight h.rests.sight
@@ -87,19 +104,23 @@ module _ {K : Type 0} (gives : Sight → ℕ → Order → Result Told CounterFa
   pub keeps_connections : (n : ℕ) (v w : Sight) (k l : K) → ConnectionsIn gives tells n v k w l → Keeps v w
   unfolding ConnectionsIn
   keeps_connections zero v w k l h = keeps_still v w h.0
-  keeps_connections (suc n) v w k l (u, m, before, last) = keeps_on v u w (keeps_connections n v u k m before) (keeps_connection u w m l last)
+  keeps_connections (suc n) v w k l (u, m, before, last) = keeps_on v u w (keeps_connections n v u k m before)
+      (keeps_connection u w m l last)
 
 module _ {K : Type 0} (gives : Sight → ℕ → Order → Result Told CounterFault → Sight → Type 0) (tells : K → ℕ → K → Type 0) where
   pub none_answered : (v : Sight) (k : K) → ConnectionsIn gives tells 0 v k v k
   unfolding ConnectionsIn
   none_answered v k = (refl, refl)
 
-  pub one_more : (n : ℕ) (v u w : Sight) (k m l : K) → ConnectionsIn gives tells n v k u m → Connection gives tells u m w l → ConnectionsIn gives tells (suc n) v k w l
+  pub one_more : (n : ℕ) (v u w : Sight) (k m l : K) → ConnectionsIn gives tells n v k u m
+      → Connection gives tells u m w l → ConnectionsIn gives tells (suc n) v k w l
   unfolding ConnectionsIn
   one_more n v u w k m l before last = (u, m, before, last)
 
 -- those that a window answers
-pub keeps_served : {X O K : Type 0} (set : O → Setting) (origin : X → O) (history : X → History) (lawful : X → Type 0) (has_stopped : X → Bool) (tells : K → ℕ → K → Type 0) (n : ℕ) (v w : Sight) (k l : K)
+pub keeps_served : {X O K : Type 0} (set : O → Setting) (origin : X → O) (history : X → History) (lawful : X → Type 0)
+    (has_stopped : X → Bool) (tells : K → ℕ → K → Type 0) (n : ℕ) (v w : Sight) (k l : K)
     → ConnectionsIn (KeepsInTurn set origin history lawful has_stopped) tells n v k w l → Keeps v w
 keeps_served set origin history lawful has_stopped tells n v w k l h =
-    keeps_connections (KeepsInTurn set origin history lawful has_stopped) tells (λ before after moment o reply given. given.keeps) n v w k l h
+    keeps_connections (KeepsInTurn set origin history lawful has_stopped) tells
+    (λ before after moment o reply given. given.keeps) n v w k l h

@@ -35,11 +35,13 @@ use Rattle.lra_workers.proofs.CarryingOn.{foretold_seen, carries_none}
 -- ---- an ask in a history is one in each that goes on from it
 
 asked_push : (J : History) (e : Entry) (n : ℕ) (x : Asked) → ask_of J n ≡ Some x → ask_of (J ++ e ∷ []) n ≡ Some x
-asked_push J e n x h = ask_of_push J e n ∙ ap (λ (o : Option Asked). option_or o (option_map_or (λ (a : Asked). when (a.number == n) a) (asked_at (step J e)) None)) h
+asked_push J e n x h = ask_of_push J e n ∙ ap (λ (o : Option Asked). option_or o
+    (option_map_or (λ (a : Asked). when (a.number == n) a) (asked_at (step J e)) None)) h
 
 asked_on : (es J : History) (n : ℕ) (x : Asked) → ask_of J n ≡ Some x → ask_of (J ++ es) n ≡ Some x
 asked_on [] J n x h = subst (λ (K : History). ask_of K n ≡ Some x) (sym (append-nil J)) h
-asked_on (e ∷ es) J n x h = subst (λ (K : History). ask_of K n ≡ Some x) (append_assoc J (e ∷ []) es) (asked_on es (J ++ e ∷ []) n x (asked_push J e n x h))
+asked_on (e ∷ es) J n x h = subst (λ (K : History). ask_of K n ≡ Some x) (append_assoc J (e ∷ []) es)
+    (asked_on es (J ++ e ∷ []) n x (asked_push J e n x h))
 
 pub of_ask_on : (J K : History) (e : Asking) → IsPrefix J K → IsOfAsk J e → IsOfAsk K e
 of_ask_on J K e p h = subst (λ (M : History). IsOfAsk M e) p.1 (asked_on p.0 J e.ask (ask_carried e) h)
@@ -65,7 +67,8 @@ module _ {O : Type 0} (covers : O → History → ℕ → Bool) where
   gained_asks J old new e g is h place x here = at (place == g.place) refl
     where
       at : (b : Bool) → (place == g.place) ≡ b → IsHanded covers J x
-      at true same = subst (IsHanded covers J) (same_Some e x (sym g.here ∙ (ap new (sym (eqb-true place g.place same)) ∙ here))) is
+      at true same = subst (IsHanded covers J) (same_Some e x (sym g.here
+          ∙ (ap new (sym (eqb-true place g.place same)) ∙ here))) is
       at false other = h place x (sym (g.others place (eqb-false place g.place other)) ∙ here)
 
   pub lost_ask : (J : History) (old new : Places) (e : Handed) → Gains new old e → AreHanded covers J old
@@ -90,7 +93,8 @@ module _ {O K : Type 0} (setting : O → Setting) (gives : ℕ → AskKind → O
   done_seen s t d =
       let J = d.given.history in
       let more = growth (terms_of (setting s.view.origin)) J d.call in
-      subst (λ (w : View O). IsPrefix s.view.seen w.seen) (sym d.given.after) (prefix_trans s.view.seen J (J ++ more) d.given.met.begins (more, refl))
+      subst (λ (w : View O). IsPrefix s.view.seen w.seen) (sym d.given.after)
+      (prefix_trans s.view.seen J (J ++ more) d.given.met.begins (more, refl))
 
   refused_seen : (v w : View O) (c : Call) → IsNotGiven (setting v.origin) v c (office.Refused NotAsked) w
       → IsPrefix v.seen w.seen
@@ -99,8 +103,10 @@ module _ {O K : Type 0} (setting : O → Setting) (gives : ℕ → AskKind → O
   worked_in : (n : ℕ) (s t : Post O K) → WorksIn setting gives tells n s t → IsPrefix s.view.seen t.view.seen
   unfolding WorksIn
   worked_in zero s t h = subst (λ (u : Post O K). IsPrefix s.view.seen u.view.seen) h (prefix_refl s.view.seen)
-  worked_in (suc n) s t (u, before, inl d) = prefix_trans s.view.seen u.view.seen t.view.seen (worked_in n s u before) (done_seen u t d)
-  worked_in (suc n) s t (u, before, inr f) = prefix_trans s.view.seen u.view.seen t.view.seen (worked_in n s u before) (refused_seen u.view t.view f.call f.given)
+  worked_in (suc n) s t (u, before, inl d) = prefix_trans s.view.seen u.view.seen t.view.seen (worked_in n s u before)
+      (done_seen u t d)
+  worked_in (suc n) s t (u, before, inr f) = prefix_trans s.view.seen u.view.seen t.view.seen (worked_in n s u before)
+      (refused_seen u.view t.view f.call f.given)
 
   -- whoever works has seen all that it had
   pub worked : (s t : Post O K) → ((r : Post O K) → Works setting gives tells r s → Works setting gives tells r t)
@@ -111,7 +117,8 @@ module _ {O K : Type 0} (setting : O → Setting) (gives : ℕ → AskKind → O
   not_given : (g : Setting) (v w : View O) (c : Call) (r : OfficeRefusal) → IsNotGiven g v c r w
       → IsPrefix v.seen w.seen
   not_given g v w c office.Worn h = subst (λ (x : View O). IsPrefix v.seen x.seen) (sym h) (prefix_refl v.seen)
-  not_given g v w c (office.Refused r) (J, met, back, after) = subst (λ (x : View O). IsPrefix v.seen x.seen) (sym after) met.begins
+  not_given g v w c (office.Refused r) (J, met, back, after) = subst (λ (x : View O). IsPrefix v.seen x.seen)
+      (sym after) met.begins
 
   pub works_seen : (s t : Post O K) → Works setting gives tells s t → IsPrefix s.view.seen t.view.seen
   works_seen s t w = worked_in w.0 s t w.1
@@ -134,7 +141,8 @@ module _ {O K : Type 0} (setting : O → Setting) (gives : ℕ → AskKind → O
   unfolding CarriesIn
   carried_in zero s t h = works_seen s t h
   carried_in (suc n) s t (u, v, before, step, h) =
-      prefix_trans s.view.seen v.view.seen t.view.seen (prefix_trans s.view.seen u.view.seen v.view.seen (carried_in n s u before) (steps_seen u v step)) (works_seen v t h)
+      prefix_trans s.view.seen v.view.seen t.view.seen (prefix_trans s.view.seen u.view.seen v.view.seen
+      (carried_in n s u before) (steps_seen u v step)) (works_seen v t h)
 
   pub carries_seen : (s t : Post O K) → Carries setting gives tells s t → IsPrefix s.view.seen t.view.seen
   carries_seen s t h = carried_in h.0 s t h.1
@@ -143,17 +151,21 @@ module _ {O K : Type 0} (setting : O → Setting) (gives : ℕ → AskKind → O
       → IsPrefix s.view.seen t.view.seen
   ended_seen s t Ended h = carries_seen s t h
   ended_seen s t Held h = carries_seen s t h
-  ended_seen s t (Refused r) (u, before, inl f, ends) = prefix_trans s.view.seen u.view.seen t.view.seen (carries_seen s u before) (fails_seen u t r f)
-  ended_seen s t (Refused r) (u, before, inr look, ends) = prefix_trans s.view.seen u.view.seen t.view.seen (carries_seen s u before) (foreseen (setting u.view.origin) u.view t.view (Err r) look.told)
+  ended_seen s t (Refused r) (u, before, inl f, ends) = prefix_trans s.view.seen u.view.seen t.view.seen
+      (carries_seen s u before) (fails_seen u t r f)
+  ended_seen s t (Refused r) (u, before, inr look, ends) = prefix_trans s.view.seen u.view.seen t.view.seen
+      (carries_seen s u before) (foreseen (setting u.view.origin) u.view t.view (Err r) look.told)
 
   -- whoever carries has seen all that it had, however that ended
   pub carried : {A : Type 0} (s t : Post O K) (r : Result A WorkerEnd)
-      → ((x : Post O K) → Carries setting gives tells x s → MatchResult r (λ _. Carries setting gives tells x t) (λ end. EndsCarrying setting gives tells x end t)) → IsPrefix s.view.seen t.view.seen
+      → ((x : Post O K) → Carries setting gives tells x s → MatchResult r (λ _. Carries setting gives tells x t)
+      (λ end. EndsCarrying setting gives tells x end t)) → IsPrefix s.view.seen t.view.seen
   carried s t (Ok y) h = carries_seen s t (h s (carries_none setting gives tells s))
   carried s t (Err end) h = ended_seen s t end (h s (carries_none setting gives tells s))
 
   -- the same of a worker's calls
   pub worked_up_to : {A : Type 0} (s t : Post O K) (r : Result A OfficeRefusal)
-      → ((x : Post O K) → Works setting gives tells x s → MatchResult r (λ _. Works setting gives tells x t) (λ e. WorksUpTo setting gives tells x e t)) → IsPrefix s.view.seen t.view.seen
+      → ((x : Post O K) → Works setting gives tells x s → MatchResult r (λ _. Works setting gives tells x t)
+      (λ e. WorksUpTo setting gives tells x e t)) → IsPrefix s.view.seen t.view.seen
   worked_up_to s t (Ok y) h = works_seen s t (h s (works_none setting gives tells s))
   worked_up_to s t (Err r) h = let (u, before, f, ends) = h s (works_none setting gives tells s) in prefix_trans s.view.seen u.view.seen t.view.seen (works_seen s u before) (fails_seen u t r f)

@@ -37,7 +37,8 @@ module _ {O K : Type 0} (setting : O → Setting) (gives : ℕ → AskKind → O
 
   -- it does so up to a call that fails for one of a worker's reasons, or up to where no ticket is left to look ahead
   abbrev pub CarriesUpTo : Post O K → OfficeRefusal → Post O K → Type 0
-  CarriesUpTo s r t = (u : Post O K) × Carries s u × (Fails setting gives tells u r t ⊎ LooksAhead u (Err r) t) × EndsWorker r
+  CarriesUpTo s r t = (u : Post O K) × Carries s u × (Fails setting gives tells u r t ⊎ LooksAhead u (Err r) t)
+      × EndsWorker r
 
   -- it does so, and ends
   abbrev pub EndsCarrying : Post O K → WorkerEnd → Post O K → Type 0

@@ -14,7 +14,12 @@ use Rattle.lra_workers.specs.declared.connections.ServeEnd.TheVariants.{Done, Io
 
 -- what is known of a counter at which a clerk gives its orders
 abbrev pub clerk_sight : {X O : Type 0} {g : Ghosts X O} → (O → Setting) → Clerk X O g → Sight
-clerk_sight setting c = record { setting = setting (clerk_view c).origin; number = c.number; seen = (clerk_view c).seen }
+clerk_sight setting c = record {
+  setting = setting (clerk_view c).origin;
+  number = c.number;
+  seen =
+      (clerk_view c).seen;
+}
 
 module _ {K : Type 0} (gives : Sight → ℕ → Order → Result Told CounterFault → Sight → Type 0) (tells : K → ℕ → K → Type 0) where
   -- a connection is answered: a stream of whatever bytes came, from a counter and a clock on to what is known of both afterwards

@@ -62,8 +62,10 @@ fn note<V: Serving, R: Wait, C: Carriage, G: Gate, K: Clock>(
     ensures clerk { IsClerkOf office.now.lock V.covers clerk.new }
     ensures number { clerk.new.number ≡ clerk.old.number }
     ensures work { (s : Post V.Origin K) → Carries V.setting C.gives K.tells s (post (clerk_view clerk.old) clock.old)
-        → MatchResult result (λ _. Carries V.setting C.gives K.tells s (post (clerk_view clerk.new) clock.new)) (λ end. EndsCarrying V.setting C.gives K.tells s end (post (clerk_view clerk.new) clock.new)) }
-    ensures why { IfErr result (TellsWhy (G.is_shut gate.new) (G.holds gate.new) (HasStopped V.origin V.history V.lawful V.has_stopped (clerk_view clerk.new)) (clerk_view clerk.new).seen) }
+        → MatchResult result (λ _. Carries V.setting C.gives K.tells s (post (clerk_view clerk.new) clock.new))
+        (λ end. EndsCarrying V.setting C.gives K.tells s end (post (clerk_view clerk.new) clock.new)) }
+    ensures why { IfErr result (TellsWhy (G.is_shut gate.new) (G.holds gate.new)
+        (HasStopped V.origin V.history V.lawful V.has_stopped (clerk_view clerk.new)) (clerk_view clerk.new).seen) }
 {
     let ask = errand.ask();
     let mut errand = errand;
@@ -110,8 +112,10 @@ fn hand_over<V: Serving, R: Wait, C: Carriage, G: Gate, K: Clock>(
     ensures number { clerk.new.number ≡ clerk.old.number }
     ensures held { AreHanded V.covers (clerk_view clerk.new).seen (C.held carriage.new) }
     ensures work { (s : Post V.Origin K) → Carries V.setting C.gives K.tells s (post (clerk_view clerk.old) clock.old)
-        → MatchResult result (λ _. Carries V.setting C.gives K.tells s (post (clerk_view clerk.new) clock.new)) (λ end. EndsCarrying V.setting C.gives K.tells s end (post (clerk_view clerk.new) clock.new)) }
-    ensures why { IfErr result (TellsWhy (G.is_shut gate.new) (G.holds gate.new) (HasStopped V.origin V.history V.lawful V.has_stopped (clerk_view clerk.new)) (clerk_view clerk.new).seen) }
+        → MatchResult result (λ _. Carries V.setting C.gives K.tells s (post (clerk_view clerk.new) clock.new))
+        (λ end. EndsCarrying V.setting C.gives K.tells s end (post (clerk_view clerk.new) clock.new)) }
+    ensures why { IfErr result (TellsWhy (G.is_shut gate.new) (G.holds gate.new)
+        (HasStopped V.origin V.history V.lawful V.has_stopped (clerk_view clerk.new)) (clerk_view clerk.new).seen) }
 {
     match carriage.take(errand, clerk.position()) {
         Ok(()) => Ok(()),
@@ -142,8 +146,10 @@ fn take_one<V: Serving, R: Wait, C: Carriage, G: Gate, K: Clock>(
     ensures number { clerk.new.number ≡ clerk.old.number }
     ensures held { AreHanded V.covers (clerk_view clerk.new).seen (C.held carriage.new) }
     ensures work { (s : Post V.Origin K) → Carries V.setting C.gives K.tells s (post (clerk_view clerk.old) clock.old)
-        → MatchResult result (λ _. Carries V.setting C.gives K.tells s (post (clerk_view clerk.new) clock.new)) (λ end. EndsCarrying V.setting C.gives K.tells s end (post (clerk_view clerk.new) clock.new)) }
-    ensures why { IfErr result (TellsWhy (G.is_shut gate.new) (G.holds gate.new) (HasStopped V.origin V.history V.lawful V.has_stopped (clerk_view clerk.new)) (clerk_view clerk.new).seen) }
+        → MatchResult result (λ _. Carries V.setting C.gives K.tells s (post (clerk_view clerk.new) clock.new))
+        (λ end. EndsCarrying V.setting C.gives K.tells s end (post (clerk_view clerk.new) clock.new)) }
+    ensures why { IfErr result (TellsWhy (G.is_shut gate.new) (G.holds gate.new)
+        (HasStopped V.origin V.history V.lawful V.has_stopped (clerk_view clerk.new)) (clerk_view clerk.new).seen) }
 {
     match next_errand::<V, R, Unheard<C>, K>(rt, office, clerk, clock) {
         Ok(Some(errand)) => match hand_over(rt, office, clerk, carriage, gate, clock, errand) {
@@ -170,8 +176,10 @@ fn take_due<V: Serving, R: Wait, C: Carriage, G: Gate, K: Clock>(
     ensures number { clerk.new.number ≡ clerk.old.number }
     ensures held { AreHanded V.covers (clerk_view clerk.new).seen (C.held carriage.new) }
     ensures work { (s : Post V.Origin K) → Carries V.setting C.gives K.tells s (post (clerk_view clerk.old) clock.old)
-        → MatchResult result (λ _. Carries V.setting C.gives K.tells s (post (clerk_view clerk.new) clock.new)) (λ end. EndsCarrying V.setting C.gives K.tells s end (post (clerk_view clerk.new) clock.new)) }
-    ensures why { IfErr result (TellsWhy (G.is_shut gate.new) (G.holds gate.new) (HasStopped V.origin V.history V.lawful V.has_stopped (clerk_view clerk.new)) (clerk_view clerk.new).seen) }
+        → MatchResult result (λ _. Carries V.setting C.gives K.tells s (post (clerk_view clerk.new) clock.new))
+        (λ end. EndsCarrying V.setting C.gives K.tells s end (post (clerk_view clerk.new) clock.new)) }
+    ensures why { IfErr result (TellsWhy (G.is_shut gate.new) (G.holds gate.new)
+        (HasStopped V.origin V.history V.lawful V.has_stopped (clerk_view clerk.new)) (clerk_view clerk.new).seen) }
 {
     for _taken in 0..MOST_TAKEN {
         if !carriage.has_room() {
@@ -201,8 +209,10 @@ fn record_one<V: Serving, R: Wait, C: Carriage, G: Gate, K: Clock>(
     ensures number { clerk.new.number ≡ clerk.old.number }
     ensures held { AreHanded V.covers (clerk_view clerk.new).seen (C.held carriage.new) }
     ensures work { (s : Post V.Origin K) → Carries V.setting C.gives K.tells s (post (clerk_view clerk.old) clock.old)
-        → MatchResult result (λ _. Carries V.setting C.gives K.tells s (post (clerk_view clerk.new) clock.new)) (λ end. EndsCarrying V.setting C.gives K.tells s end (post (clerk_view clerk.new) clock.new)) }
-    ensures why { IfErr result (TellsWhy (G.is_shut gate.new) (G.holds gate.new) (HasStopped V.origin V.history V.lawful V.has_stopped (clerk_view clerk.new)) (clerk_view clerk.new).seen) }
+        → MatchResult result (λ _. Carries V.setting C.gives K.tells s (post (clerk_view clerk.new) clock.new))
+        (λ end. EndsCarrying V.setting C.gives K.tells s end (post (clerk_view clerk.new) clock.new)) }
+    ensures why { IfErr result (TellsWhy (G.is_shut gate.new) (G.holds gate.new)
+        (HasStopped V.origin V.history V.lawful V.has_stopped (clerk_view clerk.new)) (clerk_view clerk.new).seen) }
 {
     let Some((errand, outcome)) = carriage.done() else {
         return Ok(false);
@@ -228,8 +238,10 @@ fn record_done<V: Serving, R: Wait, C: Carriage, G: Gate, K: Clock>(
     ensures number { clerk.new.number ≡ clerk.old.number }
     ensures held { AreHanded V.covers (clerk_view clerk.new).seen (C.held carriage.new) }
     ensures work { (s : Post V.Origin K) → Carries V.setting C.gives K.tells s (post (clerk_view clerk.old) clock.old)
-        → MatchResult result (λ _. Carries V.setting C.gives K.tells s (post (clerk_view clerk.new) clock.new)) (λ end. EndsCarrying V.setting C.gives K.tells s end (post (clerk_view clerk.new) clock.new)) }
-    ensures why { IfErr result (TellsWhy (G.is_shut gate.new) (G.holds gate.new) (HasStopped V.origin V.history V.lawful V.has_stopped (clerk_view clerk.new)) (clerk_view clerk.new).seen) }
+        → MatchResult result (λ _. Carries V.setting C.gives K.tells s (post (clerk_view clerk.new) clock.new))
+        (λ end. EndsCarrying V.setting C.gives K.tells s end (post (clerk_view clerk.new) clock.new)) }
+    ensures why { IfErr result (TellsWhy (G.is_shut gate.new) (G.holds gate.new)
+        (HasStopped V.origin V.history V.lawful V.has_stopped (clerk_view clerk.new)) (clerk_view clerk.new).seen) }
 {
     for _ in rt.forever() {
         match record_one(rt, office, clerk, carriage, gate, clock) {
@@ -256,8 +268,10 @@ fn begin<V: Serving, R: Wait, C: Carriage, G: Gate, K: Clock>(
     ensures number { clerk.new.number ≡ clerk.old.number }
     ensures held { AreHanded V.covers (clerk_view clerk.new).seen (C.held carriage.new) }
     ensures work { (s : Post V.Origin K) → Carries V.setting C.gives K.tells s (post (clerk_view clerk.old) clock.old)
-        → MatchResult result (λ _. Carries V.setting C.gives K.tells s (post (clerk_view clerk.new) clock.new)) (λ end. EndsCarrying V.setting C.gives K.tells s end (post (clerk_view clerk.new) clock.new)) }
-    ensures why { IfErr result (TellsWhy (G.is_shut gate.new) (G.holds gate.new) (HasStopped V.origin V.history V.lawful V.has_stopped (clerk_view clerk.new)) (clerk_view clerk.new).seen) }
+        → MatchResult result (λ _. Carries V.setting C.gives K.tells s (post (clerk_view clerk.new) clock.new))
+        (λ end. EndsCarrying V.setting C.gives K.tells s end (post (clerk_view clerk.new) clock.new)) }
+    ensures why { IfErr result (TellsWhy (G.is_shut gate.new) (G.holds gate.new)
+        (HasStopped V.origin V.history V.lawful V.has_stopped (clerk_view clerk.new)) (clerk_view clerk.new).seen) }
 {
     if let Err(refusal) = fire::<V, R, Unheard<C>, K>(rt, office, clerk, clock) {
         return Err(WorkerEnd::Refused(refusal));
@@ -279,10 +293,13 @@ fn begin_next<V: Serving, R: Wait, C: Carriage, G: Gate, K: Clock>(
     ensures clerk { IsClerkOf office.now.lock V.covers clerk.new }
     ensures number { clerk.new.number ≡ clerk.old.number }
     ensures held { AreHanded V.covers (clerk_view clerk.new).seen (C.held carriage.new) }
-    ensures next { IfOk result (λ next. G.is_closing gate.new ⊎ IsFirstMoment (V.setting (clerk_view clerk.new).origin).limits (clerk_view clerk.new).seen next) }
+    ensures next { IfOk result (λ next. G.is_closing gate.new ⊎ IsFirstMoment
+        (V.setting (clerk_view clerk.new).origin).limits (clerk_view clerk.new).seen next) }
     ensures work { (s : Post V.Origin K) → Carries V.setting C.gives K.tells s (post (clerk_view clerk.old) clock.old)
-        → MatchResult result (λ _. Carries V.setting C.gives K.tells s (post (clerk_view clerk.new) clock.new)) (λ end. EndsCarrying V.setting C.gives K.tells s end (post (clerk_view clerk.new) clock.new)) }
-    ensures why { IfErr result (TellsWhy (G.is_shut gate.new) (G.holds gate.new) (HasStopped V.origin V.history V.lawful V.has_stopped (clerk_view clerk.new)) (clerk_view clerk.new).seen) }
+        → MatchResult result (λ _. Carries V.setting C.gives K.tells s (post (clerk_view clerk.new) clock.new))
+        (λ end. EndsCarrying V.setting C.gives K.tells s end (post (clerk_view clerk.new) clock.new)) }
+    ensures why { IfErr result (TellsWhy (G.is_shut gate.new) (G.holds gate.new)
+        (HasStopped V.origin V.history V.lawful V.has_stopped (clerk_view clerk.new)) (clerk_view clerk.new).seen) }
 {
     if !gate.begins() {
         return Ok(None);
@@ -312,8 +329,10 @@ fn carry_on<V: Serving, R: Wait, C: Carriage, G: Gate, K: Clock>(
     ensures number { clerk.new.number ≡ clerk.old.number }
     ensures held { AreHanded V.covers (clerk_view clerk.new).seen (C.held carriage.new) }
     ensures work { (s : Post V.Origin K) → Carries V.setting C.gives K.tells s (post (clerk_view clerk.old) clock.old)
-        → MatchResult result (λ _. Carries V.setting C.gives K.tells s (post (clerk_view clerk.new) clock.new)) (λ end. EndsCarrying V.setting C.gives K.tells s end (post (clerk_view clerk.new) clock.new)) }
-    ensures why { IfErr result (TellsWhy (G.is_shut gate.new) (G.holds gate.new) (HasStopped V.origin V.history V.lawful V.has_stopped (clerk_view clerk.new)) (clerk_view clerk.new).seen) }
+        → MatchResult result (λ _. Carries V.setting C.gives K.tells s (post (clerk_view clerk.new) clock.new))
+        (λ end. EndsCarrying V.setting C.gives K.tells s end (post (clerk_view clerk.new) clock.new)) }
+    ensures why { IfErr result (TellsWhy (G.is_shut gate.new) (G.holds gate.new)
+        (HasStopped V.origin V.history V.lawful V.has_stopped (clerk_view clerk.new)) (clerk_view clerk.new).seen) }
 {
     carriage.carry(next);
     record_done(rt, office, clerk, carriage, gate, clock)
@@ -334,8 +353,10 @@ fn take_turn<V: Serving, R: Wait, C: Carriage, G: Gate, K: Clock>(
     ensures number { clerk.new.number ≡ clerk.old.number }
     ensures held { AreHanded V.covers (clerk_view clerk.new).seen (C.held carriage.new) }
     ensures work { (s : Post V.Origin K) → Carries V.setting C.gives K.tells s (post (clerk_view clerk.old) clock.old)
-        → MatchResult result (λ _. Carries V.setting C.gives K.tells s (post (clerk_view clerk.new) clock.new)) (λ end. EndsCarrying V.setting C.gives K.tells s end (post (clerk_view clerk.new) clock.new)) }
-    ensures why { IfErr result (TellsWhy (G.is_shut gate.new) (G.holds gate.new) (HasStopped V.origin V.history V.lawful V.has_stopped (clerk_view clerk.new)) (clerk_view clerk.new).seen) }
+        → MatchResult result (λ _. Carries V.setting C.gives K.tells s (post (clerk_view clerk.new) clock.new))
+        (λ end. EndsCarrying V.setting C.gives K.tells s end (post (clerk_view clerk.new) clock.new)) }
+    ensures why { IfErr result (TellsWhy (G.is_shut gate.new) (G.holds gate.new)
+        (HasStopped V.origin V.history V.lawful V.has_stopped (clerk_view clerk.new)) (clerk_view clerk.new).seen) }
 {
     match begin_next(rt, office, clerk, carriage, gate, clock) {
         Ok(next) => carry_on(rt, office, clerk, carriage, gate, clock, next),
@@ -360,8 +381,10 @@ pub fn run_carrier<V: Serving, R: Wait, C: Carriage, G: Gate, K: Clock>(
     requires none { AreFree (C.held carriage.old) }
     ensures clerk { IsClerkOf office.now.lock V.covers result.0 }
     ensures number { result.0.number ≡ clerk.number }
-    ensures work { EndsCarrying V.setting C.gives K.tells (post (clerk_view clerk) clock.old) result.1 (post (clerk_view result.0) clock.new) }
-    ensures why { TellsWhy (G.is_shut gate.new) (G.holds gate.new) (HasStopped V.origin V.history V.lawful V.has_stopped (clerk_view result.0)) (clerk_view result.0).seen result.1 }
+    ensures work { EndsCarrying V.setting C.gives K.tells (post (clerk_view clerk) clock.old) result.1
+        (post (clerk_view result.0) clock.new) }
+    ensures why { TellsWhy (G.is_shut gate.new) (G.holds gate.new) (HasStopped V.origin V.history V.lawful V.has_stopped
+        (clerk_view result.0)) (clerk_view result.0).seen result.1 }
     ensures memory { is_for_memory result.1 ≡ false }
     // The position of each errand that is still under way covers a history in which its ask stands.
     ensures held { AreHanded V.covers (clerk_view result.0).seen (C.held carriage.new) }

@@ -62,7 +62,8 @@ fn answer<V: Serving, R: Wait, L: Line, K: Clock, Q: WhichLock>(
     requires made { IsOfficeOf (V.setting (clerk_view clerk).origin) office.now }
     requires here { lock_id office.now.lock ≡ Q.lock }
     ensures clerk { IsClerkOf office.now.lock V.covers result }
-    ensures answered { Connection (KeepsInTurn V.setting V.origin V.history V.lawful V.has_stopped) K.tells (clerk_sight V.setting clerk) clock.old (clerk_sight V.setting result) clock.new }
+    ensures answered { Connection (KeepsInTurn V.setting V.origin V.history V.lawful V.has_stopped) K.tells
+        (clerk_sight V.setting clerk) clock.old (clerk_sight V.setting result) clock.new }
 {
     let mut window: Window<'_, V, R, Q> = Window::new(rt, office, clerk);
     let mut mouth = Mouth(line);
@@ -87,7 +88,8 @@ pub fn serve_connections<V: Serving, R: Wait, D: Door, K: Clock>(
     ensures number { result.0.number ≡ clerk.number }
     ensures setting { V.setting (clerk_view result.0).origin ≡ V.setting (clerk_view clerk).origin }
     ensures seen { IsPrefix (clerk_view clerk).seen (clerk_view result.0).seen }
-    ensures answers { EndsServing (KeepsInTurn V.setting V.origin V.history V.lawful V.has_stopped) K.tells count (clerk_sight V.setting clerk) clock.old result.1 (clerk_sight V.setting result.0) clock.new }
+    ensures answers { EndsServing (KeepsInTurn V.setting V.origin V.history V.lawful V.has_stopped) K.tells count
+        (clerk_sight V.setting clerk) clock.old result.1 (clerk_sight V.setting result.0) clock.new }
 {
     let mut clerk = clerk;
     for _answered in 0..count {

@@ -46,8 +46,10 @@ pub(crate) fn fire<V: Serving, R: Wait, C: Courier, K: Clock>(
     ensures clerk { IsClerkOf office.now.lock V.covers clerk.new }
     ensures number { clerk.new.number ≡ clerk.old.number }
     ensures work { (s : Post V.Origin K) → Works V.setting C.gives K.tells s (post (clerk_view clerk.old) clock.old)
-        → MatchResult result (λ _. Works V.setting C.gives K.tells s (post (clerk_view clerk.new) clock.new)) (λ r. WorksUpTo V.setting C.gives K.tells s r (post (clerk_view clerk.new) clock.new)) }
-    ensures stopped { IfErr result (λ r. r ≡ fault.Refused Stopped → HasStopped V.origin V.history V.lawful V.has_stopped (clerk_view clerk.new)) }
+        → MatchResult result (λ _. Works V.setting C.gives K.tells s (post (clerk_view clerk.new) clock.new))
+        (λ r. WorksUpTo V.setting C.gives K.tells s r (post (clerk_view clerk.new) clock.new)) }
+    ensures stopped { IfErr result (λ r. r ≡ fault.Refused Stopped → HasStopped V.origin V.history V.lawful
+        V.has_stopped (clerk_view clerk.new)) }
 {
     for _ in rt.forever() {
         let moment = clock.now();
@@ -75,7 +77,8 @@ fn is_let_go<G: Gate>(gate: &mut G, ask: u64) -> bool
 
 /// Decides how a worker goes on whose record is refused: an ask that isn't outstanding any more is passed over.
 pub(crate) fn after_refusal(refusal: OfficeRefusal) -> Result<(), WorkerEnd>
-    ensures { MatchResult result (λ _. refusal ≡ fault.Refused NotAsked) (λ end. (refusal ≢ fault.Refused NotAsked) × (end ≡ worker.Refused refusal)) }
+    ensures { MatchResult result (λ _. refusal ≡ fault.Refused NotAsked)
+        (λ end. (refusal ≢ fault.Refused NotAsked) × (end ≡ worker.Refused refusal)) }
 {
     if refusal == OfficeRefusal::Refused(Refusal::NotAsked) {
         Ok(())
@@ -96,8 +99,10 @@ pub(crate) fn next_errand<V: Serving, R: Wait, C: Courier, K: Clock>(
     ensures number { clerk.new.number ≡ clerk.old.number }
     ensures of_ask { IfOk result (λ errand. IfSome errand (λ e. IsOfAsk (clerk_view clerk.new).seen e)) }
     ensures work { (s : Post V.Origin K) → Works V.setting C.gives K.tells s (post (clerk_view clerk.old) clock.old)
-        → MatchResult result (λ _. Works V.setting C.gives K.tells s (post (clerk_view clerk.new) clock.new)) (λ r. WorksUpTo V.setting C.gives K.tells s r (post (clerk_view clerk.new) clock.new)) }
-    ensures stopped { IfErr result (λ r. r ≡ fault.Refused Stopped → HasStopped V.origin V.history V.lawful V.has_stopped (clerk_view clerk.new)) }
+        → MatchResult result (λ _. Works V.setting C.gives K.tells s (post (clerk_view clerk.new) clock.new))
+        (λ r. WorksUpTo V.setting C.gives K.tells s r (post (clerk_view clerk.new) clock.new)) }
+    ensures stopped { IfErr result (λ r. r ≡ fault.Refused Stopped → HasStopped V.origin V.history V.lawful
+        V.has_stopped (clerk_view clerk.new)) }
 {
     errands_are_of_asks();
     let moment = clock.now();
@@ -120,8 +125,10 @@ fn record<V: Serving, R: Wait, C: Courier, G: Gate, K: Clock>(
     ensures clerk { IsClerkOf office.now.lock V.covers clerk.new }
     ensures number { clerk.new.number ≡ clerk.old.number }
     ensures work { (s : Post V.Origin K) → Works V.setting C.gives K.tells s (post (clerk_view clerk.old) clock.old)
-        → MatchResult result (λ _. Works V.setting C.gives K.tells s (post (clerk_view clerk.new) clock.new)) (λ end. EndsWork V.setting C.gives K.tells s end (post (clerk_view clerk.new) clock.new)) }
-    ensures why { IfErr result (TellsWhy (G.is_shut gate.new) (G.holds gate.new) (HasStopped V.origin V.history V.lawful V.has_stopped (clerk_view clerk.new)) (clerk_view clerk.new).seen) }
+        → MatchResult result (λ _. Works V.setting C.gives K.tells s (post (clerk_view clerk.new) clock.new))
+        (λ end. EndsWork V.setting C.gives K.tells s end (post (clerk_view clerk.new) clock.new)) }
+    ensures why { IfErr result (TellsWhy (G.is_shut gate.new) (G.holds gate.new)
+        (HasStopped V.origin V.history V.lawful V.has_stopped (clerk_view clerk.new)) (clerk_view clerk.new).seen) }
 {
     let ask = errand.ask();
     let moment = clock.now();
@@ -152,8 +159,10 @@ fn carry<V: Serving, R: Wait, C: Courier, G: Gate, K: Clock>(
     ensures clerk { IsClerkOf office.now.lock V.covers clerk.new }
     ensures number { clerk.new.number ≡ clerk.old.number }
     ensures work { (s : Post V.Origin K) → Works V.setting C.gives K.tells s (post (clerk_view clerk.old) clock.old)
-        → MatchResult result (λ _. Works V.setting C.gives K.tells s (post (clerk_view clerk.new) clock.new)) (λ end. EndsWork V.setting C.gives K.tells s end (post (clerk_view clerk.new) clock.new)) }
-    ensures why { IfErr result (TellsWhy (G.is_shut gate.new) (G.holds gate.new) (HasStopped V.origin V.history V.lawful V.has_stopped (clerk_view clerk.new)) (clerk_view clerk.new).seen) }
+        → MatchResult result (λ _. Works V.setting C.gives K.tells s (post (clerk_view clerk.new) clock.new))
+        (λ end. EndsWork V.setting C.gives K.tells s end (post (clerk_view clerk.new) clock.new)) }
+    ensures why { IfErr result (TellsWhy (G.is_shut gate.new) (G.holds gate.new)
+        (HasStopped V.origin V.history V.lawful V.has_stopped (clerk_view clerk.new)) (clerk_view clerk.new).seen) }
 {
     if !is_let_go(gate, errand.ask()) {
         errand.discard();
@@ -176,8 +185,10 @@ fn take_turn<V: Serving, R: Wait, C: Courier, G: Gate, K: Clock>(
     ensures clerk { IsClerkOf office.now.lock V.covers clerk.new }
     ensures number { clerk.new.number ≡ clerk.old.number }
     ensures work { (s : Post V.Origin K) → Works V.setting C.gives K.tells s (post (clerk_view clerk.old) clock.old)
-        → MatchResult result (λ _. Works V.setting C.gives K.tells s (post (clerk_view clerk.new) clock.new)) (λ end. EndsWork V.setting C.gives K.tells s end (post (clerk_view clerk.new) clock.new)) }
-    ensures why { IfErr result (TellsWhy (G.is_shut gate.new) (G.holds gate.new) (HasStopped V.origin V.history V.lawful V.has_stopped (clerk_view clerk.new)) (clerk_view clerk.new).seen) }
+        → MatchResult result (λ _. Works V.setting C.gives K.tells s (post (clerk_view clerk.new) clock.new))
+        (λ end. EndsWork V.setting C.gives K.tells s end (post (clerk_view clerk.new) clock.new)) }
+    ensures why { IfErr result (TellsWhy (G.is_shut gate.new) (G.holds gate.new)
+        (HasStopped V.origin V.history V.lawful V.has_stopped (clerk_view clerk.new)) (clerk_view clerk.new).seen) }
 {
     if let Err(refusal) = fire::<V, R, C, K>(rt, office, clerk, clock) {
         return Err(WorkerEnd::Refused(refusal));
@@ -202,8 +213,10 @@ pub fn run_worker<V: Serving, R: Wait, C: Courier, G: Gate, K: Clock>(
     requires { IsClerkOf office.now.lock V.covers clerk }
     ensures clerk { IsClerkOf office.now.lock V.covers result.0 }
     ensures number { result.0.number ≡ clerk.number }
-    ensures work { EndsWork V.setting C.gives K.tells (post (clerk_view clerk) clock.old) result.1 (post (clerk_view result.0) clock.new) }
-    ensures why { TellsWhy (G.is_shut gate.new) (G.holds gate.new) (HasStopped V.origin V.history V.lawful V.has_stopped (clerk_view result.0)) (clerk_view result.0).seen result.1 }
+    ensures work { EndsWork V.setting C.gives K.tells (post (clerk_view clerk) clock.old) result.1
+        (post (clerk_view result.0) clock.new) }
+    ensures why { TellsWhy (G.is_shut gate.new) (G.holds gate.new) (HasStopped V.origin V.history V.lawful V.has_stopped
+        (clerk_view result.0)) (clerk_view result.0).seen result.1 }
 {
     let mut clerk = clerk;
     for _ in rt.forever() {

@@ -16,10 +16,12 @@ size_left (Some text) = length text + 1
 
 -- a line of some number takes the digests before it to those after it: whatever lines follow, what is read is the same
 abbrev pub Takes : List (List ℕ) → List (List ℕ) → ℕ → List ℕ → Type 0
-Takes before after number line = (lines : List (List ℕ)) → digests_from after (number + 1) lines ≡ digests_from before number (line ∷ lines)
+Takes before after number line = (lines : List (List ℕ)) → digests_from after (number + 1) lines
+    ≡ digests_from before number (line ∷ lines)
 
 -- why a line isn't taken: it is wrong, whatever lines follow, or memory is refused
 abbrev pub FailsAt : List (List ℕ) → ℕ → List ℕ → KeysFault → Type 0
-FailsAt before number line (fault.Line n) = (n ≡ number) × ((lines : List (List ℕ)) → digests_from before number (line ∷ lines) ≡ Err number)
+FailsAt before number line (fault.Line n) = (n ≡ number) × ((lines : List (List ℕ))
+    → digests_from before number (line ∷ lines) ≡ Err number)
 FailsAt before number line fault.Memory = ⊤
 FailsAt before number line _ = ⊥

@@ -20,8 +20,10 @@ pub record IsTrail (b : Boarded) (es : List Entry) (ks : List Step) (now : Board
   pub at : now ≡ carried_all b es
   pub many : length ks ≡ length es
   pub follows : (i : ℕ) (e : Entry) → slice_get es i ≡ Some e → Follows (carried_all b (take i es)).rows.sheet e
-  pub back : (i : ℕ) (e : Entry) (k : Step) → slice_get es i ≡ Some e → slice_get ks i ≡ Some k → uncarried e k (carried_all b (take (suc i) es)) ≡ carried_all b (take i es)
-  pub given : (i : ℕ) (e : Entry) (k : Step) → slice_get es i ≡ Some e → slice_get ks i ≡ Some k → addresses_back k (carried_all b (take (suc i) es)).rows ≡ addresses_joined e.deed
+  pub back : (i : ℕ) (e : Entry) (k : Step) → slice_get es i ≡ Some e → slice_get ks i ≡ Some k
+      → uncarried e k (carried_all b (take (suc i) es)) ≡ carried_all b (take i es)
+  pub given : (i : ℕ) (e : Entry) (k : Step) → slice_get es i ≡ Some e → slice_get ks i ≡ Some k
+      → addresses_back k (carried_all b (take (suc i) es)).rows ≡ addresses_joined e.deed
 
 -- one who may go on writing after a history that the board stands for
 pub record MayGoOn (b : Boarded) (K : History) (by moment : ℕ) : Type 0 where

@@ -18,11 +18,13 @@ pub record IsOfSame (old new : Carried) : Type 0 where
 
 -- what a stream gained is just what counts as handed out of the request
 abbrev pub HandsOut : Carried → Carried → Option (List ℕ) → Option (List ℕ) → Type 0
-HandsOut old new before after = (count : ℕ) × (new.gone ≡ old.gone + count) × Appends before after (take count (drop old.gone old.request))
+HandsOut old new before after = (count : ℕ) × (new.gone ≡ old.gone + count)
+    × Appends before after (take count (drop old.gone old.request))
 
 -- what is taken of a response is just what a stream gave; where memory is refused for it, nothing is
 abbrev pub TakesIn : Carried → Carried → Option (List ℕ) → Option (List ℕ) → Type 0
-TakesIn old new before after = (bytes : List ℕ) × Consumes before after bytes × ((new.taken ≡ old.taken ++ bytes) ⊎ (new.taken ≡ old.taken))
+TakesIn old new before after = (bytes : List ℕ) × Consumes before after bytes
+    × ((new.taken ≡ old.taken ++ bytes) ⊎ (new.taken ≡ old.taken))
 
 -- what a callback came to is what is told of it, and silence where it came to nothing
 abbrev pub outcome_of : Carried → Outcome

@@ -16,12 +16,14 @@ is_again silence stage = same_kind silence.stage stage
 -- greatest number
 abbrev pub again : Option Silence → AskKind → ℕ → Option ℕ
 again None stage pause = None
-again (Some silence) stage pause = if is_again silence stage then Some (min (silence.moment + pause) (2 ^ 64 - 1)) else None
+again (Some silence) stage pause = if is_again silence stage then Some (min (silence.moment + pause) (2 ^ 64 - 1)) else
+    None
 
 -- what is known of a member once that came of its errand at a moment: that it was silent then, and nothing where it wasn't, or where memory is refused
 abbrev pub Notes : Asking → Outcome → ℕ → Option Silence → Type 0
 Notes errand outcome moment known =
-    (known ≡ None) ⊎ ((is_silent outcome ≡ true) × (known ≡ Some (record { stage = stage_of errand.kind errand.direction; moment = moment })))
+    (known ≡ None) ⊎ ((is_silent outcome ≡ true)
+    × (known ≡ Some (record { stage = stage_of errand.kind errand.direction; moment = moment })))
 
 -- a clock at a moment has ten seconds to go, or less, until the greatest one (this project's choice)
 abbrev pub is_near_end : ℕ → Bool

@@ -22,4 +22,8 @@ seen_after s J c (Err Worn) K h = h.told
 pub owns_keeps : (before after : Sight) (moment : ℕ) (o : Order) (reply : Result Told CounterFault)
     → OwnsHistory before moment o reply after → KeepsHistory before moment o reply after
 owns_keeps before after moment o reply h =
-    record { same = h.same; seen = seen_after before.setting before.seen (call_of before.number moment o) reply after.seen h.given }
+    record {
+      same = h.same;
+      seen = seen_after before.setting before.seen (call_of before.number moment o) reply
+          after.seen h.given;
+    }

@@ -31,7 +31,8 @@ ask_in e = by_deed e.deed
 
 -- what the errand of an ask says that is wanted at a history
 abbrev pub asking_at : Setting → History → Ask → Asking
-asking_at g J a = asking_of g.instance g.base J (record { number = a.number; member = a.member; kind = a.kind; direction = ask_direction J a.member a.kind })
+asking_at g J a = asking_of g.instance g.base J
+    (record { number = a.number; member = a.member; kind = a.kind; direction = ask_direction J a.member a.kind })
 
 -- a call that can be made writes an entry
 pub record IsWriting (s : Terms) (J : History) (c : Call) (e : Entry) : Type 0 where

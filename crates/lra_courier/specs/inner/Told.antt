@@ -12,7 +12,8 @@ use Rattle.lra_courier.specs.Carried.{IsReply, Replies}
 
 -- the outcome of a response, or why there is none, whatever follows; or more bytes are wanted
 abbrev pub TellsSoFar : AskKind → Direction → List ℕ → Result (Option (Result Outcome WireFault)) AllocError → Type 0
-TellsSoFar kind direction bytes (Ok (Some (Ok outcome))) = (more : List ℕ) → (rest : List ℕ) × IsReply kind direction (bytes ++ more) rest outcome
+TellsSoFar kind direction bytes (Ok (Some (Ok outcome))) = (more : List ℕ) → (rest : List ℕ)
+    × IsReply kind direction (bytes ++ more) rest outcome
 TellsSoFar kind direction bytes (Ok (Some (Err fault))) = (fault ≢ Memory) × Lasts RefusesResponse bytes fault
 TellsSoFar kind direction bytes (Ok None) = AwaitsResponse bytes × (length bytes < 1048576)
 TellsSoFar kind direction bytes (Err _) = ⊤
@@ -24,7 +25,9 @@ TellsAtEnd kind direction bytes (Ok (Err fault)) = (fault ≢ Memory) × (fault 
 TellsAtEnd kind direction bytes (Err _) = ⊤
 
 -- what the bytes come to; or more bytes are wanted, and may come
-abbrev pub Looks : Bool → Bool → AskKind → Direction → List ℕ → Result (Option (Result Outcome WireFault)) AllocError → Type 0
+abbrev pub Looks : Bool → Bool → AskKind → Direction → List ℕ → Result (Option (Result Outcome WireFault)) AllocError
+    → Type 0
 Looks closed failed kind direction bytes (Ok (Some told)) = Replies closed failed kind direction bytes told
-Looks closed failed kind direction bytes (Ok None) = IsFalse failed × IsFalse closed × AwaitsResponse bytes × (length bytes < 1048576)
+Looks closed failed kind direction bytes (Ok None) = IsFalse failed × IsFalse closed × AwaitsResponse bytes
+    × (length bytes < 1048576)
 Looks closed failed kind direction bytes (Err _) = ⊤

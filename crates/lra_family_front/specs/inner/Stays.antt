@@ -16,9 +16,12 @@ use Rattle.lra_family.specs.Families.{MovesAt}
 use Rattle.lra_family_front.specs.Serving.{DoesOrdered, IsCoveredAt}
 
 pub responds_stays : (gives : Sight → ℕ → Order → Result Told CounterFault → Sight → Type 0)
-    (keeps : (before after : Sight) (moment : ℕ) (o : Order) (reply : Result Told CounterFault) → gives before moment o reply after → KeepsHistory before moment o reply after)
-    (before after : Sight) (moment : ℕ) (request : Request) (answer : Answer) → Responds gives before moment request after answer → after.setting ≡ before.setting
-responds_stays gives keeps before after moment request answer (Ok w, asks, h) = (keeps before after moment h.order h.reply h.given).same.setting
+    (keeps : (before after : Sight) (moment : ℕ) (o : Order) (reply : Result Told CounterFault)
+    → gives before moment o reply after → KeepsHistory before moment o reply after)
+    (before after : Sight) (moment : ℕ) (request : Request) (answer : Answer)
+    → Responds gives before moment request after answer → after.setting ≡ before.setting
+responds_stays gives keeps before after moment request answer (Ok w, asks, h) =
+    (keeps before after moment h.order h.reply h.given).same.setting
 responds_stays gives keeps before after moment request answer (Err d, asks, h) = ap (λ s. s.setting) h.1
 
 module _ {C : Type 0} (sight : C → Sight) (covers : C → ℕ → Bool) (gives : Sight → ℕ → Order → Result Told

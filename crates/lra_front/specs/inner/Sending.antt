@@ -25,7 +25,8 @@ Denies v fault old new WriteFault = AppendsFront old new (fault_text v fault)
 -- what went out of the reply to a request, and what becomes of the stream
 abbrev pub Sent : Sight → Bool → Request → Answer → Option (List ℕ) → Option (List ℕ) → Served → Type 0
 Sent v last request a old new Going = (closes_after last request ≡ false) × Appends old new (reply_to v last request a)
-Sent v last request a old new (Ended Done) = (closes_after last request ≡ true) × Appends old new (reply_to v last request a)
+Sent v last request a old new (Ended Done) = (closes_after last request ≡ true)
+    × Appends old new (reply_to v last request a)
 Sent v last request a old new (Ended WriteFault) = AppendsFront old new (reply_to v last request a)
 Sent v last request a old new (Ended (Refused fault)) = ⊥
 

@@ -96,7 +96,8 @@ told_so t = Ok (decision.Told t)
 
 -- the number of a new clerk
 abbrev pub new_clerk : Limits → History → Result ℕ Refusal
-new_clerk l J = cond (nat_le l.clerks (length (clerks J))) (Err (refusal.Full resource.Clerks)) (Ok (length (clerks J) + 1))
+new_clerk l J = cond (nat_le l.clerks (length (clerks J))) (Err (refusal.Full resource.Clerks))
+    (Ok (length (clerks J) + 1))
 
 -- an enrolment
 abbrev pub enrol : Limits → History → ℕ → Judged
@@ -115,7 +116,8 @@ depth_above J (Some b) = do
 
 -- the number of a new action
 abbrev pub new_action : Limits → History → Result ℕ Refusal
-new_action l J = cond (nat_le l.actions (length (actions J))) (Err (refusal.Full resource.Actions)) (Ok (length (actions J) + 1))
+new_action l J = cond (nat_le l.actions (length (actions J))) (Err (refusal.Full resource.Actions))
+    (Ok (length (actions J) + 1))
 
 -- that an action below one of that depth isn't nested too deep
 abbrev pub shallow : Limits → ℕ → Result (Unit {0}) Refusal
@@ -148,7 +150,8 @@ close J by m a = do
 
 -- whether there is an action above and it is Active
 abbrev pub is_open_above : History → Option ℕ → Bool
-is_open_above J o = option_map_or (λ b. option_map_or (λ (r : ActionRow). is_active r.status) (found_action J b) false) o false
+is_open_above J o = option_map_or (λ b. option_map_or (λ (r : ActionRow). is_active r.status) (found_action J b) false)
+    o false
 
 -- whether the version lets a client take back what has closed
 abbrev pub takes_back : Version → Bool
@@ -158,7 +161,8 @@ takes_back version.Two = true
 -- a cancel, by the action's status and whether it may be taken back once it has closed
 abbrev pub cancel_at : ℕ → ℕ → ℕ → ActionStatus → Bool → Judged
 cancel_at by m a action.Active back = Ok (written by m (deed.Cancel a cause.Client))
-cancel_at by m a action.Closed back = cond back (Ok (written by m (deed.Cancel a cause.Client))) (Err (refusal.NotActive action.Closed))
+cancel_at by m a action.Closed back = cond back (Ok (written by m (deed.Cancel a cause.Client)))
+    (Err (refusal.NotActive action.Closed))
 cancel_at by m a action.Closing back = Err (refusal.NotActive action.Closing)
 cancel_at by m a action.FailedToClose back = Err (refusal.NotActive action.FailedToClose)
 cancel_at by m a status back = told_so (told.Already status)
@@ -194,7 +198,8 @@ renew v J by m a limit = do
 
 -- the number of a new member
 abbrev pub new_member : Limits → History → Result ℕ Refusal
-new_member l J = cond (nat_le l.members (length (members J))) (Err (refusal.Full resource.Members)) (Ok (length (members J) + 1))
+new_member l J = cond (nat_le l.members (length (members J))) (Err (refusal.Full resource.Members))
+    (Ok (length (members J) + 1))
 
 -- that a clerk may let members join an action
 abbrev pub joinable : History → ℕ → ℕ → Result (Unit {0}) Refusal
@@ -206,7 +211,8 @@ joinable J by a = do
 -- a join of an action that is Active, with addresses as they are stored
 abbrev pub join_with : Limits → History → ℕ → ℕ → ℕ → Addresses → Judged
 join_with l J by m a u =
-    option_map_or (λ p. told_so (told.AlreadyMember p)) (already_member J a u) (new_member l J >>= λ p. Ok (written by m (deed.Join p a u)))
+    option_map_or (λ p. told_so (told.AlreadyMember p)) (already_member J a u)
+    (new_member l J >>= λ p. Ok (written by m (deed.Join p a u)))
 
 -- the same, by what reading the addresses comes to
 abbrev pub join_read : Limits → History → ℕ → ℕ → ℕ → Result Addresses Refusal → Judged
@@ -215,7 +221,8 @@ join_read l J by m a read = read >>= join_with l J by m a
 -- a join, by whether the clerk may let members join, and what reading the addresses comes to
 abbrev pub IsJoin : Limits → History → ℕ → ℕ → ℕ → Addresses → Judged → Result (Unit {0}) Refusal → Type 0
 IsJoin l J by m a u result (Err r) = result ≡ Err r
-IsJoin l J by m a u result (Ok x) = (read : Result Addresses Refusal) × IsReading u read × (result ≡ join_read l J by m a read)
+IsJoin l J by m a u result (Ok x) = (read : Result Addresses Refusal) × IsReading u read
+    × (result ≡ join_read l J by m a read)
 
 -- that a member is the action's
 abbrev pub own : ℕ → ℕ → Result (Unit {0}) Refusal
@@ -287,7 +294,8 @@ next_ask J by m due = do
 
 -- whether an ask is outstanding and the errand's
 abbrev pub is_carried : Carried → AskRow → Bool
-is_carried e r = r.outstanding && ((r.member == e.member) && same_kind r.kind e.kind && same_direction r.direction e.direction)
+is_carried e r = r.outstanding && ((r.member == e.member) && same_kind r.kind e.kind
+    && same_direction r.direction e.direction)
 
 -- that an ask is outstanding and the errand's
 abbrev pub awaited : History → Carried → Result (Unit {0}) Refusal

@@ -21,11 +21,13 @@ use Rattle.lra_judge.specs.inner.Told.{told_at}
 
 -- what a member is to be asked next, by its row
 abbrev pub want_in : Limits → MemberRow → Option Want
-want_in l r = option_map (λ (kind : AskKind). record { kind = kind; repeats = r.k; due = due_after l r.k r.last }) r.want
+want_in l r = option_map (λ (kind : AskKind). record { kind = kind; repeats = r.k; due = due_after l r.k r.last })
+    r.want
 
 -- the row of a member, if it is there
 abbrev pub member_found : Limits → History → ℕ → Option Row
-member_found l J p = option_map (λ (r : MemberRow). row.Member p r.status r.outstanding (want_in l r)) (found_member J p)
+member_found l J p = option_map (λ (r : MemberRow). row.Member p r.status r.outstanding (want_in l r))
+    (found_member J p)
 
 -- the row of an action, if it is there
 abbrev pub action_found : History → ℕ → Option Row

@@ -50,5 +50,6 @@ facts_by s = record {
   is_clerk = λ n. nat_lt 0 n && nat_le n s.clerks;
   action = λ a. option_map (action_by s) (row_at s.actions a);
   member = λ p. option_map (member_by s) (row_at s.members p);
-  outstanding = λ n. option_and_then (λ (r : MemberRow). option_map (λ (x : Standing). x.kind) r.asked) (member_asked s n);
+  outstanding = λ n. option_and_then (λ (r : MemberRow). option_map (λ (x : Standing). x.kind) r.asked)
+      (member_asked s n);
 }

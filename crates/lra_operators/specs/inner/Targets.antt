@@ -6,4 +6,5 @@ use Rattle.lra_operators.specs.Orders.{IsAsked}
 
 -- what a target does to the orders that were given: nothing, or the one that it asks for is added
 abbrev pub Orders : List ℕ → Operation → List (ℕ × Order) → List (ℕ × Order) → Type 0
-Orders target p before after = (after ≡ before) ⊎ ((i : ℕ) × (o : Order) × IsAsked target p i o × (after ≡ before ++ (i, o) ∷ []))
+Orders target p before after = (after ≡ before) ⊎ ((i : ℕ) × (o : Order) × IsAsked target p i o
+    × (after ≡ before ++ (i, o) ∷ []))

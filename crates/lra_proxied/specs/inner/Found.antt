@@ -15,4 +15,5 @@ Finds body (Some value) = (object_in body ≡ as_object (view value)) × (depth 
 
 -- the body that has these members, where there are any
 abbrev pub IsOther : Option Members → Option (String Global) → Type 0
-IsOther members other = MatchOption members (other ≡ None) (λ ms. IsSomeAnd other (λ body. object_in (string_bytes body) ≡ Some ms))
+IsOther members other = MatchOption members (other ≡ None) (λ ms. IsSomeAnd other
+    (λ body. object_in (string_bytes body) ≡ Some ms))

@@ -10,10 +10,12 @@ module _ {S : Type 0} (base_of : S → List ℕ) (responds : S → ℕ → Reque
   inner_stays : (before : Served S) (after : S) (moment : ℕ) (request : Request) (answered : Answered)
       → (IsTrue (keeps_out base_of responds before request) × Denies base_of responds before answered after)
       ⊎ (IsFalse (keeps_out base_of responds before request)
-      × (Answers base_of responds before moment request answered after ⊎ Refuses base_of responds before request answered after))
+      × (Answers base_of responds before moment request answered after
+      ⊎ Refuses base_of responds before request answered after))
       → base_of after ≡ base_of before.inner
   inner_stays before after moment request answered (inl h) = ap base_of h.1.unchanged
-  inner_stays before after moment request answered (inr (out, inl h)) = stays before.inner after moment h.meant answered h.does
+  inner_stays before after moment request answered (inr (out, inl h)) =
+      stays before.inner after moment h.meant answered h.does
   inner_stays before after moment request answered (inr (out, inr h)) = ap base_of h.unchanged
 
   pub base_stays : (before after : Served S) (moment : ℕ) (request : Request) (answered : Answered)

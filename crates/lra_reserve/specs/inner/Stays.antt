@@ -5,8 +5,12 @@ use Rattle.lra_wire.specs.Request.{Request}
 use Rattle.lra_steps.specs.declared.responder.Answered.{Answered}
 use Rattle.lra_reserve.specs.Admitting.{Responds}
 
-pub responds_stays : {S : Type 0} (responds : S → ℕ → Request → Answered → S → Type 0) (tells : Option ℕ → Option ℕ → Type 0) (base_of : S → List ℕ)
-    (stays : (before after : S) (moment : ℕ) (request : Request) (answered : Answered) → responds before moment request answered after → base_of after ≡ base_of before)
-    (before after : S) (moment : ℕ) (request : Request) (answered : Answered) → Responds responds tells before moment request answered after → base_of after ≡ base_of before
-responds_stays responds tells base_of stays before after moment request answered (inl h) = stays before after moment request answered h.1
+pub responds_stays : {S : Type 0} (responds : S → ℕ → Request → Answered → S → Type 0)
+    (tells : Option ℕ → Option ℕ → Type 0) (base_of : S → List ℕ)
+    (stays : (before after : S) (moment : ℕ) (request : Request) (answered : Answered)
+    → responds before moment request answered after → base_of after ≡ base_of before)
+    (before after : S) (moment : ℕ) (request : Request) (answered : Answered)
+    → Responds responds tells before moment request answered after → base_of after ≡ base_of before
+responds_stays responds tells base_of stays before after moment request answered (inl h) =
+    stays before after moment request answered h.1
 responds_stays responds tells base_of stays before after moment request answered (inr h) = ap base_of h.1

@@ -16,7 +16,13 @@ with_state r s = record r { sheet = record r.sheet { state = s } }
 
 -- what is counted, by a sheet
 abbrev pub counts_of : Sheet → Counts
-counts_of s = record { entries = s.entries; moment = s.state.moment; clerks = s.state.clerks; asks = s.state.asks; void = s.state.void }
+counts_of s = record {
+  entries = s.entries;
+  moment = s.state.moment;
+  clerks = s.state.clerks;
+  asks = s.state.asks;
+  void = s.state.void;
+}
 
 -- what was written, and what was added, takes the rows back to what they were
 abbrev pub Undoes : Writes → Rowed → Rowed → Type 0

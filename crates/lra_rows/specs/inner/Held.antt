@@ -18,7 +18,15 @@ use Rattle.lra_rows.specs.declared.found.AskRow.{AskRow}
 -- an action
 abbrev pub held_action : Sheet → ℕ → Option ActionRow
 held_action s a =
-    option_and_then (λ (r : laws.ActionRow). option_map (λ (x : Nest). record { parent = r.parent; limit = r.limit.length_of; since = r.limit.since; depth = x.depth; status = r.status }) (row_at s.nests a)) (row_at s.state.actions a)
+    option_and_then (λ (r : laws.ActionRow). option_map (λ (x : Nest).
+    record {
+      parent = r.parent;
+      limit = r.limit.length_of;
+      since = r.limit.since;
+      depth = x.depth;
+      status =
+          r.status;
+    }) (row_at s.nests a)) (row_at s.state.actions a)
 
 -- the ask of a member that is outstanding, by its row
 abbrev pub held_outstanding : Sheet → laws.MemberRow → Option ℕ
@@ -35,7 +43,8 @@ repeats_at ask.Status c = no_repeats
 -- the repeats of what a member wants
 abbrev pub held_repeats : Sheet → ℕ → laws.MemberRow → Repeats
 held_repeats s p r =
-    option_map_or (λ (kind : AskKind). option_map_or (repeats_at (stage_of kind (way_asked kind r.status))) (row_at s.contacts p) no_repeats) (wanted (facts_by s.state) (member_by s.state r)) no_repeats
+    option_map_or (λ (kind : AskKind). option_map_or (repeats_at (stage_of kind (way_asked kind r.status)))
+    (row_at s.contacts p) no_repeats) (wanted (facts_by s.state) (member_by s.state r)) no_repeats
 
 -- when the last of some repeats was
 abbrev pub last_of : Repeats → Option ℕ
@@ -64,7 +73,14 @@ held_standing s n p = nat_lt s.state.void n && option_map_or (stands_as n) (row_
 
 -- an ask
 abbrev pub held_ask : Sheet → ℕ → Option AskRow
-held_ask s n = option_map (λ (x : Asked). record { member = x.member; kind = x.kind; direction = x.direction; outstanding = held_standing s n x.member }) (row_at s.asks n)
+held_ask s n = option_map
+    (λ (x : Asked). record {
+      member = x.member;
+      kind = x.kind;
+      direction = x.direction;
+      outstanding =
+          held_standing s n x.member;
+    }) (row_at s.asks n)
 
 -- an action's children
 abbrev pub held_children : Sheet → ℕ → List ℕ

@@ -22,7 +22,14 @@ no_stages = record { completing = no_repeats; compensating = no_repeats; forgett
 
 -- how a member is reached that has these repeats
 abbrev pub contact_with : Addresses → Stages → Contact
-contact_with uris s = record { addresses = uris; completing = s.completing; compensating = s.compensating; forgetting = s.forgetting; telling = s.telling }
+contact_with uris s = record {
+  addresses = uris;
+  completing = s.completing;
+  compensating = s.compensating;
+  forgetting =
+      s.forgetting;
+  telling = s.telling;
+}
 
 -- how a member is reached, and whether there is a place for its repeats
 pub record Reached : Type 0 where

@@ -38,7 +38,8 @@ request_name name.Member = codes "member"
 
 -- every request
 abbrev pub request_names : List RequestName
-request_names = name.Enrol ∷ name.Start ∷ name.Join ∷ name.Leave ∷ name.Close ∷ name.Cancel ∷ name.Tick ∷ name.Ask ∷ name.Reply ∷ name.Report ∷ name.Restart ∷ name.Renew ∷ name.Status ∷ name.Member ∷ []
+request_names = name.Enrol ∷ name.Start ∷ name.Join ∷ name.Leave ∷ name.Close ∷ name.Cancel ∷ name.Tick ∷ name.Ask
+    ∷ name.Reply ∷ name.Report ∷ name.Restart ∷ name.Renew ∷ name.Status ∷ name.Member ∷ []
 
 -- every outcome
 abbrev pub outcomes : List Outcome
@@ -50,7 +51,8 @@ endings = ending.Completed ∷ ending.FailedToComplete ∷ ending.Compensated �
 
 -- the address that a word is, or nothing where the word is `*`
 unfoldable pub address_field : List ℕ → Option (Option (List ℕ))
-address_field word = if bytes_eq word (codes "*") then Some None else (if is_script_address word then Some (Some word) else None)
+address_field word = if bytes_eq word (codes "*") then Some None else (if is_script_address word then Some
+    (Some word) else None)
 
 -- the address that the first word is
 abbrev pub address_at : Words → Option (Option (List ℕ) × Words)
@@ -64,7 +66,17 @@ addresses_at words = do
   status ← address_at complete.1
   forget ← address_at status.1
   after ← address_at forget.1
-  Some (record { compensate = compensate.0; complete = complete.0; status = status.0; forget = forget.0; after = after.0 }, after.1)
+  Some (
+    record {
+      compensate = compensate.0;
+      complete = complete.0;
+      status = status.0;
+      forget = forget.0;
+      after =
+          after.0;
+    },
+    after.1,
+  )
 
 -- who enrols has no number yet, which is written 0
 abbrev pub enrol_at : ℕ → Words → Option (Request × Words)

@@ -29,6 +29,7 @@ IsKept a = IsPlain a.is_there a.number a.kind a.direction
 pub kept_awaited : (a : Inside) → IsKept a → kept (awaited a) ≡ a
 kept_awaited a h = decide a.is_there refl h
   where
-    decide : (b : Bool) → a.is_there ≡ b → IsPlain b a.number a.kind a.direction → kept (cond b (Some (record { number = a.number; kind = a.kind; direction = a.direction })) None) ≡ a
+    decide : (b : Bool) → a.is_there ≡ b → IsPlain b a.number a.kind a.direction
+        → kept (cond b (Some (record { number = a.number; kind = a.kind; direction = a.direction })) None) ≡ a
     decide true e g = λ i. record { number = a.number; kind = a.kind; direction = a.direction; is_there = sym e i }
     decide false e g = λ i. record { number = sym g.0 i; kind = sym g.1 i; direction = sym g.2 i; is_there = sym e i }

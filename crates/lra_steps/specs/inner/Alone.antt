@@ -18,24 +18,32 @@ base_of_session sight session = (sight session).setting.base
 
 -- what the front does where it isn't asked whether an order was given
 pub responds_of : (gives : Sight → ℕ → Order → Result Told CounterFault → Sight → Type 0)
-    (before after : Sight) (moment : ℕ) (request : Request) (answered : Answered) → AnswersOrdered gives before moment request answered after
+    (before after : Sight) (moment : ℕ) (request : Request) (answered : Answered)
+    → AnswersOrdered gives before moment request answered after
     → Responds gives before moment request after answered.answer
 responds_of gives before after moment request answered h = (h.0, h.1, h.2)
 
 pub setting_stays : (gives : Sight → ℕ → Order → Result Told CounterFault → Sight → Type 0)
-    (keeps : (before after : Sight) (moment : ℕ) (o : Order) (reply : Result Told CounterFault) → gives before moment o reply after → KeepsHistory before moment o reply after)
-    (before after : Sight) (moment : ℕ) (request : Request) (answer : Answer) → Responds gives before moment request after answer → after.setting ≡ before.setting
-setting_stays gives keeps before after moment request answer (Ok w, asks, h) = (keeps before after moment h.order h.reply h.given).same.setting
+    (keeps : (before after : Sight) (moment : ℕ) (o : Order) (reply : Result Told CounterFault)
+    → gives before moment o reply after → KeepsHistory before moment o reply after)
+    (before after : Sight) (moment : ℕ) (request : Request) (answer : Answer)
+    → Responds gives before moment request after answer → after.setting ≡ before.setting
+setting_stays gives keeps before after moment request answer (Ok w, asks, h) =
+    (keeps before after moment h.order h.reply h.given).same.setting
 setting_stays gives keeps before after moment request answer (Err d, asks, h) = ap (λ s. s.setting) h.1
 
-pub session_stays : {C : Type 0} (sight : C → Sight) (covers : C → ℕ → Bool) (gives : Sight → ℕ → Order → Result Told CounterFault → Sight → Type 0)
-    (keeps : (before after : Sight) (moment : ℕ) (o : Order) (reply : Result Told CounterFault) → gives before moment o reply after → KeepsHistory before moment o reply after)
-    (before after : C) (moment : ℕ) (request : Request) (answered : Answered) → AnswersAlone sight covers gives before moment request answered after
+pub session_stays : {C : Type 0} (sight : C → Sight) (covers : C → ℕ → Bool)
+    (gives : Sight → ℕ → Order → Result Told CounterFault → Sight → Type 0)
+    (keeps : (before after : Sight) (moment : ℕ) (o : Order) (reply : Result Told CounterFault)
+    → gives before moment o reply after → KeepsHistory before moment o reply after)
+    (before after : C) (moment : ℕ) (request : Request) (answered : Answered)
+    → AnswersAlone sight covers gives before moment request answered after
     → base_of_session sight after ≡ base_of_session sight before
 session_stays sight covers gives keeps before after moment request answered h =
     ap (λ s. s.base) (setting_stays gives keeps (sight before) (sight after) moment request answered.answer
     (responds_of gives (sight before) (sight after) moment request answered h.ordered))
 
 -- so does one that rests
-pub rested_base : {C : Type 0} (sight : C → Sight) (before after : C) → after ≡ before → base_of_session sight after ≡ base_of_session sight before
+pub rested_base : {C : Type 0} (sight : C → Sight) (before after : C) → after ≡ before → base_of_session sight after
+    ≡ base_of_session sight before
 rested_base sight before after h = ap (base_of_session sight) h

@@ -11,7 +11,8 @@ use Rattle.lra_front.specs.declared.stream.StreamEnd.TheVariants.{Done, Refused,
 -- a whole request, or more is wanted, or a fault
 abbrev pub Finds : Bool → List ℕ → Result (Option Front) WireFault → Type 0
 Finds closed kept (Ok (Some front)) = IsFront kept (Ok (Some front))
-Finds closed kept (Ok None) = (IsTrue closed → IsUnfinished kept) × (IsFalse closed → AwaitsRequest kept) × (length kept < 73728)
+Finds closed kept (Ok None) = (IsTrue closed → IsUnfinished kept) × (IsFalse closed → AwaitsRequest kept)
+    × (length kept < 73728)
 Finds closed kept (Err fault) = RefusesFront kept fault
 
 -- not while bytes may come; and then by what is kept

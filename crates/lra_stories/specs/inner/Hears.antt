@@ -9,7 +9,8 @@ use Rattle.lra_stories.specs.Facts.{told}
 -- a story has heard nothing, or a header and the entries of a history: it has rows of them, and what is told of its action
 abbrev pub Hears : Story → Option Heard → Type 0
 Hears s None = (s.rows.sheet ≡ sheet_of []) × (s.told.items ≡ [])
-Hears s (Some h) = (s.instance ≡ Some h.instance) × (s.rows.sheet ≡ sheet_of h.entries) × (s.told.items ≡ told s.action h.entries)
+Hears s (Some h) = (s.instance ≡ Some h.instance) × (s.rows.sheet ≡ sheet_of h.entries)
+    × (s.told.items ≡ told s.action h.entries)
 
 -- a story of a legal history of an instance
 pub record Tells (s : Story) (i : ℕ) (J : History) : Type 0 where

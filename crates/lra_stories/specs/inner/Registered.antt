@@ -34,5 +34,6 @@ pub record Registers (r : Register) (i : ℕ) (J : History) : Type 0 where
 -- what is said of bytes: their first fault; or, of a legal history's text, what a register has heard of it; and their account
 pub record IsSaid (bytes : List ℕ) (fault : Option FaultyLine) (account : Account) (r : Register) : Type 0 where
   pub some : IfSome fault (λ f. IsFault bytes f.line f.rule)
-  pub none : IfNone fault ((v : Version) × (i : ℕ) × (J : History) × IsTextOf v i J bytes × Hears r (Some (record { version = v; instance = i; entries = J })))
+  pub none : IfNone fault ((v : Version) × (i : ℕ) × (J : History) × IsTextOf v i J bytes
+      × Hears r (Some (record { version = v; instance = i; entries = J })))
   pub listed : IsAccount bytes account

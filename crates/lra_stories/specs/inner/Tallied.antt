@@ -5,7 +5,8 @@ use Rattle.lra_stories.specs.Lines.{place_of, count_of}
 
 -- each count is that of the members of its action that have its status
 abbrev pub Tallied : List ListedMember → List ℕ → Type 0
-Tallied ms counts = (slot a p : ℕ) → slot + 8 ≡ 8 * a + p → p < 8 → slot < length counts → get_or counts slot 0 ≡ count_of ms a p
+Tallied ms counts = (slot a p : ℕ) → slot + 8 ≡ 8 * a + p → p < 8 → slot < length counts → get_or counts slot 0
+    ≡ count_of ms a p
 
 -- a member is counted, and no other count has changed
 pub record IsMore (m : ListedMember) (before after : List ℕ) : Type 0 where

@@ -11,4 +11,5 @@ use Rattle.lra_rows.specs.Found.{found_member, found_addresses}
 -- whether a member of the action is there, hasn't left, and has these addresses
 abbrev pub found_same : History → ℕ → Addresses → ℕ → Bool
 found_same J a u p =
-    option_map_or (λ (r : MemberRow). (r.action == a) && not (has_gone r.status)) (found_member J p) false && option_map_or (λ w. same_addresses w u) (found_addresses J p) false
+    option_map_or (λ (r : MemberRow). (r.action == a) && not (has_gone r.status)) (found_member J p) false
+    && option_map_or (λ w. same_addresses w u) (found_addresses J p) false

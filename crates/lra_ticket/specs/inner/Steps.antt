@@ -51,16 +51,22 @@ abbrev pub Hand : Type 0 → Type 0 → Type 0
 Hand X O = Me (Option X) (View O)
 
 -- the seat m is handed the slot with a value that suits it, by the ticket t
-abbrev pub Takes : {X O : Type 0} → (origin : X → O) → (history : X → List Entry) → (lawful : X → Type 0) → ℕ → Hand X O → Hand X O → Type 0
-Takes {X} origin history lawful t m n = (x : X) × Suits origin history lawful m.0 x × (n ≡ (taking m.0 t (history x), (0, Some x) ∷ m.1))
+abbrev pub Takes : {X O : Type 0} → (origin : X → O) → (history : X → List Entry) → (lawful : X → Type 0) → ℕ → Hand X O
+    → Hand X O → Type 0
+Takes {X} origin history lawful t m n = (x : X) × Suits origin history lawful m.0 x
+    × (n ≡ (taking m.0 t (history x), (0, Some x) ∷ m.1))
 
 -- watch: where the ticket is served, the value is handed over
-abbrev pub watched : {X O : Type 0} → (origin : X → O) → (history : X → List Entry) → (lawful : X → Type 0) → Step (Option X) → Hand X O → ℕ → Hand X O → Type 0
-watched origin history lawful st m found n = (t : ℕ) → m.0.place ≡ Waiting t → (found ≡ t → Takes origin history lawful t m n) × (found ≢ t → n ≡ m)
+abbrev pub watched : {X O : Type 0} → (origin : X → O) → (history : X → List Entry) → (lawful : X → Type 0)
+    → Step (Option X) → Hand X O → ℕ → Hand X O → Type 0
+watched origin history lawful st m found n = (t : ℕ) → m.0.place ≡ Waiting t
+    → (found ≡ t → Takes origin history lawful t m n) × (found ≢ t → n ≡ m)
 
 -- grab: where the next ticket is the one that was served, it is drawn and served at once, and the value is handed over
-abbrev pub grabbed : {X O : Type 0} → (origin : X → O) → (history : X → List Entry) → (lawful : X → Type 0) → Step (Option X) → Hand X O → ℕ → Hand X O → Type 0
-grabbed origin history lawful st m found n = (found ≡ st.first → Takes origin history lawful st.first m n) × (found ≢ st.first → n ≡ (moved m.0 (Missed st.first found), m.1))
+abbrev pub grabbed : {X O : Type 0} → (origin : X → O) → (history : X → List Entry) → (lawful : X → Type 0)
+    → Step (Option X) → Hand X O → ℕ → Hand X O → Type 0
+grabbed origin history lawful st m found n = (found ≡ st.first → Takes origin history lawful st.first m n)
+    × (found ≢ st.first → n ≡ (moved m.0 (Missed st.first found), m.1))
 
 -- give: the slot goes home, and the caller has seen the value's history
 abbrev pub gave : {X O : Type 0} → (X → List Entry) → Step (Option X) → Hand X O → ℕ → Hand X O → Type 0

@@ -16,7 +16,8 @@ pub record Timetable : Type 0 where
 
 -- how a schedule is stored in a model
 abbrev pub timetable_code : Coded Timetable
-timetable_code = code_by (Moments × ℕ) (coded× moments_code coded_ℕ) (λ t. (t.moments, t.room)) (λ p. record { moments = p.0; room = p.1 }) (λ _. refl)
+timetable_code = code_by (Moments × ℕ) (coded× moments_code coded_ℕ) (λ t. (t.moments, t.room))
+    (λ p. record { moments = p.0; room = p.1 }) (λ _. refl)
 
 -- where each number stands
 abbrev pub Places : Type 0

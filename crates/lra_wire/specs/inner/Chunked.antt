@@ -64,23 +64,29 @@ pub record IsTrailerTo (start end : ℕ) (bytes : List ℕ) : Type 0 where
 -- that trailer, or that more bytes are wanted, or why there is none
 abbrev pub FindsEnd : ℕ → List ℕ → Result Part WireFault → Type 0
 FindsEnd start bytes (Ok (Last end)) = IsTrailerTo start end bytes
-FindsEnd start bytes (Ok (Open wanted)) = IsOpenAt HasNoSection start bytes wanted × RefusesTrailer start (drop start bytes) Cut
+FindsEnd start bytes (Ok (Open wanted)) = IsOpenAt HasNoSection start bytes wanted
+    × RefusesTrailer start (drop start bytes) Cut
 FindsEnd start bytes (Ok (Content from to)) = ⊥
 FindsEnd start bytes (Err fault) = LastsAt (RefusesTrailer start) start bytes fault
 
 -- so many bytes behind a place and CRLF, or that more bytes are wanted, or why there are none
 abbrev pub FindsContent : ℕ → ℕ → ℕ → List ℕ → Result Part WireFault → Type 0
-FindsContent start room size bytes (Ok (Content from to)) = (from ≡ start) × (to ≡ start + size) × (size ≤ room) × (to + 2 ≤ length bytes) × (to + 2 ≤ 1048576)
+FindsContent start room size bytes (Ok (Content from to)) = (from ≡ start) × (to ≡ start + size) × (size ≤ room)
+    × (to + 2 ≤ length bytes) × (to + 2 ≤ 1048576)
     × (drop to bytes ≡ crlf_bytes ++ drop (to + 2) bytes)
-FindsContent start room size bytes (Ok (Open wanted)) = (wanted ≡ Bytes (start + size + 2)) × (length bytes < start + size + 2) × (start + size + 2 ≤ 1048576)
+FindsContent start room size bytes (Ok (Open wanted)) = (wanted ≡ Bytes (start + size + 2))
+    × (length bytes < start + size + 2) × (start + size + 2 ≤ 1048576)
 FindsContent start room size bytes (Ok (Last end)) = ⊥
 FindsContent start room size bytes (Err fault) = LastsAt (RefusesContent start room size) start bytes fault
 
 -- the chunk at a place, or the end of the body, or that more bytes are wanted for either, where the body has so much room left
 abbrev pub FindsPart : ℕ → ℕ → List ℕ → Result Part WireFault → Type 0
-FindsPart start room bytes (Ok (Content from to)) = (start < from) × (from < to) × (to + 2 ≤ length bytes) × (to + 2 ≤ 1048576) × (to ≤ from + room) × IsPieceAt start bytes from to
-FindsPart start room bytes (Ok (Last end)) = (start ≤ end) × (end ≤ length bytes) × (end ≤ 1048576) × ((more : List ℕ) → HasLast (drop start (bytes ++ more)) (drop end (bytes ++ more)))
-FindsPart start room bytes (Ok (Open wanted)) = IsOpenAt AwaitsChunk start bytes wanted × RefusesChunk start room (drop start bytes) Cut
+FindsPart start room bytes (Ok (Content from to)) = (start < from) × (from < to) × (to + 2 ≤ length bytes)
+    × (to + 2 ≤ 1048576) × (to ≤ from + room) × IsPieceAt start bytes from to
+FindsPart start room bytes (Ok (Last end)) = (start ≤ end) × (end ≤ length bytes) × (end ≤ 1048576)
+    × ((more : List ℕ) → HasLast (drop start (bytes ++ more)) (drop end (bytes ++ more)))
+FindsPart start room bytes (Ok (Open wanted)) = IsOpenAt AwaitsChunk start bytes wanted
+    × RefusesChunk start room (drop start bytes) Cut
 FindsPart start room bytes (Err fault) = LastsAt (RefusesChunk start room) start bytes fault
 
 -- the chunks from a place of the bytes up to another, and the body that they make up

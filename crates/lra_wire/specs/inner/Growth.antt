@@ -14,5 +14,6 @@ pub record Grows {R : Type 0} (remaining : R → Option (List ℕ)) (old new : I
 -- one read: at least one byte came, or the stream is at its end
 abbrev pub Fills : {R : Type 0} → (R → Option (List ℕ)) → Inbox R → Inbox R → Result Bool WireFault → Type 0
 Fills remaining old new (Ok true) = Grows remaining old new × (length (kept_bytes old) < length (kept_bytes new))
-Fills remaining old new (Ok false) = Grows remaining old new × IsAtEnd (remaining new.reader) × (kept_bytes new ≡ kept_bytes old)
+Fills remaining old new (Ok false) = Grows remaining old new × IsAtEnd (remaining new.reader)
+    × (kept_bytes new ≡ kept_bytes old)
 Fills remaining old new (Err fault) = IsOutside fault

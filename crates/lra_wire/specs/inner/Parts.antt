@@ -67,13 +67,15 @@ pub record IsFinalOf (bytes : List ℕ) (found : Head) : Type 0 where
 -- a final head, or a head that more bytes may complete behind the interim ones, or none whatever follows
 abbrev pub FindsFinal : ℕ → List ℕ → Result (Option Head) WireFault → Type 0
 FindsFinal start bytes (Ok (Some found)) = IsFinalOf bytes found
-FindsFinal start bytes (Ok None) = HasNoResponse (drop start bytes) × MayBecomeResponse (drop start bytes) × (length (drop start bytes) < 8192)
+FindsFinal start bytes (Ok None) = HasNoResponse (drop start bytes) × MayBecomeResponse (drop start bytes)
+    × (length (drop start bytes) < 8192)
 FindsFinal start bytes (Err fault) = Lasts RefusesResponse bytes fault
 
 -- the final head that was seen, or that a line feed is wanted, or none whatever follows
 abbrev pub FindsHead : Option Head → List ℕ → Result (Option Head) WireFault → Type 0
 FindsHead seen bytes (Ok (Some found)) = seen ≡ Some found
-FindsHead seen bytes (Ok None) = (seen ≡ None) × IsOpenAt AwaitsResponse 0 bytes (Feed (length bytes)) × EndsInResponse bytes
+FindsHead seen bytes (Ok None) = (seen ≡ None) × IsOpenAt AwaitsResponse 0 bytes (Feed (length bytes))
+    × EndsInResponse bytes
 FindsHead seen bytes (Err fault) = Lasts RefusesResponse bytes fault
 
 -- What stands behind the interim heads: the final head, and the chunks behind it that were read; or no final head was read, and nothing of a body.
@@ -103,7 +105,8 @@ EndsBody ToTheEnd start bytes = length bytes ≤ start + 65536
 -- the body behind a place, or that more bytes are wanted, and what it comes to without them, or why there is none
 abbrev pub FindsBodyFront : Framing → ℕ → List ℕ → Result BodyFront WireFault → Type 0
 FindsBodyFront framing start bytes (Ok (body.Whole content end)) = IsBodyTo framing start bytes content.items end
-FindsBodyFront framing start bytes (Ok (body.Open wanted)) = IsOpenAt (AwaitsBody framing) start bytes wanted × EndsBody framing start bytes
+FindsBodyFront framing start bytes (Ok (body.Open wanted)) = IsOpenAt (AwaitsBody framing) start bytes wanted
+    × EndsBody framing start bytes
 FindsBodyFront framing start bytes (Err fault) = LastsAt (RefusesFramed framing start) start bytes fault
 
 -- a final head is open where the stream ends with these bytes, or the body behind one

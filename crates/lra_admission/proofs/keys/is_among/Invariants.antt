@@ -5,4 +5,5 @@ use Rattle.lra_admission.proofs.keys.is_among.Given as goal
 
 -- with what is left to look at it comes to the same
 abbrev pub invariant-loop-own : goal.invariant-loop-own
-invariant-loop-own l = (l.is_among || list_any (λ own. bytes_eq own l.digest) (drop l.own-index l.digests)) ≡ list_any (λ own. bytes_eq own l.digest) l.digests
+invariant-loop-own l = (l.is_among || list_any (λ own. bytes_eq own l.digest) (drop l.own-index l.digests))
+    ≡ list_any (λ own. bytes_eq own l.digest) l.digests

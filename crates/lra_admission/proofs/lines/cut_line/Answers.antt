@@ -8,8 +8,10 @@ returns-in-Some-clause-lines c =
     let text = c.args.text.now in
     let place = c.in-Some.place in
     let rest = drop (place + 1) text in
-    let all : take (length text - (place + 1)) rest ≡ rest = take_all (length text - (place + 1)) rest (omega (arith, length-drop (place + 1) text)) in
-    cut text place c.in-Some.ensures.found.0 c.in-Some.ensures.found.1 c.in-Some.ensures.first ∙ ap (λ r. take place text ∷ lines_of r) (sym all)
+    let all : take (length text - (place + 1)) rest ≡ rest = take_all (length text - (place + 1)) rest
+    (omega (arith, length-drop (place + 1) text)) in
+    cut text place c.in-Some.ensures.found.0 c.in-Some.ensures.found.1 c.in-Some.ensures.first
+    ∙ ap (λ r. take place text ∷ lines_of r) (sym all)
 
 pub returns-in-None-clause-lines : goal.returns-in-None-clause-lines
 returns-in-None-clause-lines c = whole c.args.text.now c.in-None.ensures.none

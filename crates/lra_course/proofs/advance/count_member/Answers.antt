@@ -6,4 +6,5 @@ use Rattle.lra_course.proofs.advance.count_member.Goals as goal
 pub returns-then-counts_same : goal.returns-then-counts_same
 returns-then-counts_same c =
     let same = c.counts_same.ensures c.if-counts_same.true in
-    sym (change_row-same (with_member c.args.before.now c.args.now.now) c.args.before.now.action c.args.actions.now.items (with_member-same c.args.before.now c.args.now.now same.0 same.1))
+    sym (change_row-same (with_member c.args.before.now c.args.now.now) c.args.before.now.action
+    c.args.actions.now.items (with_member-same c.args.before.now c.args.now.now same.0 same.1))

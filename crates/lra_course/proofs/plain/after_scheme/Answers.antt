@@ -4,4 +4,5 @@ use Rattle.std.proofs.lemmas.Slice.Eq.{strip_prefix_is}
 use Rattle.lra_course.proofs.plain.after_scheme.Goals as goal
 
 pub returns : goal.returns
-returns c = strip_prefix_is Decides-eqb c.args.text.now (codes "http://") c.strip_prefix.result c.strip_prefix.ensures.cases
+returns c = strip_prefix_is Decides-eqb c.args.text.now (codes "http://") c.strip_prefix.result
+    c.strip_prefix.ensures.cases

@@ -7,7 +7,8 @@ use Rattle.lra_course.proofs.summary.least_failed.Goals.{then-has_failed_here, e
 
 pub loop-place-init : goal.loop-place-init
 loop-place-init c =
-    let places : c.in_ok-least.least.items ≡ replicate (length c.as_slice-actions.result.now) None = c.in_ok-least.ensures.items_if_clones_equal (λ y k. search rules) in
+    let places : c.in_ok-least.least.items ≡ replicate (length c.as_slice-actions.result.now) None =
+    c.in_ok-least.ensures.items_if_clones_equal (λ y k. search rules) in
     record {
       to_fill = IsToFill-start c.args.rows.now (length c.as_slice-actions.result.now) c.in_ok-least.least.items
           (ap length (c.as_slice-actions.ensures.value ∙ ap (λ (s : State). s.actions) c.rows.view_is)) places;
@@ -22,17 +23,25 @@ mark_up-requires-clause-closed c h = c.loop-place.invariant.closed h
 
 pub loop-place-preserved : goal.loop-place-preserved
 loop-place-preserved c =
-    let members : c.as_slice-members.result.now ≡ c.args.rows.now.members = c.as_slice-members.ensures.value ∙ ap (λ (s : State). s.members) c.rows.view_is in
-    let actions : c.as_slice-actions.result.now ≡ c.args.rows.now.actions = c.as_slice-actions.ensures.value ∙ ap (λ (s : State). s.actions) c.rows.view_is in
+    let members : c.as_slice-members.result.now ≡ c.args.rows.now.members = c.as_slice-members.ensures.value
+    ∙ ap (λ (s : State). s.members) c.rows.view_is in
+    let actions : c.as_slice-actions.result.now ≡ c.args.rows.now.actions = c.as_slice-actions.ensures.value
+    ∙ ap (λ (s : State). s.actions) c.rows.view_is in
     let found = ap (λ (r : MemberRow). has_failed_here r) (sym c.index-members-place.is) in
     elim c.if-has_failed_here.branch [
       | then-has_failed_here w ↦ rw w.least-is (record {
-        to_fill = IsToFill-marked c.args.rows.now c.as_slice-actions.result.now c.as_slice-members.result.now actions members c.loop-place.place c.index-members-place.result c.loop-place.least.items w.mark_up.new.least.items
-            c.loop-place-test.true (found ∙ sym w.if-has_failed_here.ensures) (subst (λ (r : MemberRow). (t : ℕ) → row_at w.mark_up.new.least.items t ≡ option_map (marked (c.loop-place.place + 1) (is_within_by r.action c.as_slice-actions.result.now t r.action)) (row_at c.loop-place.least.items t)) (c.row.view_is ∙ c.index-members-place.is) w.mark_up.ensures.marks) c.loop-place.invariant.to_fill;
+        to_fill = IsToFill-marked c.args.rows.now c.as_slice-actions.result.now c.as_slice-members.result.now actions
+            members c.loop-place.place c.index-members-place.result c.loop-place.least.items w.mark_up.new.least.items
+            c.loop-place-test.true (found ∙ sym w.if-has_failed_here.ensures)
+            (subst (λ (r : MemberRow). (t : ℕ) → row_at w.mark_up.new.least.items t
+            ≡ option_map (marked (c.loop-place.place + 1) (is_within_by r.action c.as_slice-actions.result.now t
+            r.action)) (row_at c.loop-place.least.items t)) (c.row.view_is ∙ c.index-members-place.is)
+            w.mark_up.ensures.marks) c.loop-place.invariant.to_fill;
         closed = w.mark_up.ensures.closed;
       })
       | else-has_failed_here w ↦ rw w.least-is (record {
-        to_fill = IsToFill-passed c.args.rows.now c.as_slice-members.result.now members c.loop-place.place c.index-members-place.result c.loop-place.least.items
+        to_fill = IsToFill-passed c.args.rows.now c.as_slice-members.result.now members c.loop-place.place
+            c.index-members-place.result c.loop-place.least.items
             c.loop-place-test.true (found ∙ sym w.if-has_failed_here.ensures) c.loop-place.invariant.to_fill;
         closed = c.loop-place.invariant.closed;
       })
@@ -40,5 +49,7 @@ loop-place-preserved c =
 
 pub returns : goal.returns
 returns c =
-    let members : length c.as_slice-members.result.now ≡ length c.args.rows.now.members = ap length (c.as_slice-members.ensures.value ∙ ap (λ (s : State). s.members) c.rows.view_is) in
-    IsToFill-end c.args.rows.now c.loop-place.place c.loop-place.least.items (omega (arith, members, c.loop-place-test.false)) c.loop-place.invariant.to_fill
+    let members : length c.as_slice-members.result.now ≡ length c.args.rows.now.members =
+    ap length (c.as_slice-members.ensures.value ∙ ap (λ (s : State). s.members) c.rows.view_is) in
+    IsToFill-end c.args.rows.now c.loop-place.place c.loop-place.least.items
+    (omega (arith, members, c.loop-place-test.false)) c.loop-place.invariant.to_fill

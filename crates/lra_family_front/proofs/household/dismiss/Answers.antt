@@ -3,8 +3,10 @@ use Rattle.lra_family_front.proofs.household.dismiss.Goals as goal
 
 pub returns-clause-moved : goal.returns-clause-moved
 returns-clause-moved g c =
-    (retired_moved g.C.Counter.sight c.args.instance c.retire.result c.args.family.now c.retire.new.self c.retire.ensures.some c.retire.ensures.none).0
+    (retired_moved g.C.Counter.sight c.args.instance c.retire.result c.args.family.now c.retire.new.self
+    c.retire.ensures.some c.retire.ensures.none).0
 
 pub returns-clause-base : goal.returns-clause-base
 returns-clause-base g c =
-    (retired_moved g.C.Counter.sight c.args.instance c.retire.result c.args.family.now c.retire.new.self c.retire.ensures.some c.retire.ensures.none).1
+    (retired_moved g.C.Counter.sight c.args.instance c.retire.result c.args.family.now c.retire.new.self
+    c.retire.ensures.some c.retire.ensures.none).1

@@ -5,5 +5,7 @@ use Rattle.lra_family_front.proofs.household.is_kin.Goals as goal
 
 pub returns : goal.returns
 returns g c = λ same base h.
-    let texts = (slice_eq-Decides Decides-eqb c.as_str.result.now c.as_str-2.result.now c.eq.result c.eq.ensures).0 same in
-    sym c.base-2.ensures ∙ sym c.as_str-2.ensures ∙ sym texts ∙ c.as_str.ensures ∙ c.base.ensures ∙ c.newest.ensures base h
+    let texts = (slice_eq-Decides Decides-eqb c.as_str.result.now c.as_str-2.result.now c.eq.result c.eq.ensures).0
+    same in
+    sym c.base-2.ensures ∙ sym c.as_str-2.ensures ∙ sym texts ∙ c.as_str.ensures ∙ c.base.ensures
+    ∙ c.newest.ensures base h

@@ -7,8 +7,10 @@ use Rattle.lra_family_front.proofs.naming.instance_of.Goals as goal
 pub returns-in-Ok-clause-ok : goal.returns-in-Ok-clause-ok
 unfolding instance_of
 returns-in-Ok-clause-ok c =
-    IfOk-weaker c.named_at.result _ _ (λ named is. is ∙ ap (named_by (request_of c.args.request.now)) (rw (c.as_str.ensures.value, c.as_str-2.ensures.value) at c.in-Ok.ensures)) c.named_at.ensures.ok
+    IfOk-weaker c.named_at.result _ _ (λ named is. is ∙ ap (named_by (request_of c.args.request.now))
+    (rw (c.as_str.ensures.value, c.as_str-2.ensures.value) at c.in-Ok.ensures)) c.named_at.ensures.ok
 
 pub returns-in-Err-clause-ok : goal.returns-in-Err-clause-ok
 unfolding instance_of
-returns-in-Err-clause-ok c = ap (named_by (request_of c.args.request.now)) (rw (c.as_str.ensures.value, c.as_str-2.ensures.value) at c.in-Err.ensures)
+returns-in-Err-clause-ok c = ap (named_by (request_of c.args.request.now))
+    (rw (c.as_str.ensures.value, c.as_str-2.ensures.value) at c.in-Err.ensures)

@@ -6,7 +6,8 @@ pub returns-then-is_empty : goal.returns-then-is_empty
 returns-then-is_empty c = empty_parent c.args.body.now (search rules)
 
 pub returns-in-Ok : goal.returns-in-Ok
-returns-in-Ok c = read_parent c.args.body.now _ _ (search rules) c.in-Ok.ensures.ok.0 c.in-Ok.ensures.ok.1 c.parent_under-parent.ensures
+returns-in-Ok c = read_parent c.args.body.now _ _ (search rules) c.in-Ok.ensures.ok.0 c.in-Ok.ensures.ok.1
+    c.parent_under-parent.ensures
 
 pub returns-in-Err-2 : goal.returns-in-Err-2
 returns-in-Err-2 c = unread_parent c.args.body.now (search rules)

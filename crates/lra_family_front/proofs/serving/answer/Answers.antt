@@ -21,5 +21,6 @@ returns-in-Some-visit-clause-serves g c =
       answered
           = c.in-Some-visit.answered;
     })
-    c.args.instance c.args.newest c.visit.result c.visit-in-None.result c.requires.newest (search rules) c.requires.instance
+    c.args.instance c.args.newest c.visit.result c.visit-in-None.result c.requires.newest (search rules)
+    c.requires.instance
     c.in-None.is c.visit.ensures c.in-Some-visit.is c.visit-in-None.ensures

@@ -13,7 +13,10 @@ returns g c = record {
       let before = g.W.Write.contents c.args.writer.now in
       let after = g.W.Write.contents c.tell_journals.new.writer in
       IfOk-weaker c.tell_journals.result
-      (λ (audit : FolderAudit). TellsAll Audit bytes c.args.folder.now (texts c.args.names.now) before after (string_bytes audit.told) audit.status)
-      (λ (audit : FolderAudit). AuditsAll bytes c.args.folder.now (texts c.args.names.now) before after (string_bytes audit.told) audit.status)
-      (λ audit. all_audited bytes c.args.folder.now (texts c.args.names.now) before after (string_bytes audit.told) audit.status) (c.tell_journals.ensures bytes known);
+      (λ (audit : FolderAudit). TellsAll Audit bytes c.args.folder.now (texts c.args.names.now) before after
+      (string_bytes audit.told) audit.status)
+      (λ (audit : FolderAudit). AuditsAll bytes c.args.folder.now (texts c.args.names.now) before after
+      (string_bytes audit.told) audit.status)
+      (λ audit. all_audited bytes c.args.folder.now (texts c.args.names.now) before after (string_bytes audit.told)
+      audit.status) (c.tell_journals.ensures bytes known);
 }

@@ -11,4 +11,5 @@ invariant-loop-place g l =
     → TellsEach deed bytes l.folder (texts (take l.place l.names))
     (record { written = g.W.Write.contents l.fn.writer; told = string_bytes l.fn.told; tally = l.fn.tally })
     (record { written = g.W.Write.contents l.writer; told = string_bytes l.told; tally = l.tally }))
-    × (l.tally.sound + l.tally.unsound + l.tally.unread ≡ l.fn.tally.sound + l.fn.tally.unsound + l.fn.tally.unread + l.place)
+    × (l.tally.sound + l.tally.unsound + l.tally.unread ≡ l.fn.tally.sound + l.fn.tally.unsound + l.fn.tally.unread
+    + l.place)

@@ -6,4 +6,5 @@ abbrev pub invariant-loop-name : goal.invariant-loop-name
 invariant-loop-name g l =
     (vec_len l.jobs ≡ l.name-index)
     × ((i : ℕ) (w : String Global) (d : _) → i < l.name-index
-    → IsOpened (g.S.Sources.named l.sources) g.F.Read.remaining l.folder (string_bytes (get_or l.names i w)) (get_or l.jobs.items i d))
+    → IsOpened (g.S.Sources.named l.sources) g.F.Read.remaining l.folder (string_bytes (get_or l.names i w))
+    (get_or l.jobs.items i d))

@@ -7,7 +7,8 @@ returns-then-is_empty c = found_empty c.args.body.now _ (search rules) c.empty_o
 
 pub returns-in-Ok : goal.returns-in-Ok
 returns-in-Ok c =
-    found_object c.args.body.now _ (search rules) c.in-Ok.ensures.ok.0 c.in-Ok.ensures.ok.1 (sym c.is_object.ensures ∙ c.if-is_object.true)
+    found_object c.args.body.now _ (search rules) c.in-Ok.ensures.ok.0 c.in-Ok.ensures.ok.1
+    (sym c.is_object.ensures ∙ c.if-is_object.true)
 
 pub returns-in-Err-2 : goal.returns-in-Err-2
 returns-in-Err-2 c = inr (refl, object_err c.args.body.now (search rules) (search rules))

@@ -9,9 +9,11 @@ invariant-loop-others g l =
     IsFalse (is_spent l.inbox)
     × ((end : StreamEnd) (t : Standing g.row.K.Denot)
     → ServesUpTo g.C.Counter.gives g.K.Clock.tells l.others
-    (standing (stream_of g.R.Read.remaining l.inbox) (g.C.Counter.sight l.counter) l.clock (g.W.Write.contents l.writer)) end t
+    (standing (stream_of g.R.Read.remaining l.inbox) (g.C.Counter.sight l.counter) l.clock
+    (g.W.Write.contents l.writer)) end t
     → ServesUpTo g.C.Counter.gives g.K.Clock.tells 999
-    (standing (stream_of g.R.Read.remaining l.initial.inbox) (g.C.Counter.sight l.initial.counter) l.initial.clock (g.W.Write.contents l.initial.writer)) end t)
+    (standing (stream_of g.R.Read.remaining l.initial.inbox) (g.C.Counter.sight l.initial.counter) l.initial.clock
+    (g.W.Write.contents l.initial.writer)) end t)
 
 abbrev pub decreases-loop-others : goal.decreases-loop-others
 decreases-loop-others g l = l.others

@@ -11,13 +11,16 @@ of_either : (same a b : Bool) → (same ≡ true → a ≡ b) → (same && a) �
 of_either true a b h e = sym (h refl) ∙ e
 of_either false a b h e = refl
 
-no_base : (text own : List ℕ) → address_of text ≡ Ok own → (bytes_eq own text && is_base own) ≡ false → is_own_base text ≡ false
+no_base : (text own : List ℕ) → address_of text ≡ Ok own → (bytes_eq own text && is_base own) ≡ false → is_own_base text
+    ≡ false
 no_base text own e other =
     ap (λ same. same && is_base text) (is_address-own text own e)
-    ∙ of_either (bytes_eq own text) (is_base own) (is_base text) (λ same. ap is_base ((bytes_eq-Decides own text).0 same)) other
+    ∙ of_either (bytes_eq own text) (is_base own) (is_base text) (λ same. ap is_base
+    ((bytes_eq-Decides own text).0 same)) other
 
 pub returns-else-is_base_at-clause-none : goal.returns-else-is_base_at-clause-none
 returns-else-is_base_at-clause-none c =
     let text = c.args.text.now in
-    let stands = subst (λ found. IfSome found (λ own. address_of text ≡ Ok own)) c.in-Some.is c.in_ok-own.ensures.some in
+    let stands = subst (λ found. IfSome found (λ own. address_of text ≡ Ok own)) c.in-Some.is
+    c.in_ok-own.ensures.some in
     λ _. no_base text c.in-Some.own stands (sym c.is_base_at.ensures ∙ c.if-is_base_at.false)

@@ -4,4 +4,5 @@ use Rattle.lra_ids.proofs.identifier.after_prefix.Goals as goal
 
 pub returns : goal.returns
 returns c =
-    rw (← c.as_bytes.ensures.value) (strip_prefix_is Decides-eqb c.args.text.now c.as_bytes.result.now c.strip_prefix.result c.strip_prefix.ensures.cases)
+    rw (← c.as_bytes.ensures.value) (strip_prefix_is Decides-eqb c.args.text.now c.as_bytes.result.now
+    c.strip_prefix.result c.strip_prefix.ensures.cases)

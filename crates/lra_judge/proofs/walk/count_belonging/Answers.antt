@@ -11,8 +11,10 @@ loop-n-preserved c = (
   λ J k.
       let l = c.args.limits.now in
       let lt : c.loop-n.n < most_rows = omega (arith, c.loop-n-test.true, c.count_looked-n-end.ensures.most) in
-      let one : c.one_if-count.result ≡ cond (is_some c.look_listed-told.result) 1 0 = c.one_if-count.ensures.count ∙ ap (λ b. cond b 1 0) c.is_some.ensures in
-      let next = counted_next l c.args.tables.now.sheet J k c.args.listing c.args.place c.loop-n.n c.look_listed-told.result lt (c.look_listed-told.ensures J k) in
+      let one : c.one_if-count.result ≡ cond (is_some c.look_listed-told.result) 1 0 = c.one_if-count.ensures.count
+      ∙ ap (λ b. cond b 1 0) c.is_some.ensures in
+      let next = counted_next l c.args.tables.now.sheet J k c.args.listing c.args.place c.loop-n.n
+      c.look_listed-told.result lt (c.look_listed-told.ensures J k) in
       let before = c.loop-n.invariant.1 J k in
       omega (arith, one, next, before),
 )
@@ -21,7 +23,8 @@ pub returns : goal.returns
 returns c = λ J k.
     let l = c.args.limits.now in
     let rows = c.count_listed-rows.ensures J k in
-    let e : min (c.args.place + most_rows) (count_listed J c.args.listing) ≤ c.args.place + c.loop-n.n = omega (arith, c.loop-n-test.false, c.count_looked-n-end.ensures.all, rows) in
+    let e : min (c.args.place + most_rows) (count_listed J c.args.listing) ≤ c.args.place
+    + c.loop-n.n = omega (arith, c.loop-n-test.false, c.count_looked-n-end.ensures.all, rows) in
     let none = counted_all l J c.args.listing c.args.place c.loop-n.n e in
     let before = c.loop-n.invariant.1 J k in
     let all : c.loop-n.count ≡ left_of l J c.args.listing c.args.place 0 = omega (arith, before, none) in

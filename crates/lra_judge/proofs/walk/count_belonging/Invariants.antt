@@ -6,4 +6,5 @@ use Rattle.lra_judge.proofs.walk.count_belonging.Given as goal
 
 abbrev pub invariant-loop-n : goal.invariant-loop-n
 invariant-loop-n l =
-    (l.count ≤ l.n) × ((J : History) → StandsFor l.tables.sheet J → l.count + left_of l.limits J l.listing l.place l.n ≡ left_of l.limits J l.listing l.place 0)
+    (l.count ≤ l.n) × ((J : History) → StandsFor l.tables.sheet J → l.count + left_of l.limits J l.listing l.place l.n
+    ≡ left_of l.limits J l.listing l.place 0)

@@ -8,5 +8,6 @@ pub returns : goal.returns
 unfolding count_from
 returns c = λ J k.
     let next : c.next_of-next.result ≡ next_of (length (rows_along c.args.limits.now J c.args.listing)) c.args.place =
-    c.next_of-next.ensures ∙ ap (λ n. next_of n c.args.place) (c.count_listed.ensures J k ∙ count_is c.args.limits.now J c.args.listing) in
+    c.next_of-next.ensures ∙ ap (λ n. next_of n c.args.place) (c.count_listed.ensures J k
+    ∙ count_is c.args.limits.now J c.args.listing) in
     λ i. known.Counted (c.count_belonging.ensures J k i) (next i)

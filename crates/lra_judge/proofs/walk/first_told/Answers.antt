@@ -12,15 +12,19 @@ loop-n-init c = λ J none k.
 pub returns-then-is_some : goal.returns-then-is_some
 returns-then-is_some c = λ J none k.
     let lt : c.loop-n.n < most_rows = omega (arith, c.loop-n-test.true, c.count_looked-n-end.ensures.most) in
-    sym (c.loop-n.invariant J none k ∙ told_next c.args.limits.now J c.args.walk none c.args.place c.loop-n.n c.look-told.result lt (c.look-told.ensures J k) (sym c.is_some.ensures ∙ c.if-is_some.true))
+    sym (c.loop-n.invariant J none k ∙ told_next c.args.limits.now J c.args.walk none c.args.place c.loop-n.n
+    c.look-told.result lt (c.look-told.ensures J k) (sym c.is_some.ensures ∙ c.if-is_some.true))
 
 pub loop-n-preserved : goal.loop-n-preserved
 loop-n-preserved c = λ J none k.
     let lt : c.loop-n.n < most_rows = omega (arith, c.loop-n-test.true, c.count_looked-n-end.ensures.most) in
-    c.loop-n.invariant J none k ∙ passed_over c.args.limits.now J c.args.walk none c.args.place c.loop-n.n c.look-told.result lt (c.look-told.ensures J k) (sym c.is_some.ensures ∙ c.if-is_some.false)
+    c.loop-n.invariant J none k ∙ passed_over c.args.limits.now J c.args.walk none c.args.place c.loop-n.n
+    c.look-told.result lt (c.look-told.ensures J k) (sym c.is_some.ensures ∙ c.if-is_some.false)
 
 pub returns : goal.returns
 returns c = λ J none k.
     let rows = c.count_rows-rows.ensures J k in
-    let e : min (c.args.place + most_rows) (count_rows J c.args.walk) ≤ c.args.place + c.loop-n.n = omega (arith, c.loop-n-test.false, c.count_looked-n-end.ensures.all, rows) in
-    sym (c.loop-n.invariant J none k ∙ none_left c.args.limits.now c.args.tables.now.sheet J k c.args.walk none c.args.place c.loop-n.n e)
+    let e : min (c.args.place + most_rows) (count_rows J c.args.walk) ≤ c.args.place
+    + c.loop-n.n = omega (arith, c.loop-n-test.false, c.count_looked-n-end.ensures.all, rows) in
+    sym (c.loop-n.invariant J none k ∙ none_left c.args.limits.now c.args.tables.now.sheet J k c.args.walk none
+    c.args.place c.loop-n.n e)

@@ -8,4 +8,5 @@ use Rattle.lra_judge.proofs.walk.first_told.Given as goal
 
 abbrev pub invariant-loop-n : goal.invariant-loop-n
 invariant-loop-n l =
-    (J : History) (none : Known) → StandsFor l.tables.sheet J → first_some (look l.limits J l.walk) none l.place most_rows ≡ first_some (look l.limits J l.walk) none (l.place + l.n) (most_rows - l.n)
+    (J : History) (none : Known) → StandsFor l.tables.sheet J → first_some (look l.limits J l.walk) none l.place
+    most_rows ≡ first_some (look l.limits J l.walk) none (l.place + l.n) (most_rows - l.n)

@@ -10,4 +10,5 @@ returns c = λ J k.
     walk_told c.args.limits.now c.args.tables.now.sheet J k c.args.walk c.args.place c.unwrap_or.result
     (c.unwrap_or.ensures ∙ c.first_told.ensures J c.none_told-none.result k
     ∙ ap (λ (none : Known). first_some (look c.args.limits.now J c.args.walk) none c.args.place most_rows)
-    (c.none_told-none.ensures ∙ ap (λ (last : Known). none_told last c.count_rows.result c.args.place) c.last_of.ensures ∙ ap (λ n. none_told (last_of c.args.walk) n c.args.place) (c.count_rows.ensures J k)))
+    (c.none_told-none.ensures ∙ ap (λ (last : Known). none_told last c.count_rows.result c.args.place) c.last_of.ensures
+    ∙ ap (λ n. none_told (last_of c.args.walk) n c.args.place) (c.count_rows.ensures J k)))

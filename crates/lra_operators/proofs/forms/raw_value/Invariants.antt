@@ -7,4 +7,5 @@ use Rattle.lra_operators.proofs.forms.raw_value.Given as goal
 
 -- what is left to look at gives what all gives
 abbrev pub invariant-loop-key : goal.invariant-loop-key
-invariant-loop-key l = find (λ p. bytes_eq p.0 l.name) (raw_pairs_left l.key-iterator) ≡ find (λ p. bytes_eq p.0 l.name) (raw_pairs l.form)
+invariant-loop-key l = find (λ p. bytes_eq p.0 l.name) (raw_pairs_left l.key-iterator)
+    ≡ find (λ p. bytes_eq p.0 l.name) (raw_pairs l.form)

@@ -6,4 +6,5 @@ pub returns : goal.returns
 unfolding health
 returns c =
     rw (← c.is_up.ensures, ← c.word.ensures)
-    (five _ _ _ _ _ _ _ _ _ _ _ _ c.in_ok-put.ensures c.in_ok-put-2.ensures c.in_ok-put-3.ensures c.in_ok-put_checks.ensures c.put-4.ensures)
+    (five _ _ _ _ _ _ _ _ _ _ _ _ c.in_ok-put.ensures c.in_ok-put-2.ensures c.in_ok-put-3.ensures
+    c.in_ok-put_checks.ensures c.put-4.ensures)

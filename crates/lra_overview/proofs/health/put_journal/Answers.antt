@@ -4,4 +4,5 @@ use Rattle.lra_overview.proofs.health.put_journal.Goals as goal
 pub returns : goal.returns
 returns c =
     rw (← c.keeps.ensures)
-    (six _ _ _ _ _ _ _ _ _ _ _ _ _ _ c.in_ok-begin_check.ensures c.in_ok-put.ensures c.in_ok-put_data.ensures c.in_ok-put-2.ensures c.in_ok-put_data-2.ensures c.put-3.ensures)
+    (six _ _ _ _ _ _ _ _ _ _ _ _ _ _ c.in_ok-begin_check.ensures c.in_ok-put.ensures c.in_ok-put_data.ensures
+    c.in_ok-put-2.ensures c.in_ok-put_data-2.ensures c.put-3.ensures)

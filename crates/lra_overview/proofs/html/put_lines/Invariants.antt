@@ -5,4 +5,5 @@ use Rattle.lra_overview.proofs.html.put_lines.Given as goal
 
 -- what was added so far
 abbrev pub invariant-loop-line : goal.invariant-loop-line
-invariant-loop-line l = l.page.items ≡ l.initial.page.items ++ flat_map (pages.line l.names.instance l.forms.token.now l.forms.have_key) (take l.line-index l.lines)
+invariant-loop-line l = l.page.items ≡ l.initial.page.items ++ flat_map
+    (pages.line l.names.instance l.forms.token.now l.forms.have_key) (take l.line-index l.lines)

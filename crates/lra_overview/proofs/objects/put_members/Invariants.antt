@@ -5,4 +5,5 @@ use Rattle.lra_overview.proofs.objects.put_members.Given as goal
 -- what was added so far, with what is left
 abbrev pub invariant-loop-member : goal.invariant-loop-member
 invariant-loop-member l =
-    l.page.items ++ lists.members l.names.instance l.is_first (drop l.member-index l.members) ≡ l.initial.page.items ++ lists.members l.names.instance true l.members
+    l.page.items ++ lists.members l.names.instance l.is_first (drop l.member-index l.members) ≡ l.initial.page.items
+    ++ lists.members l.names.instance true l.members

@@ -5,4 +5,5 @@ use Rattle.lra_overview.proofs.objects.put_rows.Given as goal
 -- what was added so far, with what is left
 abbrev pub invariant-loop-row : goal.invariant-loop-row
 invariant-loop-row l =
-    l.page.items ++ lists.rows l.names.instance l.is_first (drop l.row-index l.rows) ≡ l.initial.page.items ++ lists.rows l.names.instance true l.rows
+    l.page.items ++ lists.rows l.names.instance l.is_first (drop l.row-index l.rows) ≡ l.initial.page.items
+    ++ lists.rows l.names.instance true l.rows

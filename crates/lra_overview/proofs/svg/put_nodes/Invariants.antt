@@ -5,4 +5,5 @@ use Rattle.lra_overview.proofs.svg.put_nodes.Given as goal
 
 -- what was added so far
 abbrev pub invariant-loop-node : goal.invariant-loop-node
-invariant-loop-node l = l.page.items ≡ l.initial.page.items ++ flat_map (pictures.node l.names.instance) (take l.node-index l.nodes)
+invariant-loop-node l = l.page.items ≡ l.initial.page.items ++ flat_map (pictures.node l.names.instance)
+    (take l.node-index l.nodes)

@@ -16,7 +16,8 @@ pub returns-in_err-with_parts-clause-err : goal.returns-in_err-with_parts-clause
 returns-in_err-with_parts-clause-err c =
     let own : Request = request_of c.args.request.now in
     let p = err_from_is_err_and c.from_residual-in_err-with_parts.result c.from_residual-in_err-with_parts.ensures.1 in
-    rw p.1 (lacks c.args.base.now c.args.olders.now own c.in_ok-target.target c.in_ok-body.body _ _ (search rules) (search rules) (search rules) c.in_ok-body.ensures.some (elim c.else-is_none.branch [
+    rw p.1 (lacks c.args.base.now c.args.olders.now own c.in_ok-target.target c.in_ok-body.body _ _ (search rules)
+    (search rules) (search rules) c.in_ok-body.ensures.some (elim c.else-is_none.branch [
       | else-is_none-via-then-is_none+else-is_none-2 w ↦ inr (search rules)
       | else-is_none-via-else-is_none w ↦ inl (search rules)
     ]))

@@ -5,4 +5,5 @@ use Rattle.lra_reports.specs.Show.{action_line}
 use Rattle.lra_reports.proofs.show.put_actions.Given as goal
 
 abbrev pub invariant-loop-place : goal.invariant-loop-place
-invariant-loop-place g l = IsPaged (g.W.Write.contents l.fn.writer) (g.W.Write.contents l.writer) l.fn.page.items l.page.items (flat_map action_line (take l.place l.listing.actions))
+invariant-loop-place g l = IsPaged (g.W.Write.contents l.fn.writer) (g.W.Write.contents l.writer) l.fn.page.items
+    l.page.items (flat_map action_line (take l.place l.listing.actions))

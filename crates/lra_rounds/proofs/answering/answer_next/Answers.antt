@@ -13,7 +13,8 @@ returns-in-Stands g c =
     let v = g.A.Responder.sight c.args.responder.now in
     let k = c.args.clock.now in
     let ps = c.args.positions.now in
-    let step = subst (λ (step : Step). StepsTo step c.args.connection.now c.next.new.self) c.in-Stands.is c.in_ok-next.ensures in
+    let step = subst (λ (step : Step). StepsTo step c.args.connection.now c.next.new.self) c.in-Stands.is
+    c.in_ok-next.ensures in
     noting_on base_of responds tells c.args.connection.now c.next.new.self c.answer_standing.new.connection v v
     (g.A.Responder.sight c.answer_standing.new.responder) k k c.answer_standing.new.clock
     ps ps c.answer_standing.new.positions (noting_step base_of responds tells Stands c.args.connection.now

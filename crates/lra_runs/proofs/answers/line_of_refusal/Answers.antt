@@ -9,5 +9,8 @@ use Rattle.lra_runs.proofs.answers.line_of_refusal.Goals as goal
 pub returns-in-None : goal.returns-in-None
 returns-in-None c =
     let none : refusal_detail c.args.refusal ≡ [] = rw (← c.detail.ensures, c.in-None.is) refl in
-    let whole : answer_line (Err c.args.refusal) ≡ codes "refused " ++ refusal_name c.args.refusal ++ line_feed = ap (λ (d : List ℕ). joined (codes "refused " ∷ refusal_name c.args.refusal ∷ d ∷ line_feed ∷ [])) none in
-    IfOk-weaker c.format-in-None.result _ (λ text. string_bytes text ≡ answer_line (Err c.args.refusal)) (λ text h. rw (whole, ← c.name-name.ensures) h) c.format-in-None.ensures.ok
+    let whole : answer_line (Err c.args.refusal) ≡ codes "refused " ++ refusal_name c.args.refusal
+    ++ line_feed = ap (λ (d : List ℕ). joined (codes "refused " ∷ refusal_name c.args.refusal ∷ d ∷ line_feed
+    ∷ [])) none in
+    IfOk-weaker c.format-in-None.result _ (λ text. string_bytes text ≡ answer_line (Err c.args.refusal))
+    (λ text h. rw (whole, ← c.name-name.ensures) h) c.format-in-None.ensures.ok

@@ -7,7 +7,8 @@ abbrev pub invariant-loop-rest : goal.invariant-loop-rest
 invariant-loop-rest g l = record {
   setting : l.playing.coordinator.setting ≡ player;
   within : l.number + length l.rest ≤ length l.script;
-  played : (before : Option (List ℕ)) → IsPlayed l.script before (g.W.Write.contents l.fn.writer) l.fn.playing false 0 l.script
+  played : (before : Option (List ℕ)) → IsPlayed l.script before (g.W.Write.contents l.fn.writer) l.fn.playing false 0
+      l.script
       → IsPlayed l.script before (g.W.Write.contents l.writer) l.playing l.is_refused l.number l.rest;
 }
 

@@ -11,5 +11,7 @@ returns-clause-written g c =
     let before = g.W.Write.contents c.args.writer.now in
     let now = g.W.Write.contents c.put_block.new.writer in
     let b = c.args.block in
-    let lines = marked_last c.commit-errand.new.self c.args.coordinator.now.history b.entries c.lawful.ensures c.commit-errand.ensures.grown.history in
-    subst (λ (x : List ℕ). Appends before now (option_map_or errand_line b.errand (answer_line (Ok b.told)) ++ x)) lines c.in_ok-put_block.ensures.written
+    let lines = marked_last c.commit-errand.new.self c.args.coordinator.now.history b.entries c.lawful.ensures
+    c.commit-errand.ensures.grown.history in
+    subst (λ (x : List ℕ). Appends before now (option_map_or errand_line b.errand (answer_line (Ok b.told)) ++ x)) lines
+    c.in_ok-put_block.ensures.written

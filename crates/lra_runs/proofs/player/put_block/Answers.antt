@@ -15,7 +15,9 @@ returns-clause-written g c =
     let mid = g.W.Write.contents c.put.new.writer in
     let now = g.W.Write.contents c.put-2.new.writer in
     let b = c.args.block.now in
-    let first = subst (Appends before mid) (c.as_bytes.ensures.value ∙ c.in_ok-text.ensures) c.in_ok-put.ensures.written in
-    let lines = c.deref.ensures.value ∙ c.in_ok-lines.ensures ∙ ap (λ (t : List ℕ). flat_map marked (lines_of t)) c.text.ensures.lines in
+    let first = subst (Appends before mid) (c.as_bytes.ensures.value ∙ c.in_ok-text.ensures)
+    c.in_ok-put.ensures.written in
+    let lines = c.deref.ensures.value ∙ c.in_ok-lines.ensures ∙ ap (λ (t : List ℕ). flat_map marked (lines_of t))
+    c.text.ensures.lines in
     let whole = Appends-trans before mid now (option_map_or errand_line b.errand (answer_line (Ok b.told))) _ first in
     on_ok_weaker c.put-2.result (λ then. whole (subst (Appends mid now) lines then)) c.put-2.ensures.written

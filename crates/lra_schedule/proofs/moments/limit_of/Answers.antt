@@ -12,5 +12,6 @@ returns-in_err-row c = λ J stands.
 pub returns : goal.returns
 returns c = λ J stands.
     let row = sym c.in_ok-row.was ∙ c.action.ensures J stands in
-    c.limit_by.ensures (row_fits stands.version stands.is_address J stands.legal c.args.action c.in_ok-row.row (sym row)) ∙ ap (option_and_then limit_by) row
+    c.limit_by.ensures (row_fits stands.version stands.is_address J stands.legal c.args.action c.in_ok-row.row
+    (sym row)) ∙ ap (option_and_then limit_by) row
     ∙ sym (limit_found stands.version stands.is_address J stands.legal c.args.action)

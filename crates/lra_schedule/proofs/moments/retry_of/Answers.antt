@@ -6,4 +6,5 @@ use Rattle.lra_schedule.proofs.moments.retry_of.Goals as goal
 
 pub returns-in_err-row : goal.returns-in_err-row
 returns-in_err-row c = λ J stands.
-    c.from_residual.ensures ∙ ap (option_and_then (retry_by c.args.limits.now)) (sym c.in_err-row.was ∙ c.member.ensures J stands) ∙ sym (retry_found c.args.limits.now J c.args.member)
+    c.from_residual.ensures ∙ ap (option_and_then (retry_by c.args.limits.now))
+    (sym c.in_err-row.was ∙ c.member.ensures J stands) ∙ sym (retry_found c.args.limits.now J c.args.member)

@@ -6,5 +6,11 @@ loop-rest-preserved c =
     let (b, fed, counted) = c.loop-rest.invariant in (
       b ++ c.split_at.result.0.now,
       c.in_ok-opening.ensures b fed,
-      omega (arith, counted, length-append b c.split_at.result.0.now, c.split_at.ensures.front_len, c.split_at.ensures.back_len),
+      omega (
+        arith,
+        counted,
+        length-append b c.split_at.result.0.now,
+        c.split_at.ensures.front_len,
+        c.split_at.ensures.back_len,
+      ),
     )

@@ -7,16 +7,22 @@ use Rattle.lra_steps.proofs.serve.feed.Goals as goal
 
 pub loop-alloc-smaller-in-Stands : goal.loop-alloc-smaller-in-Stands
 loop-alloc-smaller-in-Stands g c =
-    let s = subst (λ (step : Step). StepsTo step c.loop-alloc.connection c.next.new.self) c.in-Stands.is c.in_ok-next.ensures in
-    let p = passes g.A.Responder.State g.row.K.Denot g.A.Responder.base_of g.A.Responder.responds g.K.Clock.tells g.met.A.Responder.stays c.loop-alloc.connection c.next.new.self c.answer_request.new.connection
-    (g.A.Responder.sight c.loop-alloc.responder) (g.A.Responder.sight c.answer_request.new.responder) c.loop-alloc.clock c.answer_request.new.clock c.answer_request.result s c.answer_request.ensures in
+    let s = subst (λ (step : Step). StepsTo step c.loop-alloc.connection c.next.new.self) c.in-Stands.is
+    c.in_ok-next.ensures in
+    let p = passes g.A.Responder.State g.row.K.Denot g.A.Responder.base_of g.A.Responder.responds g.K.Clock.tells
+    g.met.A.Responder.stays c.loop-alloc.connection c.next.new.self c.answer_request.new.connection
+    (g.A.Responder.sight c.loop-alloc.responder) (g.A.Responder.sight c.answer_request.new.responder) c.loop-alloc.clock
+    c.answer_request.new.clock c.answer_request.result s c.answer_request.ensures in
     omega (arith, p.shorter)
 
 pub loop-alloc-preserved-in-Stands : goal.loop-alloc-preserved-in-Stands
 loop-alloc-preserved-in-Stands g c =
-    let s = subst (λ (step : Step). StepsTo step c.loop-alloc.connection c.next.new.self) c.in-Stands.is c.in_ok-next.ensures in
-    let p = passes g.A.Responder.State g.row.K.Denot g.A.Responder.base_of g.A.Responder.responds g.K.Clock.tells g.met.A.Responder.stays c.loop-alloc.connection c.next.new.self c.answer_request.new.connection
-    (g.A.Responder.sight c.loop-alloc.responder) (g.A.Responder.sight c.answer_request.new.responder) c.loop-alloc.clock c.answer_request.new.clock c.answer_request.result s c.answer_request.ensures in
+    let s = subst (λ (step : Step). StepsTo step c.loop-alloc.connection c.next.new.self) c.in-Stands.is
+    c.in_ok-next.ensures in
+    let p = passes g.A.Responder.State g.row.K.Denot g.A.Responder.base_of g.A.Responder.responds g.K.Clock.tells
+    g.met.A.Responder.stays c.loop-alloc.connection c.next.new.self c.answer_request.new.connection
+    (g.A.Responder.sight c.loop-alloc.responder) (g.A.Responder.sight c.answer_request.new.responder) c.loop-alloc.clock
+    c.answer_request.new.clock c.answer_request.result s c.answer_request.ensures in
     let before = c.loop-alloc.invariant in
     record {
       within = before.within;
@@ -32,8 +38,11 @@ loop-alloc-preserved-in-Stands g c =
 
 pub returns-in-Ended : goal.returns-in-Ended
 returns-in-Ended g c = λ v k f.
-    let s = subst (λ (step : Step). StepsTo step c.loop-alloc.connection c.next.new.self) c.in-Ended.is c.in_ok-next.ensures in
-    let p = finishes g.A.Responder.State g.row.K.Denot g.A.Responder.base_of g.A.Responder.responds g.K.Clock.tells c.in-Ended.end c.loop-alloc.connection c.next.new.self (g.A.Responder.sight c.loop-alloc.responder) c.loop-alloc.clock s in
+    let s = subst (λ (step : Step). StepsTo step c.loop-alloc.connection c.next.new.self) c.in-Ended.is
+    c.in_ok-next.ensures in
+    let p = finishes g.A.Responder.State g.row.K.Denot g.A.Responder.base_of g.A.Responder.responds g.K.Clock.tells
+    c.in-Ended.end c.loop-alloc.connection c.next.new.self (g.A.Responder.sight c.loop-alloc.responder)
+    c.loop-alloc.clock s in
     let before = c.loop-alloc.invariant in
     record {
       follows = p.follows v k (before.follows v k f);
@@ -62,9 +71,12 @@ loop-alloc-preserved g c =
       none = ap (λ (g : History). g.stands) e ∙ before.none;
       base = ap (λ (g : History). g.base) e ∙ before.base;
       own = ap (λ (g : History). g.base) e ∙ before.own;
-      follows = λ v k f. follows_took g.A.Responder.State g.row.K.Denot g.A.Responder.base_of g.A.Responder.responds g.K.Clock.tells v (g.A.Responder.sight c.loop-alloc.responder) k c.loop-alloc.clock h bytes new e (before.follows v k f);
+      follows = λ v k f. follows_took g.A.Responder.State g.row.K.Denot g.A.Responder.base_of g.A.Responder.responds
+          g.K.Clock.tells v (g.A.Responder.sight c.loop-alloc.responder) k c.loop-alloc.clock h bytes new e
+          (before.follows v k f);
       instance = ap (λ (g : History). g.instance) e ∙ before.instance;
       sent = ap (λ (g : History). g.sent) e ∙ before.sent;
       closed = ap (λ (g : History). g.closed) e ∙ before.closed;
-      taken = taken_more c.args.connection.now.taken h.taken new.taken piece at count before.taken (ap (λ (g : History). g.taken) e);
+      taken = taken_more c.args.connection.now.taken h.taken new.taken piece at count before.taken
+          (ap (λ (g : History). g.taken) e);
     }

@@ -14,7 +14,8 @@ invariant-loop-alloc g l =
       none : l.connection.stands ≡ None;
       base : l.connection.base ≡ base_of (sight l.responder);
       own : l.connection.base ≡ l.fn.connection.base;
-      follows : (v : g.A.Responder.State) (k : g.row.K.Denot) → Follows base_of responds tells v k l.fn.connection (sight l.fn.responder) l.fn.clock
+      follows : (v : g.A.Responder.State) (k : g.row.K.Denot) → Follows base_of responds tells v k l.fn.connection
+          (sight l.fn.responder) l.fn.clock
           → Follows base_of responds tells v k l.connection (sight l.responder) l.clock;
       instance : l.connection.instance ≡ l.fn.connection.instance;
       sent : l.connection.sent ≡ l.fn.connection.sent;

@@ -12,7 +12,8 @@ none_taken (suc n) = refl
 
 pub loop-piece-init : goal.loop-piece-init
 loop-piece-init g c = record {
-  follows = follows_fresh g.A.Responder.State g.row.K.Denot g.A.Responder.base_of g.A.Responder.responds g.K.Clock.tells (g.A.Responder.sight c.args.responder.now) c.args.clock.now c.args.connection.now c.requires;
+  follows = follows_fresh g.A.Responder.State g.row.K.Denot g.A.Responder.base_of g.A.Responder.responds g.K.Clock.tells
+      (g.A.Responder.sight c.args.responder.now) c.args.clock.now c.args.connection.now c.requires;
   instance = refl;
   base = refl;
   closed = c.requires.closed;
@@ -38,17 +39,25 @@ returns-in-Some g c =
     let fed = c.feed.new.connection in
     let h = c.flush.new.connection in
     let inv = c.loop-piece.invariant in
-    let f = subst (λ (o : Option StreamEnd). Fed base_of responds tells o c.as_slice.result.now v k old fed w l) c.in-Some.is (c.in_ok-end.ensures v k inv.follows) in
+    let f = subst (λ (o : Option StreamEnd). Fed base_of responds tells o c.as_slice.result.now v k old fed w l)
+    c.in-Some.is (c.in_ok-end.ensures v k inv.follows) in
     let e = c.in_ok-flush.ensures.connection in
     let rest = drop f.taken.0 c.as_slice.result.now in
-    let came = taken_rest old.taken fed.taken c.as_slice.result.now f.taken.0 f.taken.1 ∙ ap (λ xs. old.taken ++ xs) c.as_slice.ensures.value in
+    let came = taken_rest old.taken fed.taken c.as_slice.result.now f.taken.0 f.taken.1
+    ∙ ap (λ xs. old.taken ++ xs) c.as_slice.ensures.value in
     let back = rest ++ flat_map bytes (drop (c.loop-piece.piece-index + 1) pieces) in
-    let whole = up_to bytes pieces c.loop-piece.piece-index c.piece-item.result old.taken fed.taken rest c.loop-piece-test.true c.piece-item.is inv.taken came in
-    let out = handed_all fed before c.loop-piece.sent.items c.flush.new.sent.items (inv.sent ∙ ap (λ xs. before ++ xs) (sym f.sent)) c.in_ok-flush.ensures.sent in
-    serves S K base_of responds tells c.args.connection.now.instance (base_of v) v w k l h c.in-Some.end (flat_map bytes pieces) back before c.flush.new.sent.items c.served.ensures
-    (follows_went S K base_of responds tells v w k l fed (length fed.out) h e f.follows) (ap (λ (g : History). g.instance) e ∙ f.instance ∙ inv.instance)
-    (ap (λ (g : History). g.base) e ∙ f.base ∙ inv.base ∙ c.requires.base) (ap (λ (g : History). g.ended) e ∙ f.comes) (ap (λ (g : History). g.out) e ∙ none_left fed.out)
-    (inl (ap (λ (g : History). g.closed) e ∙ f.closed ∙ inv.closed)) (ap (λ (g : History). g.taken ++ back) e ∙ whole) (out ∙ ap (λ (g : History). before ++ g.sent) (sym e))
+    let whole = up_to bytes pieces c.loop-piece.piece-index c.piece-item.result old.taken fed.taken rest
+    c.loop-piece-test.true c.piece-item.is inv.taken came in
+    let out = handed_all fed before c.loop-piece.sent.items c.flush.new.sent.items
+    (inv.sent ∙ ap (λ xs. before ++ xs) (sym f.sent)) c.in_ok-flush.ensures.sent in
+    serves S K base_of responds tells c.args.connection.now.instance (base_of v) v w k l h c.in-Some.end
+    (flat_map bytes pieces) back before c.flush.new.sent.items c.served.ensures
+    (follows_went S K base_of responds tells v w k l fed (length fed.out) h e f.follows)
+    (ap (λ (g : History). g.instance) e ∙ f.instance ∙ inv.instance)
+    (ap (λ (g : History). g.base) e ∙ f.base ∙ inv.base ∙ c.requires.base) (ap (λ (g : History). g.ended) e ∙ f.comes)
+    (ap (λ (g : History). g.out) e ∙ none_left fed.out)
+    (inl (ap (λ (g : History). g.closed) e ∙ f.closed ∙ inv.closed)) (ap (λ (g : History). g.taken ++ back) e ∙ whole)
+    (out ∙ ap (λ (g : History). before ++ g.sent) (sym e))
 
 pub returns : goal.returns
 returns g c =
@@ -69,15 +78,23 @@ returns g c =
     let h = c.flush-2.new.connection in
     let inv = c.loop-piece.invariant in
     let shut = c.finish.ensures in
-    let follows = follows_finished S K base_of responds tells v (g.A.Responder.sight c.loop-piece.responder) k c.loop-piece.clock c.loop-piece.connection old shut inv.follows in
-    let f = subst (λ (o : Option StreamEnd). Fed base_of responds tells o [] v k old fed w l) c.in-Some-end.is (c.in_ok-end-2.ensures v k follows) in
+    let follows = follows_finished S K base_of responds tells v (g.A.Responder.sight c.loop-piece.responder) k
+    c.loop-piece.clock c.loop-piece.connection old shut inv.follows in
+    let f = subst (λ (o : Option StreamEnd). Fed base_of responds tells o [] v k old fed w l) c.in-Some-end.is
+    (c.in_ok-end-2.ensures v k follows) in
     let e = c.in_ok-flush-2.ensures.connection in
-    let came : fed.taken ≡ old.taken = f.taken.1 ∙ ap (λ xs. old.taken ++ xs) (none_taken f.taken.0) ∙ append-nil old.taken in
-    let whole = append-nil h.taken ∙ ap (λ (g : History). g.taken) e ∙ came ∙ ap (λ (g : History). g.taken) shut ∙ inv.taken
+    let came : fed.taken ≡ old.taken = f.taken.1 ∙ ap (λ xs. old.taken ++ xs) (none_taken f.taken.0)
+    ∙ append-nil old.taken in
+    let whole = append-nil h.taken ∙ ap (λ (g : History). g.taken) e ∙ came ∙ ap (λ (g : History). g.taken) shut
+    ∙ inv.taken
     ∙ ap (flat_map bytes) (take_all c.loop-piece.piece-index pieces (omega arith)) in
     let out = handed_all fed before c.loop-piece.sent.items c.flush-2.new.sent.items
-    (inv.sent ∙ ap (λ (g : History). before ++ g.sent) (sym shut) ∙ ap (λ xs. before ++ xs) (sym f.sent)) c.in_ok-flush-2.ensures.sent in
-    serves S K base_of responds tells c.args.connection.now.instance (base_of v) v w k l h c.in-Some-end.end (flat_map bytes pieces) [] before c.flush-2.new.sent.items c.served-2.ensures
-    (follows_went S K base_of responds tells v w k l fed (length fed.out) h e f.follows) (ap (λ (g : History). g.instance) e ∙ f.instance ∙ ap (λ (g : History). g.instance) shut ∙ inv.instance)
-    (ap (λ (g : History). g.base) e ∙ f.base ∙ ap (λ (g : History). g.base) shut ∙ inv.base ∙ c.requires.base) (ap (λ (g : History). g.ended) e ∙ f.comes) (ap (λ (g : History). g.out) e ∙ none_left fed.out)
+    (inv.sent ∙ ap (λ (g : History). before ++ g.sent) (sym shut) ∙ ap (λ xs. before ++ xs) (sym f.sent))
+    c.in_ok-flush-2.ensures.sent in
+    serves S K base_of responds tells c.args.connection.now.instance (base_of v) v w k l h c.in-Some-end.end
+    (flat_map bytes pieces) [] before c.flush-2.new.sent.items c.served-2.ensures
+    (follows_went S K base_of responds tells v w k l fed (length fed.out) h e f.follows)
+    (ap (λ (g : History). g.instance) e ∙ f.instance ∙ ap (λ (g : History). g.instance) shut ∙ inv.instance)
+    (ap (λ (g : History). g.base) e ∙ f.base ∙ ap (λ (g : History). g.base) shut ∙ inv.base ∙ c.requires.base)
+    (ap (λ (g : History). g.ended) e ∙ f.comes) (ap (λ (g : History). g.out) e ∙ none_left fed.out)
     (inr refl) whole (out ∙ ap (λ (g : History). before ++ g.sent) (sym e))

@@ -5,7 +5,8 @@ use Rattle.lra_steps.proofs.serve.serve_through.Given as goal
 -- the pieces so far were taken, and what was replied was handed out
 abbrev pub invariant-loop-piece : goal.invariant-loop-piece
 invariant-loop-piece g l = record {
-  follows : Follows g.A.Responder.base_of g.A.Responder.responds g.K.Clock.tells (g.A.Responder.sight l.fn.responder) l.fn.clock l.connection (g.A.Responder.sight l.responder) l.clock;
+  follows : Follows g.A.Responder.base_of g.A.Responder.responds g.K.Clock.tells (g.A.Responder.sight l.fn.responder)
+      l.fn.clock l.connection (g.A.Responder.sight l.responder) l.clock;
   instance : l.connection.instance ≡ l.fn.connection.instance;
   base : l.connection.base ≡ l.fn.connection.base;
   closed : IsFalse l.connection.closed;

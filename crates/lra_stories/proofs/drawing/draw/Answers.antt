@@ -10,6 +10,8 @@ returns c = λ J h.
     let first = c.in_ok-put_row.ensures [] c.new-drawing.ensures in
     let told = c.in_ok-put_told.ensures J _ h first in
     subst
-    (λ (row : List ℕ). IfOk c.framed.result (λ text. string_bytes text ≡ framed c.args.head.now (row ∷ [] ++ map (told_row J) c.args.told.now ++ flat_map note_rows (map string_bytes c.args.notes.now))))
+    (λ (row : List ℕ). IfOk c.framed.result (λ text. string_bytes text
+    ≡ framed c.args.head.now (row ∷ [] ++ map (told_row J) c.args.told.now
+    ++ flat_map note_rows (map string_bytes c.args.notes.now))))
     (c.deref.ensures ∙ c.in_ok-first.ensures)
     (c.framed.ensures _ (c.in_ok-put_notes.ensures _ told))

@@ -5,4 +5,5 @@ use Rattle.lra_stories.specs.inner.Draws.{Draws}
 use Rattle.lra_stories.proofs.drawing.put_notes.Given as goal
 
 abbrev pub invariant-loop-place : goal.invariant-loop-place
-invariant-loop-place l = (cs : List (List ℕ)) → Draws l.fn.drawing cs → Draws l.drawing (cs ++ flat_map note_rows (map string_bytes (take l.place l.notes)))
+invariant-loop-place l = (cs : List (List ℕ)) → Draws l.fn.drawing cs → Draws l.drawing
+    (cs ++ flat_map note_rows (map string_bytes (take l.place l.notes)))

@@ -6,4 +6,5 @@ use Rattle.lra_stories.specs.inner.Draws.{Draws}
 use Rattle.lra_stories.proofs.drawing.put_told.Given as goal
 
 abbrev pub invariant-loop-place : goal.invariant-loop-place
-invariant-loop-place l = (J : History) (cs : List (List ℕ)) → StandsFor l.rows.sheet J → Draws l.fn.drawing cs → Draws l.drawing (cs ++ map (told_row J) (take l.place l.told))
+invariant-loop-place l = (J : History) (cs : List (List ℕ)) → StandsFor l.rows.sheet J → Draws l.fn.drawing cs
+    → Draws l.drawing (cs ++ map (told_row J) (take l.place l.told))

@@ -7,5 +7,7 @@ use Rattle.lra_stories.proofs.explaining.lines_text.Goals as goal
 pub returns : goal.returns
 returns c = λ J h.
     c.in_ok-push_str.ensures.bytes
-    ∙ ap (λ (t : List ℕ). t ++ c.deref.result.now) (c.in_ok-push_told.ensures J h ∙ ap (λ (t : List ℕ). t ++ flat_map (told_line J) c.args.told.now) c.in_ok-text.ensures.ok)
-    ∙ ap (λ (t : List ℕ). (c.args.head.now ++ flat_map (told_line J) c.args.told.now) ++ t) (c.deref.ensures ∙ c.in_ok-notes.ensures.ok ∙ joined_texts c.args.notes.now)
+    ∙ ap (λ (t : List ℕ). t ++ c.deref.result.now) (c.in_ok-push_told.ensures J h
+    ∙ ap (λ (t : List ℕ). t ++ flat_map (told_line J) c.args.told.now) c.in_ok-text.ensures.ok)
+    ∙ ap (λ (t : List ℕ). (c.args.head.now ++ flat_map (told_line J) c.args.told.now) ++ t)
+    (c.deref.ensures ∙ c.in_ok-notes.ensures.ok ∙ joined_texts c.args.notes.now)

@@ -6,4 +6,5 @@ use Rattle.lra_stories.specs.Sentences.{told_line}
 use Rattle.lra_stories.proofs.explaining.push_told.Given as goal
 
 abbrev pub invariant-loop-entry : goal.invariant-loop-entry
-invariant-loop-entry l = (J : History) → StandsFor l.rows.sheet J → string_bytes l.text ≡ string_bytes l.initial.text ++ flat_map (told_line J) (take l.entry-index l.told)
+invariant-loop-entry l = (J : History) → StandsFor l.rows.sheet J → string_bytes l.text ≡ string_bytes l.initial.text
+    ++ flat_map (told_line J) (take l.entry-index l.told)

@@ -9,5 +9,6 @@ returns-clause-ok g c =
     c.put_account.ensures.ok b (record {
       some = c.fault-fault.ensures.some b followed;
       none = c.fault-fault.ensures.none b followed;
-      listed = c.in_ok-account.ensures.account b (followed_anyway (Hears c.feed_all.new.follower) c.feed_all.new.auditor b followed);
+      listed = c.in_ok-account.ensures.account b (followed_anyway (Hears c.feed_all.new.follower) c.feed_all.new.auditor
+          b followed);
     }))

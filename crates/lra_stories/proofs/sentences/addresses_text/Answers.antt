@@ -10,7 +10,8 @@ returns c =
     IfOk-weaker c.format.result _ _ (λ text is.
     is
     ∙ five_parts _ _ _ _ _ _ _ _ _ _
-    (c.in_ok-compensate.ensures ∙ ap (λ (o : Option (List ℕ)). address_text (codes "compensate") o) c.compensate.ensures)
+    (c.in_ok-compensate.ensures ∙ ap (λ (o : Option (List ℕ)). address_text (codes "compensate") o)
+    c.compensate.ensures)
     (c.in_ok-complete.ensures ∙ ap (λ (o : Option (List ℕ)). address_text (codes "complete") o) c.complete.ensures)
     (c.in_ok-status.ensures ∙ ap (λ (o : Option (List ℕ)). address_text (codes "status") o) c.status.ensures)
     (c.in_ok-forget.ensures ∙ ap (λ (o : Option (List ℕ)). address_text (codes "forget") o) c.forget.ensures)

@@ -9,5 +9,6 @@ use Rattle.lra_stories.proofs.sentences.said_text.Goals as goal
 pub returns : goal.returns
 returns c =
     IfOk-weaker c.format.result _ _ (λ text is.
-    is ∙ ap (λ (w : List ℕ). codes "member " ++ (decimal c.args.member ++ (codes " answered that " ++ w))) (c.outcome_words-words.ensures ∙ sym (append-nil (sentences.outcome_words c.args.stage c.args.outcome))))
+    is ∙ ap (λ (w : List ℕ). codes "member " ++ (decimal c.args.member ++ (codes " answered that " ++ w)))
+    (c.outcome_words-words.ensures ∙ sym (append-nil (sentences.outcome_words c.args.stage c.args.outcome))))
     c.format.ensures.ok

@@ -7,5 +7,6 @@ use Rattle.lra_stories.proofs.sentences.told_line.Goals as goal
 pub returns : goal.returns
 returns c = λ J h.
     IfOk-weaker c.format.result _ _ (λ text is.
-    is ∙ ap (λ (x : List ℕ). codes "line " ++ (decimal c.args.told.now.line ++ (codes ": " ++ (x ++ codes "\n")))) (c.in_ok-words.ensures J h))
+    is ∙ ap (λ (x : List ℕ). codes "line " ++ (decimal c.args.told.now.line ++ (codes ": " ++ (x ++ codes "\n"))))
+    (c.in_ok-words.ensures J h))
     c.format.ensures.ok

@@ -8,4 +8,5 @@ use Rattle.lra_stories.proofs.tallies.tally_text.Given as goal
 
 abbrev pub invariant-loop-place : goal.invariant-loop-place
 invariant-loop-place l = (ms : List ListedMember) → Tallied ms l.counts
-    → map string_bytes l.words.items ≡ filter_map (λ s. counted s (count_of ms l.action (place_of s))) (take l.place statuses)
+    → map string_bytes l.words.items ≡ filter_map (λ s. counted s (count_of ms l.action (place_of s)))
+    (take l.place statuses)

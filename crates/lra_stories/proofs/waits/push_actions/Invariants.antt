@@ -6,4 +6,5 @@ use Rattle.lra_stories.proofs.waits.push_actions.Given as goal
 
 abbrev pub invariant-loop-place : goal.invariant-loop-place
 invariant-loop-place l = (J : History) → StandsFor l.rows.sheet J
-    → map string_bytes l.notes.items ≡ map string_bytes l.fn.notes.items ++ map (action_note J l.status) (take l.place l.nested)
+    → map string_bytes l.notes.items ≡ map string_bytes l.fn.notes.items
+    ++ map (action_note J l.status) (take l.place l.nested)

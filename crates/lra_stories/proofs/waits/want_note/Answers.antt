@@ -8,5 +8,6 @@ use Rattle.lra_stories.proofs.waits.want_note.Goals as goal
 pub returns-in-Some : goal.returns-in-Some
 returns-in-Some c = λ J h.
     IfOk-weaker c.wanted_note.result _ _ (λ text is.
-    is ∙ sym (ap (λ (o : Option AskKind). option_map_or (wanted_note J c.args.member c.args.row.now) o []) c.in-Some.is))
+    is ∙ sym (ap (λ (o : Option AskKind). option_map_or (wanted_note J c.args.member c.args.row.now) o [])
+    c.in-Some.is))
     (c.wanted_note.ensures J h)

@@ -6,5 +6,7 @@ use Rattle.lra_stories.proofs.wanted.base_in.Goals as goal
 
 pub returns : goal.returns
 returns c =
-    subst (λ (p : List ℕ). MatchOption c.strip_suffix.result ((base : List ℕ) → c.args.front.now ≢ base ++ p) (λ base. c.args.front.now ≡ base.now ++ p)) c.as_bytes.ensures.value
-    (strip_suffix_is Decides-eqb c.args.front.now c.as_bytes.result.now c.strip_suffix.result c.strip_suffix.ensures.cases)
+    subst (λ (p : List ℕ). MatchOption c.strip_suffix.result ((base : List ℕ) → c.args.front.now ≢ base ++ p)
+    (λ base. c.args.front.now ≡ base.now ++ p)) c.as_bytes.ensures.value
+    (strip_suffix_is Decides-eqb c.args.front.now c.as_bytes.result.now c.strip_suffix.result
+    c.strip_suffix.ensures.cases)

@@ -4,4 +4,5 @@ use Rattle.lra_tables.proofs.Listed.{unfound}
 use Rattle.lra_tables.proofs.changes.is_nested.Goals as goal
 
 pub returns-in-None : goal.returns-in-None
-returns-in-None c = λ history stands. sym (ap is_some (unfound history c.args.action (c.in-None.ensures history stands)))
+returns-in-None c = λ history stands. sym
+    (ap is_some (unfound history c.args.action (c.in-None.ensures history stands)))

@@ -6,4 +6,5 @@ use Rattle.lra_tables.specs.inner.Same.{found_same}
 use Rattle.lra_tables.proofs.joins.find_joined.Given as goal
 
 abbrev pub invariant-loop-rank : goal.invariant-loop-rank
-invariant-loop-rank l = (J : History) → StandsFor l.rows.sheet J → find (found_same J l.action l.uris) (take l.rank (staying_with l.index.key l.digest J)) ≡ None
+invariant-loop-rank l = (J : History) → StandsFor l.rows.sheet J → find (found_same J l.action l.uris)
+    (take l.rank (staying_with l.index.key l.digest J)) ≡ None

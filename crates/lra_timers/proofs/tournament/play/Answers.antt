@@ -10,7 +10,8 @@ pub loop-at-preserved : goal.loop-at-preserved
 loop-at-preserved c =
     let inside : c.loop-at.at - 1 < length c.loop-at.nodes = omega arith in (
       drop-set-lt c.args.width c.loop-at.nodes (c.loop-at.at - 1) c.winner.result (omega arith) ∙ c.loop-at.invariant.0,
-      IsWonFrom-down c.loop-at.nodes c.args.width c.loop-at.at (c.loop-at.at - 1) c.winner.result (omega arith) inside (omega arith) c.loop-at.invariant.1 c.winner.ensures,
+      IsWonFrom-down c.loop-at.nodes c.args.width c.loop-at.at (c.loop-at.at - 1) c.winner.result (omega arith) inside
+          (omega arith) c.loop-at.invariant.1 c.winner.ensures,
     )
 
 pub returns-clause-won : goal.returns-clause-won

@@ -26,24 +26,32 @@ pub loop-from-preserved : goal.loop-from-preserved
 loop-from-preserved c =
     let read = c.loop-from.chunks in
     let count : c.len.result ≡ length read.body.items = omega (arith, c.len.ensures, read.body.ok.0) in
-    let part : FindsPart read.end (65536 - c.len.result) c.args.bytes.now (Ok (Content c.in-Content.from c.in-Content.to)) =
-    subst (λ (p : Part). FindsPart read.end (65536 - c.len.result) c.args.bytes.now (Ok p)) c.in-Content.is c.in_ok-from.ensures in (
-      subst (λ (bs : List ℕ). ChunksTo c.args.bytes.now read.start (c.in-Content.to + 2) bs) (sym c.in_ok-extend_from_slice-in-Content.ensures.items)
-          (chunks_more c.args.bytes.now read.start read.end c.in-Content.from c.in-Content.to read.body.items c.loop-from.invariant.0
-          (subst (λ (n : ℕ). FindsPart read.end (65536 - n) c.args.bytes.now (Ok (Content c.in-Content.from c.in-Content.to))) count part)),
+    let part : FindsPart read.end (65536 - c.len.result) c.args.bytes.now
+    (Ok (Content c.in-Content.from c.in-Content.to)) =
+    subst (λ (p : Part). FindsPart read.end (65536 - c.len.result) c.args.bytes.now (Ok p)) c.in-Content.is
+    c.in_ok-from.ensures in (
+      subst (λ (bs : List ℕ). ChunksTo c.args.bytes.now read.start (c.in-Content.to + 2) bs)
+          (sym c.in_ok-extend_from_slice-in-Content.ensures.items)
+          (chunks_more c.args.bytes.now read.start read.end c.in-Content.from c.in-Content.to read.body.items
+          c.loop-from.invariant.0
+          (subst (λ (n : ℕ). FindsPart read.end (65536 - n) c.args.bytes.now
+          (Ok (Content c.in-Content.from c.in-Content.to))) count part)),
       c.loop-from.invariant.1,
     )
 
 pub returns-in-Last-clause-read : goal.returns-in-Last-clause-read
 returns-in-Last-clause-read c =
-    read_again c.args.bytes.now c.loop-from.chunks c.hand_out.new.self c.loop-from.invariant.0 c.hand_out.ensures.start c.hand_out.ensures.end c.hand_out.ensures.none
+    read_again c.args.bytes.now c.loop-from.chunks c.hand_out.new.self c.loop-from.invariant.0 c.hand_out.ensures.start
+    c.hand_out.ensures.end c.hand_out.ensures.none
 
 pub returns-in-Last-clause-finds : goal.returns-in-Last-clause-finds
 returns-in-Last-clause-finds c =
     let read = c.loop-from.chunks in
     let part : FindsPart read.end (65536 - c.len.result) c.args.bytes.now (Ok (Last c.in-Last.end)) =
-    subst (λ (p : Part). FindsPart read.end (65536 - c.len.result) c.args.bytes.now (Ok p)) c.in-Last.is c.in_ok-from.ensures in
-    subst (λ (bs : List ℕ). IsBodyTo Chunks c.args.chunks.now.start c.args.bytes.now bs c.in-Last.end) (sym c.hand_out.ensures.body)
+    subst (λ (p : Part). FindsPart read.end (65536 - c.len.result) c.args.bytes.now (Ok p)) c.in-Last.is
+    c.in_ok-from.ensures in
+    subst (λ (bs : List ℕ). IsBodyTo Chunks c.args.chunks.now.start c.args.bytes.now bs c.in-Last.end)
+    (sym c.hand_out.ensures.body)
     (subst (λ (n : ℕ). IsBodyTo Chunks n c.args.bytes.now read.body.items c.in-Last.end) c.loop-from.invariant.1
     (chunks_whole c.args.bytes.now read.start read.end c.in-Last.end read.body.items c.loop-from.invariant.0 part))
 
@@ -55,7 +63,8 @@ returns-in-Open-clause-finds c =
     let part : FindsPart read.end (65536 - c.len.result) bytes (Ok (Open c.in-Open.wanted)) =
     subst (λ (p : Part). FindsPart read.end (65536 - c.len.result) bytes (Ok p)) c.in-Open.is c.in_ok-from.ensures in
     let cut = subst (λ (n : ℕ). RefusesChunk read.end (65536 - n) (drop read.end bytes) Cut) count part.1 in
-    subst (λ (n : ℕ). IsOpenAt (AwaitsBody Chunks) n bytes c.in-Open.wanted × RefusesFramed Chunks n (drop n bytes) Cut) c.loop-from.invariant.1 (
+    subst (λ (n : ℕ). IsOpenAt (AwaitsBody Chunks) n bytes c.in-Open.wanted × RefusesFramed Chunks n (drop n bytes) Cut)
+    c.loop-from.invariant.1 (
       chunks_open bytes read.start read.end c.in-Open.wanted read.body.items c.loop-from.invariant.0 part.0,
       chunks_cut bytes read.start read.end read.body.items c.loop-from.invariant.0 cut,
     )

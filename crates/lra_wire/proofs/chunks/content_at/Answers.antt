@@ -6,4 +6,5 @@ use Rattle.lra_wire.proofs.chunks.content_at.Goals as goal
 pub returns-then-not-has_line_end : goal.returns-then-not-has_line_end
 returns-then-not-has_line_end c =
     content_refused c.args.bytes.now c.args.start c.args.room c.args.size c.requires.start (omega arith)
-    (missed_line_end c.args.bytes.now c.args.bytes.now (c.args.start + c.args.size) c.has_line_end.result refl c.has_line_end.ensures c.if-not-has_line_end.true)
+    (missed_line_end c.args.bytes.now c.args.bytes.now (c.args.start + c.args.size) c.has_line_end.result refl
+    c.has_line_end.ensures c.if-not-has_line_end.true)

@@ -17,7 +17,8 @@ returns-in_err-len c =
 pub returns-in_default : goal.returns-in_default
 returns-in_default c =
     let none = subst (λ (o : Option ℕ). FindsTrailer c.behind.result.now (Ok o)) c.in_default.is c.in_ok-len.ensures in
-    end_open c.args.bytes.now c.args.start c.in_ok-next_feed.field-0 c.requires (subst HasNoSection c.behind.ensures none.0) (subst MayBecomeSection c.behind.ensures none.1)
+    end_open c.args.bytes.now c.args.start c.in_ok-next_feed.field-0 c.requires
+    (subst HasNoSection c.behind.ensures none.0) (subst MayBecomeSection c.behind.ensures none.1)
     c.in_ok-next_feed.ensures
 
 pub returns-in_err-next_feed : goal.returns-in_err-next_feed
@@ -31,4 +32,5 @@ returns-in_err-next_feed c =
 pub returns-then-end-gt-MAX_RESPONSE : goal.returns-then-end-gt-MAX_RESPONSE
 returns-then-end-gt-MAX_RESPONSE c =
     let found = subst (λ (o : Option ℕ). FindsTrailer c.behind.result.now (Ok o)) c.in-Some.is c.in_ok-len.ensures in
-    end_long c.args.bytes.now c.args.start c.in-Some.len c.requires (subst (λ (bs : List ℕ). IsTrailerOf bs c.in-Some.len) c.behind.ensures found) c.if-end-gt-MAX_RESPONSE.true
+    end_long c.args.bytes.now c.args.start c.in-Some.len c.requires (subst
+    (λ (bs : List ℕ). IsTrailerOf bs c.in-Some.len) c.behind.ensures found) c.if-end-gt-MAX_RESPONSE.true

@@ -9,5 +9,6 @@ returns-in_ok-body-in-Sized-clause-finds c =
     let start = c.args.chunks.now.start in
     let body = c.in_ok-body-in-Sized.body.items in
     subst (λ (f : Framing). IsBodyTo f start c.args.bytes.now body (start + c.in-Sized.size)) (sym c.in-Sized.is)
-    (sized_whole c.args.bytes.now body start c.in-Sized.size (omega (arith, c.if-bytes-end.false)) c.requires.limit (subst IsSmall c.in-Sized.is c.requires.small)
+    (sized_whole c.args.bytes.now body start c.in-Sized.size (omega (arith, c.if-bytes-end.false)) c.requires.limit
+    (subst IsSmall c.in-Sized.is c.requires.small)
     c.in_ok-body-in-Sized.ensures.items)

@@ -9,15 +9,22 @@ use Rattle.lra_wire.proofs.coming.read_on.Goals as goal
 pub returns-in_err-body-clause-coming : goal.returns-in_err-body-clause-coming
 returns-in_err-body-clause-coming c =
     let head = c.in-Some.head in
-    let seen = seen_final c.find_head.new.self c.args.bytes.now c.in_ok-head.field-0 head c.find_head.ensures.sees c.in-Some.is c.in_ok-head.ensures.finds in
+    let seen = seen_final c.find_head.new.self c.args.bytes.now c.in_ok-head.field-0 head c.find_head.ensures.sees
+    c.in-Some.is c.in_ok-head.ensures.finds in
     let p = err_from_is_err_and c.from_residual-in_err-body.result c.from_residual-in_err-body.ensures.1 in
-    rw (p.1, p.2) (body_refused_now c.args.bytes.now head c.in_ok-head-2.field-0 c.in_err-body.field-0.0 seen.0 c.in_ok-head-2.was
-    (subst (λ (n : ℕ). FindsBodyFront c.in_ok-head-2.field-0 n c.args.bytes.now (Err c.in_err-body.field-0.0)) seen.1 c.in_err-body.ensures.finds))
+    rw (p.1, p.2) (body_refused_now c.args.bytes.now head c.in_ok-head-2.field-0 c.in_err-body.field-0.0 seen.0
+    c.in_ok-head-2.was
+    (subst (λ (n : ℕ). FindsBodyFront c.in_ok-head-2.field-0 n c.args.bytes.now (Err c.in_err-body.field-0.0)) seen.1
+    c.in_err-body.ensures.finds))
 
 pub returns-in-Whole-clause-coming : goal.returns-in-Whole-clause-coming
 returns-in-Whole-clause-coming c =
     let head = c.in-Some.head in
-    let seen = seen_final c.find_head.new.self c.args.bytes.now c.in_ok-head.field-0 head c.find_head.ensures.sees c.in-Some.is c.in_ok-head.ensures.finds in
-    let there = subst (λ (front : BodyFront). FindsBodyFront c.in_ok-head-2.field-0 c.find_head.new.self.chunks.start c.args.bytes.now (Ok front)) c.in-Whole.is c.in_ok-body.ensures.finds in
-    response_whole c.args.bytes.now head c.in_ok-head-2.field-0 c.in-Whole.body.items c.in-Whole.len seen.0 c.in_ok-head-2.was
-    (subst (λ (n : ℕ). FindsBodyFront c.in_ok-head-2.field-0 n c.args.bytes.now (Ok (Whole c.in-Whole.body c.in-Whole.len))) seen.1 there)
+    let seen = seen_final c.find_head.new.self c.args.bytes.now c.in_ok-head.field-0 head c.find_head.ensures.sees
+    c.in-Some.is c.in_ok-head.ensures.finds in
+    let there = subst (λ (front : BodyFront). FindsBodyFront c.in_ok-head-2.field-0 c.find_head.new.self.chunks.start
+    c.args.bytes.now (Ok front)) c.in-Whole.is c.in_ok-body.ensures.finds in
+    response_whole c.args.bytes.now head c.in_ok-head-2.field-0 c.in-Whole.body.items c.in-Whole.len seen.0
+    c.in_ok-head-2.was
+    (subst (λ (n : ℕ). FindsBodyFront c.in_ok-head-2.field-0 n c.args.bytes.now
+    (Ok (Whole c.in-Whole.body c.in-Whole.len))) seen.1 there)

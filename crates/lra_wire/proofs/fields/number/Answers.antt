@@ -6,12 +6,14 @@ use Rattle.lra_wire.proofs.fields.number.Goals as goal
 
 pub overflow_mul-number : goal.overflow_mul-number
 overflow_mul-number c =
-    let short = short_number c.loop-digit.digit-index c.args.digits.now c.requires.digits (omega (arith, length-take c.loop-digit.digit-index c.args.digits.now)) in
+    let short = short_number c.loop-digit.digit-index c.args.digits.now c.requires.digits
+    (omega (arith, length-take c.loop-digit.digit-index c.args.digits.now)) in
     omega arith
 
 pub overflow_add-number : goal.overflow_add-number
 overflow_add-number c =
-    let short = short_number c.loop-digit.digit-index c.args.digits.now c.requires.digits (omega (arith, length-take c.loop-digit.digit-index c.args.digits.now)) in
+    let short = short_number c.loop-digit.digit-index c.args.digits.now c.requires.digits
+    (omega (arith, length-take c.loop-digit.digit-index c.args.digits.now)) in
     let digit = digit_byte c.loop-digit.digit-index c.args.digits.now c.requires.digits c.loop-digit-test.true in
     omega arith
 

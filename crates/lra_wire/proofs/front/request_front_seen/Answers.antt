@@ -6,7 +6,8 @@ pub returns-then-stays_open-clause-front : goal.returns-then-stays_open-clause-f
 returns-then-stays_open-clause-front c = let stays = c.stays_open.ensures c.if-stays_open.true in (stays.awaits, stays.bound)
 
 pub returns-then-stays_open-clause-seen : goal.returns-then-stays_open-clause-seen
-returns-then-stays_open-clause-seen c = sees_all c.args.seen.now c.args.bytes.now c.requires (c.stays_open.ensures c.if-stays_open.true)
+returns-then-stays_open-clause-seen c = sees_all c.args.seen.now c.args.bytes.now c.requires
+    (c.stays_open.ensures c.if-stays_open.true)
 
 pub returns-in-Ok-OpenHead-clause-front : goal.returns-in-Ok-OpenHead-clause-front
 returns-in-Ok-OpenHead-clause-front c =

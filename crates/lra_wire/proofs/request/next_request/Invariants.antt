@@ -7,7 +7,8 @@ use Rattle.lra_wire.proofs.request.next_request.Given as goal
 
 -- what came is of the stream, what was seen of it holds, and more was asked for only where it was wanted
 abbrev pub invariant-loop-front : goal.invariant-loop-front
-invariant-loop-front g l = Waits g.R.Read.remaining AwaitsRequest l.initial.inbox l.inbox × Sees l.seen (kept_bytes l.inbox)
+invariant-loop-front g l = Waits g.R.Read.remaining AwaitsRequest l.initial.inbox l.inbox
+    × Sees l.seen (kept_bytes l.inbox)
 
 -- how many bytes a request may have still
 abbrev pub decreases-loop-front : goal.decreases-loop-front

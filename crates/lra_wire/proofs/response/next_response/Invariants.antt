@@ -7,7 +7,8 @@ use Rattle.lra_wire.proofs.response.next_response.Given as goal
 
 -- what came is of the stream, what was seen of it holds, and more was asked for only where it was wanted
 abbrev pub invariant-loop-seen : goal.invariant-loop-seen
-invariant-loop-seen g l = Waits g.R.Read.remaining AwaitsResponse l.initial.inbox l.inbox × SeesResponse l.seen (kept_bytes l.inbox)
+invariant-loop-seen g l = Waits g.R.Read.remaining AwaitsResponse l.initial.inbox l.inbox
+    × SeesResponse l.seen (kept_bytes l.inbox)
 
 -- how many bytes a response may have still
 abbrev pub decreases-loop-seen : goal.decreases-loop-seen

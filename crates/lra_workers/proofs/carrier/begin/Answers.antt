@@ -7,15 +7,23 @@ use Rattle.lra_workers.proofs.carrier.begin.Goals as goal
 pub take_due-requires-clause-held : goal.take_due-requires-clause-held
 take_due-requires-clause-held g c =
     asks_stay g.V.Serving.covers _ _ (g.C.Carriage.held c.args.carriage.now)
-    (worked_up_to g.V.Serving.setting g.C.Carriage.gives g.K.Clock.tells (post (clerk_view c.args.clerk.now) c.args.clock.now) (post (clerk_view c.fire.new.clerk) c.fire.new.clock) c.fire.result c.fire.ensures.work) c.requires.held
+    (worked_up_to g.V.Serving.setting g.C.Carriage.gives g.K.Clock.tells
+    (post (clerk_view c.args.clerk.now) c.args.clock.now) (post (clerk_view c.fire.new.clerk) c.fire.new.clock)
+    c.fire.result c.fire.ensures.work) c.requires.held
 
 pub returns-clause-work : goal.returns-clause-work
-returns-clause-work g c = λ s before. c.take_due.ensures.work s (carries_on g.V.Serving.setting g.C.Carriage.gives g.K.Clock.tells s (post (clerk_view c.args.clerk.now) c.args.clock.now) (post (clerk_view c.fire.new.clerk) c.fire.new.clock) c.in_default.ensures.work before)
+returns-clause-work g c = λ s before. c.take_due.ensures.work s (carries_on g.V.Serving.setting g.C.Carriage.gives
+    g.K.Clock.tells s (post (clerk_view c.args.clerk.now) c.args.clock.now)
+    (post (clerk_view c.fire.new.clerk) c.fire.new.clock) c.in_default.ensures.work before)
 
 pub returns-in-Err-clause-held : goal.returns-in-Err-clause-held
 returns-in-Err-clause-held g c =
     asks_stay g.V.Serving.covers _ _ (g.C.Carriage.held c.args.carriage.now)
-    (worked_up_to g.V.Serving.setting g.C.Carriage.gives g.K.Clock.tells (post (clerk_view c.args.clerk.now) c.args.clock.now) (post (clerk_view c.fire.new.clerk) c.fire.new.clock) c.fire.result c.fire.ensures.work) c.requires.held
+    (worked_up_to g.V.Serving.setting g.C.Carriage.gives g.K.Clock.tells
+    (post (clerk_view c.args.clerk.now) c.args.clock.now) (post (clerk_view c.fire.new.clerk) c.fire.new.clock)
+    c.fire.result c.fire.ensures.work) c.requires.held
 
 pub returns-in-Err-clause-work : goal.returns-in-Err-clause-work
-returns-in-Err-clause-work g c = λ s before. carries_up_to g.V.Serving.setting g.C.Carriage.gives g.K.Clock.tells s (post (clerk_view c.args.clerk.now) c.args.clock.now) (post (clerk_view c.fire.new.clerk) c.fire.new.clock) c.in-Err.refusal c.in-Err.ensures.work before
+returns-in-Err-clause-work g c = λ s before. carries_up_to g.V.Serving.setting g.C.Carriage.gives g.K.Clock.tells s
+    (post (clerk_view c.args.clerk.now) c.args.clock.now) (post (clerk_view c.fire.new.clerk) c.fire.new.clock)
+    c.in-Err.refusal c.in-Err.ensures.work before

@@ -7,17 +7,25 @@ use Rattle.lra_workers.proofs.carrier.begin_next.Goals as goal
 pub returns-in-Ok-clause-held : goal.returns-in-Ok-clause-held
 returns-in-Ok-clause-held g c =
     asks_stay g.V.Serving.covers _ _ (g.C.Carriage.held c.begin.new.carriage)
-    (foreseen g.V.Serving.setting g.C.Carriage.gives g.K.Clock.tells (g.V.Serving.setting (clerk_view c.begin.new.clerk).origin) (clerk_view c.begin.new.clerk) (clerk_view c.next_moment.new.clerk) (Ok c.in-Ok.next) c.in-Ok.ensures.next) c.begin.ensures.held
+    (foreseen g.V.Serving.setting g.C.Carriage.gives g.K.Clock.tells (g.V.Serving.setting
+    (clerk_view c.begin.new.clerk).origin) (clerk_view c.begin.new.clerk) (clerk_view c.next_moment.new.clerk)
+    (Ok c.in-Ok.next) c.in-Ok.ensures.next) c.begin.ensures.held
 
 pub returns-in-Ok-clause-work : goal.returns-in-Ok-clause-work
 returns-in-Ok-clause-work g c = λ s before.
-    looks g.V.Serving.setting g.C.Carriage.gives g.K.Clock.tells s (clerk_view c.begin.new.clerk) (clerk_view c.next_moment.new.clerk) c.begin.new.clock (Ok c.in-Ok.next) c.in-Ok.ensures.next (c.in_default.ensures.work s before)
+    looks g.V.Serving.setting g.C.Carriage.gives g.K.Clock.tells s (clerk_view c.begin.new.clerk)
+    (clerk_view c.next_moment.new.clerk) c.begin.new.clock (Ok c.in-Ok.next) c.in-Ok.ensures.next
+    (c.in_default.ensures.work s before)
 
 pub returns-in-Err-next_moment-clause-held : goal.returns-in-Err-next_moment-clause-held
 returns-in-Err-next_moment-clause-held g c =
     asks_stay g.V.Serving.covers _ _ (g.C.Carriage.held c.begin.new.carriage)
-    (foreseen g.V.Serving.setting g.C.Carriage.gives g.K.Clock.tells (g.V.Serving.setting (clerk_view c.begin.new.clerk).origin) (clerk_view c.begin.new.clerk) (clerk_view c.next_moment.new.clerk) (Err c.in-Err-next_moment.refusal) c.in-Err-next_moment.ensures.next) c.begin.ensures.held
+    (foreseen g.V.Serving.setting g.C.Carriage.gives g.K.Clock.tells (g.V.Serving.setting
+    (clerk_view c.begin.new.clerk).origin) (clerk_view c.begin.new.clerk) (clerk_view c.next_moment.new.clerk)
+    (Err c.in-Err-next_moment.refusal) c.in-Err-next_moment.ensures.next) c.begin.ensures.held
 
 pub returns-in-Err-next_moment-clause-work : goal.returns-in-Err-next_moment-clause-work
 returns-in-Err-next_moment-clause-work g c = λ s before.
-    looks g.V.Serving.setting g.C.Carriage.gives g.K.Clock.tells s (clerk_view c.begin.new.clerk) (clerk_view c.next_moment.new.clerk) c.begin.new.clock (Err c.in-Err-next_moment.refusal) c.in-Err-next_moment.ensures.next (c.in_default.ensures.work s before)
+    looks g.V.Serving.setting g.C.Carriage.gives g.K.Clock.tells s (clerk_view c.begin.new.clerk)
+    (clerk_view c.next_moment.new.clerk) c.begin.new.clock (Err c.in-Err-next_moment.refusal)
+    c.in-Err-next_moment.ensures.next (c.in_default.ensures.work s before)

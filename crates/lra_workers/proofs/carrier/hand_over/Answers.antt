@@ -17,7 +17,8 @@ returns-in-Ok-clause-held g c =
         origin = origin;
         seen = seen;
         of_ask = c.requires.of_ask;
-        covered = subst (λ (n : ℕ). IsTrue (g.V.Serving.covers origin seen n)) (sym c.position.ensures) c.requires.clerk.covered;
+        covered = subst (λ (n : ℕ). IsTrue (g.V.Serving.covers origin seen n)) (sym c.position.ensures)
+            c.requires.clerk.covered;
       };
     })
     c.requires.held
@@ -25,5 +26,6 @@ returns-in-Ok-clause-held g c =
 pub returns-in-Err-clause-held : goal.returns-in-Err-clause-held
 returns-in-Err-clause-held g c =
     asks_stay g.V.Serving.covers _ _ (g.C.Carriage.held c.take.new.self)
-    (carried g.V.Serving.setting g.C.Carriage.gives g.K.Clock.tells (post (clerk_view c.args.clerk.now) c.args.clock.now) (post (clerk_view c.note.new.clerk) c.note.new.clock) c.note.result c.note.ensures.work)
+    (carried g.V.Serving.setting g.C.Carriage.gives g.K.Clock.tells (post (clerk_view c.args.clerk.now)
+    c.args.clock.now) (post (clerk_view c.note.new.clerk) c.note.new.clock) c.note.result c.note.ensures.work)
     (same_asks g.V.Serving.covers _ _ _ c.in-Err.ensures.err.1 c.requires.held)

@@ -11,6 +11,7 @@ invariant-loop g l = record {
   number : l.clerk.number ≡ l.fn.clerk.number;
   of_ask : IsOfAsk (clerk_view l.clerk).seen l.errand;
   given : g.C.Carriage.gives l.errand.ask l.errand.kind l.outcome;
-  work : (s : Post g.row.V-Origin.Denot g.row.K.Denot) → Carries g.V.Serving.setting g.C.Carriage.gives g.K.Clock.tells s (post (clerk_view l.fn.clerk) l.fn.clock)
+  work : (s : Post g.row.V-Origin.Denot g.row.K.Denot) → Carries g.V.Serving.setting g.C.Carriage.gives g.K.Clock.tells
+      s (post (clerk_view l.fn.clerk) l.fn.clock)
       → Carries g.V.Serving.setting g.C.Carriage.gives g.K.Clock.tells s (post (clerk_view l.clerk) l.clock);
 }

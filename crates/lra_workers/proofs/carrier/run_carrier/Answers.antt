@@ -10,7 +10,8 @@ loop-init g c = record {
   clerk = c.requires.clerk;
   number = refl;
   held = no_asks g.V.Serving.covers _ (g.C.Carriage.held c.args.carriage.now) c.requires.none;
-  work = carries_none g.V.Serving.setting g.C.Carriage.gives g.K.Clock.tells (post (clerk_view c.args.clerk) c.args.clock.now);
+  work = carries_none g.V.Serving.setting g.C.Carriage.gives g.K.Clock.tells
+      (post (clerk_view c.args.clerk) c.args.clock.now);
 }
 
 pub loop-preserved-in-Err : goal.loop-preserved-in-Err
@@ -18,6 +19,9 @@ loop-preserved-in-Err g c = record {
   clerk = c.take_turn.ensures.clerk;
   number = c.take_turn.ensures.number ∙ c.loop.invariant.number;
   held = c.take_turn.ensures.held;
-  work = goes_on g.V.Serving.setting g.C.Carriage.gives g.K.Clock.tells (post (clerk_view c.args.clerk) c.args.clock.now) (post (clerk_view c.take_turn.new.clerk) c.take_turn.new.clock) c.in-Err.end
-      (sym c.is_for_memory.ensures ∙ c.if-not-is_for_memory.false) (c.in-Err.ensures.work (post (clerk_view c.args.clerk) c.args.clock.now) c.loop.invariant.work);
+  work = goes_on g.V.Serving.setting g.C.Carriage.gives g.K.Clock.tells
+      (post (clerk_view c.args.clerk) c.args.clock.now) (post (clerk_view c.take_turn.new.clerk) c.take_turn.new.clock)
+      c.in-Err.end
+      (sym c.is_for_memory.ensures ∙ c.if-not-is_for_memory.false) (c.in-Err.ensures.work
+      (post (clerk_view c.args.clerk) c.args.clock.now) c.loop.invariant.work);
 }

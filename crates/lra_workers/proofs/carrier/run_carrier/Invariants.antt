@@ -10,5 +10,6 @@ invariant-loop g l = record {
   clerk : IsClerkOf l.office.lock g.V.Serving.covers l.clerk;
   number : l.clerk.number ≡ l.fn.clerk.number;
   held : AreHanded g.V.Serving.covers (clerk_view l.clerk).seen (g.C.Carriage.held l.carriage);
-  work : Carries g.V.Serving.setting g.C.Carriage.gives g.K.Clock.tells (post (clerk_view l.fn.clerk) l.fn.clock) (post (clerk_view l.clerk) l.clock);
+  work : Carries g.V.Serving.setting g.C.Carriage.gives g.K.Clock.tells (post (clerk_view l.fn.clerk) l.fn.clock)
+      (post (clerk_view l.clerk) l.clock);
 }

@@ -10,6 +10,7 @@ invariant-loop-taken g l = record {
   clerk : IsClerkOf l.office.lock g.V.Serving.covers l.clerk;
   number : l.clerk.number ≡ l.fn.clerk.number;
   held : AreHanded g.V.Serving.covers (clerk_view l.clerk).seen (g.C.Carriage.held l.carriage);
-  work : (s : Post g.row.V-Origin.Denot g.row.K.Denot) → Carries g.V.Serving.setting g.C.Carriage.gives g.K.Clock.tells s (post (clerk_view l.fn.clerk) l.fn.clock)
+  work : (s : Post g.row.V-Origin.Denot g.row.K.Denot) → Carries g.V.Serving.setting g.C.Carriage.gives g.K.Clock.tells
+      s (post (clerk_view l.fn.clerk) l.fn.clock)
       → Carries g.V.Serving.setting g.C.Carriage.gives g.K.Clock.tells s (post (clerk_view l.clerk) l.clock);
 }

@@ -7,5 +7,6 @@ abbrev pub invariant-loop : goal.invariant-loop
 invariant-loop g l = record {
   clerk : IsClerkOf l.office.lock g.V.Serving.covers l.clerk;
   number : l.clerk.number ≡ l.fn.clerk.number;
-  work : Works g.V.Serving.setting g.C.Courier.gives g.K.Clock.tells (post (clerk_view l.fn.clerk) l.fn.clock) (post (clerk_view l.clerk) l.clock);
+  work : Works g.V.Serving.setting g.C.Courier.gives g.K.Clock.tells (post (clerk_view l.fn.clerk) l.fn.clock)
+      (post (clerk_view l.clerk) l.clock);
 }

@@ -8,7 +8,8 @@ use Rattle.lra_board.proofs.Boards.{takes_deed, carried_marks, room_back}
 use Rattle.lra_board.proofs.board.Board.carry.Goals as goal
 
 pub grow-requires : goal.grow-requires
-grow-requires c = takes_deed c.args.entry.now c.self.inside.rows c.self.inside.ready (ap (has_room c.args.entry.now) c.self.view_is ∙ c.requires.room)
+grow-requires c = takes_deed c.args.entry.now c.self.inside.rows c.self.inside.ready
+    (ap (has_room c.args.entry.now) c.self.view_is ∙ c.requires.room)
 
 pub invariant_of-self : goal.invariant_of-self
 invariant_of-self c =
@@ -16,11 +17,14 @@ invariant_of-self c =
     let follows = subst (λ (b : Boarded). Follows b.rows.sheet e) (sym c.self.view_is) c.requires.follows in
     let J = follows.history in
     let after = c.carry-step.ensures.stands J follows.stands follows.allowed in
-    c.mark.ensures.marked (J ++ e ∷ []) after (carried_marks _ _ J e c.self.inside.ready c.grow.new.self follows.stands follows.allowed after c.self.invariant c.grow.ensures)
+    c.mark.ensures.marked (J ++ e ∷ []) after (carried_marks _ _ J e c.self.inside.ready c.grow.new.self follows.stands
+    follows.allowed after c.self.invariant c.grow.ensures)
 
 pub returns-clause-stands : goal.returns-clause-stands
 returns-clause-stands c =
-    subst (λ (b : Boarded). (J : History) (h : StandsFor b.rows.sheet J) → allows h.version h.is_address J c.args.entry.now ≡ true → StandsFor c.carry-step.new.self.sheet (J ++ c.args.entry.now ∷ [])) c.self.view_is c.carry-step.ensures.stands
+    subst (λ (b : Boarded). (J : History) (h : StandsFor b.rows.sheet J)
+    → allows h.version h.is_address J c.args.entry.now ≡ true → StandsFor c.carry-step.new.self.sheet
+    (J ++ c.args.entry.now ∷ [])) c.self.view_is c.carry-step.ensures.stands
 
 pub returns-clause-back : goal.returns-clause-back
 returns-clause-back c =
@@ -36,5 +40,11 @@ returns-clause-back c =
       ends = (room.ends ∙ ap (λ (x : Ready). x.ends.room) c.grow.ensures) i;
     }))
     ∙ room_back e.by e.moment e.deed step c.carry-step.new.self r took
-    ∙ (λ i. record { rows = c.carry-step.ensures.back i; skips = r.skips.room; turns = r.turns.room; ends = r.ends.room })
+    ∙ (λ i. record {
+      rows = c.carry-step.ensures.back i;
+      skips = r.skips.room;
+      turns = r.turns.room;
+      ends =
+          r.ends.room;
+    })
     ∙ c.self.view_is

@@ -6,4 +6,5 @@ use Rattle.lra_board.proofs.board.Board.empty.Goals as goal
 pub invariant_of-result : goal.invariant_of-result
 unfolding actions members
 invariant_of-result c =
-    c.new.ensures c.empty.result.sheet.state (ap (λ (s : Sheet). s.state.members) c.empty.ensures.sheet) (ap (λ (s : Sheet). s.state.actions) c.empty.ensures.sheet)
+    c.new.ensures c.empty.result.sheet.state (ap (λ (s : Sheet). s.state.members) c.empty.ensures.sheet)
+    (ap (λ (s : Sheet). s.state.actions) c.empty.ensures.sheet)

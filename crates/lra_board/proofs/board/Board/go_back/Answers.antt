@@ -16,8 +16,11 @@ take_back-uris-requires c =
     let size : c.args.trail.now.steps.len ≡ length steps = c.args.trail.now.steps.ok.0 in
     let inside : c.loop-place.place - 1 < length steps = omega arith in
     let here = slice_get_read entries (length entries) (c.loop-place.place - 1) c.index.result.now refl (let n = h.many in omega arith) c.index.ensures in
-    let step = slice_get_read steps (length steps) (c.loop-place.place - 1) c.index-in-loop-place.result.now refl inside c.index-in-loop-place.ensures in
-    last_came c.requires.from entries steps c.args.self.now c.loop-place.self c.index.result.now c.index-in-loop-place.result.now (c.loop-place.place - 1) c.loop-place.place h (omega arith) here step (c.loop-place.invariant.back c.requires.from h)
+    let step = slice_get_read steps (length steps) (c.loop-place.place - 1) c.index-in-loop-place.result.now refl inside
+    c.index-in-loop-place.ensures in
+    last_came c.requires.from entries steps c.args.self.now c.loop-place.self c.index.result.now
+    c.index-in-loop-place.result.now (c.loop-place.place - 1) c.loop-place.place h (omega arith) here step
+    (c.loop-place.invariant.back c.requires.from h)
 
 pub loop-place-preserved : goal.loop-place-preserved
 loop-place-preserved c =
@@ -26,14 +29,19 @@ loop-place-preserved c =
     let size : c.args.trail.now.steps.len ≡ length steps = c.args.trail.now.steps.ok.0 in
     let inside : c.loop-place.place - 1 < length steps = omega arith in
     let here = slice_get_read entries (length entries) (c.loop-place.place - 1) c.index.result.now refl (let n = c.requires.trail.many in omega arith) c.index.ensures in
-    let step = slice_get_read steps (length steps) (c.loop-place.place - 1) c.index-in-loop-place.result.now refl inside c.index-in-loop-place.ensures in
+    let step = slice_get_read steps (length steps) (c.loop-place.place - 1) c.index-in-loop-place.result.now refl inside
+    c.index-in-loop-place.ensures in
     record {
       back = λ b h.
           c.take_back-uris.ensures.back
-          ∙ last_back b entries steps c.args.self.now c.loop-place.self c.index.result.now c.index-in-loop-place.result.now (c.loop-place.place - 1) c.loop-place.place h (omega arith) here step (c.loop-place.invariant.back b h);
+          ∙ last_back b entries steps c.args.self.now c.loop-place.self c.index.result.now
+          c.index-in-loop-place.result.now (c.loop-place.place - 1) c.loop-place.place h (omega arith) here step
+          (c.loop-place.invariant.back b h);
       uris = λ e g.
           c.take_back-uris.ensures.uris
-          ∙ last_given c.requires.from entries steps c.args.self.now c.loop-place.self c.index.result.now c.index-in-loop-place.result.now (c.loop-place.place - 1) c.loop-place.place c.requires.trail (omega arith) here step (c.loop-place.invariant.back c.requires.from c.requires.trail)
+          ∙ last_given c.requires.from entries steps c.args.self.now c.loop-place.self c.index.result.now
+          c.index-in-loop-place.result.now (c.loop-place.place - 1) c.loop-place.place c.requires.trail
+          (omega arith) here step (c.loop-place.invariant.back c.requires.from c.requires.trail)
           ∙ same_joined c.index.result.now e (sym here ∙ g);
     }
   where

@@ -8,6 +8,7 @@ use Rattle.lra_board.proofs.board.Board.go_back.Given as goal
 -- the entries that are left lead here, and the one after them gave the addresses that it let one join with
 abbrev pub invariant-loop-place : goal.invariant-loop-place
 invariant-loop-place l = record {
-  back : (b : Boarded) → IsTrail b l.trail.entries.items l.trail.steps.items l.fn.self → l.self ≡ carried_all b (take l.place l.trail.entries.items);
+  back : (b : Boarded) → IsTrail b l.trail.entries.items l.trail.steps.items l.fn.self → l.self
+      ≡ carried_all b (take l.place l.trail.entries.items);
   uris : (e : Entry) → slice_get l.trail.entries.items l.place ≡ Some e → l.uris ≡ addresses_joined e.deed;
 }

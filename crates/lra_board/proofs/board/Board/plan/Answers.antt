@@ -8,19 +8,24 @@ use Rattle.lra_board.proofs.board.Board.plan.Goals as goal
 pub settle_rest-result-requires : goal.settle_rest-result-requires
 settle_rest-result-requires c =
     going_after c.args.self.now.rows.sheet c.args.entry c.follow.new.self c.requires
-    (carried_stands c.args.self.now.rows.sheet c.reserve-2.new.self c.follow.new.self c.requires.history c.args.entry c.requires.stands c.requires.allowed c.reserve-2.ensures.same c.follow.ensures.carried)
+    (carried_stands c.args.self.now.rows.sheet c.reserve-2.new.self c.follow.new.self c.requires.history c.args.entry
+    c.requires.stands c.requires.allowed c.reserve-2.ensures.same c.follow.ensures.carried)
 
 pub go_back-uris-requires : goal.go_back-uris-requires
 go_back-uris-requires c =
     let base = c.reserve-2.new.self in
-    let none = trail_none base c.reserve.new.self.entries.items c.reserve.new.self.steps.items (c.reserve.ensures.entries ∙ c.new-trail.ensures.entries) (c.reserve.ensures.steps ∙ c.new-trail.ensures.steps) in
+    let none = trail_none base c.reserve.new.self.entries.items c.reserve.new.self.steps.items
+    (c.reserve.ensures.entries ∙ c.new-trail.ensures.entries) (c.reserve.ensures.steps
+    ∙ c.new-trail.ensures.steps) in
     let trail = c.settle_rest-result.ensures.trail base (c.follow.ensures.trail base none) in
     record { from = base; trail = trail }
 
 pub returns-in_err-result-clause-same : goal.returns-in_err-result-clause-same
 returns-in_err-result-clause-same c =
     let base = c.reserve-2.new.self in
-    let none = trail_none base c.reserve.new.self.entries.items c.reserve.new.self.steps.items (c.reserve.ensures.entries ∙ c.new-trail.ensures.entries) (c.reserve.ensures.steps ∙ c.new-trail.ensures.steps) in
+    let none = trail_none base c.reserve.new.self.entries.items c.reserve.new.self.steps.items
+    (c.reserve.ensures.entries ∙ c.new-trail.ensures.entries) (c.reserve.ensures.steps
+    ∙ c.new-trail.ensures.steps) in
     let trail = c.settle_rest-result.ensures.trail base (c.follow.ensures.trail base none) in
     let back = c.go_back-uris.ensures.back base trail in
     ap (λ (b : Boarded). b.rows.sheet) back ∙ c.reserve-2.ensures.same
@@ -28,7 +33,9 @@ returns-in_err-result-clause-same c =
 pub returns-in_err-result-clause-kept : goal.returns-in_err-result-clause-kept
 returns-in_err-result-clause-kept c = λ e h.
     let base = c.reserve-2.new.self in
-    let none = trail_none base c.reserve.new.self.entries.items c.reserve.new.self.steps.items (c.reserve.ensures.entries ∙ c.new-trail.ensures.entries) (c.reserve.ensures.steps ∙ c.new-trail.ensures.steps) in
+    let none = trail_none base c.reserve.new.self.entries.items c.reserve.new.self.steps.items
+    (c.reserve.ensures.entries ∙ c.new-trail.ensures.entries) (c.reserve.ensures.steps
+    ∙ c.new-trail.ensures.steps) in
     let trail = c.settle_rest-result.ensures.trail base (c.follow.ensures.trail base none) in
     let back = c.go_back-uris.ensures.back base trail in
     subst (λ (b : Boarded). has_room e b ≡ true) (sym back) (c.reserve-2.ensures.kept e h)
@@ -36,7 +43,9 @@ returns-in_err-result-clause-kept c = λ e h.
 pub returns-clause-same : goal.returns-clause-same
 returns-clause-same c =
     let base = c.reserve-2.new.self in
-    let none = trail_none base c.reserve.new.self.entries.items c.reserve.new.self.steps.items (c.reserve.ensures.entries ∙ c.new-trail.ensures.entries) (c.reserve.ensures.steps ∙ c.new-trail.ensures.steps) in
+    let none = trail_none base c.reserve.new.self.entries.items c.reserve.new.self.steps.items
+    (c.reserve.ensures.entries ∙ c.new-trail.ensures.entries) (c.reserve.ensures.steps
+    ∙ c.new-trail.ensures.steps) in
     let trail = c.settle_rest-result.ensures.trail base (c.follow.ensures.trail base none) in
     let back = c.go_back-uris.ensures.back base trail in
     ap (λ (b : Boarded). b.rows.sheet) back ∙ c.reserve-2.ensures.same
@@ -44,7 +53,9 @@ returns-clause-same c =
 pub returns-clause-kept : goal.returns-clause-kept
 returns-clause-kept c = λ e h.
     let base = c.reserve-2.new.self in
-    let none = trail_none base c.reserve.new.self.entries.items c.reserve.new.self.steps.items (c.reserve.ensures.entries ∙ c.new-trail.ensures.entries) (c.reserve.ensures.steps ∙ c.new-trail.ensures.steps) in
+    let none = trail_none base c.reserve.new.self.entries.items c.reserve.new.self.steps.items
+    (c.reserve.ensures.entries ∙ c.new-trail.ensures.entries) (c.reserve.ensures.steps
+    ∙ c.new-trail.ensures.steps) in
     let trail = c.settle_rest-result.ensures.trail base (c.follow.ensures.trail base none) in
     let back = c.go_back-uris.ensures.back base trail in
     subst (λ (b : Boarded). has_room e b ≡ true) (sym back) (c.reserve-2.ensures.kept e h)
@@ -52,20 +63,27 @@ returns-clause-kept c = λ e h.
 pub returns-clause-room : goal.returns-clause-room
 returns-clause-room c =
     let base = c.reserve-2.new.self in
-    let none = trail_none base c.reserve.new.self.entries.items c.reserve.new.self.steps.items (c.reserve.ensures.entries ∙ c.new-trail.ensures.entries) (c.reserve.ensures.steps ∙ c.new-trail.ensures.steps) in
+    let none = trail_none base c.reserve.new.self.entries.items c.reserve.new.self.steps.items
+    (c.reserve.ensures.entries ∙ c.new-trail.ensures.entries) (c.reserve.ensures.steps
+    ∙ c.new-trail.ensures.steps) in
     let trail = c.settle_rest-result.ensures.trail base (c.follow.ensures.trail base none) in
     let back = c.go_back-uris.ensures.back base trail in
     subst (λ (b : Boarded). has_room c.args.entry b ≡ true) (sym back) c.in_ok-reserve-2.ensures.ok
 
 pub returns-clause-entries : goal.returns-clause-entries
 returns-clause-entries c = λ J h allowed.
-    let stands = carried_stands c.args.self.now.rows.sheet c.reserve-2.new.self c.follow.new.self J c.args.entry h allowed c.reserve-2.ensures.same c.follow.ensures.carried in
+    let stands = carried_stands c.args.self.now.rows.sheet c.reserve-2.new.self c.follow.new.self J c.args.entry h
+    allowed c.reserve-2.ensures.same c.follow.ensures.carried in
     c.in_ok-result.ensures.whole J c.args.entry h.version h.is_address h.legal allowed stands refl refl
-    (c.follow.ensures.entries ∙ ap (λ (xs : List Entry). xs ++ c.args.entry ∷ []) (c.reserve.ensures.entries ∙ c.new-trail.ensures.entries))
+    (c.follow.ensures.entries ∙ ap (λ (xs : List Entry). xs ++ c.args.entry ∷ [])
+    (c.reserve.ensures.entries ∙ c.new-trail.ensures.entries))
 
 pub returns-clause-uris : goal.returns-clause-uris
 returns-clause-uris c =
-    let stands = carried_stands c.args.self.now.rows.sheet c.reserve-2.new.self c.follow.new.self c.requires.history c.args.entry c.requires.stands c.requires.allowed c.reserve-2.ensures.same c.follow.ensures.carried in
-    let whole = c.in_ok-result.ensures.whole c.requires.history c.args.entry c.requires.stands.version c.requires.stands.is_address c.requires.stands.legal c.requires.allowed stands refl refl
-    (c.follow.ensures.entries ∙ ap (λ (xs : List Entry). xs ++ c.args.entry ∷ []) (c.reserve.ensures.entries ∙ c.new-trail.ensures.entries)) in
+    let stands = carried_stands c.args.self.now.rows.sheet c.reserve-2.new.self c.follow.new.self c.requires.history
+    c.args.entry c.requires.stands c.requires.allowed c.reserve-2.ensures.same c.follow.ensures.carried in
+    let whole = c.in_ok-result.ensures.whole c.requires.history c.args.entry c.requires.stands.version
+    c.requires.stands.is_address c.requires.stands.legal c.requires.allowed stands refl refl
+    (c.follow.ensures.entries ∙ ap (λ (xs : List Entry). xs ++ c.args.entry ∷ [])
+    (c.reserve.ensures.entries ∙ c.new-trail.ensures.entries)) in
     c.go_back-uris.ensures.uris c.args.entry (ap (λ (xs : List Entry). slice_get xs 0) whole)

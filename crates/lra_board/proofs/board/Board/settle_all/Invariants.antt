@@ -9,5 +9,7 @@ use Rattle.lra_board.proofs.board.Board.settle_all.Given as goal
 abbrev pub invariant-loop-done : goal.invariant-loop-done
 invariant-loop-done l =
     Going l.self l.by l.moment
-    × ((J : History) (whole : List Entry) → SettlesTo J l.by l.moment l.most l.fn.self l.fn.trail.entries.items whole → SettlesTo J l.by l.moment (l.most - l.done) l.self l.trail.entries.items whole)
-    × ((b : Boarded) → IsTrail b l.fn.trail.entries.items l.fn.trail.steps.items l.fn.self → IsTrail b l.trail.entries.items l.trail.steps.items l.self)
+    × ((J : History) (whole : List Entry) → SettlesTo J l.by l.moment l.most l.fn.self l.fn.trail.entries.items whole
+    → SettlesTo J l.by l.moment (l.most - l.done) l.self l.trail.entries.items whole)
+    × ((b : Boarded) → IsTrail b l.fn.trail.entries.items l.fn.trail.steps.items l.fn.self
+    → IsTrail b l.trail.entries.items l.trail.steps.items l.self)

@@ -6,5 +6,7 @@ use Rattle.lra_board.proofs.board.Board.settle_rest.Goals as goal
 
 pub returns-clause-whole : goal.returns-clause-whole
 returns-clause-whole c = on_ok_weaker c.settle_all.result
-    (λ whole J e v t l k stands by m first. whole J (with_settling J e) (settles_start J e c.args.self.now c.in_ok-most.most c.args.by c.args.moment c.args.trail.now.entries.items v t l k stands (c.in_ok-most.ensures (J ++ e ∷ []) stands) by m first))
+    (λ whole J e v t l k stands by m first. whole J (with_settling J e)
+    (settles_start J e c.args.self.now c.in_ok-most.most c.args.by c.args.moment c.args.trail.now.entries.items v t
+    l k stands (c.in_ok-most.ensures (J ++ e ∷ []) stands) by m first))
     c.settle_all.ensures.whole

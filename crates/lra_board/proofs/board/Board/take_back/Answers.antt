@@ -10,12 +10,20 @@ use Rattle.lra_board.proofs.board.Board.take_back.Goals as goal
 
 pub shrink-requires : goal.shrink-requires
 shrink-requires c =
-    taken_numbers c.requires.before.sheet c.self.inside.rows.sheet c.args.entry.now c.self.inside.ready c.requires.follows (ap (λ (b : Boarded). b.rows.sheet) c.self.view_is ∙ c.requires.now) c.self.invariant
+    taken_numbers c.requires.before.sheet c.self.inside.rows.sheet c.args.entry.now c.self.inside.ready
+    c.requires.follows (ap (λ (b : Boarded). b.rows.sheet) c.self.view_is ∙ c.requires.now) c.self.invariant
 
 pub invariant_of-self : goal.invariant_of-self
 invariant_of-self c =
     let before = c.requires.before in
-    let back : c.take_back-uris.new.self ≡ before = c.take_back-uris.ensures.rows ∙ ap (λ (b : Boarded). taken_back c.args.step b.rows) c.self.view_is ∙ c.requires.back in
-    let stands : StandsFor c.take_back-uris.new.self.sheet c.requires.follows.history = subst (λ (x : Rowed). StandsFor x.sheet c.requires.follows.history) (sym back) c.requires.follows.stands in
-    let marked = taken_marks before.sheet c.self.inside.rows.sheet c.args.entry.now c.self.inside.ready c.shrink.new.self c.requires.follows (ap (λ (b : Boarded). b.rows.sheet) c.self.view_is ∙ c.requires.now) c.self.invariant c.shrink.ensures in
-    c.mark.ensures.marked c.requires.follows.history stands (subst (λ (x : Rowed). MarkedBut x.sheet.state c.shrink.new.self (members_concerned c.requires.follows.history c.args.entry.now.deed) (actions_concerned c.requires.follows.history c.args.entry.now.deed)) (sym back) marked)
+    let back : c.take_back-uris.new.self ≡ before = c.take_back-uris.ensures.rows
+    ∙ ap (λ (b : Boarded). taken_back c.args.step b.rows) c.self.view_is ∙ c.requires.back in
+    let stands : StandsFor c.take_back-uris.new.self.sheet c.requires.follows.history =
+    subst (λ (x : Rowed). StandsFor x.sheet c.requires.follows.history) (sym back) c.requires.follows.stands in
+    let marked = taken_marks before.sheet c.self.inside.rows.sheet c.args.entry.now c.self.inside.ready
+    c.shrink.new.self c.requires.follows (ap (λ (b : Boarded). b.rows.sheet) c.self.view_is ∙ c.requires.now)
+    c.self.invariant c.shrink.ensures in
+    c.mark.ensures.marked c.requires.follows.history stands
+    (subst (λ (x : Rowed). MarkedBut x.sheet.state c.shrink.new.self
+    (members_concerned c.requires.follows.history c.args.entry.now.deed)
+    (actions_concerned c.requires.follows.history c.args.entry.now.deed)) (sym back) marked)

@@ -5,4 +5,6 @@ use Rattle.lra_board.proofs.ready.Ready.mark_any.Goals as goal
 
 pub returns-in-Some-clause-marked : goal.returns-in-Some-clause-marked
 returns-in-Some-clause-marked c = λ ps xs m.
-    c.mark_action.ensures.marked ps xs (subst (λ (o : Option ℕ). MarkedBut c.args.rows.now.sheet.state c.args.self.now ps (option_to_list o ++ xs)) c.in-Some.is m)
+    c.mark_action.ensures.marked ps xs
+    (subst (λ (o : Option ℕ). MarkedBut c.args.rows.now.sheet.state c.args.self.now ps (option_to_list o ++ xs))
+    c.in-Some.is m)

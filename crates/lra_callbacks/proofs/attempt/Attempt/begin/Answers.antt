@@ -10,8 +10,11 @@ use Rattle.lra_callbacks.proofs.attempt.Attempt.begin.Goals as goal
 pub invariant_of-self : goal.invariant_of-self
 invariant_of-self g c =
     let keeps = g.G.SyncGroup.keeps c.args.self.now.instance in
-    let told = subst (λ (o : Option ℕ). IfSome o (MayLeave keeps c.position.result)) c.in-Some.is c.in-Ok.ensures.kept in
+    let told = subst (λ (o : Option ℕ). IfSome o (MayLeave keeps c.position.result)) c.in-Some.is
+    c.in-Ok.ensures.kept in
     record {
-      leave = λ x e y h. subst (λ (f : Flight). MayLeave keeps y.1 f.kept) (same_Some _ x e) (subst (λ (n : ℕ). MayLeave keeps n c.in-Some.kept) (c.position.ensures y h) told);
-      own = λ x e. subst (λ (f : Flight). ForSome c.args.self.now.errand (λ y. IsFor f.carrying y.0)) (same_Some _ x e) (λ y h. (c.in-Some-callback.ensures y h).own);
+      leave = λ x e y h. subst (λ (f : Flight). MayLeave keeps y.1 f.kept) (same_Some _ x e)
+          (subst (λ (n : ℕ). MayLeave keeps n c.in-Some.kept) (c.position.ensures y h) told);
+      own = λ x e. subst (λ (f : Flight). ForSome c.args.self.now.errand (λ y. IsFor f.carrying y.0)) (same_Some _ x e)
+          (λ y h. (c.in-Some-callback.ensures y h).own);
     }

@@ -9,8 +9,10 @@ use Rattle.lra_callbacks.proofs.attempt.Attempt.pump.Goals as goal
 
 pub invariant_of-self : goal.invariant_of-self
 invariant_of-self g c = record {
-  leave = λ x e. subst (λ (f : Flight). ForSome c.args.self.now.errand (λ y. MayLeave (g.G.SyncGroup.keeps c.args.self.now.instance) y.1 f.kept)) (same_Some _ x e)
+  leave = λ x e. subst (λ (f : Flight). ForSome c.args.self.now.errand
+      (λ y. MayLeave (g.G.SyncGroup.keeps c.args.self.now.instance) y.1 f.kept)) (same_Some _ x e)
       (c.args.self.now.leave c.in-Some.flight c.in-Some.is);
   own = λ x e. subst (λ (f : Flight). ForSome c.args.self.now.errand (λ y. IsFor f.carrying y.0)) (same_Some _ x e)
-      (same_for c.in-Some.flight.carrying c.pump.new.carrying c.args.self.now.errand c.pump.ensures (c.args.self.now.own c.in-Some.flight c.in-Some.is));
+      (same_for c.in-Some.flight.carrying c.pump.new.carrying c.args.self.now.errand c.pump.ensures
+      (c.args.self.now.own c.in-Some.flight c.in-Some.is));
 }

@@ -3,7 +3,9 @@ use Rattle.lra_callbacks.proofs.Slots.{kept_errands}
 use Rattle.lra_callbacks.proofs.callbacks.Callbacks.is_connecting.Goals as goal
 
 pub returns-in-Some-target : goal.returns-in-Some-target
-returns-in-Some-target g c = kept_errands c.self.inside.calls.slots c.args.key c.in-Some.call.now c.connect.new.self (λ call. call.attempt.errand) c.in-Some.ensures.value c.connect.ensures ∙ c.self.view_is
+returns-in-Some-target g c = kept_errands c.self.inside.calls.slots c.args.key c.in-Some.call.now c.connect.new.self
+    (λ call. call.attempt.errand) c.in-Some.ensures.value c.connect.ensures ∙ c.self.view_is
 
 pub returns-in-None : goal.returns-in-None
-returns-in-None g c = kept_errands c.self.inside.calls.slots c.args.key c.in-Some.call.now c.hang_up.new.self (λ call. call.attempt.errand) c.in-Some.ensures.value c.hang_up.ensures ∙ c.self.view_is
+returns-in-None g c = kept_errands c.self.inside.calls.slots c.args.key c.in-Some.call.now c.hang_up.new.self
+    (λ call. call.attempt.errand) c.in-Some.ensures.value c.hang_up.ensures ∙ c.self.view_is

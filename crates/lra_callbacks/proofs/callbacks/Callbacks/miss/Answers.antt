@@ -3,4 +3,5 @@ use Rattle.lra_callbacks.proofs.Slots.{kept_errands}
 use Rattle.lra_callbacks.proofs.callbacks.Callbacks.miss.Goals as goal
 
 pub returns : goal.returns
-returns g c = kept_errands c.self.inside.calls.slots c.args.key c.in-Some.call.now c.miss.new.self (λ call. call.attempt.errand) c.in-Some.ensures.value c.miss.ensures.errand ∙ c.self.view_is
+returns g c = kept_errands c.self.inside.calls.slots c.args.key c.in-Some.call.now c.miss.new.self
+    (λ call. call.attempt.errand) c.in-Some.ensures.value c.miss.ensures.errand ∙ c.self.view_is

@@ -5,4 +5,5 @@ pub returns : goal.returns
 returns g c =
     let J = g.P.Past.history c.self.inside.past in
     let k = c.self.invariant in
-    rw (← c.self.view_is) (c.next.ensures J k.schedule (stands c.self.inside.terms c.self.inside.tables c.self.inside.schedule J k))
+    rw (← c.self.view_is)
+    (c.next.ensures J k.schedule (stands c.self.inside.terms c.self.inside.tables c.self.inside.schedule J k))

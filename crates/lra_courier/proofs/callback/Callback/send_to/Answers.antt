@@ -9,7 +9,8 @@ use Rattle.lra_courier.proofs.callback.Callback.send_to.Goals as goal
 
 pub returns-in-Ok-write_request : goal.returns-in-Ok-write_request
 returns-in-Ok-write_request g c =
-    subst (λ (text : List ℕ). Appends (g.W.Write.contents c.args.writer.now) (g.W.Write.contents c.write_request.new.writer) text)
+    subst (λ (text : List ℕ). Appends (g.W.Write.contents c.args.writer.now)
+    (g.W.Write.contents c.write_request.new.writer) text)
     (parts_are c.method_of.result.now c.target.result.now c.as_bytes.result.now c.as_slice.result.now c.args.self.now
     (c.method_of.ensures ∙ ap (λ (v : Calling). method_of v.kind) c.self.view_is)
     (c.target.ensures ∙ ap target_of c.requires)
@@ -19,7 +20,8 @@ returns-in-Ok-write_request g c =
 
 pub returns : goal.returns
 returns g c =
-    subst (λ (text : List ℕ). AppendsFront (g.W.Write.contents c.args.writer.now) (g.W.Write.contents c.write_request.new.writer) text)
+    subst (λ (text : List ℕ). AppendsFront (g.W.Write.contents c.args.writer.now)
+    (g.W.Write.contents c.write_request.new.writer) text)
     (parts_are c.method_of.result.now c.target.result.now c.as_bytes.result.now c.as_slice.result.now c.args.self.now
     (c.method_of.ensures ∙ ap (λ (v : Calling). method_of v.kind) c.self.view_is)
     (c.target.ensures ∙ ap target_of c.requires)

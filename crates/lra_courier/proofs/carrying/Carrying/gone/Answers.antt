@@ -6,6 +6,7 @@ use Rattle.lra_courier.proofs.carrying.Carrying.gone.Goals as goal
 
 pub invariant_of-self : goal.invariant_of-self
 invariant_of-self c = record {
-  carried = carried_went (carried_of c.self.inside) c.args.count c.self.invariant.carried (subst (λ (h : Carried). c.args.count ≤ length (drop h.gone h.request)) (sym c.self.view_is) c.requires);
+  carried = carried_went (carried_of c.self.inside) c.args.count c.self.invariant.carried
+      (subst (λ (h : Carried). c.args.count ≤ length (drop h.gone h.request)) (sym c.self.view_is) c.requires);
   sees = c.self.invariant.sees;
 }

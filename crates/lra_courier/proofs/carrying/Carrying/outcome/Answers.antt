@@ -12,5 +12,7 @@ use Rattle.lra_courier.proofs.carrying.Carrying.outcome.Goals as goal
 pub returns-in-Some-Ok-clause-suits : goal.returns-in-Some-Ok-clause-suits
 returns-in-Some-Ok-clause-suits c =
     let h = carried_of c.self.inside in
-    let comes = subst (λ (o : Option (Result Outcome CallFault)). IfSome o (Comes h)) (c.in-Some-Ok.is ∙ ap Some (rw c.in-Some-Ok.is at c.in-Some-Ok.field-0-is)) c.self.invariant.carried.came in
-    subst (λ (k : AskKind). IsTrue (outcome_suits k c.in-Some-Ok.outcome)) (ap (λ (h : Carried). h.kind) c.self.view_is) (comes_suits h (Ok c.in-Some-Ok.outcome) comes)
+    let comes = subst (λ (o : Option (Result Outcome CallFault)). IfSome o (Comes h))
+    (c.in-Some-Ok.is ∙ ap Some (rw c.in-Some-Ok.is at c.in-Some-Ok.field-0-is)) c.self.invariant.carried.came in
+    subst (λ (k : AskKind). IsTrue (outcome_suits k c.in-Some-Ok.outcome)) (ap (λ (h : Carried). h.kind) c.self.view_is)
+    (comes_suits h (Ok c.in-Some-Ok.outcome) comes)

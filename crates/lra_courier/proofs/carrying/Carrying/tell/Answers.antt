@@ -6,6 +6,7 @@ use Rattle.lra_courier.proofs.carrying.Carrying.tell.Goals as goal
 
 pub invariant_of-self : goal.invariant_of-self
 invariant_of-self c = record {
-  carried = carried_tells (carried_of c.self.inside) c.args.told c.self.invariant.carried (subst (λ (h : Carried). Comes h c.args.told) (sym c.self.view_is) c.requires);
+  carried = carried_tells (carried_of c.self.inside) c.args.told c.self.invariant.carried
+      (subst (λ (h : Carried). Comes h c.args.told) (sym c.self.view_is) c.requires);
   sees = c.self.invariant.sees;
 }

@@ -5,8 +5,11 @@ use Rattle.lra_course.proofs.ListingLaw.{member-listed}
 use Rattle.lra_course.proofs.listing.Listing.member.Goals as goal
 
 pub returns-in_err-row : goal.returns-in_err-row
-returns-in_err-row c = c.from_residual.ensures ∙ member-listed c.self.inside.rows c.args.self.now c.args.number None c.self.view_is (sym c.member.ensures ∙ c.in_err-row.was)
+returns-in_err-row c = c.from_residual.ensures ∙ member-listed c.self.inside.rows c.args.self.now c.args.number None
+    c.self.view_is (sym c.member.ensures ∙ c.in_err-row.was)
 
 pub returns : goal.returns
 returns c =
-    ap (λ (r : MemberRow). option_map (member_listed c.args.number) (Some r)) c.row.view_is ∙ member-listed c.self.inside.rows c.args.self.now c.args.number (Some c.in_ok-row.row) c.self.view_is (sym c.member.ensures ∙ c.in_ok-row.was)
+    ap (λ (r : MemberRow). option_map (member_listed c.args.number) (Some r)) c.row.view_is
+    ∙ member-listed c.self.inside.rows c.args.self.now c.args.number (Some c.in_ok-row.row) c.self.view_is
+    (sym c.member.ensures ∙ c.in_ok-row.was)

@@ -7,8 +7,10 @@ use Rattle.lra_course.proofs.state.Rows.member_asked.Goals as goal
 pub returns-in-Some : goal.returns-in-Some
 returns-in-Some c =
     c.member.ensures
-    ∙ rw (← c.self.view_is) (member_asked-held (the_view c.self.inside) c.self.invariant c.args.ask c.in-Some.member.now c.if-ask-self.false (sym c.get.ensures.value ∙ ap option_copied c.in-Some.is))
+    ∙ rw (← c.self.view_is) (member_asked-held (the_view c.self.inside) c.self.invariant c.args.ask c.in-Some.member.now
+    c.if-ask-self.false (sym c.get.ensures.value ∙ ap option_copied c.in-Some.is))
 
 pub returns-in-None : goal.returns-in-None
 returns-in-None c =
-    rw (← c.self.view_is) (member_asked-free (the_view c.self.inside) c.self.invariant c.args.ask c.if-ask-self.false (sym c.get.ensures.value ∙ ap option_copied c.in-None.is))
+    rw (← c.self.view_is) (member_asked-free (the_view c.self.inside) c.self.invariant c.args.ask c.if-ask-self.false
+    (sym c.get.ensures.value ∙ ap option_copied c.in-None.is))

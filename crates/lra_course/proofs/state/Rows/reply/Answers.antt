@@ -7,12 +7,15 @@ use Rattle.lra_course.proofs.state.Rows.reply.Goals as goal
 
 pub returns-in_default : goal.returns-in_default
 returns-in_default c =
-    rw (← c.self.view_is) (sym (change_member-absent _ _ (the_view c.self.inside) (place_of-free c.self.invariant c.args.number (sym c.get.ensures.value ∙ sym c.copied.ensures ∙ c.in_default.is))))
+    rw (← c.self.view_is)
+    (sym (change_member-absent _ _ (the_view c.self.inside) (place_of-free c.self.invariant c.args.number
+    (sym c.get.ensures.value ∙ sym c.copied.ensures ∙ c.in_default.is))))
 
 pub returns-in_default-member : goal.returns-in_default-member
 returns-in_default-member c =
     rw (← c.self.view_is) (sym (change_member-absent _ _ (the_view c.self.inside)
-    (rw (place_of-held c.self.invariant c.args.number c.in-Some.member (sym c.get.ensures.value ∙ sym c.copied.ensures ∙ c.in-Some.is))
+    (rw (place_of-held c.self.invariant c.args.number c.in-Some.member
+    (sym c.get.ensures.value ∙ sym c.copied.ensures ∙ c.in-Some.is))
     (rw (← c.self.view_is) at (sym c.member.ensures ∙ c.in_default-member.is)))))
 
 pub count_member-requires : goal.count_member-requires
@@ -20,7 +23,8 @@ count_member-requires c = (rw (← c.self.view_is) at c.requires)
 
 pub invariant_of-self : goal.invariant_of-self
 invariant_of-self c =
-    rw c.set_member.ensures (IsIndex-answered _ _ c.args.number c.in-Some.member c.in-Some-member.before c.with_reply-now.result _ _
+    rw c.set_member.ensures (IsIndex-answered _ _ c.args.number c.in-Some.member c.in-Some-member.before
+    c.with_reply-now.result _ _
     c.self.invariant
     (sym c.get.ensures.value ∙ sym c.copied.ensures ∙ c.in-Some.is)
     (rw (← c.self.view_is) at (sym c.member.ensures ∙ c.in-Some-member.is))
@@ -29,7 +33,9 @@ invariant_of-self c =
 
 pub returns : goal.returns
 returns c =
-    rw (c.count_member.ensures, c.set_member.ensures, c.with_reply-now.ensures, ← c.self.view_is) (sym (change_member-held (with_reply c.args.outcome) c.args.number c.in-Some.member (the_view c.self.inside) c.in-Some-member.before
+    rw (c.count_member.ensures, c.set_member.ensures, c.with_reply-now.ensures, ← c.self.view_is)
+    (sym (change_member-held (with_reply c.args.outcome) c.args.number c.in-Some.member (the_view c.self.inside)
+    c.in-Some-member.before
     c.self.invariant
     (sym c.get.ensures.value ∙ sym c.copied.ensures ∙ c.in-Some.is)
     (rw (← c.self.view_is) at (sym c.member.ensures ∙ c.in-Some-member.is))))

@@ -13,5 +13,6 @@ index-requires g c =
 
 pub returns : goal.returns
 returns g c =
-    sym (found_there g.C.Counter.sight name c.args.instance c.in_ok-place.place c.self.inside.members.items c.index.result.now (rw c.as_slice.ensures.value at c.in_ok-place.ensures) c.index.ensures)
+    sym (found_there g.C.Counter.sight name c.args.instance c.in_ok-place.place c.self.inside.members.items
+    c.index.result.now (rw c.as_slice.ensures.value at c.in_ok-place.ensures) c.index.ensures)
     ∙ ap (member name c.args.instance) c.self.view_is

@@ -26,5 +26,6 @@ returns-clause-responds g c =
       base =
           (outcome_base g.C.Counter.sight g.C.Session.covers g.C.Counter.gives g.met.C.Counter.keeps g.K.Kinship.tells
           base c.look.new.family c.respond_at.new.family c.args.moment (request_of c.args.request.now)
-          c.respond_at.result c.respond_at.ensures.family (c.look.ensures.base base c.args.self.now.kin) c.respond_at.ensures.serves).1;
+          c.respond_at.result c.respond_at.ensures.family (c.look.ensures.base base c.args.self.now.kin)
+          c.respond_at.ensures.serves).1;
     }

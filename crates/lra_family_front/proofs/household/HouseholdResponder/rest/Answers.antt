@@ -2,12 +2,17 @@ use Rattle.lra_family_front.proofs.Kin.{rested_base}
 use Rattle.lra_family_front.proofs.household.HouseholdResponder.rest.Goals as goal
 
 pub invariant_of-self : goal.invariant_of-self
-invariant_of-self g c = record { kin = (rested_base c.args.self.now.family c.look.new.family c.look.ensures.moved c.look.ensures.base c.args.self.now.kin).0 }
+invariant_of-self g c =
+    record {
+      kin = (rested_base c.args.self.now.family c.look.new.family c.look.ensures.moved c.look.ensures.base
+          c.args.self.now.kin).0;
+    }
 
 pub returns : goal.returns
 returns g c = record {
   rests = record {
     moved = c.look.ensures.moved;
-    base = (rested_base c.args.self.now.family c.look.new.family c.look.ensures.moved c.look.ensures.base c.args.self.now.kin).1;
+    base = (rested_base c.args.self.now.family c.look.new.family c.look.ensures.moved c.look.ensures.base
+        c.args.self.now.kin).1;
   };
 }

@@ -9,4 +9,5 @@ pub returns-in-Denied-WrongKey-clause-fields : goal.returns-in-Denied-WrongKey-c
 returns-in-Denied-WrongKey-clause-fields c =
     ap (map seen) c.push_reserved-in-Denied-WrongKey.ensures.items
     ∙ map-append seen c.args.fields.now.items _
-    ∙ ap (λ a. map seen c.args.fields.now.items ++ spec.own_fields c.args.uri.now a) (sym (c.in-Denied-WrongKey.is ∙ ap Denied (rw c.in-Denied-WrongKey.is at c.in-Denied-WrongKey.field-0-is)))
+    ∙ ap (λ a. map seen c.args.fields.now.items ++ spec.own_fields c.args.uri.now a)
+    (sym (c.in-Denied-WrongKey.is ∙ ap Denied (rw c.in-Denied-WrongKey.is at c.in-Denied-WrongKey.field-0-is)))

@@ -5,16 +5,19 @@ use Rattle.lra_front.proofs.answer.Answer.write.Goals as goal
 
 pub returns-in_default-clause-text : goal.returns-in_default-clause-text
 returns-in_default-clause-text g c =
-    none_sent (g.W.Write.contents c.args.writer.now) c.args.instance c.args.base.now c.args.self c.args.head c.args.close
+    none_sent (g.W.Write.contents c.args.writer.now) c.args.instance c.args.base.now c.args.self c.args.head
+    c.args.close
 
 pub returns-in_default-fields-clause-text : goal.returns-in_default-fields-clause-text
 returns-in_default-fields-clause-text g c =
-    none_sent (g.W.Write.contents c.args.writer.now) c.args.instance c.args.base.now c.args.self c.args.head c.args.close
+    none_sent (g.W.Write.contents c.args.writer.now) c.args.instance c.args.base.now c.args.self c.args.head
+    c.args.close
 
 pub returns-clause-text : goal.returns-clause-text
 returns-clause-text g c =
     let P : List ℕ → Type 0 =
-    λ text. Sends (g.W.Write.contents c.args.writer.now) (g.W.Write.contents c.write_response_in.new.writer) text c.write_response_in.result in
+    λ text. Sends (g.W.Write.contents c.args.writer.now) (g.W.Write.contents c.write_response_in.new.writer) text
+    c.write_response_in.result in
     subst P
     (same_text c.args.instance c.args.base.now c.args.self c.args.head c.args.close _ _ _ _
     (search rules) (search rules) (search rules) (search rules))

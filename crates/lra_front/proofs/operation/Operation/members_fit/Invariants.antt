@@ -4,4 +4,5 @@ use Rattle.lra_front.specs.Bodies.{members_fit}
 use Rattle.lra_front.proofs.operation.Operation.members_fit.Given as goal
 
 abbrev pub invariant-loop-key : goal.invariant-loop-key
-invariant-loop-key l = members_fit l.self (members_view l.fn.members.entries) ≡ members_fit l.self (members_view l.key-iterator)
+invariant-loop-key l = members_fit l.self (members_view l.fn.members.entries)
+    ≡ members_fit l.self (members_view l.key-iterator)

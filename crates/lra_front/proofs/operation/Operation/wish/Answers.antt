@@ -6,5 +6,6 @@ use Rattle.lra_front.proofs.operation.Operation.wish.Goals as goal
 
 pub returns-in-Ok-find_action : goal.returns-in-Ok-find_action
 returns-in-Ok-find_action c =
-    wish_of_action c.args.instance c.args.base.now c.args.id.now (as_object (view c.args.body.now)) c.args.self c.in-Ok-find_action.action c.of_action.result
+    wish_of_action c.args.instance c.args.base.now c.args.id.now (as_object (view c.args.body.now)) c.args.self
+    c.in-Ok-find_action.action c.of_action.result
     (search rules) c.in-Ok-find_action.ensures c.of_action.ensures

@@ -6,4 +6,9 @@ use Rattle.lra_ids.proofs.addresses.Address.authority.Goals as goal
 pub returns : goal.returns
 unfolding authority_of
 returns c =
-    rw (c.slice.ensures.value, ← c.self.view_is, parse_url-own c.self.inside.url c.slice.ensures.valid c.self.invariant.scheme) refl
+    rw (
+      c.slice.ensures.value,
+      ← c.self.view_is,
+      parse_url-own c.self.inside.url c.slice.ensures.valid
+          c.self.invariant.scheme,
+    ) refl

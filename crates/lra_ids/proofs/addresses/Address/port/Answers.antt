@@ -6,4 +6,9 @@ use Rattle.lra_ids.proofs.addresses.Address.port.Goals as goal
 pub returns : goal.returns
 unfolding port_of
 returns c =
-    rw (c.port.ensures.value, ← c.self.view_is, parse_url-own c.self.inside.url c.port.ensures.valid c.self.invariant.scheme) refl
+    rw (
+      c.port.ensures.value,
+      ← c.self.view_is,
+      parse_url-own c.self.inside.url c.port.ensures.valid
+          c.self.invariant.scheme,
+    ) refl

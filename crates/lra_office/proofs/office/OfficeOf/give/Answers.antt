@@ -8,32 +8,56 @@ use Rattle.lra_office.proofs.office.OfficeOf.give.Goals as goal
 
 pub give-pass-requires-clause-extends : goal.give-pass-requires-clause-extends
 give-pass-requires-clause-extends g c =
-    extends (pass_view c.args.pass) (held_view c.in-Ok.taken.0) _ _ _ _ c.serve-served.result c.in-Ok.ensures.view c.serve-served.ensures.served
+    extends (pass_view c.args.pass) (held_view c.in-Ok.taken.0) _ _ _ _ c.serve-served.result c.in-Ok.ensures.view
+    c.serve-served.ensures.served
 
 pub give-pass-requires-clause-own : goal.give-pass-requires-clause-own
 give-pass-requires-clause-own g c =
     let suits = c.in-Ok.ensures.value in
-    may_add (pass_view c.args.pass) (held_view c.in-Ok.taken.0) _ _ _ c.args.by c.args.moment c.args.command.now c.serve-served.result c.in-Ok.ensures.view
+    may_add (pass_view c.args.pass) (held_view c.in-Ok.taken.0) _ _ _ c.args.by c.args.moment c.args.command.now
+    c.serve-served.result c.in-Ok.ensures.view
     (g.met.V.Serving.tells c.in-Ok.taken.1 suits.lawful_now) c.requires.number c.serve-served.ensures.served
 
 pub returns-in-Ok-served-clause-given : goal.returns-in-Ok-served-clause-given
 returns-in-Ok-served-clause-given g c =
     let suits = c.in-Ok.ensures.value in
-    grown g.V.Serving.setting (pass_view c.args.pass) (held_view c.in-Ok.taken.0) (pass_view c.give-pass.result) _ _ _ _ c.in-Ok-served.committed suits.same_origin
-    (record { begins = suits.begins; seen_own = suits.seen_own; own = suits.own; enrolled = suits.enrolled; kept = g.met.V.Serving.tells c.in-Ok.taken.1 suits.lawful_now }) c.in-Ok.ensures.view c.in-Ok-served.ensures.served
-    (subst (λ o. IsKeptBy (g.V.Serving.setting o) (g.V.Kept.history c.serve-served.new.self)) c.serve-served.ensures.origin (g.met.V.Serving.tells c.serve-served.new.self c.serve-served.ensures.lawful)) c.give-pass.ensures.view
+    grown g.V.Serving.setting (pass_view c.args.pass) (held_view c.in-Ok.taken.0) (pass_view c.give-pass.result) _ _ _ _
+    c.in-Ok-served.committed suits.same_origin
+    (record {
+      begins = suits.begins;
+      seen_own = suits.seen_own;
+      own = suits.own;
+      enrolled = suits.enrolled;
+      kept =
+          g.met.V.Serving.tells c.in-Ok.taken.1 suits.lawful_now;
+    }) c.in-Ok.ensures.view c.in-Ok-served.ensures.served
+    (subst (λ o. IsKeptBy (g.V.Serving.setting o) (g.V.Kept.history c.serve-served.new.self))
+    c.serve-served.ensures.origin (g.met.V.Serving.tells c.serve-served.new.self c.serve-served.ensures.lawful))
+    c.give-pass.ensures.view
 
 pub returns-in-Err-served-clause-given : goal.returns-in-Err-served-clause-given
 returns-in-Err-served-clause-given g c =
     let suits = c.in-Ok.ensures.value in
-    not_grown g.V.Serving.setting (pass_view c.args.pass) (held_view c.in-Ok.taken.0) (pass_view c.give-pass.result) _ _ _ _ c.in-Err-served.refusal suits.same_origin
-    (record { begins = suits.begins; seen_own = suits.seen_own; own = suits.own; enrolled = suits.enrolled; kept = g.met.V.Serving.tells c.in-Ok.taken.1 suits.lawful_now }) c.in-Ok.ensures.view c.in-Err-served.ensures.served c.give-pass.ensures.view
+    not_grown g.V.Serving.setting (pass_view c.args.pass) (held_view c.in-Ok.taken.0) (pass_view c.give-pass.result) _ _
+    _ _ c.in-Err-served.refusal suits.same_origin
+    (record {
+      begins = suits.begins;
+      seen_own = suits.seen_own;
+      own = suits.own;
+      enrolled = suits.enrolled;
+      kept =
+          g.met.V.Serving.tells c.in-Ok.taken.1 suits.lawful_now;
+    }) c.in-Ok.ensures.view c.in-Err-served.ensures.served
+    c.give-pass.ensures.view
 
 pub returns-in-Err-served-clause-stopped : goal.returns-in-Err-served-clause-stopped
 returns-in-Err-served-clause-stopped g c = λ e.
     let same : c.in-Err-served.refusal ≡ Stopped = cc in
-    stopped_at g.V.Kept.origin g.V.Kept.history g.V.Kept.lawful g.V.Serving.has_stopped c.in-Ok.taken.1 c.serve-served.new.self (pass_view c.args.pass) (held_view c.in-Ok.taken.0) (pass_view c.give-pass.result) c.in-Ok.ensures.value.same_origin c.in-Ok.ensures.view
-    c.serve-served.ensures.lawful c.serve-served.ensures.origin c.give-pass.ensures.view (c.in-Err-served.ensures.stopped same)
+    stopped_at g.V.Kept.origin g.V.Kept.history g.V.Kept.lawful g.V.Serving.has_stopped c.in-Ok.taken.1
+    c.serve-served.new.self (pass_view c.args.pass) (held_view c.in-Ok.taken.0) (pass_view c.give-pass.result)
+    c.in-Ok.ensures.value.same_origin c.in-Ok.ensures.view
+    c.serve-served.ensures.lawful c.serve-served.ensures.origin c.give-pass.ensures.view
+    (c.in-Err-served.ensures.stopped same)
 
 pub returns-in-Ok-served-clause-placed : goal.returns-in-Ok-served-clause-placed
 returns-in-Ok-served-clause-placed g c =

@@ -5,4 +5,5 @@ use Rattle.lra_overview.proofs.names.Names.put_all.Given as goal
 
 -- what was added so far
 abbrev pub invariant-loop-piece : goal.invariant-loop-piece
-invariant-loop-piece l = l.page.items ≡ l.initial.page.items ++ flat_map (spelled l.self.instance) (take l.piece-index l.pieces)
+invariant-loop-piece l = l.page.items ≡ l.initial.page.items ++ flat_map (spelled l.self.instance)
+    (take l.piece-index l.pieces)

@@ -9,14 +9,18 @@ use Rattle.lra_rows.proofs.Reaching.{contacts_less, ready_less, addresses_at}
 use Rattle.lra_rows.proofs.contacts.Contacts.remove_last.Goals as goal
 
 pub returns-clause-items : goal.returns-clause-items
-returns-clause-items c = ap contacts_in c.remove_last.ensures.items ∙ contacts_less c.self.inside.rows.items ∙ ap (λ (r : Reachable). without_last r.items) c.self.view_is
+returns-clause-items c = ap contacts_in c.remove_last.ensures.items ∙ contacts_less c.self.inside.rows.items
+    ∙ ap (λ (r : Reachable). without_last r.items) c.self.view_is
 
 pub returns-clause-ready : goal.returns-clause-ready
-returns-clause-ready c = ap ready_in c.remove_last.ensures.items ∙ ready_less c.self.inside.rows.items ∙ ap (λ (r : Reachable). without_last r.ready) c.self.view_is
+returns-clause-ready c = ap ready_in c.remove_last.ensures.items ∙ ready_less c.self.inside.rows.items
+    ∙ ap (λ (r : Reachable). without_last r.ready) c.self.view_is
 
 pub returns-clause-uris : goal.returns-clause-uris
 returns-clause-uris c =
     c.remove_last.ensures.uris
-    ∙ addresses_at c.self.inside.rows.items (length c.self.inside.rows.items) (row_at c.self.inside.rows.items (length c.self.inside.rows.items)) refl
-    ∙ ap (λ (n : ℕ). option_map (λ (x : Contact). x.addresses) (row_at (contacts_in c.self.inside.rows.items) n)) (sym (length-map c.self.inside.rows.items (λ (r : Reached). r.contact)))
+    ∙ addresses_at c.self.inside.rows.items (length c.self.inside.rows.items)
+    (row_at c.self.inside.rows.items (length c.self.inside.rows.items)) refl
+    ∙ ap (λ (n : ℕ). option_map (λ (x : Contact). x.addresses) (row_at (contacts_in c.self.inside.rows.items) n))
+    (sym (length-map c.self.inside.rows.items (λ (r : Reached). r.contact)))
     ∙ ap (λ (r : Reachable). option_map (λ (x : Contact). x.addresses) (row_at r.items (length r.items))) c.self.view_is

@@ -5,7 +5,9 @@ use Rattle.lra_rows.proofs.Reaching.{contacts_back, ready_back}
 use Rattle.lra_rows.proofs.contacts.Contacts.restore.Goals as goal
 
 pub returns-clause-items : goal.returns-clause-items
-returns-clause-items c = ap contacts_in c.restore.ensures.items ∙ contacts_back c.args.repeated c.self.inside.rows.items ∙ ap (λ (r : Reachable). repeats_back c.args.repeated r.ready r.items) c.self.view_is
+returns-clause-items c = ap contacts_in c.restore.ensures.items ∙ contacts_back c.args.repeated c.self.inside.rows.items
+    ∙ ap (λ (r : Reachable). repeats_back c.args.repeated r.ready r.items) c.self.view_is
 
 pub returns-clause-ready : goal.returns-clause-ready
-returns-clause-ready c = ap ready_in c.restore.ensures.items ∙ ready_back c.args.repeated c.self.inside.rows.items ∙ ap (λ (r : Reachable). r.ready) c.self.view_is
+returns-clause-ready c = ap ready_in c.restore.ensures.items ∙ ready_back c.args.repeated c.self.inside.rows.items
+    ∙ ap (λ (r : Reachable). r.ready) c.self.view_is

@@ -5,4 +5,5 @@ use Rattle.lra_rows.proofs.Finding.{action_held}
 use Rattle.lra_rows.proofs.rows.Rows.action.Goals as goal
 
 pub returns : goal.returns
-returns c = λ J h. c.held_action.ensures ∙ ap (λ (s : Sheet). held_action s c.args.number) h.sheet ∙ action_held h.version h.is_address J h.legal c.args.number
+returns c = λ J h. c.held_action.ensures ∙ ap (λ (s : Sheet). held_action s c.args.number) h.sheet
+    ∙ action_held h.version h.is_address J h.legal c.args.number

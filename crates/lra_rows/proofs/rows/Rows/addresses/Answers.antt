@@ -5,4 +5,5 @@ use Rattle.lra_rows.proofs.Finding.{addresses_held}
 use Rattle.lra_rows.proofs.rows.Rows.addresses.Goals as goal
 
 pub returns : goal.returns
-returns c = λ J h. c.held_addresses.ensures ∙ ap (λ (s : Sheet). held_addresses s c.args.number) h.sheet ∙ addresses_held h.version h.is_address J h.legal c.args.number
+returns c = λ J h. c.held_addresses.ensures ∙ ap (λ (s : Sheet). held_addresses s c.args.number) h.sheet
+    ∙ addresses_held h.version h.is_address J h.legal c.args.number

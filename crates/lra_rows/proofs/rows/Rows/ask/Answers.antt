@@ -5,4 +5,5 @@ use Rattle.lra_rows.proofs.Finding.{ask_held}
 use Rattle.lra_rows.proofs.rows.Rows.ask.Goals as goal
 
 pub returns : goal.returns
-returns c = λ J h. c.held_ask.ensures ∙ ap (λ (s : Sheet). held_ask s c.args.number) h.sheet ∙ ask_held h.version h.is_address J h.legal c.args.number
+returns c = λ J h. c.held_ask.ensures ∙ ap (λ (s : Sheet). held_ask s c.args.number) h.sheet
+    ∙ ask_held h.version h.is_address J h.legal c.args.number

@@ -5,4 +5,5 @@ use Rattle.lra_rows.proofs.Finding.{children_held}
 use Rattle.lra_rows.proofs.rows.Rows.children.Goals as goal
 
 pub returns : goal.returns
-returns c = λ J h. c.held_children.ensures ∙ ap (λ (s : Sheet). held_children s c.args.number) h.sheet ∙ children_held h.version h.is_address J h.legal c.args.number
+returns c = λ J h. c.held_children.ensures ∙ ap (λ (s : Sheet). held_children s c.args.number) h.sheet
+    ∙ children_held h.version h.is_address J h.legal c.args.number

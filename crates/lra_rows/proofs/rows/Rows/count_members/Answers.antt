@@ -7,4 +7,5 @@ use Rattle.lra_rows.specs.Rowed.{Rowed}
 use Rattle.lra_rows.proofs.rows.Rows.count_members.Goals as goal
 
 pub returns : goal.returns
-returns c = λ J h. c.len.ensures ∙ c.self.inside.members.ok.0 ∙ ap (λ (s : Sheet). length s.state.members) (ap (λ (r : Rowed). r.sheet) c.self.view_is ∙ h.sheet) ∙ length-map (members J) (member_row J)
+returns c = λ J h. c.len.ensures ∙ c.self.inside.members.ok.0 ∙ ap (λ (s : Sheet). length s.state.members)
+    (ap (λ (r : Rowed). r.sheet) c.self.view_is ∙ h.sheet) ∙ length-map (members J) (member_row J)

@@ -8,4 +8,10 @@ use Rattle.lra_rows.proofs.rows.Rows.empty.Goals as goal
 pub returns : goal.returns
 returns c =
     rw (c.new.ensures.items, c.new-2.ensures.items, c.new-3.ensures.items, c.new-4.ensures.items, c.new-5.ensures)
-    (record { version = version.One; is_address = λ text. true; legal = legal_empty version.One (λ text. true); sheet = sym sheet_empty })
+    (record {
+      version = version.One;
+      is_address = λ text. true;
+      legal = legal_empty version.One (λ text. true);
+      sheet =
+          sym sheet_empty;
+    })

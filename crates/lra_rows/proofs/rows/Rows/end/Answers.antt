@@ -5,4 +5,5 @@ use Rattle.lra_rows.proofs.Finding.{end_held}
 use Rattle.lra_rows.proofs.rows.Rows.end.Goals as goal
 
 pub returns-clause-history : goal.returns-clause-history
-returns-clause-history c = λ J h. c.held_end.ensures ∙ ap (λ (s : Sheet). end_by s.state c.args.action) h.sheet ∙ end_held h.version h.is_address J h.legal c.args.action
+returns-clause-history c = λ J h. c.held_end.ensures ∙ ap (λ (s : Sheet). end_by s.state c.args.action) h.sheet
+    ∙ end_held h.version h.is_address J h.legal c.args.action

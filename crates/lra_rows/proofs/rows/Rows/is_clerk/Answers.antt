@@ -7,4 +7,5 @@ use Rattle.lra_rows.specs.inner.Held.{held_clerk}
 use Rattle.lra_rows.proofs.rows.Rows.is_clerk.Goals as goal
 
 pub returns : goal.returns
-returns c = λ J h. c.held_clerk.ensures ∙ ap (λ (s : Sheet). held_clerk s c.args.number) h.sheet ∙ clerk_agrees (clerks J) (clerks_numbered h.version h.is_address J h.legal) c.args.number
+returns c = λ J h. c.held_clerk.ensures ∙ ap (λ (s : Sheet). held_clerk s c.args.number) h.sheet
+    ∙ clerk_agrees (clerks J) (clerks_numbered h.version h.is_address J h.legal) c.args.number

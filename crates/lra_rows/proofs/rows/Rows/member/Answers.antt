@@ -5,4 +5,5 @@ use Rattle.lra_rows.proofs.Finding.{member_held}
 use Rattle.lra_rows.proofs.rows.Rows.member.Goals as goal
 
 pub returns : goal.returns
-returns c = λ J h. c.held_member.ensures ∙ ap (λ (s : Sheet). held_member s c.args.number) h.sheet ∙ member_held h.version h.is_address J h.legal c.args.number
+returns c = λ J h. c.held_member.ensures ∙ ap (λ (s : Sheet). held_member s c.args.number) h.sheet
+    ∙ member_held h.version h.is_address J h.legal c.args.number

@@ -5,4 +5,5 @@ use Rattle.lra_rows.proofs.Finding.{members_held}
 use Rattle.lra_rows.proofs.rows.Rows.members.Goals as goal
 
 pub returns : goal.returns
-returns c = λ J h. c.held_members.ensures ∙ ap (λ (s : Sheet). held_members s c.args.number) h.sheet ∙ members_held h.version h.is_address J h.legal c.args.number
+returns c = λ J h. c.held_members.ensures ∙ ap (λ (s : Sheet). held_members s c.args.number) h.sheet
+    ∙ members_held h.version h.is_address J h.legal c.args.number

@@ -17,8 +17,10 @@ returns-clause-rows c =
       c.remove_at.ensures.capacity,
       c.remove_last.ensures.items,
       c.remove_last.ensures.capacity,
-      nests-without listed.Members c.args.action (change_row (without_number listed.Under) c.args.top c.self.inside.nests.items),
-      capacities-without listed.Members c.args.action (change_row (without_number listed.Under) c.args.top c.self.inside.nests.items),
+      nests-without listed.Members c.args.action (change_row (without_number listed.Under) c.args.top
+          c.self.inside.nests.items),
+      capacities-without listed.Members c.args.action (change_row (without_number listed.Under) c.args.top
+          c.self.inside.nests.items),
       nests-without listed.Under c.args.top c.self.inside.nests.items,
       capacities-without listed.Under c.args.top c.self.inside.nests.items,
       ← c.self.view_is,

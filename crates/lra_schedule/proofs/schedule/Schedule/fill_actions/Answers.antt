@@ -9,8 +9,11 @@ pub loop-place-preserved : goal.loop-place-preserved
 loop-place-preserved c =
     let next : 1 + c.loop-place.place ≡ c.loop-place.place + 1 = omega arith in (
       λ K stands.
-          renewed_counted (limit_in K) c.args.self.now.limits c.room.new.self.limits c.put_limit.new.self.limits c.loop-place.place (c.loop-place.place + 1) c.limit_of.result next
-          (subst (λ (m : Moments). AreRenewed (limit_in K) c.args.self.now.limits m (range_with_len 1 c.loop-place.place)) (sym c.room.ensures.limits) (c.loop-place.invariant.0 K stands)) (c.limit_of.ensures K stands)
+          renewed_counted (limit_in K) c.args.self.now.limits c.room.new.self.limits c.put_limit.new.self.limits
+          c.loop-place.place (c.loop-place.place + 1) c.limit_of.result next
+          (subst (λ (m : Moments). AreRenewed (limit_in K) c.args.self.now.limits m
+          (range_with_len 1 c.loop-place.place)) (sym c.room.ensures.limits) (c.loop-place.invariant.0 K stands))
+          (c.limit_of.ensures K stands)
           c.put_limit.ensures.limits,
       c.put_limit.ensures.retries ∙ c.room.ensures.retries ∙ c.loop-place.invariant.1,
     )

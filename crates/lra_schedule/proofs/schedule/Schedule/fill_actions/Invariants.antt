@@ -6,4 +6,5 @@ use Rattle.lra_schedule.specs.inner.Renewals.{AreRenewed, limit_in}
 use Rattle.lra_schedule.proofs.schedule.Schedule.fill_actions.Given as goal
 
 abbrev pub invariant-loop-place : goal.invariant-loop-place
-invariant-loop-place l = ((K : History) → StandsFor l.tables.sheet K → AreRenewed (limit_in K) l.fn.self.limits l.self.limits (range_with_len 1 l.place)) × (l.self.retries ≡ l.fn.self.retries)
+invariant-loop-place l = ((K : History) → StandsFor l.tables.sheet K → AreRenewed (limit_in K) l.fn.self.limits
+    l.self.limits (range_with_len 1 l.place)) × (l.self.retries ≡ l.fn.self.retries)

@@ -9,8 +9,11 @@ pub loop-place-preserved : goal.loop-place-preserved
 loop-place-preserved c =
     let next : 1 + c.loop-place.place ≡ c.loop-place.place + 1 = omega arith in (
       λ K stands.
-          renewed_counted (retry_in c.args.limits.now K) c.args.self.now.retries c.room.new.self.retries c.put_retry.new.self.retries c.loop-place.place (c.loop-place.place + 1) c.retry_of.result next
-          (subst (λ (m : Moments). AreRenewed (retry_in c.args.limits.now K) c.args.self.now.retries m (range_with_len 1 c.loop-place.place)) (sym c.room.ensures.retries) (c.loop-place.invariant.0 K stands)) (c.retry_of.ensures K stands)
+          renewed_counted (retry_in c.args.limits.now K) c.args.self.now.retries c.room.new.self.retries
+          c.put_retry.new.self.retries c.loop-place.place (c.loop-place.place + 1) c.retry_of.result next
+          (subst (λ (m : Moments). AreRenewed (retry_in c.args.limits.now K) c.args.self.now.retries m
+          (range_with_len 1 c.loop-place.place)) (sym c.room.ensures.retries) (c.loop-place.invariant.0 K stands))
+          (c.retry_of.ensures K stands)
           c.put_retry.ensures.retries,
       c.put_retry.ensures.limits ∙ c.room.ensures.limits ∙ c.loop-place.invariant.1,
     )

@@ -6,4 +6,5 @@ use Rattle.lra_schedule.specs.inner.Renewals.{AreRenewed, retry_in}
 use Rattle.lra_schedule.proofs.schedule.Schedule.fill_members.Given as goal
 
 abbrev pub invariant-loop-place : goal.invariant-loop-place
-invariant-loop-place l = ((K : History) → StandsFor l.tables.sheet K → AreRenewed (retry_in l.limits K) l.fn.self.retries l.self.retries (range_with_len 1 l.place)) × (l.self.limits ≡ l.fn.self.limits)
+invariant-loop-place l = ((K : History) → StandsFor l.tables.sheet K → AreRenewed (retry_in l.limits K)
+    l.fn.self.retries l.self.retries (range_with_len 1 l.place)) × (l.self.limits ≡ l.fn.self.limits)

@@ -9,8 +9,10 @@ use Rattle.lra_schedule.proofs.schedule.Schedule.first_limit.Goals as goal
 pub returns-in-Some : goal.returns-in-Some
 returns-in-Some c = λ l J is stands.
     let held = subst (λ (s : Planned). IsScheduleOf l s J) (sym c.self.view_is) is in
-    subst (IsFirst (λ n. is_some (late J n))) (sym (c.limit_of.ensures J stands)) (limit_some l J _ held c.in-Some.action c.in-Some.ensures.first)
+    subst (IsFirst (λ n. is_some (late J n))) (sym (c.limit_of.ensures J stands))
+    (limit_some l J _ held c.in-Some.action c.in-Some.ensures.first)
 
 pub returns-in-None : goal.returns-in-None
 returns-in-None c = λ l J is stands.
-    limit_none l J _ (subst (λ (s : Planned). IsScheduleOf l s J) (sym c.self.view_is) is) (c.in-None.ensures.none.0 refl)
+    limit_none l J _ (subst (λ (s : Planned). IsScheduleOf l s J) (sym c.self.view_is) is)
+    (c.in-None.ensures.none.0 refl)

@@ -9,7 +9,8 @@ invariant_of-self c =
     let h = history_of c.self.inside in
     record {
       served = subst IsServed
-          (sym (went_is h c.args.count c.advance.new.self (fronts c.self.inside.writes.items) (fronts c.note_front.new.log.items) refl c.note_front.ensures c.advance.ensures))
+          (sym (went_is h c.args.count c.advance.new.self (fronts c.self.inside.writes.items)
+          (fronts c.note_front.new.log.items) refl c.note_front.ensures c.advance.ensures))
           (served_went h c.args.count c.self.invariant.served);
       seen = c.self.invariant.seen;
       left = c.self.invariant.left;

@@ -6,6 +6,7 @@ use Rattle.lra_tables.proofs.changes.Changes.of.Given as goal
 
 abbrev pub invariant-loop-entry : goal.invariant-loop-entry
 invariant-loop-entry l = record {
-  members : (J : History) → StandsFor l.rows.sheet J → l.members.items ≡ members_changed_by J (take l.entry-index l.entries);
+  members : (J : History) → StandsFor l.rows.sheet J → l.members.items
+      ≡ members_changed_by J (take l.entry-index l.entries);
   actions : l.actions.items ≡ actions_changed_by (take l.entry-index l.entries);
 }

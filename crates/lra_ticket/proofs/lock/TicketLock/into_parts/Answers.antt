@@ -7,8 +7,10 @@ use Rattle.lra_ticket.proofs.lock.TicketLock.into_parts.Goals as goal
 
 pub returns : goal.returns
 returns g c = let end = c.close_with-closed.ensures.values.2 in let s = end.0 in let r = end.1.0 in let same = sym end.2 ∙ r.atomic_words in
-    let next : r.next ≡ c.word-next.result = some-injective _ _ (sym (ap (λ (ws : List ℕ). get_elem? ws 0) same) ∙ c.word-next.ensures) in
-    let serving : r.serving ≡ c.word-serving.result = some-injective _ _ (sym (ap (λ (ws : List ℕ). get_elem? ws 1) same) ∙ c.word-serving.ensures) in record {
+    let next : r.next ≡ c.word-next.result = some-injective _ _ (sym (ap (λ (ws : List ℕ). get_elem? ws 0) same)
+    ∙ c.word-next.ensures) in
+    let serving : r.serving ≡ c.word-serving.result = some-injective _ _
+    (sym (ap (λ (ws : List ℕ). get_elem? ws 1) same) ∙ c.word-serving.ensures) in record {
       state = s;
       orderly = r;
       in_line = stand_in_line g.V.Kept.origin g.V.Kept.history g.V.Kept.lawful _ s r;

@@ -9,5 +9,6 @@ returns-else-self-eq0-clause-first c =
     let tree = c.self.invariant in
     let some : 0 < c.self.inside.len = omega arith in
     let inside : 1 < length c.self.inside.nodes.items = omega (arith, tree.size, tree.within) in
-    let root : node c.self.inside.nodes.items 1 ≡ c.index.result.now = get_or_default c.self.inside.nodes.items 1 last _ inside ∙ sym c.index.ensures in
+    let root : node c.self.inside.nodes.items 1 ≡ c.index.result.now =
+    get_or_default c.self.inside.nodes.items 1 last _ inside ∙ sym c.index.ensures in
     rw (← c.self.view_is, ← root) (IsFirstOf-root _ _ _ tree some)

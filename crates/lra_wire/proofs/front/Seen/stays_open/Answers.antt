@@ -13,4 +13,5 @@ returns-then-self-gt0 c = λ few. seen_body c.args.self.now c.args.bytes.now c.r
 
 pub returns : goal.returns
 returns c = λ none.
-    seen_head c.args.self.now c.args.bytes.now c.requires (omega arith) (omega arith) (sym c.contains.ensures.value ∙ not_there c.contains.result none)
+    seen_head c.args.self.now c.args.bytes.now c.requires (omega arith) (omega arith)
+    (sym c.contains.ensures.value ∙ not_there c.contains.result none)

@@ -16,7 +16,12 @@ spawn_scoped-started-requires-after_bounds g c κs within =
 -- and the others are behind it
 pub loop-job-preserved-else-is_err : goal.loop-job-preserved-else-is_err
 loop-job-preserved-else-is_err g c =
-    let step = c.in-Some.ensures.steps in (tt, tt, behind_first (λ job. IsAt g.V.Serving.setting g.V.Serving.covers c.captures.office.now job.1) _ _ _ step.0 c.loop-job.invariant.2)
+    let step = c.in-Some.ensures.steps in (
+      tt,
+      tt,
+      behind_first (λ job. IsAt g.V.Serving.setting g.V.Serving.covers
+          c.captures.office.now job.1) _ _ _ step.0 c.loop-job.invariant.2,
+    )
 
 -- at first all are to come
 pub loop-job-init : goal.loop-job-init
