@@ -17,33 +17,33 @@ use std::test::Fail;
 use std::thread::{Threads, join};
 use std::time::{Clock, Duration, Instant};
 
-/// How long a callback may take.
+/// Time-outs of a callback.
 pub const PATIENCE: Patience = Patience {
     connect: 5_000,
     reply: 30_000,
 };
 
-/// How many errands were done, and how many came to something else.
+/// Count of the errands that were done, and of those that came to something else.
 #[derive(Clone, Copy)]
 pub struct Count {
     done: u64,
     other: u64,
-    /// What is remembered of a member, if anything is of any.
+    /// Reply that is remembered of a member, if any is of any.
     reply: Option<Reply>,
 }
 
 impl Count {
-    /// Of how many something has come.
+    /// Returns of how many something has come.
     pub fn all(self) -> u64 {
         self.done.saturating_add(self.other)
     }
 
-    /// How many were done.
+    /// Returns how many were done.
     pub fn done(self) -> u64 {
         self.done
     }
 
-    /// Whether that is remembered of a member; of none, where it is empty.
+    /// Returns whether these words are remembered of a member; of none, where they are empty.
     pub fn says(self, alloc: Global, words: &str) -> bool {
         let mut page = Vec::new(alloc);
         let is_written = match self.reply {
@@ -56,7 +56,7 @@ impl Count {
     }
 }
 
-/// What is remembered of the first member of which anything is, at an address of that host.
+/// Returns the reply that is remembered of the first member of which any is, where its address begins with `http://`.
 fn reply_in<R: Wait>(rt: &R, alloc: Global, outcomes: &Outcomes) -> Option<Reply> {
     for member in 0..16 {
         if let Ok(Some(attempt)) = outcomes.find(rt, alloc, member) {
@@ -224,7 +224,8 @@ pub fn errands_at(alloc: Global, first: (u16, u64), second: (u16, u64)) -> Optio
     held
 }
 
-/// How long it takes until one member has answered that is asked after 200 others at another port, which take connections and answer nothing.
+/// Returns how long it takes until one member has answered that is asked after 200 others at another port, which take
+/// connections and answer nothing.
 fn passed_beside<R>(rt: &R, alloc: Global) -> Option<Duration>
 where
     R: Wait + Clock + Threads + Net<Listener = TcpListener, Stream = TcpStream> + Sync,
@@ -252,7 +253,8 @@ fn a_member_is_called_beside_silent_ones(rt: HostRuntime) {
     assert!(rt; passed < Duration::from_secs(3));
 }
 
-/// How one of nine members answers, how many bytes at once, whether its errand is done then, and what is remembered of it.
+/// Returns how one of nine members answers, how many bytes at once, whether its errand is done then, and what is
+/// remembered of it.
 fn manner(place: u64) -> (&'static str, usize, bool, &'static str) {
     match place {
         0 => (DONE, 4096, true, ""),
@@ -297,7 +299,7 @@ fn manner(place: u64) -> (&'static str, usize, bool, &'static str) {
     }
 }
 
-/// What comes of the errand of a member that answers so.
+/// Returns what comes of the errand of a member that answers so.
 fn count_by<R>(rt: &R, alloc: Global, response: &str, at_once: usize) -> Option<Count>
 where
     R: Wait + Clock + Threads + Net<Listener = TcpListener, Stream = TcpStream> + Sync,
@@ -330,7 +332,7 @@ fn what_a_member_answers_comes_of_its_errand(rt: HostRuntime) {
     }
 }
 
-/// What comes of errands to a port at which nobody listens, if anything does.
+/// Returns what comes of errands to a port at which nobody listens, if anything does.
 fn count_at_no_port<R>(rt: &R, alloc: Global) -> Option<Count>
 where
     R: Wait + Clock + Threads + Net<Listener = TcpListener, Stream = TcpStream> + Sync,
@@ -349,7 +351,7 @@ fn nobody_listens(rt: HostRuntime) {
     assert!(rt; count.is_some_and(|count| count.says(rt.alloc(), "connection refused")));
 }
 
-/// What comes of an errand to a member that takes the connection and answers nothing, within a second.
+/// Returns what comes of an errand to a member that takes the connection and answers nothing, within a second.
 fn count_in_vain<R>(rt: &R, alloc: Global) -> Option<Count>
 where
     R: Wait + Clock + Threads + Net<Listener = TcpListener, Stream = TcpStream> + Sync,
@@ -373,7 +375,8 @@ fn a_member_answers_too_late(rt: HostRuntime) {
     assert!(rt; count.is_some_and(|count| count.says(rt.alloc(), "timed out after 1 s")));
 }
 
-/// How long one rests that has nothing under way, where something is due in so many milliseconds, if anything is.
+/// Returns how long callbacks rest with nothing under way, where something is due in so many milliseconds, if anything
+/// is.
 fn rested<R: Wait + Net + Clock>(rt: &R, alloc: Global, millis: Option<u64>) -> Option<Duration> {
     let (poll, _bell) = bell(rt).ok()?;
     let group = Ready::up_to(u64::MAX)?;
@@ -407,7 +410,7 @@ fn rested<R: Wait + Net + Clock>(rt: &R, alloc: Global, millis: Option<u64>) -> 
     passed
 }
 
-/// How long a carriage carries nothing.
+/// Returns how long a carriage carries nothing.
 fn rest_of<R: Clock, C: Carriage>(
     rt: &R,
     carriage: &mut C,

@@ -16,7 +16,8 @@ fn rules_of(alloc: Global, text: &str) -> Option<Rules> {
     Some(Rules::new(rules))
 }
 
-/// What comes of the errands of two members at a port of this host, one by its address and one by its name, under one rule. The port takes all connections, and answers so many.
+/// Returns what comes of the errands of two members at a port of this host, one by its address and one by its name,
+/// under one rule. The port takes all connections, and answers so many.
 fn count_under<R>(rt: &R, alloc: Global, rule: &str, answered: u64) -> Option<Count>
 where
     R: Wait + Clock + Threads + Net<Listener = TcpListener, Stream = TcpStream> + Sync,
@@ -41,7 +42,7 @@ fn what_no_rule_lets_is_not_called(rt: HostRuntime) {
     assert!(rt; count.is_some_and(|count| count.says(rt.alloc(), words)));
 }
 
-/// How many were done, where both are answered.
+/// Returns how many were done, where both are answered.
 fn done_under<R>(rt: &R, alloc: Global, rule: &str) -> Option<u64>
 where
     R: Wait + Clock + Threads + Net<Listener = TcpListener, Stream = TcpStream> + Sync,

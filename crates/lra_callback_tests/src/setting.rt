@@ -1,4 +1,4 @@
-//! What callbacks are carried for and to: a journal, errands, and members at ports of this host.
+//! The setting of callbacks: a journal, errands, and members at ports of this host.
 
 ghost use Rattle.std.specs.Prelude.{◌≡◌, IfSome, true};
 ghost use Rattle.lra_ids.specs.Addresses.{is_base};
@@ -11,7 +11,7 @@ use std::alloc::{AllocError, Global};
 use std::sync::Wait;
 use std::sync::atomic::{AtomicU64, Ordering};
 
-/// Where one journal is durable so far, and no other is.
+/// Sync group of which one journal is durable so far, and no other is.
 #[derive(Drop)]
 pub struct Ready {
     pub instance: Instance,
@@ -19,7 +19,7 @@ pub struct Ready {
 }
 
 impl Ready {
-    /// One whose journal is durable up to a length.
+    /// Returns a group whose journal is durable up to a length.
     pub fn up_to(length: u64) -> Option<Ready> {
         Some(Ready {
             instance: Instance::new(7)?,
@@ -68,7 +68,7 @@ impl SyncGroup for Ready {
     }
 }
 
-/// What URIs begin with.
+/// Returns what URIs begin with.
 fn base(alloc: Global) -> Option<Address>
     ensures { IfSome result (λ base. is_base base ≡ true) }
 {
@@ -178,7 +178,7 @@ pub fn errands(alloc: Global, first: (&str, u64), second: (&str, u64)) -> Option
     Some(errands)
 }
 
-/// How an action ends.
+/// End of an action.
 #[derive(Clone, Copy, Debug, PartialEq, Eq)]
 pub enum End {
     Close,
@@ -197,7 +197,7 @@ fn ask_one(alloc: Global, coordinator: &mut Coordinator, socket: &str, end: End)
     Some(Held(Some(errand)))
 }
 
-/// The same of a coordinator of its own: whoever asks for another has one of the same member.
+/// Returns the same of a coordinator of its own: another call returns an errand of the same member.
 pub fn errand(alloc: Global, socket: &str, end: End) -> Option<Held> {
     let mut coordinator = coordinator(alloc)?;
     let asked = ask_one(alloc, &mut coordinator, socket, end);

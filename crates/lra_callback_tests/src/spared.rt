@@ -17,15 +17,15 @@ use std::test::Fail;
 use std::thread::{Threads, join};
 use std::time::{Clock, Duration, Instant};
 
-/// How a member is asked twice.
+/// Setting in which a member is asked twice.
 #[derive(Clone, Copy)]
 struct Twice {
     port: u16,
-    /// How many milliseconds there are at least between two asks of a silent member.
+    /// Least number of milliseconds between two asks of a silent member.
     least_pause: u64,
     /// The moment from which its office's clock goes on.
     office: u64,
-    /// How its action ends the second time.
+    /// End of its action the second time.
     end: End,
 }
 
@@ -48,7 +48,7 @@ fn passed<R: Clock, C: Carriage>(
     }
 }
 
-/// How long it takes the second time, once something has come of the first.
+/// Returns how long it takes the second time, once something has come of the first.
 fn passed_again<R: Clock, C: Carriage>(
     rt: &R,
     alloc: Global,
@@ -97,7 +97,7 @@ fn asked_twice<R: Wait + Net + Clock>(rt: &R, alloc: Global, twice: Twice) -> Op
     passed
 }
 
-/// How long it takes where nobody listens, and the office's clock goes on from a moment.
+/// Returns how long it takes where nobody listens, and the office's clock goes on from a moment.
 fn silent_at<R>(rt: &R, alloc: Global, least_pause: u64, office: u64, end: End) -> Option<Duration>
 where
     R: Wait + Clock + Net<Listener = TcpListener, Stream = TcpStream>,
@@ -116,7 +116,7 @@ where
     )
 }
 
-/// How long it takes where nobody listens.
+/// Returns how long it takes where nobody listens.
 fn silent_twice<R>(rt: &R, alloc: Global, least_pause: u64, end: End) -> Option<Duration>
 where
     R: Wait + Clock + Net<Listener = TcpListener, Stream = TcpStream>,
@@ -147,7 +147,7 @@ fn where_the_pause_never_ends_it_is_not_asked_again(rt: HostRuntime) {
     assert!(rt; silent_twice(&rt, rt.alloc(), u64::MAX, End::Close).is_none());
 }
 
-/// How long it takes where a member answers.
+/// Returns how long it takes where a member answers.
 fn answered_twice<R>(rt: &R, alloc: Global) -> Option<Duration>
 where
     R: Wait + Clock + Threads + Net<Listener = TcpListener, Stream = TcpStream> + Sync,

@@ -19,7 +19,7 @@ use std::time::{Clock, Duration};
 /// The position of each errand.
 const POSITION: u64 = 5;
 
-/// How many errands something comes of while the journal is a byte too short, and once it is long enough.
+/// Returns of how many errands something comes while the journal is a byte too short, and once it is long enough.
 fn come_of<R: Clock, C: Carriage>(rt: &R, carriage: &mut C, length: &AtomicU64) -> (u64, u64) {
     length.store(POSITION - 1, Ordering::SeqCst);
     let early = carry_within(rt, carriage, 1, Duration::from_millis(300));
@@ -40,8 +40,8 @@ fn take<C: Carriage>(alloc: Global, carriage: &mut C, port: u16) -> Option<()> {
     Some(())
 }
 
-/// How many errands something comes of, early and late, of callbacks of the journal of an instance, where only that of
-/// the seventh is durable.
+/// Returns of how many errands something comes, early and late, with callbacks of the journal of an instance, where
+/// only that of the seventh is durable.
 fn waited<R>(rt: &R, alloc: Global, number: u64) -> Option<(u64, u64)>
 where
     R: Wait + Clock + Net<Listener = TcpListener, Stream = TcpStream>,

@@ -1,10 +1,10 @@
-//! Why a folder isn't served.
+//! The reasons why a folder isn't served.
 
 use lra_audits::RunFault;
 use lra_opening::{ServeFault, fault_line};
 use std::alloc::{AllocError, AllocFailed, Global};
 
-/// Why a folder isn't served, or is served no more.
+/// Reason why a folder isn't served, or is served no more.
 #[derive(Debug, Drop)]
 pub enum RollingFault {
     /// As a file of that path wouldn't be.

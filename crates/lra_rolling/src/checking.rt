@@ -1,4 +1,4 @@
-//! What would be served of a folder, told with nothing served.
+//! A report of what would be served of a folder, with nothing served.
 
 use crate::running::FolderServed;
 use lra_ids::Base;
@@ -38,8 +38,9 @@ fn tell<W: Write>(
     put_settings(alloc, settings, writer)
 }
 
-/// Writes what would be served of a folder at an address, a line each: the address, the folder's name, the threads that answer, how many journals there are,
-/// how many entries they have, and all settings. The folder and its journals are found, locked and audited for that, as before they are served, and nothing
+/// Writes what would be served of a folder at an address, a line each: the address, the base and the older ones, the
+/// folder's name, the number of connection workers, how many journals there are, how many entries they have, and all
+/// settings. The folder and its journals are found, locked and audited for that, as before they are served, and nothing
 /// is created, bound or written.
 pub fn check_folder<
     R: Files<File = File> + AllocGlobal + Clone + Drop + Clock,

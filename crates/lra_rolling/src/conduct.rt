@@ -1,4 +1,4 @@
-//! How a folder is served, beside its settings.
+//! The manner in which a folder is served, beside its settings.
 
 use lra_branch::Clerkship;
 use lra_journal_folder::{Contents, Folder, RollingFault};
@@ -10,19 +10,20 @@ use std::fs::File;
 use std::rt::Files;
 use std::sync::Arc;
 
-/// How a folder is served from one start on, beside its settings.
+/// Manner in which a folder is served from one start on, beside its settings.
 #[derive(Clone, Copy)]
 pub struct Conduct<'a> {
     /// No more starts are taken that name no action of it, and the service ends once nothing is left to be done.
     pub drains: bool,
     /// It was restored from a copy, which may lack what was answered since: in the journals that it has nothing is begun any more.
     pub is_restored: bool,
-    /// What says whose the folder is: once that has fallen, nothing is written or kept.
+    /// Fence that says whose the folder is: once it has fallen, nothing is written or synced.
     pub fence: Option<&'a Arc<Fence>>,
 }
 
 impl Conduct<'_> {
-    /// Up to which instance nothing is begun in journals any more, if the folder was restored. That is noted where it is said now.
+    /// Returns the instance up to which nothing is begun in journals any more, if the folder was restored. Notes it
+    /// where it is said now that the folder was.
     pub(crate) fn restored<R: Files<File = File> + AllocGlobal + Clone + Drop>(
         &self,
         folder: &Folder<'_, R>,

@@ -1,4 +1,4 @@
-//! One who answers operators, at all journals.
+//! The operators' view of all journals.
 
 ghost use Rattle.std.specs.Prelude.{◌≡◌};
 
@@ -19,19 +19,19 @@ use std::alloc::Global;
 use std::sync::{Arc, Wait};
 use std::time::Clock;
 
-/// Where operators come in, if any do, and what they are told beside the histories.
+/// Port of the operators, if there is one, and what they are told beside the histories.
 #[derive(Drop)]
 pub(crate) struct Tower<'a> {
     pub(crate) post: Option<&'a Watchpost>,
     pub(crate) base: &'a Base,
     pub(crate) limits: Limits,
     pub(crate) tallies: Tallies,
-    /// Where members are noted that operators have given up.
+    /// Notes of the members that operators have given up.
     pub(crate) notes: Notes,
 }
 
 impl Tower<'_> {
-    /// What the system tells of the process, where operators come in.
+    /// Returns the system's figures of the process, where there is a port for operators.
     fn vitals(&self) -> Vitals {
         match self.post {
             Some(post) => post.vitals(),
@@ -47,7 +47,7 @@ struct Desk<B> {
     branch: B,
 }
 
-/// One who answers operators: with a clerk of each journal of the roster.
+/// View of the operators' thread, with a clerk of each journal of the roster.
 #[derive(Drop)]
 pub(crate) struct Lookout<'b, 's, 'a, R: Wait, H, B> {
     shift: &'b Shift<'s, 'a, R, H, B>,
@@ -61,7 +61,7 @@ pub(crate) struct Lookout<'b, 's, 'a, R: Wait, H, B> {
     given: Given,
 }
 
-/// Whether a journal of that instance is among them.
+/// Returns whether a journal of that instance is among them.
 fn is_among<B: Drop>(journals: &[Arc<Journal<B>>], instance: Instance) -> bool {
     journals.iter().any(|journal| journal.instance == instance)
 }
@@ -111,7 +111,7 @@ fn join_all<R: Wait, B: Clerkship + Drop>(
 }
 
 impl<'b, 's, 'a: 's, R: Wait + Clock, H, B> Lookout<'b, 's, 'a, R, H, B> {
-    /// One who has no clerk yet, and has given no order.
+    /// Returns a view that has no clerk yet, and has given no order.
     pub(crate) fn new(
         alloc: Global,
         shift: &'b Shift<'s, 'a, R, H, B>,
@@ -129,7 +129,7 @@ impl<'b, 's, 'a: 's, R: Wait + Clock, H, B> Lookout<'b, 's, 'a, R, H, B> {
 }
 
 impl<'s, 'a: 's, R: Wait + Clock, H, B: Clerkship + Drop> Lookout<'_, 's, 'a, R, H, B> {
-    /// How many callbacks are under way.
+    /// Returns how many callbacks are under way.
     fn under_way(&self) -> u64 {
         let mut all: u64 = 0;
         for desk in self.desks.as_slice() {
@@ -138,7 +138,7 @@ impl<'s, 'a: 's, R: Wait + Clock, H, B: Clerkship + Drop> Lookout<'_, 's, 'a, R,
         all
     }
 
-    /// Whether it is known of a journal's coordinator that it has stopped.
+    /// Returns whether it is known of any journal's coordinator that it has stopped.
     fn has_stopped(&self) -> bool {
         let tallies = &self.shift.tower.tallies;
         self.desks
@@ -146,7 +146,7 @@ impl<'s, 'a: 's, R: Wait + Clock, H, B: Clerkship + Drop> Lookout<'_, 's, 'a, R,
             .any(|desk| tallies.has_stopped(desk.journal.instance))
     }
 
-    /// How many bytes and entries the newest journal has.
+    /// Returns how many bytes and entries the newest journal has.
     fn sizes(&self) -> (u64, u64) {
         match self.desks.as_slice().last() {
             Some(desk) => (desk.journal.bytes(), desk.journal.count_entries()),
@@ -175,7 +175,7 @@ impl<'s, 'a: 's, R: Wait + Clock, H, B: Clerkship + Drop> Lookout<'_, 's, 'a, R,
         }
     }
 
-    /// What a journal's coordinator tells.
+    /// Returns what a journal's coordinator answers to a query.
     fn query_at(&mut self, place: usize, query: Query) -> Result<Known, CounterFault>
         ensures { self.new.given ≡ self.old.given }
     {
@@ -207,8 +207,8 @@ impl<'s, 'a: 's, R: Wait + Clock, H, B: Clerkship + Drop> Lookout<'_, 's, 'a, R,
         }
     }
 
-    /// How what names an instance is refused that has no desk: where there may be a journal of it by now, or still, it
-    /// isn't said that there is none.
+    /// Returns the refusal of what names an instance that has no desk: where there may be a journal of it by now, or
+    /// still, it isn't said that there is none.
     fn lacking(&self, instance: Instance) -> CounterFault {
         CounterFault::Refused(if self.shift.roster.lacks(instance, self.seen) {
             Refusal::Stopped

@@ -1,4 +1,4 @@
-//! Where members are noted that operators have given up.
+//! The notes of members that operators have given up.
 
 use lra_journal_folder::{GivenUp, given_up_line};
 use std::alloc::Global;

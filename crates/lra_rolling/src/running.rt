@@ -43,10 +43,10 @@ use std::sync::{Arc, Wait};
 use std::thread::Threads;
 use std::time::Clock;
 
-/// How many bytes a journal may have.
+/// Most bytes that a journal may have.
 const MOST_BYTES: u64 = 1 << 30;
 
-/// How a service over a folder came to an end without a fault.
+/// End of a service over a folder, without a fault.
 #[derive(Debug, Drop)]
 pub enum FolderServed {
     /// The journal of that path isn't sound: that is written, and this is the program's status.
@@ -55,7 +55,7 @@ pub enum FolderServed {
     Ended,
 }
 
-/// How much a journal may have of each.
+/// Returns how much a journal may have of each.
 fn limit_of(settings: &Settings) -> Counts {
     let limits = limits_of(settings);
     Counts {
@@ -66,7 +66,7 @@ fn limit_of(settings: &Settings) -> Counts {
     }
 }
 
-/// How much a journal has of each until the next one takes its place.
+/// Returns how much a journal has of each until the next one takes its place.
 fn most_of(settings: &Settings, limit: &Counts) -> Counts {
     Counts {
         actions: settings.roll_after.min(limit.actions / 2),
@@ -76,29 +76,29 @@ fn most_of(settings: &Settings, limit: &Counts) -> Counts {
     }
 }
 
-/// What serves, and the words that say what.
+/// Service over a folder: its means, its settings, and the words that say what it serves.
 #[derive(Drop)]
 struct Service<'a, R, V, H> {
     rt: &'a R,
     alloc: Global,
     address: &'a str,
     site: &'a Site,
-    /// By which terms requests are taken.
+    /// Terms by which requests are taken.
     terms: Terms<'a>,
     folder: &'a Folder<'a, R>,
     workers: u32,
     settings: Settings,
-    /// Who is told how far journals have been read.
+    /// Listener that is told how far journals have been read.
     watcher: &'a V,
     herald: &'a H,
-    /// Where operators come in, and what they are told.
+    /// Port of the operators, and what they are told.
     tower: &'a Tower<'a>,
     conduct: Conduct<'a>,
     /// The members that operators have given up.
     given_up: &'a [GivenUp],
 }
 
-/// Where connections come in to so many threads.
+/// Returns the accept queues of so many connection workers.
 fn arrivals_of<R: Net>(rt: &R, alloc: Global, workers: u32) -> Result<Vec<Arrivals>, RollingFault> {
     let mut all = Vec::new(alloc);
     for _worker in 0..workers {
@@ -170,7 +170,7 @@ impl<
     V: Herald + Sync,
     H: Herald + Journalist + Sync,
 > Service<'a, R, V, H> {
-    /// Who makes the next journals ready.
+    /// Returns the factory that makes the next journals ready, or why there is no next instance.
     fn maker<O: Opener + Drop>(
         &self,
         storage: &'a Storage,
@@ -256,7 +256,7 @@ impl<
         Ok(roster)
     }
 
-    /// Who looks after the journals.
+    /// Returns the rotation manager of the journals.
     fn steward<O: Opener<Branch = B>, B: Clerkship + Drop>(
         &self,
         maker: Maker<'a, R, O>,
@@ -416,7 +416,8 @@ impl<
     }
 }
 
-/// Where members are noted that operators give up, beside these, where any operators come in.
+/// Returns the notes of members that operators give up: a file that has these already, where there is a port for
+/// operators, and else none.
 fn notes_of<R: Files<File = File> + AllocGlobal + Clone + Drop>(
     folder: &Folder<'_, R>,
     is_watched: bool,

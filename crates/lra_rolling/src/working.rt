@@ -21,10 +21,10 @@ use std::thread;
 use std::thread::{Builder, Threads};
 use std::time::Clock;
 
-/// Starts a thread for each duty, and one for each journal, which carries its callbacks; says that the service serves;
-/// and looks after the journals, with a thread for each new one, until no one answers any more. Where a thread can't be
-/// started before that is said, nothing is said, and those that stand end at once. Later the journal that it was wanted
-/// for is given up, and made anew after a pause.
+/// Starts a thread for each duty, and a callback worker for each journal; says that the service serves; and looks after
+/// the journals, with a callback worker for each new one, until no connection worker answers any more. Where a thread
+/// can't be started before that is said, nothing is said, and those that stand end at once. Later the journal that it
+/// was wanted for is given up, and made anew after a pause.
 pub(crate) fn work<
     'a,
     R: Files<File = File>

@@ -1,4 +1,4 @@
-//! Which journals a thread answers for.
+//! The journals that a connection worker serves.
 
 ghost use Rattle.std.specs.Prelude.{IfSome};
 ghost use Rattle.lra_family_front.specs.Households.{HaveBase, KeepsBase, Moved, base_of};
@@ -14,7 +14,8 @@ use std::alloc::Global;
 use std::sync::{Arc, Wait};
 use std::time;
 
-/// Has the journals of a roster join a thread's family, each with a clerk of its own, and those that were put away leave it.
+/// Membership of a connection worker's family: journals of the roster join it, each with a clerk of its own, and those
+/// that were archived leave it.
 #[derive(Drop)]
 pub struct Kin<'s, 'a, R: Wait, B> {
     rt: &'a R,
@@ -47,7 +48,7 @@ impl<'s, 'a, R: Wait, B> Kin<'s, 'a, R, B> {
     }
 }
 
-/// Whether a journal of that instance is among them.
+/// Returns whether a journal of that instance is among them.
 fn is_among<B: Drop>(journals: &[Arc<Journal<B>>], instance: Instance) -> bool {
     journals
         .iter()

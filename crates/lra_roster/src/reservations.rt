@@ -1,4 +1,4 @@
-//! Which journals of a roster are near their end.
+//! The journals of a roster that are near their end.
 
 use crate::roster::Roster;
 use lra_model::Instance;

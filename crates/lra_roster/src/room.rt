@@ -1,4 +1,4 @@
-//! What a journal that is nearly full keeps room for: the ends of what was begun in it.
+//! The room that a journal which is nearly full keeps for the ends of what was begun in it.
 
 use crate::journal::Journal;
 use lra_rolls::{Counts, Mark, is_near_end, least_pause};
@@ -36,7 +36,7 @@ impl<B: Drop> Journal<B> {
         self.is_reserved.store(true, Ordering::SeqCst);
     }
 
-    /// Whether nothing new is begun in it.
+    /// Returns whether nothing new is begun in it.
     pub fn is_reserved(&self) -> bool {
         self.is_reserved.load(Ordering::SeqCst)
     }

@@ -18,7 +18,7 @@ pub struct Roster<B> {
     is_draining: AtomicBool,
     /// The instance whose journal has left to be put away, and isn't yet; or `NONE`.
     retiring: AtomicU64,
-    /// How many threads that answer can't follow the last change, and how often one couldn't.
+    /// Number of connection workers that can't follow the last change, and how often one couldn't.
     lagging: AtomicU64,
     falls: AtomicU64,
 }
@@ -45,7 +45,7 @@ impl<B: Drop> Roster<B> {
         self.is_draining.store(true, Ordering::SeqCst);
     }
 
-    /// Whether nothing is begun that names no journal.
+    /// Returns whether nothing is begun that names no journal.
     pub fn is_draining(&self) -> bool {
         self.is_draining.load(Ordering::SeqCst)
     }
@@ -60,12 +60,12 @@ impl<B: Drop> Roster<B> {
         self.has_reserved.store(has_reserved, Ordering::SeqCst);
     }
 
-    /// Whether there may be one in which nothing new is begun, or nothing is begun that names none.
+    /// Returns whether there may be one in which nothing new is begun, or nothing is begun that names none.
     pub fn has_reserved(&self) -> bool {
         self.has_reserved.load(Ordering::SeqCst) || self.is_draining()
     }
 
-    /// Whether nothing new is begun in the journal of an instance.
+    /// Returns whether nothing new is begun in the journal of an instance.
     pub fn is_reserved<R: Wait>(&self, rt: &R, instance: Instance) -> bool {
         self.journals.lock(rt).iter().any(|journal| journal.instance.number() == instance.number()
             && journal.is_reserved())
@@ -107,35 +107,35 @@ impl<B: Drop> Roster<B> {
         self.retiring.store(NONE, Ordering::SeqCst);
     }
 
-    /// Whether those of a version may lack the journal of an instance: it isn't put away yet, or there is another
-    /// version by now.
+    /// Returns whether the journals of a version may lack that of an instance: it isn't archived yet, or there is
+    /// another version by now.
     pub fn lacks(&self, instance: Instance, version: u64) -> bool {
         let is_retiring = self.retiring.load(Ordering::SeqCst) == instance.number();
         is_retiring || self.version() != version
     }
 
-    /// Whether those of a version may lack any.
+    /// Returns whether the journals of a version may lack any.
     pub fn lacks_any(&self, version: u64) -> bool {
         self.retiring.load(Ordering::SeqCst) != NONE || self.version() != version
     }
 
-    /// A thread that answers can't follow a change.
+    /// Notes that a connection worker can't follow a change.
     pub fn fall_behind(&self) {
         self.lagging.fetch_add(1, Ordering::SeqCst);
         self.falls.fetch_add(1, Ordering::SeqCst);
     }
 
-    /// It can again.
+    /// Notes that it can again.
     pub fn follow(&self) {
         self.lagging.fetch_sub(1, Ordering::SeqCst);
     }
 
-    /// Whether a thread that answers can't follow a change.
+    /// Returns whether a connection worker can't follow a change.
     pub fn lags(&self) -> bool {
         self.lagging.load(Ordering::SeqCst) > 0
     }
 
-    /// How often a thread that answers couldn't follow a change.
+    /// Returns how often a connection worker couldn't follow a change.
     pub fn falls(&self) -> u64 {
         self.falls.load(Ordering::SeqCst)
     }
@@ -149,7 +149,7 @@ impl<B: Drop> Roster<B> {
         Ok(all)
     }
 
-    /// Wakes those who carry where the journal has grown since the last look, or something is under way.
+    /// Wakes the callback worker of each journal that has grown since the last look, or has something under way.
     pub fn cry<R: Wait>(&self, rt: &R) {
         for journal in self.journals.lock(rt).iter() {
             if journal.has_news() {
@@ -158,7 +158,7 @@ impl<B: Drop> Roster<B> {
         }
     }
 
-    /// Wakes all who carry.
+    /// Wakes all callback workers.
     pub fn ring<R: Wait>(&self, rt: &R) {
         for journal in self.journals.lock(rt).iter() {
             journal.ring();

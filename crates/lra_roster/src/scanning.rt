@@ -1,4 +1,4 @@
-//! What a journal has, and whether anything of it is left to be done, by queries.
+//! Queries that find what a journal has, and whether anything of it is left to be done.
 
 use crate::journal::Journal;
 use lra_branch::Clerkship;
@@ -6,10 +6,10 @@ use lra_commands::{Known, Listing, Query, Row};
 use lra_rolls::{is_done_with, is_settled};
 use std::sync::Wait;
 
-/// How many queries are made at once, before others are looked after.
+/// Number of queries that a scan makes at once, before the rotation manager does anything else.
 const MOST_AT_ONCE: u64 = 8_192;
 
-/// What is numbered from 1 on, without gaps.
+/// Kind of what is numbered from 1 on, without gaps.
 #[derive(Clone, Copy, Debug, PartialEq, Eq)]
 pub(crate) enum Kind {
     Action,
@@ -17,7 +17,7 @@ pub(crate) enum Kind {
 }
 
 impl<B: Clerkship + Drop> Journal<B> {
-    /// Whether it has one of that number.
+    /// Returns whether it has one of a kind with that number.
     fn has<R: Wait>(&self, rt: &R, kind: Kind, number: u64) -> bool {
         let query = match kind {
             Kind::Action => Query::ActionStatus { action: number },
@@ -29,7 +29,7 @@ impl<B: Clerkship + Drop> Journal<B> {
         )
     }
 
-    /// Whether a row is of a member that operators have given up.
+    /// Returns whether a row is of a member that operators have given up.
     fn has_given_up<R: Wait>(&self, rt: &R, row: &Row) -> bool {
         match row {
             Row::Member { member, .. } => self.outcomes.is_given_up(rt, *member),
@@ -37,7 +37,7 @@ impl<B: Clerkship + Drop> Journal<B> {
         }
     }
 
-    /// How many of a kind it has, where it had so many already.
+    /// Returns how many of a kind it has, where it had so many already.
     pub(crate) fn count<R: Wait>(&self, rt: &R, kind: Kind, known: u64) -> u64 {
         let mut count = known;
         let mut step = 1u64;
@@ -56,7 +56,7 @@ impl<B: Clerkship + Drop> Journal<B> {
     }
 }
 
-/// What a scan has come to.
+/// Result of a scan so far.
 #[derive(Clone, Copy, Debug, PartialEq, Eq)]
 pub(crate) enum Scanned {
     /// There is more to look at.

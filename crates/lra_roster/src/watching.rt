@@ -1,4 +1,4 @@
-//! The journals as who looks after them knows them.
+//! The journals as the rotation manager knows them.
 
 use crate::journal::Journal;
 use crate::scanning::{Kind, Scan, Scanned};
@@ -11,17 +11,17 @@ use std::sync::{Arc, Wait};
 #[derive(Drop)]
 pub struct Watch<B> {
     pub journal: Arc<Journal<B>>,
-    /// How many actions and members it had at the last look.
+    /// Actions and members that it had at the last look.
     actions: u64,
     members: u64,
-    /// How many bytes it had, and since when, in milliseconds.
+    /// Bytes that it had, and the moment since which it has had them, in milliseconds.
     bytes: u64,
     since: u64,
     /// The look at all that it has, unless that came to something that is left to be done.
     scan: Option<Scan>,
-    /// Why it couldn't be put away the last time, if that was tried.
+    /// Reason why it couldn't be archived the last time, if that was tried.
     why: Option<ErrorKind>,
-    /// How many milliseconds pass until that is tried again, and from when on it is.
+    /// Milliseconds that pass until that is tried again, and the moment from which on it is.
     pause: u64,
     retry: u64,
 }
@@ -52,12 +52,12 @@ impl<B: Drop> Watch<B> {
         is_new
     }
 
-    /// Whether it couldn't be put away the last time that this was tried.
+    /// Returns whether it couldn't be archived the last time that this was tried.
     pub fn is_put_off(&self) -> bool {
         self.why.is_some()
     }
 
-    /// Whether it may be tried to put it away.
+    /// Returns whether it may be tried at a moment to archive it.
     pub fn may_be_tried(&self, now: u64) -> bool {
         self.retry <= now
     }
@@ -101,7 +101,7 @@ impl<B: Drop> Watch<B> {
 }
 
 impl<B: Clerkship + Drop> Watch<B> {
-    /// How much it has of each.
+    /// Counts how much it has of each.
     pub fn counts<R: Wait>(&mut self, rt: &R) -> Counts {
         self.actions = self.journal.count(rt, Kind::Action, self.actions);
         self.members = self.journal.count(rt, Kind::Member, self.members);
@@ -113,7 +113,7 @@ impl<B: Clerkship + Drop> Watch<B> {
         }
     }
 
-    /// How much it has of each, where it has grown since the last look.
+    /// Counts how much it has of each, where it has grown since the last look.
     pub fn news<R: Wait>(&mut self, rt: &R, now: u64) -> Option<Counts> {
         if self.has_moved(now) {
             Some(self.counts(rt))
@@ -137,7 +137,8 @@ impl<B: Clerkship + Drop> Watch<B> {
         }
     }
 
-    /// Whether one that isn't the newest is put away by now, where it is kept at hand so many milliseconds after its last entry.
+    /// Returns whether it is archived by now, as one that isn't the newest, where it is kept at hand so many
+    /// milliseconds after its last entry.
     pub fn is_done<R: Wait>(&mut self, rt: &R, now: u64, remember: u64) -> bool {
         if self.has_moved(now) || !self.may_be_tried(now) {
             return false;

@@ -1,4 +1,4 @@
-//! Where a service is: the socket that it listens at, and what the identifiers that it gives begin with.
+//! The site of a service: the socket that it listens at, and what the identifiers that it gives begin with.
 
 ghost use Rattle.std.specs.Prelude.{◌≡◌, true, false, None, Err, IfOk, IfErr};
 ghost use Rattle.lra_ids.specs.Addresses.{is_base};
@@ -13,10 +13,10 @@ use lra_opening::ServeFault;
 use std::alloc::Global;
 use std::net::{Net, TcpListener};
 
-/// Where a service is.
+/// Site of a service.
 #[derive(Drop)]
 pub struct Site {
-    /// What the identifiers begin with that it gives.
+    /// Base with which the identifiers begin that it gives.
     pub base: Base,
     /// Host and port of the socket that it listens at.
     pub socket: String,

@@ -1,4 +1,4 @@
-//! What would be served, told with nothing served.
+//! A report of what would be served, with nothing served.
 
 ghost use Rattle.std.specs.Prelude.{◌≡◌, ◌≢◌, IsFalse, IfOk, IsErrAnd};
 ghost use Rattle.lra_ids.specs.Addresses.{is_base};
@@ -85,7 +85,7 @@ pub fn put_journal<W: Write>(
     }
 }
 
-/// Whether a journal that was found so could be added to.
+/// Returns a fault unless a journal that was found so could be added to.
 fn can_be_kept<P: Place>(place: &P, found: &Found<P::File>) -> Result<(), ServeFault> {
     match found {
         Found::Missing => place.sync_name(),

@@ -1,4 +1,4 @@
-//! Where connections come in, until the service is to end.
+//! The acceptor of connections, until the service is to end.
 
 ghost use Rattle.std.specs.Prelude.{IfErr};
 ghost use Rattle.lra_opening.specs.Faults.{IsOfNoScript};
@@ -14,15 +14,15 @@ use std::net::{Net, TcpListener, TcpStream};
 use std::sync::Arc;
 use std::thread::Threads;
 
-/// Where connections come in, and how the service comes to its end.
+/// Line at which connections come in, and the service's end.
 #[derive(Drop)]
 pub struct Doorway {
     pub line: Line,
-    /// How it comes to its end.
+    /// State of the service's end.
     pub ending: Arc<Ending>,
 }
 
-/// Where connections come in to a listener.
+/// Returns the doorway of a listener.
 fn doorway_at<R: Net>(rt: &R, alloc: Global, listener: TcpListener) -> Result<Doorway, ServeFault>
     ensures { IfErr result IsOfNoScript }
 {
@@ -38,7 +38,7 @@ fn doorway_at<R: Net>(rt: &R, alloc: Global, listener: TcpListener) -> Result<Do
     }
 }
 
-/// Where connections come in to a listener, until an input has ended, if there is one.
+/// Returns the doorway of a listener. Where there is an input, the service ends gently once that has ended.
 pub fn make_doorway<
     R: Threads + Net<Stream = TcpStream, Listener = TcpListener>,
     I: Read + Send + Drop + 'static,

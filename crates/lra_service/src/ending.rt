@@ -1,4 +1,4 @@
-//! How a service comes to its end.
+//! The end of a service.
 
 ghost use Rattle.std.specs.Prelude.{◌≡◌, ◌⊎◌, IfOk, IfErr, OnOk};
 ghost use Rattle.std.specs.Io.KnownBytes.{Appends};
@@ -18,21 +18,22 @@ use std::sync::atomic::{AtomicBool, Ordering};
 use std::sync::{Arc, Wait};
 use std::thread::{Builder, Threads};
 
-/// How many bytes of what nobody needs are read at once.
+/// Number of bytes of an input that are read at once, and dropped.
 const PIECE: usize = 256;
 
-/// Whether a service is to end, or no one answers any more, and what wakes who waits for connections then.
+/// State of a service's end: whether it is to end, or no connection worker answers any more, and the waker of the
+/// thread that waits for connections.
 #[derive(Drop)]
 pub struct Ending {
     /// It is to end gently.
     is_asked: AtomicBool,
-    /// No one answers any more.
+    /// No connection worker answers any more.
     is_over: AtomicBool,
     bell: Waker,
 }
 
 impl Ending {
-    /// It is to go on.
+    /// Returns the state of a service that is to go on.
     pub fn new(bell: Waker) -> Ending {
         Ending {
             is_asked: AtomicBool::new(false),
@@ -41,24 +42,24 @@ impl Ending {
         }
     }
 
-    /// It is to end gently.
+    /// Asks that it end gently, and wakes the thread that waits for connections.
     pub fn ask(&self) {
         self.is_asked.store(true, Ordering::SeqCst);
         let _ = self.bell.wake();
     }
 
-    /// Whether it is to end gently.
+    /// Returns whether it is to end gently.
     pub fn is_asked(&self) -> bool {
         self.is_asked.load(Ordering::SeqCst)
     }
 
-    /// No one answers any more.
+    /// Notes that no connection worker answers any more, and wakes the thread that waits for connections.
     pub fn finish(&self) {
         self.is_over.store(true, Ordering::SeqCst);
         let _ = self.bell.wake();
     }
 
-    /// Whether no one answers any more.
+    /// Returns whether no connection worker answers any more.
     pub fn is_over(&self) -> bool {
         self.is_over.load(Ordering::SeqCst)
     }

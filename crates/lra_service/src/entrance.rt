@@ -1,4 +1,4 @@
-//! Where clients' connections come in.
+//! The acceptor of clients' connections.
 
 ghost use Rattle.std.specs.Prelude.{◌≡◌};
 
@@ -13,22 +13,22 @@ use std::sync::{Arc, Mutex, Wait};
 use std::time::Duration;
 use std::{io, net};
 
-/// How many milliseconds pass before a connection is awaited again, once one couldn't be accepted.
+/// Milliseconds that pass before a connection is awaited again, once one couldn't be accepted.
 const PAUSE: u64 = 100;
 
-/// How many connections are accepted before it is looked whether the service is to end.
+/// Number of connections that are accepted before it is looked whether the service is to end.
 const MOST_AT_ONCE: u64 = 1_024;
 
-/// How many events are reported at once.
+/// Most events that are reported at once.
 const MOST_EVENTS: usize = 8;
 
-/// What the listener's events are known by.
+/// Token of the listener's events.
 const LISTENER: Token = Token(0);
 
-/// What the events of who wakes are known by.
+/// Token of the waker's events.
 const BELL: Token = Token(1);
 
-/// A listener, and what is waited with for its connections.
+/// A listener, and the poll that waits for its connections.
 #[derive(Drop)]
 pub struct Line {
     listener: TcpListener,
@@ -37,7 +37,7 @@ pub struct Line {
 }
 
 impl Line {
-    /// A listener's, and what ends a wait there.
+    /// Returns the line of a listener, and the waker that ends a wait there.
     pub fn new<R: Net>(
         rt: &R,
         alloc: Global,
@@ -59,7 +59,7 @@ impl Line {
     }
 }
 
-/// What comes of an attempt to accept a connection.
+/// Result of an attempt to accept a connection.
 #[derive(Drop)]
 enum Came {
     Connection(TcpStream),
@@ -77,14 +77,14 @@ enum Came {
 #[derive(Drop)]
 pub struct Entrance<'a, R> {
     rt: &'a R,
-    /// Until who waits there takes it.
+    /// Line of the listener, until the thread that waits there takes it.
     line: Mutex<Option<Line>>,
     ending: &'a Arc<Ending>,
     arrivals: Vec<Arrivals>,
 }
 
 impl<'a, R: Wait> Entrance<'a, R> {
-    /// One whose connections go to the threads of these arrivals.
+    /// Returns an entrance whose connections go to the connection workers of these accept queues.
     pub fn new(
         rt: &'a R,
         line: Line,
@@ -101,12 +101,12 @@ impl<'a, R: Wait> Entrance<'a, R> {
         }
     }
 
-    /// Where connections come in to one of the threads.
+    /// Returns the accept queue of one of the connection workers.
     pub fn arrivals(&self, place: u32) -> Option<&Arrivals> {
         self.arrivals.get(place as usize)
     }
 
-    /// How many connections there are.
+    /// Returns how many connections there are.
     pub fn load(&self) -> u64 {
         let mut all: u64 = 0;
         for arrivals in self.arrivals.as_slice() {
@@ -157,7 +157,8 @@ impl<'a, R: Wait> Entrance<'a, R> {
         Some(Some(0))
     }
 
-    /// Hands on the connections that come, until the service is to end, or no one answers any more, or the listener is gone.
+    /// Hands on the connections that come, until the service is to end, or no connection worker answers any more, or
+    /// the listener is gone.
     fn wait_at(&self, line: &mut Line) {
         let mut pause = Some(0);
         for _round in 0..u64::MAX {
@@ -173,9 +174,9 @@ impl<'a, R: Wait> Entrance<'a, R> {
         }
     }
 
-    /// Hands on the connections that come, until there are to be no others. Then those who answer end: at once, or once
-    /// the replies that wait have left, where the service is to end gently. Where a connection can't be accepted, as
-    /// where too many files are open, those that have been idle for longest make room for it.
+    /// Hands on the connections that come, until there are to be no others. Then the connection workers end: at once,
+    /// or once the replies that wait have left, where the service is to end gently. Where a connection can't be
+    /// accepted, as where too many files are open, those that have been idle for longest make room for it.
     pub fn open(&self) {
         let line = self.line.lock(self.rt).take();
         if let Some(mut line) = line {

@@ -1,4 +1,4 @@
-//! What a service tells of its threads, and who is told.
+//! The reports of a service on its threads, and the listeners that get them.
 
 use lra_ids::Instance;
 use lra_logs::{Event, Journalist, Level, Logbook, Port};
@@ -10,7 +10,7 @@ use std::alloc::Global;
 use std::sync::Wait;
 use std::time::Clock;
 
-/// Who tells nobody of lines, nor of what happens.
+/// Notifier that drops all lines and events.
 #[derive(Clone, Copy, Debug)]
 pub struct Quiet;
 
@@ -26,7 +26,7 @@ impl Journalist for Quiet {
     fn note(&self, _event: &Event) {}
 }
 
-/// Who is told of operators' requests that may not be made.
+/// Listener to operators' requests that may not be made, which notes them in the log.
 #[derive(Drop)]
 pub struct Turnstile<'a, J> {
     pub journalist: &'a J,
@@ -63,7 +63,7 @@ impl<R: Eprint + Clock + Wait> Journalist for Book<R> {
     }
 }
 
-/// Why a thread that answered has ended, where the program's end doesn't say so.
+/// Returns why a connection worker has ended, where the program's end doesn't say so.
 fn why_answered(end: RoundsEnd) -> Option<&'static str> {
     match end {
         RoundsEnd::Unkept | RoundsEnd::Closed => None,
@@ -74,7 +74,7 @@ fn why_answered(end: RoundsEnd) -> Option<&'static str> {
     }
 }
 
-/// Tells that a thread that answered has ended though the service goes on, and why. Where it has ended with the service
+/// Tells that a connection worker has ended though the service goes on, and why. Where it has ended with the service
 /// nothing is told.
 pub fn lose_worker<H: Herald + Journalist>(herald: &H, tallies: &Tallies, end: RoundsEnd) {
     if let Some(line) = why_answered(end) {
@@ -84,7 +84,7 @@ pub fn lose_worker<H: Herald + Journalist>(herald: &H, tallies: &Tallies, end: R
     }
 }
 
-/// Tells that a thread that carried has ended though the service goes on, and why; and where it was a journal's last one,
+/// Tells that a callback worker has ended though the service goes on, and why; and where it was a journal's last one,
 /// that this journal's callbacks stand still. Where it has ended with the service nothing is told.
 pub fn lose_callback_worker<H: Herald + Journalist>(
     alloc: Global,

@@ -1,4 +1,4 @@
-//! Where threads wait until all of them stand.
+//! A latch at which threads wait until all of them stand.
 
 use std::sync::{Condvar, Mutex, Wait};
 
@@ -18,14 +18,14 @@ impl Latch {
         }
     }
 
-    /// Waits until it is decided whether those who wait work, and returns that.
+    /// Waits until it is decided whether the threads that wait work, and returns that.
     pub fn pass<R: Wait>(&self, rt: &R) -> bool {
         let works = self.works.lock(rt);
         let works = self.changed.wait_while(rt, works, |works| works.is_none());
         *works == Some(true)
     }
 
-    /// Decides whether those work who wait, and who come later.
+    /// Decides whether the threads work that wait, and those that come later.
     pub fn decide<R: Wait>(&self, rt: &R, works: bool) {
         *self.works.lock(rt) = Some(works);
         self.changed.notify_all();

@@ -1,4 +1,4 @@
-//! One who answers operators, at an office.
+//! The operators' view of an office.
 
 use crate::shift::Shift;
 use lra_clocks::{Clock as Moments, SystemClock};
@@ -13,7 +13,7 @@ use std::alloc::Global;
 use std::sync::Wait;
 use std::time::Clock;
 
-/// One who answers operators: a window of the office, and what is known beside its history.
+/// View of the operators' thread: a window of the office, and what is known beside its history.
 pub(crate) struct Lookout<'w, 's, 'a, V: Serving, R, L: WhichLock, H> {
     window: Window<'w, V, R, L>,
     shift: &'s Shift<'a, R, H>,
@@ -30,7 +30,7 @@ fn fault_of(refusal: OfficeRefusal) -> CounterFault {
 }
 
 impl<'w, 's, 'a, V: Serving, R, L: WhichLock, H> Lookout<'w, 's, 'a, V, R, L, H> {
-    /// One who has given no order.
+    /// Returns a view that has given no order.
     pub(crate) fn new(
         window: Window<'w, V, R, L>,
         shift: &'s Shift<'a, R, H>,

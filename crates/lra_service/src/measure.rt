@@ -1,4 +1,4 @@
-//! What is told operators of a service beside its history.
+//! The figures of a service that operators are told beside its history.
 
 use lra_audits::LONGEST;
 use lra_commands::Limits;
@@ -9,7 +9,7 @@ use lra_storage::JournalFile;
 use lra_watchpost::{Tallies, Vitals};
 use std::sync::Arc;
 
-/// How a journal was when it was opened, and how much it may have.
+/// State of a journal when it was opened, and how much it may have.
 #[derive(Clone, Copy)]
 pub(crate) struct Begun {
     entries: u64,
@@ -18,7 +18,7 @@ pub(crate) struct Begun {
     limits: Limits,
 }
 
-/// How an opened journal is, which may have so much.
+/// Returns the state of an opened journal that may have so much.
 pub(crate) fn begun_from(opening: &Opening, limits: Limits) -> Begun {
     Begun {
         entries: opening.count_entries(),
@@ -27,7 +27,7 @@ pub(crate) fn begun_from(opening: &Opening, limits: Limits) -> Begun {
     }
 }
 
-/// What is tallied of a service, and how much its journal has.
+/// Tallies of a service, and how much its journal has.
 #[derive(Drop)]
 pub(crate) struct Measure {
     pub(crate) file: Arc<JournalFile>,
@@ -35,7 +35,7 @@ pub(crate) struct Measure {
     pub(crate) tallies: Tallies,
 }
 
-/// What is known of a running service beside its journal.
+/// State of a running service beside its journal.
 #[derive(Clone, Copy)]
 pub(crate) struct Now {
     pub(crate) moment: u64,
@@ -47,14 +47,14 @@ pub(crate) struct Now {
 }
 
 impl Measure {
-    /// How many entries the journal has.
+    /// Returns how many entries the journal has.
     fn count(&self) -> u64 {
         let first = u64::from(self.begun.is_new);
         let lines = self.file.entries().saturating_sub(first);
         self.begun.entries.saturating_add(lines)
     }
 
-    /// All that is known.
+    /// Returns all that is known.
     pub(crate) fn facts(&self, now: Now, vitals: Vitals) -> Facts {
         let limits = self.begun.limits;
         Facts {

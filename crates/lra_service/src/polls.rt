@@ -1,4 +1,4 @@
-//! What the threads of a service wait with.
+//! The polls with which the threads of a service wait.
 
 ghost use Rattle.std.specs.Prelude.{IfErr};
 ghost use Rattle.lra_opening.specs.Faults.{IsOfNoScript};
@@ -12,19 +12,19 @@ use std::net::Net;
 use std::sync::Mutex;
 use std::sync::atomic::AtomicU64;
 
-/// The place of one who carries.
+/// Place of a callback worker.
 #[derive(Drop)]
 pub struct Stall {
-    /// What it waits with, until it takes that.
+    /// Poll with which it waits, until it takes that.
     pub poll: Mutex<Option<Poll>>,
-    /// How many errands it has under way.
+    /// Number of errands that it has under way.
     pub under_way: AtomicU64,
-    /// How many milliseconds it leaves at least between two asks of a silent member.
+    /// Least number of milliseconds that it leaves between two asks of a silent member.
     pub least_pause: AtomicU64,
 }
 
 impl Stall {
-    /// One where nothing is under way, and no member is spared, and what wakes who waits there, if they can be had.
+    /// Returns a place where nothing is under way, and no member is spared, and its waker, if they can be had.
     pub fn new<R: Net>(rt: &R) -> Option<(Stall, Waker)> {
         let (poll, bell) = bell(rt).ok()?;
         let stall = Stall {
@@ -36,14 +36,15 @@ impl Stall {
     }
 }
 
-/// What the threads of a service wait with, by their places: those who answer for connections, and those who carry for what falls due.
+/// Polls with which the threads of a service wait, by their places: connection workers for connections, and callback
+/// workers for what falls due.
 #[derive(Drop)]
 pub(crate) struct Polls {
-    /// Where connections come in to those who answer.
+    /// Accept queues of the connection workers.
     pub(crate) arrivals: Vec<Arrivals>,
-    /// The places of those who carry.
+    /// Places of the callback workers.
     pub(crate) stalls: Vec<Stall>,
-    /// What wakes them.
+    /// Wakers of the callback workers.
     pub(crate) bells: Vec<Waker>,
 }
 
@@ -57,7 +58,8 @@ impl Polls {
         }
     }
 
-    /// One more who answers, and one more who carries. Tells whether they could be had.
+    /// Adds the polls of one more connection worker, and of one more callback worker. Returns whether they could be
+    /// had.
     fn add<R: Net>(&mut self, rt: &R, alloc: Global) -> Option<()> {
         self.arrivals.push(Arrivals::new(rt, alloc).ok()?).ok()?;
         let (stall, bell) = Stall::new(rt)?;
@@ -66,7 +68,7 @@ impl Polls {
     }
 }
 
-/// What so many who answer, and as many who carry, wait with.
+/// Returns the polls of so many connection workers, and of as many callback workers.
 pub(crate) fn polls_of<R: Net>(rt: &R, alloc: Global, workers: u32) -> Result<Polls, ServeFault>
     ensures { IfErr result IsOfNoScript }
 {

@@ -9,7 +9,7 @@ use lra_opening::{ServeFault, enrol_fault};
 use std::alloc::Global;
 use std::sync::Wait;
 
-/// What a clerk of a service does.
+/// Duty of a clerk of a service.
 #[derive(Clone, Copy, Debug, PartialEq, Eq)]
 pub(crate) enum Duty {
     /// To answer connections, at that place.
@@ -70,7 +70,7 @@ fn add_all<V: Serving, R: Wait>(
     Ok(())
 }
 
-/// Adds the clerks of a service, and one who answers operators, where any come in.
+/// Adds the clerks of a service, and one for the operators' thread, where there is one.
 fn add_each<V: Serving, R: Wait>(
     rt: &R,
     office: &OfficeOf<V>,
@@ -92,7 +92,8 @@ fn add_each<V: Serving, R: Wait>(
     add_all(rt, office, first, moment, workers, jobs)
 }
 
-/// The clerks of a service, of which one is there already: so many to answer and as many to carry errands, and one who answers operators, where any come in.
+/// Returns the clerks of a service, of which one is there already: one for each of so many connection workers and as
+/// many callback workers, and one for the operators' thread, where there is one.
 pub(crate) fn hire_all<V: Serving, R: Wait>(
     rt: &R,
     alloc: Global,

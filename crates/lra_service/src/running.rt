@@ -49,7 +49,7 @@ use std::sync::{Arc, Wait};
 use std::thread::Threads;
 use std::time::Clock;
 
-/// How a service came to an end without a fault.
+/// End of a service, without a fault.
 #[derive(Clone, Copy, Debug, PartialEq, Eq)]
 pub enum Served {
     /// The journal isn't sound: that is written, and this is the program's status.
@@ -58,7 +58,7 @@ pub enum Served {
     Ended,
 }
 
-/// What serves, and the words that say what.
+/// Service: its means, its settings, and the words that say what it serves.
 #[derive(Drop)]
 struct Service<'a, R, P, H> {
     rt: &'a R,
@@ -66,13 +66,13 @@ struct Service<'a, R, P, H> {
     herald: &'a H,
     address: &'a str,
     site: &'a Site,
-    /// By which terms requests are taken.
+    /// Terms by which requests are taken.
     terms: Terms<'a>,
-    /// Where the journal is kept.
+    /// Place of the journal.
     place: &'a P,
     workers: u32,
     settings: Settings,
-    /// Where operators come in, if any do.
+    /// Port of the operators, if there is one.
     operators: Option<&'a Watchpost>,
 }
 
@@ -125,7 +125,7 @@ fn open_disk<'a, R: Wait>(
     })
 }
 
-/// What is tallied of a service that begins.
+/// Returns the tallies of a service that begins.
 fn tallies_of(
     alloc: Global,
     post: Option<&Watchpost>,
@@ -337,7 +337,7 @@ impl<
         )
     }
 
-    /// Where connections come in to the site's socket, and the disk of a journal that was found so.
+    /// Makes ready the doorway of the site's socket, and the disk of a journal that was found so.
     fn make_ready<I: Read + Send + Drop + 'static>(
         &self,
         found: Found<File>,
@@ -403,11 +403,13 @@ impl<
     }
 }
 
-/// Serves the coordinator of a place's journal at an address, with identifiers that begin with a base of their own if there is one, and that clients may send under older ones, by so many threads that answer connections and as many that carry errands,
-/// until the last of the former has ended: then the answer is [`ServeFault::Address`]. Where the journal isn't sound, that is written as
-/// `lra audit` does, and the answer is the program's status. Once an input has ended, if there is one, the service ends gently: no more connections are
-/// accepted and no more requests read, replies that wait leave, what came of the callbacks under way is recorded, for 10 s at most, and all is synced.
-/// A thread that ends before that is told of at once, with why. Where there is a post for operators, one more thread answers them there.
+/// Serves the coordinator of a place's journal at an address, with identifiers that begin with a base of their own if
+/// there is one, and that clients may send under older ones, by so many connection workers and as many callback
+/// workers, until the last of the former has ended: then the answer is [`ServeFault::Address`]. Where the journal isn't
+/// sound, that is written as `lra audit` does, and the answer is the program's status. Once an input has ended, if
+/// there is one, the service ends gently: no more connections are accepted and no more requests read, replies that wait
+/// leave, what came of the callbacks under way is recorded, for 10 s at most, and all is synced. A thread that ends
+/// before that is told of at once, with why. Where there is a post for operators, one more thread answers them there.
 ///
 /// The file that is written to has just the whole lines of what the place had, and the office that serves goes on from them
 /// ([`ready_file`], [`open_office`]).

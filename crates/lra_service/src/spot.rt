@@ -1,4 +1,4 @@
-//! Where connections come in, also where the system chooses the port.
+//! The address at which connections come in, also where the system chooses the port.
 
 ghost use Rattle.std.specs.Prelude.{◌≡◌, ◌++◌, codes, decimal, string_bytes, IfOk, IfErr, IfSome};
 ghost use Rattle.lra_opening.specs.Ends.{IsOfAddress};
@@ -15,16 +15,16 @@ use std::net::{Net, TcpListener, TcpStream};
 pub struct Spot {
     /// Host and port.
     pub address: String,
-    /// Who listens there, where the system has chosen the port.
+    /// Listener at the address, where the system has chosen the port.
     pub listener: Option<TcpListener>,
 }
 
-/// How connections come in, and until when.
+/// Listener of a service, and the input whose end ends it.
 #[derive(Drop)]
 pub struct Entry<I> {
-    /// Who listens at the address, if anyone does already.
+    /// Listener at the address, if there is one already.
     pub listener: Option<TcpListener>,
-    /// What ends the service gently once it has ended, if anything does.
+    /// Input that ends the service gently once it has ended, if there is one.
     pub input: Option<I>,
 }
 
@@ -46,7 +46,8 @@ fn address_of(alloc: Global, host: &str, port: u16) -> Result<String, ServeFault
     }
 }
 
-/// What is served at an address as it is given: the system chooses the port where that is 0, and else the address is that which is given.
+/// Returns what is served at an address as it is given: the system chooses the port where that is 0, and else the
+/// address is that which is given.
 pub fn spot_at<R: Net<Stream = TcpStream, Listener = TcpListener>>(
     rt: &R,
     alloc: Global,
@@ -74,7 +75,7 @@ pub fn spot_at<R: Net<Stream = TcpStream, Listener = TcpListener>>(
     })
 }
 
-/// Who listens at a socket's host and port.
+/// Returns the listener that is given, and else a new one at a socket's host and port.
 pub fn listener_at<R: Net<Stream = TcpStream, Listener = TcpListener>>(
     rt: &R,
     socket: &str,

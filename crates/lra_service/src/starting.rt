@@ -22,8 +22,8 @@ use std::thread::{Builder, Threads};
 use std::time::Clock;
 
 /// Starts a thread for each clerk, and those that look names up and report what the journal's file takes; says that the
-/// service serves; and accepts connections until no one answers any more. Where a thread can't be started, nothing is
-/// said, and those that stand end at once.
+/// service serves; and accepts connections until no connection worker answers any more. Where a thread can't be
+/// started, nothing is said, and those that stand end at once.
 pub(crate) fn work<
     V: Serving + Send,
     R: KeyFiles + Threads + Wait + Clock + Net<Stream = TcpStream, Listener = TcpListener> + Sync,

@@ -1,4 +1,4 @@
-//! By which terms requests are taken, and members are called.
+//! The terms by which requests are taken, and members are called.
 
 ghost use Rattle.std.specs.Prelude.{◌≡◌};
 
@@ -16,23 +16,23 @@ use std::alloc::Global;
 use std::sync::Wait;
 use std::time::Clock;
 
-/// By which terms a service takes requests, and calls members.
+/// Terms by which a service takes requests, and calls members.
 #[derive(Clone, Copy)]
 pub struct Terms<'a> {
-    /// What identifiers may begin with as well.
+    /// Bases with which identifiers may begin as well.
     pub olders: &'a [Base],
-    /// Whether nothing is served but behind the path of the base.
+    /// Nothing is served but behind the path of the base.
     pub is_strict: bool,
     /// The keys of which each request has to give one, if they are asked for.
     pub keys: Option<&'a KeyBook>,
     /// The names by which requests have to come, if there are any.
     pub names: &'a [Name],
-    /// Where members may be.
+    /// Rules that say where members may be.
     pub rules: &'a Rules,
 }
 
 impl<'a> Terms<'a> {
-    /// Those of a service that lets all in, and whose members may be where these rules say.
+    /// Returns the terms of a service that lets all in, and whose members may be where these rules say.
     pub fn usual(rules: &'a Rules) -> Terms<'a> {
         Terms {
             olders: &[],
@@ -44,7 +44,7 @@ impl<'a> Terms<'a> {
     }
 }
 
-/// Who is told of what a service refuses, and of what becomes of its keys.
+/// Listener to what a service refuses, and to what becomes of its keys.
 #[derive(Drop)]
 pub struct Doorman<'a, H> {
     alloc: Global,
@@ -54,7 +54,7 @@ pub struct Doorman<'a, H> {
     path: &'a str,
 }
 
-/// Whoever answers, asked what requests mean that are let in, by the terms of a service, and counted.
+/// Handler within the filters of a service's terms, with a count of the requests that are let in.
 pub type Received<'a, R, H, A> = Guarded<
     Proxied<CountedResponder<'a, Ruled<'a, A>, R>>,
     Porter<'a, R, Doorman<'a, H>>,
@@ -62,7 +62,7 @@ pub type Received<'a, R, H, A> = Guarded<
 >;
 
 impl<'a, H> Doorman<'a, H> {
-    /// One of a service with these terms.
+    /// Returns the listener of a service with these terms.
     pub fn new(
         alloc: Global,
         terms: Terms<'a>,
@@ -92,7 +92,7 @@ impl<H: Herald + Journalist> Refused for Doorman<'_, H> {
     }
 }
 
-/// Why the keys of a file stay as they were, or why there are none.
+/// Returns why the keys of a file stay as they were, or why there are none.
 pub fn keys_trouble(alloc: Global, path: &str, fault: KeysFault) -> Option<String> {
     let text = match fault {
         KeysFault::File => format!(in alloc; "cannot read {path}"),
@@ -122,7 +122,7 @@ impl<H: Herald> Renewed for Doorman<'_, H> {
     }
 }
 
-/// Whoever answers, by the terms of a service. Where memory is refused they are given back.
+/// Adds the filters of a service's terms to a handler. Where memory is refused, the handler is given back.
 pub fn receive<'a, R: Wait + Clock + KeyFiles, H: Herald + Journalist, A: Responder>(
     rt: &'a R,
     alloc: Global,
@@ -144,7 +144,7 @@ pub fn receive<'a, R: Wait + Clock + KeyFiles, H: Herald + Journalist, A: Respon
     Ok(Guarded::new(proxied, porter, told))
 }
 
-/// Whoever answered by the terms of a service.
+/// Returns the handler within the filters of a service's terms.
 pub fn dismiss<'a, R, H, A: Responder>(received: Received<'a, R, H, A>) -> A
 where
     R: Wait + Clock + KeyFiles,
