@@ -1,7 +1,8 @@
-"""The three services of a trip: a flight, a hotel and a payment. Each is a server of its own, of Python's standard library alone.
+"""The three services of a trip: a flight, a hotel and a payment. Each is a server of its own, of Python's standard
+library alone.
 
-`POST /book` with the field Long-Running-Action books something for that action: the service joins the action, and gives the
-coordinator the addresses at which it can be asked to complete the booking, or to compensate it.
+`POST /book` with the field Long-Running-Action books something for that action: the service joins the action, and gives
+the coordinator the addresses at which it can be asked to complete the booking, or to compensate it.
 """
 import http.server
 import json

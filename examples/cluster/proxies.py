@@ -11,7 +11,8 @@ import time
 
 HERE = os.path.dirname(os.path.abspath(__file__))
 HOST = "127.0.0.1"
-# Each proxy's file of settings here, and how it is started by it. HAProxy has a master that stays, and one worker after another.
+# Each proxy's file of settings here, and how it is started by it. HAProxy has a master that stays, and one worker after
+# another.
 PROXIES = {"haproxy": ("haproxy.cfg", ["haproxy", "-W", "-f"]), "nginx": ("nginx.conf", ["nginx", "-c"])}
 # By which signal a proxy reads its settings anew.
 RELOADS = {"haproxy": signal.SIGUSR2, "nginx": signal.SIGHUP}
@@ -20,8 +21,9 @@ SECONDS = 10
 
 
 class Site:
-    """What a proxy has to know of a site: its number, where its servers are with their operators' ports, whether it takes outermost starts, and
-    whether it rests: then nothing is sent to it. There are several servers where a lease says which of them is up."""
+    """What a proxy has to know of a site: its number, where its servers are with their operators' ports, whether it
+    takes outermost starts, and whether it rests: then nothing is sent to it. There are several servers where a lease
+    says which of them is up."""
 
     def __init__(self, number, servers, takes_starts=True, rests=False):
         self.digits = f"{number:04x}"
@@ -33,15 +35,22 @@ class Site:
         """What is put in for each of its servers."""
         for place, (address, operators) in enumerate(self.servers):
             checked, _, port = operators.rpartition(":")
-            yield {"SITE": self.digits, "NAME": self.name(place), "ADDRESS": address, "CHECKED": checked, "PORT": port, "RESTS": " disabled" if self.rests else ""}
+            yield {
+                "SITE": self.digits,
+                "NAME": self.name(place),
+                "ADDRESS": address,
+                "CHECKED": checked,
+                "PORT": port,
+                "RESTS": " disabled" if self.rests else "",
+            }
 
     def name(self, place):
         return f"site_{self.digits}_{place}"
 
 
 def sites_of(words):
-    """The sites that words like `1=10.0.0.1:8080,10.0.0.1:9080` say. A number that is given twice has two servers; one with `-` behind it takes no
-    outermost starts, and one with `--` rests."""
+    """The sites that words like `1=10.0.0.1:8080,10.0.0.1:9080` say. A number that is given twice has two servers; one
+    with `-` behind it takes no outermost starts, and one with `--` rests."""
     sites = {}
     for word in words:
         name, _, servers = word.partition("=")
@@ -55,8 +64,8 @@ def sites_of(words):
 
 
 def behind(kind, sites, words):
-    """The words that a section is repeated with: for each site, each that rests, each server of one site, or each of all sites that take outermost
-    starts."""
+    """The words that a section is repeated with: for each site, each that rests, each server of one site, or each of
+    all sites that take outermost starts."""
     if kind in ("site", "resting"):
         return [{"SITE": site.digits} for site in sites if kind == "site" or site.rests]
     if kind == "server":
@@ -108,7 +117,8 @@ def is_ready(operators, seconds=1):
 
 
 def upstream(sites, ready=is_ready):
-    """The servers that take outermost starts, as nginx has them in a file of their own. Where none is ready all are tried."""
+    """The servers that take outermost starts, as nginx has them in a file of their own. Where none is ready all are
+    tried."""
     servers = [it for site in sites if site.takes_starts for it in site.servers]
     up = [it for it in servers if ready(it[1])] or servers
     return "".join(f"server {it[0]} max_fails=1 fail_timeout=1s{'' if it in up else ' down'};\n" for it in servers)
@@ -168,11 +178,17 @@ class Proxy:
             put(self.path("starts.conf"), upstream(self.sites))
 
     def begin(self, sites=None):
-        """Starts the proxy in front of some sites, or of those that it had, in a group of processes of its own, and answers once somebody listens."""
+        """Starts the proxy in front of some sites, or of those that it had, in a group of processes of its own, and
+        answers once somebody listens."""
         self.sites = sites or self.sites
         os.makedirs(self.folder, exist_ok=True)
         self.write()
-        self.process = subprocess.Popen([*self.words, self.path(self.name)], start_new_session=True, stdin=subprocess.DEVNULL, stderr=subprocess.DEVNULL)
+        self.process = subprocess.Popen(
+            [*self.words, self.path(self.name)],
+            start_new_session=True,
+            stdin=subprocess.DEVNULL,
+            stderr=subprocess.DEVNULL,
+        )
         self.wait()
         if self.kind == "nginx":
             self.watch = Watch(self.path("starts.conf"), self.sites, lambda: self.process.pid)
