@@ -1,5 +1,6 @@
-// A bare server to compare with: bare PORT THREADS [FILE]. Each thread has an epoll of its own and a listener at the same port, reads what came, and writes
-// one reply, as long as a status read's, where a head has ended in it. It looks at nothing else.
+// A bare server to compare with: bare PORT THREADS [FILE]. Each thread has an epoll of its own and a listener at the
+// same port, reads what came, and writes one reply, as long as a status read's, where a head has ended in it. It looks
+// at nothing else.
 // With a FILE it appends a line to that before each reply, and syncs it.
 //
 // gcc -O2 -pthread tools/bare.c -o bare

@@ -1,4 +1,5 @@
-"""Which definitions a crate cites of the crates below it: modules of their `specs/`, their declared types and traits, and what these cite in turn."""
+"""Which definitions a crate cites of the crates below it: modules of their `specs/`, their declared types and traits,
+and what these cite in turn."""
 import functools
 import glob
 import hashlib
@@ -8,11 +9,15 @@ import re
 ROOT = os.path.dirname(os.path.dirname(os.path.abspath(__file__)))
 # A module of a crate's definitions, as sources name it.
 NAMED = re.compile(r"Rattle\.(lra_\w+)\.specs((?:\.\w+)*)")
-# What begins the text of a declared type, trait or model, and its name. The text ends with the first line that closes it.
+# What begins the text of a declared type, trait or model, and its name.
+# The text ends with the first line that closes it.
 DECLARED = re.compile(r"(?:pub(?:\([\w ]+\))? )?(?:struct|enum|union|trait|type) (\w+)|impl(?:<.*>)? Model for (\w+)")
-# What brings names into a file: whether they are definitions, the module, the names, and what the module or the one name is called.
+# What brings names into a file: whether they are definitions, the module, the names,
+# and what the module or the one name is called.
 BRINGS = re.compile(
-    r"^[ \t]*(?:pub(?:\([\w ]+\))? )?(ghost )?use (Rattle\.)?([\w«»]+(?:(?:\.|::)[\w«»]+)*)(?:(?:\.|::)\{([^}]*)\})?(?: as ([\w«»]+))?;?[ \t]*$", re.M
+    r"^[ \t]*(?:pub(?:\([\w ]+\))? )?(ghost )?use (Rattle\.)?([\w«»]+(?:(?:\.|::)[\w«»]+)*)"
+    r"(?:(?:\.|::)\{([^}]*)\})?(?: as ([\w«»]+))?;?[ \t]*$",
+    re.M,
 )
 # Lines that are comments, and that name a file's modules.
 ASIDE = re.compile(r"^[ \t]*(?:--|//).*$|^[ \t]*(?:pub(?:\([\w ]+\))? )?mod \w+;?[ \t]*$", re.M)
@@ -102,7 +107,11 @@ class Definitions:
             if words[0] == "declared":
                 yield from self.declared(crate, words[1:])
             elif words[0] == "contracts":
-                yield from (it for it in self.files(crate, "src") if it[0].split("/")[3].removesuffix(".rt") in (words[1], "lib"))
+                yield from (
+                    it
+                    for it in self.files(crate, "src")
+                    if it[0].split("/")[3].removesuffix(".rt") in (words[1], "lib")
+                )
             else:
                 yield from self.module(crate, words)
 
@@ -124,7 +133,8 @@ class Definitions:
 
     @functools.cache
     def token(self, path, name):
-        """A sum of what a name of a module is defined as, wherever that stands: of the paragraphs that define it, or, where none does, of all that the module has."""
+        """A sum of what a name of a module is defined as, wherever that stands: of the paragraphs that define it, or,
+        where none does, of all that the module has."""
         crate, kind, *words = path.split(".")[1:]
         if kind != "specs":
             return f"{kind}.{name}"
@@ -133,7 +143,8 @@ class Definitions:
 
     @functools.cache
     def brought(self, text):
-        """What each name stands for that is brought into a text: the module of a name for all of a module, or else its token."""
+        """What each name stands for that is brought into a text: the module of a name for all of a module,
+        or else its token."""
         modules, names = {}, {}
         for _, definitions, path, several, alias in BRINGS.findall(text):
             path, is_ours = f"{definitions}{path}", definitions and path.startswith("lra_")
@@ -145,12 +156,17 @@ class Definitions:
             for it in several.split(",") if several else [f"{last} as {alias}" if alias else last]:
                 name, _, called = " ".join(it.split()).partition(" as ")
                 if name:
-                    names[called or name] = self.token(path, name) if is_ours else name if module.startswith("lra_") else f"{module}.{name}"
+                    names[called or name] = (
+                        self.token(path, name)
+                        if is_ours
+                        else name if module.startswith("lra_") else f"{module}.{name}"
+                    )
         return modules, names
 
     @functools.cache
     def told(self, path, text):
-        """The paragraphs of a file, each with what the names in it stand for: so a definition that only moves, and its module, change no sum."""
+        """The paragraphs of a file, each with what the names in it stand for: so a definition that only moves,
+        and its module, change no sum."""
         modules, names = self.brought(text)
         every = self.paragraphs(text)
         if path.endswith(".antt"):
@@ -159,7 +175,13 @@ class Definitions:
         for it in every:
             words = {*re.findall(r"(?<![\w«».])[\w«»]+", it), *re.findall(r"[^\s(){}.,;]+", it)}
             within = {(of, name) for of, name in re.findall(r"([\w«»]+)(?:\.|::)([\w«»]+)", it) if of in modules}
-            found.append((it, sorted((it, names[it]) for it in words & names.keys()), sorted((of, name, self.token(modules[of], name)) for of, name in within)))
+            found.append(
+                (
+                    it,
+                    sorted((it, names[it]) for it in words & names.keys()),
+                    sorted((of, name, self.token(modules[of], name)) for of, name in within),
+                )
+            )
         return found
 
     def cited(self, crate):
@@ -185,14 +207,22 @@ class Definitions:
 
 
 def let_through():
-    """Changes below a crate of which what it cites tells wrongly, tried on sources made up for it; there are to be none."""
+    """Changes below a crate of which what it cites tells wrongly, tried on sources made up for it;
+    there are to be none."""
     low = "crates/lra_low"
     sources = {
-        f"{low}/src/lib.rt": "pub enum Kind {\n    One(Inner),\n}\n\npub struct Inner {\n    pub it: u64,\n}\n\npub fn code() {}\n",
+        f"{low}/src/lib.rt": (
+            "pub enum Kind {\n    One(Inner),\n}\n\n"
+            "pub struct Inner {\n    pub it: u64,\n}\n\n"
+            "pub fn code() {}\n"
+        ),
         f"{low}/specs/Words.antt": "use Rattle.lra_low.specs.Deep.{deep}\n\nword : ℕ\n",
         f"{low}/specs/Deep.antt": "deep : ℕ\n",
         f"{low}/specs/Other.antt": "other : ℕ\n",
-        "crates/lra_up/src/lib.rt": "ghost use Rattle.lra_low.specs.Words as words;\nghost use Rattle.lra_low.specs.declared.Kind.{Kind};\n",
+        "crates/lra_up/src/lib.rt": (
+            "ghost use Rattle.lra_low.specs.Words as words;\n"
+            "ghost use Rattle.lra_low.specs.declared.Kind.{Kind};\n"
+        ),
     }
     changes = [
         ("a definition that is cited", True, f"{low}/specs/Words.antt", "word : ℕ", "word : ℤ"),
@@ -207,13 +237,22 @@ def let_through():
         after = Definitions({**sources, path: sources[path].replace(old, new)}).sum("lra_up")
         if (after != before) != matters:
             yield f"{what} has changed, which {'nothing tells' if matters else 'no sum should have'}"
-    moved = {path.replace("lra_low", "lra_deep").replace("Deep.antt", "Deepest.antt"): text for path, text in sources.items()}
-    moved = {path: text.replace("lra_low", "lra_deep").replace("specs.Deep.", "specs.Deepest.") for path, text in moved.items()}
+    moved = {
+        path.replace("lra_low", "lra_deep").replace("Deep.antt", "Deepest.antt"): text
+        for path, text in sources.items()
+    }
+    moved = {
+        path: text.replace("lra_low", "lra_deep").replace("specs.Deep.", "specs.Deepest.")
+        for path, text in moved.items()
+    }
     moved["crates/lra_deep/specs/Words.antt"] = f"-- Words.\n{moved['crates/lra_deep/specs/Words.antt']}"
     if Definitions(moved).sum("lra_up") != before:
         yield "definitions have moved, which no sum should have"
     up = "use Rattle.lra_low.specs.{}.{{it}}\n\nmine : ℕ\nmine = it\n"
     twins = {f"{low}/specs/A.antt": "it : ℕ\nit = 1\n", f"{low}/specs/B.antt": "it : ℕ\nit = 2\n"}
-    one, other = ({**twins, "crates/lra_up/specs/M.antt": up.format(a), "crates/lra_up/specs/N.antt": up.format(b)} for a, b in ("AB", "BA"))
+    one, other = (
+        {**twins, "crates/lra_up/specs/M.antt": up.format(a), "crates/lra_up/specs/N.antt": up.format(b)}
+        for a, b in ("AB", "BA")
+    )
     if Definitions(one).sum("lra_up") == Definitions(other).sum("lra_up"):
         yield "a name stands for another definition, which nothing tells"

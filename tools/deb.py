@@ -152,5 +152,6 @@ def build(folder, release):
         architecture = describe(tree, release)
         os.umask(before)
         path = os.path.join(folder, f"raxunto_{release.version}_{architecture}.deb")
-        ran("dpkg-deb", "--root-owner-group", "--threads-max=1", "-Zxz", "-z3", "--build", tree, path, moment=release.moment)
+        words = ("dpkg-deb", "--root-owner-group", "--threads-max=1", "-Zxz", "-z3", "--build", tree, path)
+        ran(*words, moment=release.moment)
     return path

@@ -33,7 +33,8 @@ def in_plain_form(journal):
 
 
 def agrees(said, also):
-    """Whether it says the same of a journal as another auditor, or stops at an address whose form it doesn't take, not after a fault."""
+    """Whether it says the same of a journal as another auditor, or stops at an address whose form it doesn't take,
+    not after a fault."""
     fault, own = FAULT.fullmatch(said), FAULT.fullmatch(also)
     if said == also or not own or own[2] != b"uncommon":
         return said == also

@@ -58,8 +58,9 @@ def begin_or_end(words):
 
 
 def follow(process, enters, leaves):
-    """Lets a program go on from call to call until it has ended, and answers the status with which it ended, as `waitpid` has it. Each
-    call's thread, number, first and third argument are told to `enters`, and its thread and result to `leaves`."""
+    """Lets a program go on from call to call until it has ended, and answers the status with which it ended, as
+    `waitpid` has it. Each call's thread, number, first and third argument are told to `enters`, and its thread and
+    result to `leaves`."""
     signal_number = 0
     thread = process.pid
     while True:
