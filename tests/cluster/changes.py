@@ -61,7 +61,8 @@ def rest(proxy, sites, site):
 
 
 def drain_by_itself(proxy, sites, load, site):
-    """A site is started again so that it takes no outermost starts, and ends once all in it has. The proxy is told nothing of that: it asks who is ready."""
+    """A site is started again so that it takes no outermost starts, and ends once all in it has. The proxy is told
+    nothing of that: it asks who is ready."""
     rest(proxy, sites, site)
     site.words[2:2] = ["--drain"]
     site.words[site.words.index("--remember") + 1] = "2"
@@ -76,7 +77,8 @@ def drain_by_itself(proxy, sites, load, site):
 
 
 def replace(stack, proxy, sites, load, site, make):
-    """A site's folder is served at another address: first it rests, then the old coordinator ends, then the new one begins."""
+    """A site's folder is served at another address: first it rests, then the old coordinator ends,
+    then the new one begins."""
     rest(proxy, sites, site)
     other = stack.enter_context(make(site.number))
     sites[sites.index(site)] = other
@@ -86,7 +88,8 @@ def replace(stack, proxy, sites, load, site, make):
 
 
 def steps(stack, proxy, sites, load, make):
-    """What is done to the sites, one after another: a fourth is added, the first drained, the second replaced, and the third drains by itself."""
+    """What is done to the sites, one after another: a fourth is added, the first drained, the second replaced, and the
+    third drains by itself."""
     yield "added", lambda: add(proxy, sites, load, sites[-1])
     yield "drained", lambda: drain(proxy, sites, load, sites[0])
     yield "replaced", lambda: replace(stack, proxy, sites, load, sites[0], make)
@@ -106,7 +109,9 @@ def change(setting, kind):
         proxy.begin([it.behind() for it in sites])
         figures = []
         with Load(proxy.port, members, setting.seed, 6, **{**CLIENTS_OF[kind], "unsent": (503,)}) as load:
-            wait_until("each site has taken some starts", lambda: all(load.starts()[f"{it.number:04x}"] > SOME for it in sites))
+            wait_until(
+                "each site has taken some starts", lambda: all(load.starts()[f"{it.number:04x}"] > SOME for it in sites)
+            )
             sites.append(stack.enter_context(make(4)))
             every = list(sites)
             for name, step in steps(stack, proxy, sites, load, make):

@@ -1,4 +1,5 @@
-"""A warm copy of a site's folder by rsync: each of its journals is a front of the site's at every moment, and it can be served."""
+"""A warm copy of a site's folder by rsync: each of its journals is a front of the site's at every moment,
+and it can be served."""
 import contextlib
 import os
 import shutil
@@ -26,7 +27,9 @@ class Copying:
         self.words = [f"{setting.root}/examples/cluster/copy", site.folder, to, str(REST)]
 
     def __enter__(self):
-        self.process = subprocess.Popen(self.words, stdin=subprocess.DEVNULL, stdout=subprocess.DEVNULL, stderr=subprocess.DEVNULL)
+        self.process = subprocess.Popen(
+            self.words, stdin=subprocess.DEVNULL, stdout=subprocess.DEVNULL, stderr=subprocess.DEVNULL
+        )
         return self
 
     def __exit__(self, *_):
@@ -41,7 +44,9 @@ def whole_lines(setting, folder, to):
         os.makedirs(f"{to}/{where}")
         for name in journals_in(folder, where):
             with contextlib.suppress(FileNotFoundError):
-                journal.write(f"{to}/{where}/{name}.journal", journal.whole(journal.read(f"{folder}/{where}/{name}.journal")))
+                journal.write(
+                    f"{to}/{where}/{name}.journal", journal.whole(journal.read(f"{folder}/{where}/{name}.journal"))
+                )
     for name in set(journals_in(to)) & set(journals_in(to, "ended")):
         os.remove(f"{to}/{name}.journal")
     return audited(setting.program, to)
@@ -83,11 +88,15 @@ def test_a_copy_is_a_front_at_every_moment_and_can_be_served(setting):
         equal("what the copy has in the end", after, lost)
         for name, lines in have.items():
             check(f"{name} isn't a front", lost[name].startswith(lines))
-    # What a switch to it at that moment would have lost is told by comparing; here nothing is, since the tool has caught up.
+    # What a switch to it at that moment would have lost is told by comparing; here nothing is,
+    # since the tool has caught up.
     other = Service(setting.program, to)
     other.words[2:2] = ["--site", "1", "--base", BASE]
     with other, other.client() as client:
         client.start()
     audited(setting.program, to)
-    return f"{journals} journals at most, {missing} lines and {lag} ms behind when the site was killed; {len(lost)} journals in the end"
+    return (
+        f"{journals} journals at most, {missing} lines and {lag} ms behind when the site was killed; "
+        f"{len(lost)} journals in the end"
+    )
 

@@ -16,7 +16,9 @@ SHORTEST, LONGEST = 0.3, 1.5
 # How many starts have to be answered meanwhile.
 SOME = 5
 # How often which part is killed, of ten times.
-PARTS = ("coordinator", "coordinator", "coordinator", "coordinator", "holder", "parent", "proxy", "proxy", "etcd", "etcd")
+PARTS = (
+    "coordinator", "coordinator", "coordinator", "coordinator", "holder", "parent", "proxy", "proxy", "etcd", "etcd"
+)
 CLIENTS = 6
 
 
@@ -93,10 +95,16 @@ def kill_parts(setting, kind, kills, seed):
     actions = kept.check(load.told)
     sound = sum(audited(setting.program, site.folder) for site in cluster.sites)
     told = load.told
-    check(f"{actions} actions, {len(told.actions)} answered, {told.unknown} not", actions <= len(told.actions) + told.unknown)
+    check(
+        f"{actions} actions, {len(told.actions)} answered, {told.unknown} not",
+        actions <= len(told.actions) + told.unknown,
+    )
     parts = ", ".join(f"{part} {count}" for part, count in sorted(killed.items()))
     answered = f"{len(told.actions)} starts, {len(told.members)} joins and {len(told.ends)} ends were answered"
-    return f"{parts}; {answered}, {told.unknown} starts weren't, {told.repeats} repeats; {actions} actions in {sound} sound journals"
+    return (
+        f"{parts}; {answered}, {told.unknown} starts weren't, {told.repeats} repeats; "
+        f"{actions} actions in {sound} sound journals"
+    )
 
 
 def test_nothing_answered_is_lost_where_parts_are_killed_behind_haproxy(setting):

@@ -1,4 +1,5 @@
-"""Two machines of a site, of which one at a time has the lease: one is killed or paused, or etcd is, and there are never two coordinators on one folder."""
+"""Two machines of a site, of which one at a time has the lease: one is killed or paused, or etcd is, and there are
+never two coordinators on one folder."""
 import contextlib
 import os
 import shutil
@@ -14,7 +15,8 @@ from proxies import is_ready
 from service import HOST, PATIENCE, Client, LeftOut, check, equal, free_port, id_of
 
 BASE = "http://lra.example.com/"
-# How many seconds until another machine serves, at most: etcd looks for leases that have run out each half second, and a busy machine takes its time.
+# How many seconds until another machine serves, at most: etcd looks for leases that have run out each half second, and
+# a busy machine takes its time.
 TAKEOVER = TTL + 5
 # How many seconds a lease lasts that is to outlive the choice of another leader.
 LONG = 8
@@ -103,8 +105,8 @@ def go_on(*pids):
 
 
 def lose(setting, harm, heal=lambda *_: None, front=()):
-    """The first machine is harmed, and the second, or the first once it has been started again, goes on with its actions; then the harm is undone. Answers
-    how long that took."""
+    """The first machine is harmed, and the second, or the first once it has been started again, goes on with its
+    actions; then the harm is undone. Answers how long that took."""
     with site_of_two(setting, front) as site, Watch(setting, site) as watch:
         first = site.holders[0]
         action, program = started(first), first.program()
@@ -186,8 +188,9 @@ def test_where_etcd_is_paused_the_coordinator_is_killed_before_the_lease_has_run
 
 
 def test_a_lease_outlives_one_of_three_etcds(setting):
-    """The leader is paused for longer than a lease lasts, goes on, and is killed; then another is chosen within a second or two. With a lease of 8 s the
-    coordinator goes on; on a busy machine it may be killed in time, and another come."""
+    """The leader is paused for longer than a lease lasts, goes on, and is killed; then another is chosen within a
+    second or two. With a lease of 8 s the coordinator goes on; on a busy machine it may be killed in time,
+    and another come."""
     lives = 1
     with site_of_two(setting, kind=Etcds, times=(LONG, LONG / 4)) as site, Watch(setting, site) as watch:
         action, program = started(site.holders[0]), site.holders[0].program()
@@ -247,7 +250,8 @@ def test_where_both_that_look_at_the_time_are_paused_the_folder_is_locked(settin
 
 
 def test_where_each_lock_is_had_a_pause_of_both_lets_two_serve(setting):
-    """What remains possible where nothing but the lease keeps two apart. The audit tells it, and no later start serves the folder."""
+    """What remains possible where nothing but the lease keeps two apart. The audit tells it,
+    and no later start serves the folder."""
     with site_of_two(setting, without_locks(setting)) as site:
         first, second = site.holders
         pids = pause_all_but_the_program(site, first)
@@ -306,15 +310,18 @@ def mounted(stack, image, path, size):
         it.truncate(size)
     os.makedirs(path)
     made = subprocess.run(["mkfs.ext4", "-q", image], capture_output=True, check=False)
-    if made.returncode or subprocess.run(["mount", "-o", "loop", image, path], capture_output=True, check=False).returncode:
+    if (
+        made.returncode
+        or subprocess.run(["mount", "-o", "loop", image, path], capture_output=True, check=False).returncode
+    ):
         raise LeftOut("there is no file system in a file")
     stack.callback(subprocess.run, ["umount", path], capture_output=True, check=False)
 
 
 @contextlib.contextmanager
 def disk_that_stops(setting):
-    """A disk that can be held up: what is written to it is taken, and a sync waits. It is a file on another disk, which is frozen. Answers its path, and
-    a call that freezes it or lets it go on."""
+    """A disk that can be held up: what is written to it is taken, and a sync waits. It is a file on another disk, which
+    is frozen. Answers its path, and a call that freezes it or lets it go on."""
     if not shutil.which("fsfreeze") or not shutil.which("mkfs.ext4"):
         raise LeftOut("there is no fsfreeze or no mkfs.ext4")
     under, path = setting.folder + "/under", setting.folder + "/disk"
@@ -327,7 +334,8 @@ def disk_that_stops(setting):
 
 
 def test_a_lease_is_lost_in_the_middle_of_a_sync(setting):
-    """The disk holds up a start. The coordinator is killed, and isn't gone until the disk goes on; the folder's lock holds until then."""
+    """The disk holds up a start. The coordinator is killed, and isn't gone until the disk goes on; the folder's lock
+    holds until then."""
     with disk_that_stops(setting) as (disk, freeze), site_of_two(setting, folder=f"{disk}/site-1") as site:
         first, second = site.holders
         action, program = started(first), first.program()
@@ -354,7 +362,10 @@ def test_a_lease_is_lost_in_the_middle_of_a_sync(setting):
             it.end()
         audited(setting.program, site.folder)
         found = starts_of(site)
-    return f"{found} of 2 starts are in the journal, of which 1 was answered; {second.told().count('cannot write')} refusals"
+    return (
+        f"{found} of 2 starts are in the journal, of which 1 was answered; "
+        f"{second.told().count('cannot write')} refusals"
+    )
 
 
 def starts_of(site):

@@ -15,14 +15,19 @@ from service import PATIENCE, Reply, check, equal, id_of
 REPEATS = 4 * PATIENCE
 # What a proxy says where nobody answers it.
 NOBODY = (502, 503, 504)
-# How clients call each proxy: HAProxy looks into bodies for a parent, keeps clients' connections, and says by 503 that a request went nowhere.
-CLIENTS_OF = {"haproxy": {"keep": True, "nests": (True, False), "unsent": (503,)}, "nginx": {"keep": False, "nests": (True,)}}
+# How clients call each proxy: HAProxy looks into bodies for a parent, keeps clients' connections, and says by 503 that
+# a request went nowhere.
+CLIENTS_OF = {
+    "haproxy": {"keep": True, "nests": (True, False), "unsent": (503,)},
+    "nginx": {"keep": False, "nests": (True,)},
+}
 ENDS = {"close": "Closed", "cancel": "Cancelled"}
 DISTURBED = (OSError, http.client.HTTPException)
 
 
 class Told:
-    """What clients were told: actions with their parents, members with their actions, and ends; and what wasn't answered."""
+    """What clients were told: actions with their parents, members with their actions, and ends;
+    and what wasn't answered."""
 
     def __init__(self):
         self.lock = threading.Lock()
@@ -53,8 +58,9 @@ class Over(Exception):
 
 
 class Caller:
-    """A client that goes on until it is told to stop. `keep` says whether it keeps its connection, `nests` whether its nested starts go to their parents'
-    own URIs, one way or several, and `unsent` which codes say that a request went nowhere."""
+    """A client that goes on until it is told to stop. `keep` says whether it keeps its connection, `nests` whether its
+    nested starts go to their parents' own URIs, one way or several,
+    and `unsent` which codes say that a request went nowhere."""
 
     def __init__(self, port, members, seed, told, over, pause=0.05, keep=True, nests=(True,), unsent=()):
         self.port, self.members, self.told, self.over = port, members, told, over
@@ -81,11 +87,14 @@ class Caller:
         self.connection = None
 
     def once(self, method, path, keys):
-        """A request and its reply, or None where nobody has answered; and whether it is sure that it wasn't carried out."""
+        """A request and its reply, or None where nobody has answered;
+        and whether it is sure that it wasn't carried out."""
         try:
             if not self.connection:
                 self.connection = http.client.HTTPConnection("127.0.0.1", self.port, timeout=PATIENCE)
-            self.connection.request(method, path, json.dumps(keys) if keys else None, {} if self.keep else {"Connection": "close"})
+            self.connection.request(
+                method, path, json.dumps(keys) if keys else None, {} if self.keep else {"Connection": "close"}
+            )
             reply = self.connection.getresponse()
             text = reply.read()
         except DISTURBED:
@@ -139,7 +148,8 @@ class Caller:
         self.told.note(self.told.ends, id_of(action), how)
 
     def turn(self):
-        """Starts an action with members, now and then with one nested in it, and ends it, at once or some turns later."""
+        """Starts an action with members, now and then with one nested in it, and ends it,
+        at once or some turns later."""
         action = self.start()
         self.open.append(action)
         if self.chance.random() < 0.3:
@@ -156,7 +166,9 @@ class Load:
 
     def __init__(self, port, members, seed, count=6, **more):
         self.told, self.over = Told(), threading.Event()
-        self.callers = [Caller(port, members, f"{seed} {number}", self.told, self.over, **more) for number in range(count)]
+        self.callers = [
+            Caller(port, members, f"{seed} {number}", self.told, self.over, **more) for number in range(count)
+        ]
         self.threads = [threading.Thread(target=it.run, daemon=True) for it in self.callers]
 
     def __enter__(self):
@@ -207,10 +219,13 @@ class Kept:
         """The actions that nobody has told to end, with those whose start wasn't answered."""
         for _, name, entries in self.entries():
             ended = {it.fields[0] for it in entries if it.deed in ("close", "cancel")}
-            yield from (identifier(name, it.fields[0]) for it in entries if it.deed == "start" and it.fields[0] not in ended)
+            yield from (
+                identifier(name, it.fields[0]) for it in entries if it.deed == "start" and it.fields[0] not in ended
+            )
 
     def check(self, told):
-        """What was answered is in just one journal, of the site that the identifier says. Answers how many actions there are."""
+        """What was answered is in just one journal, of the site that the identifier says.
+        Answers how many actions there are."""
         found = {"start": {}, "join": {}, "close": {}, "cancel": {}, "end": {}}
         for site, name, entries in self.entries():
             equal("the journal's site", name[:4], f"{site.number:04x}")
@@ -218,7 +233,11 @@ class Kept:
                 if it.deed in found:
                     found[it.deed].setdefault(identifier(name, it.fields[0]), []).append((name, it.fields))
         for deed, answered in (("start", told.actions), ("join", told.members)):
-            equal(f"in more than one place, of a {deed}", [it for it, places in found[deed].items() if len(places) != 1][:3], [])
+            equal(
+                f"in more than one place, of a {deed}",
+                [it for it, places in found[deed].items() if len(places) != 1][:3],
+                [],
+            )
             equal(f"answered, and nowhere, of a {deed}", [it for it in answered if it not in found[deed]][:3], [])
         for action, parent in told.actions.items():
             (name, fields) = found["start"][action][0]
@@ -241,6 +260,9 @@ def identifier(name, number):
 def audited(program, folder):
     """How many journals a folder has, each of which the auditor has found sound."""
     told = subprocess.run([program, "audit", folder], capture_output=True, text=True, timeout=3 * PATIENCE, check=False)
-    check(f"the audit says {told.stdout[-300:]} {told.stderr}", told.returncode == 0 and " unsound 0 unread 0\n" in told.stdout)
+    check(
+        f"the audit says {told.stdout[-300:]} {told.stderr}",
+        told.returncode == 0 and " unsound 0 unread 0\n" in told.stdout,
+    )
     return int(told.stdout.splitlines()[-1].split()[2])
 

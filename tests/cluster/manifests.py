@@ -1,4 +1,5 @@
-"""The manifests of examples/kubernetes: they agree with the program, changed ones are refused, and what is in them is run here."""
+"""The manifests of examples/kubernetes: they agree with the program, changed ones are refused,
+and what is in them is run here."""
 import contextlib
 import os
 import re
@@ -26,7 +27,11 @@ CHANGES = (
     ("sites.yaml", '"4"', '"17"'),
     ("sites.yaml", "replicas: 3", "replicas: 4"),
     ("sites.yaml", "periodSeconds: 10", "periodSecond: 10"),
-    ("sites.yaml", "maxUnavailable: 1\n  selector:\n    matchLabels:\n      app.kubernetes.io/name: lra", "maxUnavailable: 1\n  selector:\n    matchLabels:\n      app.kubernetes.io/name: lro"),
+    (
+        "sites.yaml",
+        "maxUnavailable: 1\n  selector:\n    matchLabels:\n      app.kubernetes.io/name: lra",
+        "maxUnavailable: 1\n  selector:\n    matchLabels:\n      app.kubernetes.io/name: lro",
+    ),
     ("services.yaml", "pod-name: lra-1", "pod-name: lra-2"),
     ("services.yaml", "targetPort: operators", "targetPort: operator"),
     ("ingress.yaml", "path: /site/2/", "path: /site/3/"),
@@ -104,7 +109,9 @@ def test_the_probes_are_answered(setting):
     with Keyed(setting, 0, "http://lra.example.com/", key) as site:
         script = text.replace("9080", site.operators.rpartition(":")[2]).replace("/run/lra/key", key)
         put(setting.folder + "/probe", "".join(line[4:] for line in script.splitlines(True)))
-        probe = lambda what: subprocess.run(["bash", setting.folder + "/probe", what], capture_output=True, check=False).returncode
+        probe = lambda what: subprocess.run(
+            ["bash", setting.folder + "/probe", what], capture_output=True, check=False
+        ).returncode
         equal("the probes", [probe(it) for it in ("started", "live", "ready")], [0, 0, 0])
         check("a kind of health that isn't there", probe("well") != 0)
         put(key, "another key\n")
@@ -138,17 +145,25 @@ class Ingress(Proxy):
 
     def write(self):
         starts = " ".join(f"server {it.address};" for it in self.coordinators)
-        sites = " ".join(f"location /site/{it.number}/ {{ proxy_pass http://{it.address}; }}" for it in self.coordinators)
-        put(self.path(self.name), INGRESS % {"folder": self.folder, "listener": self.listener, "starts": starts, "sites": sites})
+        sites = " ".join(
+            f"location /site/{it.number}/ {{ proxy_pass http://{it.address}; }}" for it in self.coordinators
+        )
+        put(
+            self.path(self.name),
+            INGRESS % {"folder": self.folder, "listener": self.listener, "starts": starts, "sites": sites},
+        )
         put(self.path("starts.conf"), "")
 
 
 def test_each_site_may_have_a_base_of_its_own(setting):
-    """As the manifests have it: a nested start is sent to where its parent's identifier stands, and no proxy looks into anything or changes a path."""
+    """As the manifests have it: a nested start is sent to where its parent's identifier stands, and no proxy looks into
+    anything or changes a path."""
     with contextlib.ExitStack() as stack:
         proxy = Ingress(setting.folder + "/proxy", free_port())
         base = f"http://{HOST}:{proxy.port}/site/"
-        proxy.coordinators = [stack.enter_context(PlainSite(setting, number, f"{base}{number}/")) for number in range(3)]
+        proxy.coordinators = [
+            stack.enter_context(PlainSite(setting, number, f"{base}{number}/")) for number in range(3)
+        ]
         member = stack.enter_context(Participant())
         stack.callback(proxy.kill)
         proxy.begin()
@@ -160,12 +175,16 @@ def test_each_site_may_have_a_base_of_its_own(setting):
             sites.add(site)
             check(f"the action is {action}", action.startswith(f"{base}{site}/lra-coordinator/"))
             nested = caller.ask("POST", path_of(action).rpartition("/")[0], parent=action)
-            equal("the nested one", (nested.code, nested.body["lra"].rpartition("/")[0]), (201, action.rpartition("/")[0]))
+            equal(
+                "the nested one", (nested.code, nested.body["lra"].rpartition("/")[0]), (201, action.rpartition("/")[0])
+            )
             joined = caller.ask("PUT", path_of(nested.body["lra"]), **member.addresses("compensate", "complete"))
             equal("a join", joined.code, 200)
             equal("the member", caller.ask("GET", path_of(joined.body["recovery"])).body, {"status": "Active"})
             equal("its end", caller.ask("PUT", path_of(action) + "/close").code, 202)
-            wait_until("it is closed", lambda action=action: caller.ask("GET", path_of(action)).body["status"] == "Closed")
+            wait_until(
+                "it is closed", lambda action=action: caller.ask("GET", path_of(action)).body["status"] == "Closed"
+            )
         equal("the sites", sites, {0, 1, 2})
 
 

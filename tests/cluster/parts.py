@@ -1,4 +1,5 @@
-"""The parts of a cluster: etcd, sites whose coordinators run by a lease, a proxy in front of them, and who starts again what was killed."""
+"""The parts of a cluster: etcd, sites whose coordinators run by a lease, a proxy in front of them,
+and who starts again what was killed."""
 import contextlib
 import json
 import os
@@ -16,7 +17,8 @@ from service import HOST, PATIENCE, check, free_port
 
 # How many seconds a lease lasts, and how long before its end a coordinator is killed.
 TTL, MARGIN = 4, 1
-# A journal of a site takes few actions, so that it rolls; and one that has ended stays, so that what is asked again is found.
+# A journal of a site takes few actions, so that it rolls; and one that has ended stays,
+# so that what is asked again is found.
 OPTIONS = ("--roll-after", "200", "--remember", "3600", "--retry-last", "500")
 
 
@@ -32,8 +34,13 @@ class Etcd:
     def among(self, machines):
         """What it is started by as one of these."""
         every = ",".join(f"{os.path.basename(it.folder)}={it.peer}" for it in machines)
-        self.words = ["etcd", "--name", os.path.basename(self.folder), "--data-dir", self.folder, "--listen-client-urls", self.url, "--advertise-client-urls", self.url]
-        self.words += ["--listen-peer-urls", self.peer, "--initial-advertise-peer-urls", self.peer, "--initial-cluster", every]
+        self.words = [
+            "etcd", "--name", os.path.basename(self.folder), "--data-dir", self.folder,
+            "--listen-client-urls", self.url, "--advertise-client-urls", self.url,
+        ]
+        self.words += [
+            "--listen-peer-urls", self.peer, "--initial-advertise-peer-urls", self.peer, "--initial-cluster", every
+        ]
         self.words += ["--heartbeat-interval", "50", "--election-timeout", "500"]
 
     def begin(self):
@@ -126,7 +133,10 @@ class Holder:
         self.setting, self.folder = setting, folder
         self.address, self.operators = f"{HOST}:{free_port()}", f"{HOST}:{free_port()}"
         self.name = f"lra/site/{number}"
-        self.serves = [*front, setting.program, "serve", *OPTIONS, "--site", str(number), "--base", base, "--operators", self.operators, self.address, folder, "2"]
+        self.serves = [
+            *front, setting.program, "serve", *OPTIONS, "--site", str(number), "--base", base,
+            "--operators", self.operators, self.address, folder, "2",
+        ]
         self.lease = [f"{setting.root}/examples/cluster/lease", "--ttl", str(times[0]), "--margin", str(times[1])]
         self.lease += [word for url in etcd.urls for word in ("--etcd", url)]
         if fence:
@@ -253,7 +263,9 @@ class PlainSite(folders.Folder):
 
     def __init__(self, setting, number, base, options=OPTIONS, front=()):
         self.number, self.operators = number, f"{HOST}:{free_port()}"
-        super().__init__(setting, *options, "--site", str(number), "--base", base, "--operators", self.operators, front=front)
+        super().__init__(
+            setting, *options, "--site", str(number), "--base", base, "--operators", self.operators, front=front
+        )
         os.rmdir(self.folder)
         self.folder = self.words[-2] = f"{setting.folder}/site-{number}"
         os.makedirs(self.folder, exist_ok=True)

@@ -1,4 +1,5 @@
-"""What goes to which site: by the first four digits of an identifier, by a parent's URI, by a parent in a body, and by who is ready."""
+"""What goes to which site: by the first four digits of an identifier, by a parent's URI, by a parent in a body,
+and by who is ready."""
 import contextlib
 import os
 import resource
@@ -22,7 +23,9 @@ def cluster(setting, kind, numbers=(1, 2, 3), path=""):
     """Sites behind a proxy, without leases, at a base with a path or without."""
     with contextlib.ExitStack() as stack:
         proxy = Proxy(kind, f"{setting.folder}/proxy", free_port())
-        sites = [stack.enter_context(PlainSite(setting, number, f"http://{proxy.listener}/{path}")) for number in numbers]
+        sites = [
+            stack.enter_context(PlainSite(setting, number, f"http://{proxy.listener}/{path}")) for number in numbers
+        ]
         for site in sites:
             wait_until("a site is ready", site.is_up)
         stack.callback(proxy.kill)
@@ -60,7 +63,11 @@ def route(setting, kind):
             equal("the nested one's site", id_of(nested)[:4], id_of(action)[:4])
             reply = caller.ask("PUT", f"/lra-coordinator/{id_of(nested)}", **member.addresses("compensate", "complete"))
             recovery = reply.body["recovery"]
-            equal("the member", (reply.code, recovery.startswith(f"http://{proxy.listener}/lra-recovery/{id_of(action)[:4]}")), (200, True))
+            equal(
+                "the member",
+                (reply.code, recovery.startswith(f"http://{proxy.listener}/lra-recovery/{id_of(action)[:4]}")),
+                (200, True),
+            )
             equal("its status", caller.ask("GET", f"/lra-recovery/{id_of(recovery)}").body, {"status": "Active"})
             for it in nested, action:
                 caller.end(it)
@@ -74,8 +81,14 @@ def check_refusals(caller, proxy):
     for method in ("GET", "PUT", "POST"):
         reply = caller.ask(method, nowhere)
         equal(f"{method} of no site", (reply.code, reply.body), (404, {"error": "NoSuchSite"}))
-    equal("no action of a site", caller.ask("GET", f"/lra-coordinator/{uuid.UUID(int=1 << 112)}").body, {"error": "NoSuchAction"})
-    for parent in ("", "x", f"http://{proxy.listener}/lra-coordinator/x", f"http://{proxy.listener}/lra-coordinator/zzzz0000"):
+    equal(
+        "no action of a site",
+        caller.ask("GET", f"/lra-coordinator/{uuid.UUID(int=1 << 112)}").body,
+        {"error": "NoSuchAction"},
+    )
+    for parent in (
+        "", "x", f"http://{proxy.listener}/lra-coordinator/x", f"http://{proxy.listener}/lra-coordinator/zzzz0000"
+    ):
         reply = caller.ask("POST", "/lra-coordinator", parent=parent)
         equal(f"a parent {parent!r}", (reply.code, reply.body), (404, {"error": "NoSuchAction"}))
     equal("no path", caller.ask("GET", "/nowhere").body, {"error": "NoSuchPath"})
@@ -124,7 +137,9 @@ def full(setting, kind):
             resource.prlimit(site.process.pid, resource.RLIMIT_FSIZE, (most, resource.RLIM_INFINITY))
             equal("a start", client.call("POST", "/lra-coordinator").code, 503)
         wait_until("it isn't ready", lambda: not site.is_up())
-        wait_until("the proxy knows", lambda: all(caller.ask("POST", "/lra-coordinator").code == 201 for _ in range(STARTS)))
+        wait_until(
+            "the proxy knows", lambda: all(caller.ask("POST", "/lra-coordinator").code == 201 for _ in range(STARTS))
+        )
         equal("the sites that take starts", sorted(sites_of_starts(caller)), ["0002", "0003"])
         equal("the action", caller.ask("GET", f"/lra-coordinator/{id_of(action)}").body["status"], "Active")
 

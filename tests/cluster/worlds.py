@@ -1,4 +1,5 @@
-"""Bad worlds of several sites: one folder by two names, a start that a proxy repeats, a site that is down, clocks that differ, and a folder from a backup."""
+"""Bad worlds of several sites: one folder by two names, a start that a proxy repeats, a site that is down, clocks that
+differ, and a folder from a backup."""
 import contextlib
 import os
 import shutil
@@ -41,12 +42,15 @@ def test_one_folder_by_two_names_is_locked(setting):
 
 
 def test_where_each_lock_is_had_one_that_follows_tells_of_two_writers(setting):
-    """Two coordinators by two names, both with the lock. `lra follow` beside them ends at the first line that can't be."""
+    """Two coordinators by two names, both with the lock. `lra follow` beside them ends at the first line that can't
+    be."""
     front = without_locks(setting)
     with PlainSite(setting, 1, BASE, front=front) as site, two_names(site.folder) as other:
         second = PlainSite(setting, 1, BASE, front=front)
         second.folder = second.words[-2] = other
-        follow = subprocess.Popen([setting.program, "follow", site.folder], stdin=subprocess.DEVNULL, stdout=subprocess.PIPE, text=True)
+        follow = subprocess.Popen(
+            [setting.program, "follow", site.folder], stdin=subprocess.DEVNULL, stdout=subprocess.PIPE, text=True
+        )
         try:
             with second:
                 actions = [it.first()[0] for _ in range(3) for it in (site, second)]
@@ -82,12 +86,20 @@ def next_site(caller, sites):
 
 def starts_of(site):
     """The starts that the journals of a site have."""
-    return [it for name in site.journals() for it in journal.entries(site.path(name + ".journal")) if it.deed == "start"]
+    return [
+        it for name in site.journals() for it in journal.entries(site.path(name + ".journal")) if it.deed == "start"
+    ]
 
 
 def test_a_proxy_that_repeats_a_start_leaves_an_action_that_nobody_knows(setting):
-    """nginx told so, by `non_idempotent`: the first site is slow, the second answers, and the first carries it out too. Its limit ends it."""
-    settings = (("proxy_next_upstream error timeout;", "proxy_next_upstream error timeout non_idempotent; proxy_read_timeout 3s;"),)
+    """nginx told so, by `non_idempotent`: the first site is slow, the second answers, and the first carries it out too.
+    Its limit ends it."""
+    settings = (
+        (
+            "proxy_next_upstream error timeout;",
+            "proxy_next_upstream error timeout non_idempotent; proxy_read_timeout 3s;",
+        ),
+    )
     with cluster(setting, "nginx", (1, 2)) as (proxy, sites):
         change(proxy, settings)
         caller = caller_of(proxy)
@@ -99,7 +111,9 @@ def test_a_proxy_that_repeats_a_start_leaves_an_action_that_nobody_knows(setting
         wait_until("both have started one", lambda: all(len(starts_of(it)) == before[it.number] + 1 for it in sites))
         check("the slow one's is known", id_of(reply.body["lra"])[:4] != f"{first.number:04x}")
         unknown = identifier_of(first)
-        wait_until("its limit ends it", lambda: caller.ask("GET", f"/lra-coordinator/{unknown}").body["status"] == "Cancelled")
+        wait_until(
+            "its limit ends it", lambda: caller.ask("GET", f"/lra-coordinator/{unknown}").body["status"] == "Cancelled"
+        )
         listed = setting.run("list", first.path(max(first.journals()) + ".journal"))
         check(f"it isn't listed: {listed}", f" {unknown} Cancelled " in listed.output)
 
@@ -141,7 +155,9 @@ def test_a_member_reports_to_a_site_that_is_down_until_it_is_there_again(setting
     with cluster(setting, "haproxy") as (proxy, sites), Participant(lambda _: (202, b"")) as member:
         caller, site = caller_of(proxy), sites[1]
         action = next(it for it in iter(caller.start, None) if id_of(it)[:4] == "0002")
-        recovery = caller.ask("PUT", f"/lra-coordinator/{id_of(action)}", **member.addresses("compensate", "complete")).body["recovery"]
+        recovery = caller.ask(
+            "PUT", f"/lra-coordinator/{id_of(action)}", **member.addresses("compensate", "complete")
+        ).body["recovery"]
         equal("its end", caller.ask("PUT", f"/lra-coordinator/{id_of(action)}/close").code, 202)
         member.wait("complete")
         site.kill()
@@ -154,7 +170,10 @@ def test_a_member_reports_to_a_site_that_is_down_until_it_is_there_again(setting
             time.sleep(0.3)
         with again(site):
             wait_until("the report is taken", lambda: (it := report()) and it.code == 200)
-            wait_until("it has ended", lambda: caller.ask("GET", f"/lra-coordinator/{id_of(action)}").body["status"] == "Closed")
+            wait_until(
+                "it has ended",
+                lambda: caller.ask("GET", f"/lra-coordinator/{id_of(action)}").body["status"] == "Closed",
+            )
     audited(setting.program, site.folder)
     return f"{refused} reports weren't taken"
 
@@ -173,14 +192,18 @@ def clock_ahead(setting, seconds):
 
 
 def test_clocks_of_sites_may_differ_by_hours(setting):
-    """Three sites, whose clocks are right, an hour ahead and an hour behind; then each has another clock. Limits last as long as they should."""
+    """Three sites, whose clocks are right, an hour ahead and an hour behind; then each has another clock. Limits last
+    as long as they should."""
     with contextlib.ExitStack() as stack:
         proxy = Proxy("haproxy", f"{setting.folder}/proxy", free_port())
         fronts = {seconds: clock_ahead(setting, seconds) for seconds in (0, HOUR, -HOUR)}
         told, folders = [], []
         for clocks in ((0, HOUR, -HOUR), (HOUR, -HOUR, 0)):
             with contextlib.ExitStack() as run:
-                sites = [run.enter_context(PlainSite(setting, number, f"http://{proxy.listener}/", front=fronts[it])) for number, it in enumerate(clocks, 1)]
+                sites = [
+                    run.enter_context(PlainSite(setting, number, f"http://{proxy.listener}/", front=fronts[it]))
+                    for number, it in enumerate(clocks, 1)
+                ]
                 for it in sites:
                     wait_until("a site is ready", it.is_up)
                 run.callback(proxy.kill)
@@ -207,7 +230,10 @@ def limits(caller):
     while len(ended) < len(actions):
         check("limits pass", time.monotonic() < begun + PATIENCE)
         for action, since in actions:
-            if action not in ended and caller.ask("GET", f"/lra-coordinator/{id_of(action)}").body["status"] != "Active":
+            if (
+                action not in ended
+                and caller.ask("GET", f"/lra-coordinator/{id_of(action)}").body["status"] != "Active"
+            ):
                 ended[action] = time.monotonic() - since
         time.sleep(0.02)
     return [(action, ended[action]) for action, _ in actions[::2]]
@@ -222,8 +248,9 @@ def backup_of(site, to):
 
 
 def restored(setting, *options):
-    """A folder from a backup is served in the place of a later one, with these options. Answers the actions of the backup, those that are lost, new ones, and
-    what a join of an older action and a start nested in one are answered, beside a lost member."""
+    """A folder from a backup is served in the place of a later one, with these options. Answers the actions of the
+    backup, those that are lost, new ones, and what a join of an older action and a start nested in one are answered,
+    beside a lost member."""
     backup = setting.folder + "/backup"
     with PlainSite(setting, 1, BASE) as site, Participant() as member, site.client() as client:
         kept = site.first(2)

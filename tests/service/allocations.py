@@ -1,4 +1,5 @@
-"""Refuses a service one of its allocations: the one with a number, counted from when that is switched on. Or all those of a thread, for a while."""
+"""Refuses a service one of its allocations: the one with a number, counted from when that is switched on. Or all those
+of a thread, for a while."""
 import functools
 import os
 import shutil
@@ -10,7 +11,8 @@ import threading
 from service import LeftOut
 
 SOURCE = os.path.join(os.path.dirname(os.path.abspath(__file__)), "allocations.c")
-# Four numbers: whether allocations are counted, which is refused, how many were counted, and the thread that is refused each.
+# Four numbers: whether allocations are counted, which is refused, how many were counted,
+# and the thread that is refused each.
 SHARED = struct.Struct("=QQQQ")
 lock = threading.Lock()
 

@@ -87,7 +87,11 @@ def test_a_member_compensates_and_is_told_the_end(setting):
 
 
 def test_a_member_that_completes_later_is_asked_for_its_status(setting):
-    answers = {"complete": [(202, b"")], "status": [(202, b""), (200, b'"Completing"'), (200, b"Completed")], "after": [(200, b"")]}
+    answers = {
+        "complete": [(202, b"")],
+        "status": [(202, b""), (200, b'"Completing"'), (200, b"Completed")],
+        "after": [(200, b"")],
+    }
     wanted = [("complete", "accepted")] + [("status", "accepted")] * 2 + [("status", "done"), ("after", "done")]
     whole_way(setting, "close", answers, wanted, "Closed")
 

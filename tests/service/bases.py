@@ -1,4 +1,5 @@
-"""What identifiers begin with: a base of a proxy's, on the line and in a file, at a file and at a folder; older bases, paths that a proxy passes on, and texts that are no bases."""
+"""What identifiers begin with: a base of a proxy's, on the line and in a file, at a file and at a folder; older bases,
+paths that a proxy passes on, and texts that are no bases."""
 import os
 
 import journal
@@ -36,7 +37,8 @@ PROXIED = "https://lra.test/shop/"
 OLDERS = ("http://h.test:1/", "https://lra.test/", "https://lra.test/shop/x/")
 ACTIONS, MEMBERS = "lra-coordinator", "lra-recovery"
 NO_PATH, NO_ACTION, BAD_BODY = (404, "NoSuchPath"), (404, "NoSuchAction"), (400, "BadBody")
-# A method, a target and a body, with ACTION and MEMBER for the numbers of an action and its member, and what that is answered.
+# A method, a target and a body, with ACTION and MEMBER for the numbers of an action and its member,
+# and what that is answered.
 PASSED = (
     ("GET", f"/{ACTIONS}/ACTION", "", (200, None)),
     ("GET", f"/shop/{ACTIONS}/ACTION", "", (200, None)),
@@ -49,7 +51,12 @@ PASSED = (
     ("GET", f"/shops/{ACTIONS}", "", NO_PATH),
     ("POST", f"/{ACTIONS}", f'{{"parent":"http://h.test:1/{ACTIONS}/ACTION"}}', (201, None)),
     ("POST", f"/shop/{ACTIONS}", f'{{"parent":"http://h.test:1/{ACTIONS}/ACTION"}}', (201, None)),
-    ("POST", f"/{ACTIONS}", f'{{ "parent" : "https:\\/\\/lra.test\\/{ACTIONS}/ACTION", "limit": 150000 }}', (201, None)),
+    (
+        "POST",
+        f"/{ACTIONS}",
+        f'{{ "parent" : "https:\\/\\/lra.test\\/{ACTIONS}/ACTION", "limit": 150000 }}',
+        (201, None),
+    ),
     ("POST", f"/{ACTIONS}", f'{{ "parent" : "https:\\/\\/lra.test\\/{ACTIONS}/ACTION", "limit": 1.50 }}', BAD_BODY),
     ("POST", f"/{ACTIONS}", f'{{"parent":"https://lra.test/shop/x/{ACTIONS}/ACTION"}}', (201, None)),
     ("POST", f"/{ACTIONS}", f'{{ "parent": "https://lra.test/shop/{ACTIONS}/ACTION"}}', (201, None)),
@@ -140,7 +147,8 @@ def test_a_folder_has_a_base(setting):
 
 
 def check_older(setting, place):
-    """Identifiers under older bases are those under the base of now, in bodies too, and the path of the base may be passed on."""
+    """Identifiers under older bases are those under the base of now, in bodies too,
+    and the path of the base may be passed on."""
     with Participant() as member:
         with Service(setting.program, place) as service, service.client() as client:
             old = f"http://{service.address}/"
@@ -150,10 +158,18 @@ def check_older(setting, place):
         with Based(setting, place, "--base", BASE, *olders) as service, service.client() as client:
             action = client.start(parent=parent)
             check(f"the action is {action}", action.startswith(BASE + "lra-coordinator/"))
-            equal("a parent under no base", client.call("POST", "/lra-coordinator", parent=parent.replace(old, "http://elsewhere.test/")).code, 404)
+            equal(
+                "a parent under no base",
+                client.call("POST", "/lra-coordinator", parent=parent.replace(old, "http://elsewhere.test/")).code,
+                404,
+            )
             reply = client.call("POST", "/shop/lra-coordinator", parent=parent.replace(old, "http://other.test/"))
             equal("a start with the base's path", reply.code, 201)
-            equal("an action with the base's path", client.call("GET", f"/shop/lra-coordinator/{id_of(action)}").body["status"], "Active")
+            equal(
+                "an action with the base's path",
+                client.call("GET", f"/shop/lra-coordinator/{id_of(action)}").body["status"],
+                "Active",
+            )
             equal("another path", client.call("GET", f"/shops/lra-coordinator/{id_of(action)}").code, 404)
             reply = client.call("PUT", f"/shop/lra-coordinator/{id_of(parent)}/remove", recovery=recovery)
             equal("a member that leaves", reply.code, 200)
@@ -174,21 +190,32 @@ def check_passed(setting, rows, path, *options):
         action = client.call("POST", f"{path}/{ACTIONS}").body["lra"]
         joined = client.call("PUT", f"{path}/{ACTIONS}/{id_of(action)}", compensate="http://127.0.0.1:9/u")
         for method, target, body, wanted in rows:
-            target, body = (it.replace("ACTION", id_of(action)).replace("MEMBER", id_of(joined.body["recovery"])) for it in (target, body))
+            target, body = (
+                it.replace("ACTION", id_of(action)).replace("MEMBER", id_of(joined.body["recovery"]))
+                for it in (target, body)
+            )
             reply = client.send(method, target, body or None)
-            equal(f"what {method} {target} with {body} is answered", (reply.code, (reply.body or {}).get("error")), wanted)
+            equal(
+                f"what {method} {target} with {body} is answered", (reply.code, (reply.body or {}).get("error")), wanted
+            )
 
 
 def test_requests_mean_the_same_by_any_base(setting):
     check_passed(setting, PASSED, "/shop")
-    check("an address of a member was exchanged", f" http://h.test:1/{ACTIONS}/8 ".encode() in journal.read(setting.journal))
+    check(
+        "an address of a member was exchanged",
+        f" http://h.test:1/{ACTIONS}/8 ".encode() in journal.read(setting.journal),
+    )
 
 
 def test_nothing_is_answered_but_behind_a_path(setting):
     token = "c2VjcmV0LXdvcmQtMDE"
     path = config(setting, token + "\n", "token")
     os.chmod(path, 0o600)
-    rows = [(method, target.replace("TOKEN", f"shop/{token}").replace("UPPER", f"Shop/{token}"), body, wanted) for method, target, body, wanted in STRICT]
+    rows = [
+        (method, target.replace("TOKEN", f"shop/{token}").replace("UPPER", f"Shop/{token}"), body, wanted)
+        for method, target, body, wanted in STRICT
+    ]
     check_passed(setting, rows, f"/shop/{token}", "--token", path)
 
 
@@ -198,7 +225,11 @@ def test_older_bases_are_told(setting):
     equal("the line's", told["also-base"], f'["{first}", "{second}"]')
     path = config(setting, f'also-base = ["{first}", "{second}"]\n')
     equal("a file's", told_of(setting, "--config", path)["also-base"], f'["{first}", "{second}"]')
-    equal("the line's, in its place", told_of(setting, "--config", path, "--also-base", second)["also-base"], f'["{second}"]')
+    equal(
+        "the line's, in its place",
+        told_of(setting, "--config", path, "--also-base", second)["also-base"],
+        f'["{second}"]',
+    )
     check("there are older ones", "also-base" not in told_of(setting))
     for text, why in (("7", "no list"), ("[7]", "no text"), ('["x"]', "no base: x")):
         path = config(setting, f"also-base = {text}\n")
@@ -215,7 +246,10 @@ def test_a_folder_tells_that_its_base_is_another(setting):
             said.append(folder.told())
             base = options[1]
             equal("what is noted", journal.read(folder.path("base")), base.encode() + b"\n")
-    changed = f"lra: identifiers began with {BASE}, and begin with {other} now: those are unknown in a request's body unless --also-base names it\n"
+    changed = (
+        f"lra: identifiers began with {BASE}, and begin with {other} now: "
+        "those are unknown in a request's body unless --also-base names it\n"
+    )
     equal("what is told", said, ["", changed, "", f"lra: identifiers began with {other}, and begin with {BASE} now\n"])
     for text in (b"", b"\x1b[31m\n", b"\xff\n", b"http://x.test/?\n", 100 * BASE.encode()):
         journal.write(folder.path("base"), text)
@@ -246,10 +280,18 @@ def test_a_base_is_told_as_it_is_spelled(setting):
 def test_what_is_no_base_is_named(setting):
     for text in OTHERS:
         told = serve_by(setting, "--check", "--base", text)
-        equal(f"what is told of {text!r}", (told.status, told.output, told.told), (2, "", f"lra: --base: no base: {text}\n"))
+        equal(
+            f"what is told of {text!r}",
+            (told.status, told.output, told.told),
+            (2, "", f"lra: --base: no base: {text}\n"),
+        )
         path = config(setting, f'base = "{text}"\n')
         told = serve_by(setting, "--check", "--config", path)
-        equal(f"what is told of {text!r} in a file", (told.status, told.told), (2, f"lra: {path}: base: no base: {text}\n"))
+        equal(
+            f"what is told of {text!r} in a file",
+            (told.status, told.told),
+            (2, f"lra: {path}: base: no base: {text}\n"),
+        )
     path = config(setting, "base = 7\n")
     told = serve_by(setting, "--check", "--config", path)
     equal("a number", (told.status, told.told), (2, f"lra: {path}: base: no text\n"))

@@ -1,7 +1,7 @@
 """Runs a program, and has a thread that answers connections learn of no more: python3 blind.py PATH PROGRAM ARGUMENT..
 
-Once there is a file at PATH, that is removed, and the next call by which such a thread waits for events fails (by ptrace,
-on Linux and x86-64). The status is the program's own.
+Once there is a file at PATH, that is removed, and the next call by which such a thread waits for events fails (by
+ptrace, on Linux and x86-64). The status is the program's own.
 """
 import contextlib
 import ctypes

@@ -5,7 +5,9 @@ from service import check, equal
 
 
 def test_the_example_ends_by_itself_with_its_journal_sound(setting):
-    done = subprocess.run([f"{setting.root}/examples/booking/run", setting.program], capture_output=True, timeout=20, check=False)
+    done = subprocess.run(
+        [f"{setting.root}/examples/booking/run", setting.program], capture_output=True, timeout=20, check=False
+    )
     output = done.stdout.decode()
     equal("its status", (done.returncode, done.stderr), (0, b""))
     for text in ("is Closed", "is Cancelled", "is FailedToClose", "\naction 1 * Closed\n", "\nsound entries "):

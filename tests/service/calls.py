@@ -1,4 +1,5 @@
-"""How the program is called: its faults, each in one line on standard error with status 2, and what it prints otherwise."""
+"""How the program is called: its faults, each in one line on standard error with status 2,
+and what it prints otherwise."""
 import json
 import os
 import re
@@ -26,7 +27,14 @@ def on_terminal(program, *words):
     """Runs a program with a terminal as its standard error: its status, what it prints, and what the terminal shows."""
     screen, terminal = os.openpty()
     try:
-        done = subprocess.run([program, *words], stdin=subprocess.DEVNULL, stdout=subprocess.PIPE, stderr=terminal, timeout=PATIENCE, check=False)
+        done = subprocess.run(
+            [program, *words],
+            stdin=subprocess.DEVNULL,
+            stdout=subprocess.PIPE,
+            stderr=terminal,
+            timeout=PATIENCE,
+            check=False,
+        )
         os.write(terminal, b"\0")
         shown = b""
         while not shown.endswith(b"\0"):
@@ -59,7 +67,11 @@ def test_a_terminal_is_told_why_and_nothing_else_is(setting):
             ("usage", "--state has no value", "list", setting.journal, "--state"),
             ("usage", "no call frob: lra --help prints them", "frob", setting.journal),
             ("usage", "it is called so: lra explain FILE ID [--svg]", "explain", setting.journal),
-            ("usage", "explain: ID is the number of an action, its UUID or its URI, not 02", "explain", setting.journal, "02"),
+            (
+                "usage",
+                "explain: ID is the number of an action, its UUID or its URI, not 02",
+                "explain", setting.journal, "02",
+            ),
             (f"cannot read {missing}", f"{missing}: {no_file}", "audit", missing),
             (f"cannot read {circle}", f"{circle}: {loop}", "show", circle),
             (f"cannot read {missing}", f"{missing}: {no_file}", "explain", missing, "2"),
@@ -68,8 +80,16 @@ def test_a_terminal_is_told_why_and_nothing_else_is(setting):
             (f"cannot read {circle}", f"cannot read {circle}: {loop}", "serve", address, circle, "2"),
             (f"cannot write {beside}", f"cannot write {beside}: {no_file}", "serve", address, beside, "2"),
             (f"cannot serve {used}", f"cannot serve {used}: address in use", "serve", used, setting.journal, "2"),
-            (f"cannot serve {faulty}", f"cannot serve {faulty}: no host and port as they are spelled, as 127.0.0.1:8080", "serve", faulty, setting.journal, "2"),
-            (f"cannot read {missing}", f"cannot read {missing}: {no_file}", "serve", "--key", missing, address, setting.journal, "2"),
+            (
+                f"cannot serve {faulty}",
+                f"cannot serve {faulty}: no host and port as they are spelled, as 127.0.0.1:8080",
+                "serve", faulty, setting.journal, "2",
+            ),
+            (
+                f"cannot read {missing}",
+                f"cannot read {missing}: {no_file}",
+                "serve", "--key", missing, address, setting.journal, "2",
+            ),
             (f"no journal in {empty}", None, "audit", empty),
         ):
             second = "" if why is None else f"lra: {why}\n"
@@ -87,7 +107,11 @@ def test_a_fault_of_a_service_stands_in_its_log(setting):
         for line, why, *words in (
             (f"cannot serve {used}", "address in use", used, setting.journal),
             (f"cannot serve {used}", "address in use", used, folder),
-            (f"cannot read {missing}", "no such file or folder", "--key", missing, f"{HOST}:{free_port()}", setting.journal),
+            (
+                f"cannot read {missing}",
+                "no such file or folder",
+                "--key", missing, f"{HOST}:{free_port()}", setting.journal,
+            ),
         ):
             done = setting.run("serve", "--log", "error", "--log-format", "json", *words, "2")
             first, second = done.told.splitlines()
@@ -97,15 +121,24 @@ def test_a_fault_of_a_service_stands_in_its_log(setting):
     journal.write(setting.journal, UNSOUND)
     for options in ((), ("--log", "error", "--log-format", "json")):
         done = setting.run("serve", *options, f"{HOST}:{free_port()}", setting.journal, "2")
-        equal(f"an unsound file with {options}", (done.status, done.output, done.told[: len(hint(setting))]), (1, VERDICT, hint(setting)))
+        equal(
+            f"an unsound file with {options}",
+            (done.status, done.output, done.told[: len(hint(setting))]),
+            (1, VERDICT, hint(setting)),
+        )
         logged = [json.loads(line)["message"] for line in done.told[len(hint(setting)) :].splitlines()]
-        equal(f"what is logged of it with {options}", logged[:1], [f"{setting.journal} is not sound"] if options else [])
+        equal(
+            f"what is logged of it with {options}", logged[:1], [f"{setting.journal} is not sound"] if options else []
+        )
 
 
 def test_an_address_that_leads_nowhere_is_warned_of(setting):
     for host in ("0.0.0.0", "[::]"):
         address = f"{host}:{free_port()}"
-        warning = f"identifiers that begin with http://{address}/ lead nowhere: name by --base where clients reach this service"
+        warning = (
+            f"identifiers that begin with http://{address}/ lead nowhere: "
+            "name by --base where clients reach this service"
+        )
         done = setting.run("serve", "--check", address, setting.journal, "1")
         equal(f"a check at {host}", (done.status, done.told), (0, f"lra: {warning}\n"))
         for options in ((), ("--base", "http://lra.test/"), ("--log", "error", "--log-format", "json")):
@@ -124,7 +157,9 @@ def test_a_terminal_shows_how_far_a_long_run_is(setting):
     os.makedirs(folder)
     journal.write(f"{folder}/a.journal", SOUND)
     line, cleared = "\rlra: 0 of 0 MB", "\r" + 48 * " " + "\r"
-    for words in (("audit", setting.journal), ("show", setting.journal), ("upgrade", setting.journal), ("audit", folder)):
+    for words in (
+        ("audit", setting.journal), ("show", setting.journal), ("upgrade", setting.journal), ("audit", folder)
+    ):
         usual = setting.run(*words)
         status, output, shown = on_terminal(sys.executable, held.__file__, "1.2", "65536", setting.program, *words)
         equal(f"what {words} prints", (status, watched(output)), (usual.status, usual.output))
@@ -135,7 +170,12 @@ def test_usage(setting):
     address = f"{HOST}:{free_port()}"
     for workers in ("0", "17", "x", "", "04", "+4", "-1", " 4", "4 ", "4.0", "18446744073709551620"):
         told(setting, "lra: usage", "serve", address, setting.journal, workers)
-    for words in (["serve"], ["serve", address], ["serve", address, setting.journal], ["serve", address, setting.journal, "4", "5"]):
+    for words in (
+        ["serve"],
+        ["serve", address],
+        ["serve", address, setting.journal],
+        ["serve", address, setting.journal, "4", "5"],
+    ):
         told(setting, "lra: usage", *words)
     for words in (["--helps"], ["--help", "serve"], ["-h"], ["--version", "1"]):
         told(setting, "lra: usage", *words)
@@ -148,7 +188,12 @@ def test_one_and_sixteen_workers_serve(setting):
 
 
 def test_help_and_version(setting):
-    wanted_texts = {"--help": ("audit", "show", "list", "explain", "follow", "upgrade", "salvage", "play", "serve ADDRESS FILE WORKERS"), "--version": ("lra ", "rattle logic ")}
+    wanted_texts = {
+        "--help": (
+            "audit", "show", "list", "explain", "follow", "upgrade", "salvage", "play", "serve ADDRESS FILE WORKERS"
+        ),
+        "--version": ("lra ", "rattle logic "),
+    }
     for word, wanted in wanted_texts.items():
         status, output, fault = setting.run(word)
         equal(word, (status, fault), (0, ""))
@@ -175,7 +220,9 @@ def test_the_manual_has_each_word_of_the_help(setting):
 def test_the_completions_have_each_word_of_the_help(setting):
     verbs, calls, options = words_of_help(setting)
     completions = journal.read(f"{setting.root}/completions/lra").decode()
-    flags, valued = (re.search(rf"^_lra_{name}='([^']*)'", completions, re.M)[1].split() for name in ("flags", "valued"))
+    flags, valued = (
+        re.search(rf"^_lra_{name}='([^']*)'", completions, re.M)[1].split() for name in ("flags", "valued")
+    )
     equal("the options", set(flags + valued), options)
     equal("the verbs", set(" ".join(re.findall(r"verbs\+?='([^']*)'", completions)).split()), verbs)
     check("a call is missing", all(f" {call}" in completions for call in calls))
@@ -186,11 +233,17 @@ def test_the_unit_s_settings_are_the_usual_ones(setting):
     text = journal.read(f"{setting.root}/examples/systemd/lra.toml").decode()
     journal.write(path, re.sub(r"^#(?=[a-z])", "", text, flags=re.M).encode())
     address = f"{HOST}:{free_port()}"
-    usual, told = (setting.run("serve", *words, "--check", address, setting.journal, "4") for words in ([], ["--config", path]))
+    usual, told = (
+        setting.run("serve", *words, "--check", address, setting.journal, "4") for words in ([], ["--config", path])
+    )
     equal("what would be served", told, usual)
     _, _, options = words_of_help(setting)
     named = {f"--{it}" for it in re.findall(r"^#([a-z-]+) = ", text, re.M)}
-    equal("what isn't among them", options - named, {"--stop-at-eof", "--drain", "--restored", "--config", "--check", "--help", *(f"--{word}" for word in WORDS)})
+    equal(
+        "what isn't among them",
+        options - named,
+        {"--stop-at-eof", "--drain", "--restored", "--config", "--check", "--help", *(f"--{word}" for word in WORDS)},
+    )
 
 
 def guard(setting, name):
@@ -205,13 +258,19 @@ def test_a_journal_of_an_older_unit_is_taken_up(setting):
     """As operating.md says: until it has its instance for a name the unit doesn't start."""
     page = journal.read(f"{setting.root}/docs/use/operating.md").decode().partition("### An older unit")[2]
     command = re.search("^mv .*$", page, re.M)[0]
-    usual = re.search("^LRA_JOURNAL=(.*)$", journal.read(f"{setting.root}/examples/systemd/lra.default").decode(), re.M)[1]
+    usual = re.search(
+        "^LRA_JOURNAL=(.*)$", journal.read(f"{setting.root}/examples/systemd/lra.default").decode(), re.M
+    )[1]
     equal("an empty folder", guard(setting, usual).returncode, 0)
     setting.journal = setting.folder + "/lra.journal"
     with setting.serve() as service, service.client() as client:
         action = client.start()
     refused = guard(setting, usual)
-    equal("a folder that has it", (refused.returncode, "lra.journal wants the name of its instance" in refused.stderr), (2, True))
+    equal(
+        "a folder that has it",
+        (refused.returncode, "lra.journal wants the name of its instance" in refused.stderr),
+        (2, True),
+    )
     equal("the file itself", guard(setting, "lra.journal").returncode, 0)
     subprocess.run(["sh", "-c", command], cwd=setting.folder, check=True)
     equal("a folder that has taken it up", guard(setting, usual).returncode, 0)
@@ -224,7 +283,9 @@ def test_a_journal_of_an_older_unit_is_taken_up(setting):
 
 def test_an_address_that_is_no_base_cannot_be_served(setting):
     good = f"{HOST}:{free_port()}"
-    for address in ("", good + "/", good + "/x", good + "?", good + " ", f"{HOST}:99999", f"{HOST}:x", f"{HOST}:80", "a b:80"):
+    for address in (
+        "", good + "/", good + "/x", good + "?", good + " ", f"{HOST}:99999", f"{HOST}:x", f"{HOST}:80", "a b:80"
+    ):
         told(setting, f"lra: cannot serve {address}", "serve", address, setting.journal, "2")
 
 

@@ -1,12 +1,15 @@
 """The connections of vectors/front and of docs/use/http.md by socket: the replies are the same byte for byte.
 
-A case is a journal, an empty line and a connection's bytes; its replies are those of a coordinator whose clock stands still and which
-carries nothing to members. A service's clock goes on and its workers carry, so that a case is left out where that could be seen:
+A case is a journal, an empty line and a connection's bytes; its replies are those of a coordinator whose clock stands
+still and which carries nothing to members. A service's clock goes on and its workers carry, so that a case is left out
+where that could be seen:
 - a limit: an Active action of the journal has one, or a request names one that isn't 0;
-- an ask: an action is Closing or Cancelling, in the journal or by a reply, and a request is about a member, whose status an ask changes;
+- an ask: an action is Closing or Cancelling, in the journal or by a reply, and a request is about a member, whose
+  status an ask changes;
 - a clerk: the journal has none, and a service enrols its own.
-Of vectors/front these stay: 002, 006, 010, 015, 017, 021, 026, 032, 034, 035, 038, 039, 041, 043, 044, 048, 050, 053, 054, 058, 059, 060, 061,
-065, 066, 067, 074, 076, 078 and 079; and of the page the four that end in a refusal of reading.
+Of vectors/front these stay: 002, 006, 010, 015, 017, 021, 026, 032, 034, 035, 038, 039, 041, 043, 044, 048, 050, 053,
+054, 058, 059, 060, 061, 065, 066, 067, 074, 076, 078 and 079;
+and of the page the four that end in a refusal of reading.
 """
 import glob
 import os

@@ -1,4 +1,5 @@
-"""A service that is killed again and again under many clients: what it has answered is in the file, and the file is sound."""
+"""A service that is killed again and again under many clients: what it has answered is in the file,
+and the file is sound."""
 import http.client
 import random
 import threading
@@ -66,7 +67,10 @@ def work(port, member, told, seed):
 def kill_under_load(setting, port, member, told, number):
     """Kills a service that eight clients call."""
     with setting.serve(4, port) as service:
-        clients = [threading.Thread(target=work, args=(port, member, told, SEED + CLIENTS * number + n)) for n in range(CLIENTS)]
+        clients = [
+            threading.Thread(target=work, args=(port, member, told, SEED + CLIENTS * number + n))
+            for n in range(CLIENTS)
+        ]
         for client in clients:
             client.start()
         time.sleep(random.Random(SEED * number).uniform(0.02, 0.2))

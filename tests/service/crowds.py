@@ -1,4 +1,5 @@
-"""Many clients at once: those that keep their connections, that send slowly, that take nothing and that break off; others are answered beside them."""
+"""Many clients at once: those that keep their connections, that send slowly, that take nothing and that break off;
+others are answered beside them."""
 import resource
 import threading
 import time
@@ -8,7 +9,8 @@ from service import LATE, LeftOut, check, equal, id_of, is_ready, received, rese
 
 # How many connections are kept at once, and how many clients are slow in each way.
 KEPT, SLOW = 2000, 500
-# How many requests a client sends ahead that takes no reply: some more than the system keeps the replies of, the others few.
+# How many requests a client sends ahead that takes no reply: some more than the system keeps the replies of,
+# the others few.
 AHEAD, FEW = 800, 50
 # How many files a test may want beside its connections.
 OTHERS = 500
@@ -22,7 +24,9 @@ def room_for(service, connections):
     if hard != resource.RLIM_INFINITY and hard < most:
         raise LeftOut(f"at most {hard} files may be open")
     if soft != resource.RLIM_INFINITY and soft < 2 * most:
-        resource.setrlimit(resource.RLIMIT_NOFILE, (2 * most if hard == resource.RLIM_INFINITY else min(2 * most, hard), hard))
+        resource.setrlimit(
+            resource.RLIMIT_NOFILE, (2 * most if hard == resource.RLIM_INFINITY else min(2 * most, hard), hard)
+        )
     resource.prlimit(service.process.pid, resource.RLIMIT_NOFILE, (most, hard))
 
 
@@ -99,7 +103,9 @@ def test_a_client_is_answered_while_others_keep_all_threads(setting):
 def test_requests_sent_ahead_are_answered_in_order(setting):
     with setting.serve(2) as service, service.client() as client, service.connect() as stream:
         actions = [client.start() for _ in range(3)]
-        requests = b"".join(f"GET /lra-coordinator/{id_of(action)} HTTP/1.1\r\nHost: h\r\n\r\n".encode() for action in actions * 100)
+        requests = b"".join(
+            f"GET /lra-coordinator/{id_of(action)} HTTP/1.1\r\nHost: h\r\n\r\n".encode() for action in actions * 100
+        )
         writer = threading.Thread(target=stream.sendall, args=(requests,))
         writer.start()
         data = b""
@@ -114,7 +120,9 @@ def test_requests_sent_ahead_are_answered_in_order(setting):
 
 def test_a_reset_in_the_middle_of_a_request_or_a_reply_does_no_harm(setting):
     with setting.serve(2) as service:
-        for requests in (UNKNOWN[:20], b"POST /lra-coordinator HTTP/1.1\r\nHost: h\r\nContent-Length: 10\r\n\r\n{", UNKNOWN * 500):
+        for requests in (
+            UNKNOWN[:20], b"POST /lra-coordinator HTTP/1.1\r\nHost: h\r\nContent-Length: 10\r\n\r\n{", UNKNOWN * 500
+        ):
             streams = [narrow(service) for _ in range(20)]
             for stream in streams:
                 stream.sendall(requests)

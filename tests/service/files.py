@@ -29,7 +29,9 @@ def hint(setting):
 
 def stopped(client, method, path, **keys):
     reply = client.call(method, path, **keys)
-    equal(f"{method} {path}", (reply.code, reply.phrase, reply.body), (503, "Service Unavailable", {"error": "Stopped"}))
+    equal(
+        f"{method} {path}", (reply.code, reply.phrase, reply.body), (503, "Service Unavailable", {"error": "Stopped"})
+    )
 
 
 def fill(service, setting, spare):
@@ -67,7 +69,10 @@ def test_a_disk_that_is_full_at_a_line_end_stops_commands(setting):
 
 
 def test_a_disk_that_is_full_from_the_start_is_told(setting):
-    words = ["-c", "trap '' XFSZ; ulimit -f 0; exec \"$@\"", "sh", setting.program, "serve", f"{HOST}:{free_port()}", setting.journal, "2"]
+    words = [
+        "-c", "trap '' XFSZ; ulimit -f 0; exec \"$@\"", "sh",
+        setting.program, "serve", f"{HOST}:{free_port()}", setting.journal, "2",
+    ]
     equal("the program", run("sh", *words), (2, "", f"lra: cannot write {setting.journal}\n"))
 
 
@@ -134,7 +139,8 @@ def test_a_file_without_a_whole_line_is_unsound(setting):
 
 
 def told_and_as_it_was(setting, line, *limits):
-    """A service that begins on the file, under such limits of the shell, tells a fault and doesn't write to the file."""
+    """A service that begins on the file, under such limits of the shell,
+    tells a fault and doesn't write to the file."""
 
     def about():
         it = os.stat(setting.journal)
@@ -142,7 +148,10 @@ def told_and_as_it_was(setting, line, *limits):
 
     before = about()
     address = f"{HOST}:{free_port()}"
-    words = ["-c", "".join(f"ulimit {it}; " for it in limits) + 'exec "$@"', "sh", setting.program, "serve", address, setting.journal, "2"]
+    words = [
+        "-c", "".join(f"ulimit {it}; " for it in limits) + 'exec "$@"', "sh",
+        setting.program, "serve", address, setting.journal, "2",
+    ]
     equal("the program", run("sh", *words), (2, "", line.replace("ADDRESS", address) + "\n"))
     equal("the file", about(), before)
 
@@ -201,8 +210,8 @@ def close_hole(setting, length):
 
 
 def start_at_the_bound(setting, lacking):
-    """A start where so many bytes lack for it in the journal, and what follows. Then a service goes on from the journal, and the answer is whether it has
-    the started action."""
+    """A start where so many bytes lack for it in the journal, and what follows. Then a service goes on from the
+    journal, and the answer is whether it has the started action."""
     first, block = added(setting)
     journal.write(setting.journal, SOUND)
     length = LONGEST - first - block + lacking
@@ -248,7 +257,9 @@ def test_a_file_that_memory_does_not_hold_is_told_and_as_it_was(setting):
 
 
 def test_a_journal_without_room_is_told_and_as_it_was(setting):
-    journal.write(setting.journal, b"lra-journal 2 7\n" + b"".join(b"%d 0 enrol\n" % clerk for clerk in range(1, CLERKS + 1)))
+    journal.write(
+        setting.journal, b"lra-journal 2 7\n" + b"".join(b"%d 0 enrol\n" % clerk for clerk in range(1, CLERKS + 1))
+    )
     told_and_as_it_was(setting, "lra: cannot serve ADDRESS")
 
 
@@ -273,7 +284,9 @@ def test_a_service_that_is_terminated_ends_and_the_next_goes_on(setting):
 def test_a_program_without_standard_streams_keeps_the_file_sound(setting):
     """Where they are closed the system gives their numbers to other files; no line for them may go into the journal."""
     port = free_port()
-    words = ["sh", "-c", 'exec "$@" <&- >&- 2>&-', "sh", setting.program, "serve", f"{HOST}:{port}", setting.journal, "2"]
+    words = [
+        "sh", "-c", 'exec "$@" <&- >&- 2>&-', "sh", setting.program, "serve", f"{HOST}:{port}", setting.journal, "2"
+    ]
     process = Popen(words)
     started.append(process)
     try:

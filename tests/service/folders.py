@@ -1,4 +1,5 @@
-"""A service over a folder of journals: how they roll and are put away, what goes to which, and the bad worlds of a folder."""
+"""A service over a folder of journals: how they roll and are put away, what goes to which,
+and the bad worlds of a folder."""
 import contextlib
 import glob
 import os
@@ -32,7 +33,8 @@ NEAR = "/lra-coordinator/00000000-0000-8007-8000-000000000001"
 
 
 def instance_of(uri):
-    """The name, without its end, of the journal that an identifier is of: all of it that is neither the version nor behind it."""
+    """The name, without its end, of the journal that an identifier is of:
+    all of it that is neither the version nor behind it."""
     digits = uuid.UUID(id_of(uri)).hex
     return digits[:12] + digits[13:16]
 
@@ -58,8 +60,8 @@ class Folder(Telling):
         return self.journals("ended")
 
     def wait_for(self, count, seconds=PATIENCE):
-        """Waits until there are so many journals, those that were put away among them, and answers the newest one, once it is in use: its name comes
-        first."""
+        """Waits until there are so many journals, those that were put away among them, and answers the newest one, once
+        it is in use: its name comes first."""
         wait_until(f"a folder of {count} journals", lambda: len(self.journals()) + len(self.ended()) >= count, seconds)
         time.sleep(IN_USE)
         return max(self.journals())
@@ -78,7 +80,11 @@ class Folder(Telling):
 def journals_in(folder, where="."):
     """The names of a folder's journals, without their ends, in their order."""
     path = os.path.join(folder, where)
-    return sorted(name.removesuffix(".journal") for name in os.listdir(path) if name.endswith(".journal")) if os.path.isdir(path) else []
+    return (
+        sorted(name.removesuffix(".journal") for name in os.listdir(path) if name.endswith(".journal"))
+        if os.path.isdir(path)
+        else []
+    )
 
 
 def refused(folder, *options):
@@ -96,7 +102,13 @@ def put(setting, name, data):
 
 def check_sound(folder):
     """The audit of the folder finds each journal sound. Answers how many there are."""
-    told = subprocess.run([folder.words[0], "audit", folder.folder], stdin=subprocess.DEVNULL, capture_output=True, timeout=PATIENCE, check=False)
+    told = subprocess.run(
+        [folder.words[0], "audit", folder.folder],
+        stdin=subprocess.DEVNULL,
+        capture_output=True,
+        timeout=PATIENCE,
+        check=False,
+    )
     last = re.search(rb"^journals sound (\d+) unsound 0 unread 0\n\Z", told.stdout, re.M)
     check(f"the audit says {told}", told.returncode == 0 and last)
     return int(last[1])
@@ -110,7 +122,11 @@ def test_a_first_start_makes_the_first_journal(setting):
         equal("the journals", names, [instance_of(action)])
         instance = int(names[0], 16)
         check(f"its instance is {instance}", before <= instance <= time.time_ns() // 10**6)
-        equal("its header", journal.read(folder.path(names[0] + ".journal")).split(b"\n")[0], b"lra-journal 2 %d" % instance)
+        equal(
+            "its header",
+            journal.read(folder.path(names[0] + ".journal")).split(b"\n")[0],
+            b"lra-journal 2 %d" % instance,
+        )
         equal("its mode", oct(os.stat(folder.path(names[0] + ".journal")).st_mode & 0o777), oct(0o600))
         check("the newest instance", int(journal.read(folder.path("newest"))) >= instance)
         check("a line feed", journal.read(folder.path("newest")).endswith(b"\n"))
@@ -123,7 +139,18 @@ def test_a_check_tells_what_would_be_served_and_makes_nothing(setting):
     told = refused(folder, "--check", "--site", "3", "--operators", "127.0.0.1:9090")
     equal("the status, and what is told", (told.status, told.told), (0, ""))
     lines = told.output.splitlines()
-    equal("what is served", lines[:6], [f'address = "{folder.address}"', f'base = "http://{folder.address}/"', f'folder = "{folder.folder}"', "workers = 2", "journals = 1", "entries = 5"])
+    equal(
+        "what is served",
+        lines[:6],
+        [
+            f'address = "{folder.address}"',
+            f'base = "http://{folder.address}/"',
+            f'folder = "{folder.folder}"',
+            "workers = 2",
+            "journals = 1",
+            "entries = 5",
+        ],
+    )
     check(f"the settings: {lines}", "site = 3" in lines and lines[-1] == 'operators = "127.0.0.1:9090"')
     equal("what is there", os.listdir(folder.folder), [SEVENTH + ".journal"])
 
@@ -135,7 +162,11 @@ def test_what_names_an_identifier_goes_to_its_journal(setting):
         for count in (2, 3, 4):
             actions += folder.first(3)
             folder.wait_for(count)
-            equal("the journals of the actions", [instance_of(it) for it in actions], sorted(instance_of(it) for it in actions))
+            equal(
+                "the journals of the actions",
+                [instance_of(it) for it in actions],
+                sorted(instance_of(it) for it in actions),
+            )
         check("they are of three journals", len({instance_of(it) for it in actions}) == 3)
         for action in actions:
             equal("its status", client.status(action), "Active")
@@ -158,7 +189,9 @@ def test_an_identifier_of_no_journal_is_not_found(setting):
         equal("a read", client.call("GET", path).code, 404)
         equal("a close", client.call("PUT", path + "/close").code, 404)
         equal("a join", client.call("PUT", path, compensate="http://127.0.0.1:1/").code, 404)
-        equal("a nested start", client.call("POST", "/lra-coordinator", parent=f"http://{folder.address}{path}").code, 404)
+        equal(
+            "a nested start", client.call("POST", "/lra-coordinator", parent=f"http://{folder.address}{path}").code, 404
+        )
         client.start()
 
 
@@ -290,7 +323,11 @@ def test_a_journal_with_an_action_that_has_not_ended_stays(setting):
 
 
 def test_a_journal_whose_member_was_not_told_stays(setting):
-    with Participant(lambda _: None) as member, Folder(setting, "--retry-last", "200", *SOON) as folder, folder.client() as client:
+    with (
+        Participant(lambda _: None) as member,
+        Folder(setting, "--retry-last", "200", *SOON) as folder,
+        folder.client() as client,
+    ):
         actions = folder.first(3)
         client.join(actions[0], **member.addresses("compensate"))
         for action in actions:
@@ -337,7 +374,10 @@ def test_instances_begin_with_the_site(setting):
         action = folder.first()[0]
         equal("the site", instance_of(action)[:4], "0102")
     told = refused(folder, "--site", "257")
-    check(f"a smaller site: {told}", told.status == 2 and told.output == "" and told.told.startswith("lra: ") and "site" in told.told)
+    check(
+        f"a smaller site: {told}",
+        told.status == 2 and told.output == "" and told.told.startswith("lra: ") and "site" in told.told,
+    )
     with Folder(setting, "--site", "259", "--roll-after", "1") as folder:
         folder.first()
         newest = folder.wait_for(2)
@@ -511,7 +551,9 @@ def obeying():
 def test_a_folder_that_cannot_be_written_is_told(setting):
     folder = Folder(setting, front=obeying())
     with unwritable(folder.folder):
-        done = subprocess.run(folder.words, stdin=subprocess.DEVNULL, capture_output=True, timeout=PATIENCE, check=False)
+        done = subprocess.run(
+            folder.words, stdin=subprocess.DEVNULL, capture_output=True, timeout=PATIENCE, check=False
+        )
     equal("the status, and the output", (done.returncode, done.stdout), (2, b""))
     check(f"it tells {done.stderr}", done.stderr.startswith(f"lra: cannot write {folder.folder}".encode()))
     equal("what is there", os.listdir(folder.folder), [])
@@ -526,7 +568,9 @@ def test_a_folder_that_cannot_be_written_any_more_keeps_its_newest_journal_until
             check("it has rolled", len(folder.journals()) == 1)
             actions += folder.first()
             equal("the journals of the actions", len(set(map(instance_of, actions))), 1)
-            check(f"it is told {told.count(chr(10))} times: {told!r}", told.count("\n") == 1 and told.startswith("lra: "))
+            check(
+                f"it is told {told.count(chr(10))} times: {told!r}", told.count("\n") == 1 and told.startswith("lra: ")
+            )
         folder.wait_for(2)
         check("a start goes to the old one", instance_of(folder.first()[0]) != instance_of(actions[0]))
 
@@ -535,7 +579,10 @@ def test_a_folder_that_cannot_be_written_any_more_keeps_its_newest_journal_until
 def small_disk(path):
     """A disk of a megabyte at a path. Not everybody may have one."""
     os.makedirs(path)
-    if subprocess.run(["mount", "-t", "tmpfs", "-o", "size=1m", "tmpfs", path], capture_output=True, check=False).returncode != 0:
+    mounted = subprocess.run(
+        ["mount", "-t", "tmpfs", "-o", "size=1m", "tmpfs", path], capture_output=True, check=False
+    )
+    if mounted.returncode != 0:
         raise LeftOut("there is no disk to be filled")
     try:
         yield
@@ -574,7 +621,10 @@ def test_a_full_disk_stops_the_newest_journal_and_no_reads(setting):
 
 def nearly_full(setting, port, entries):
     """A journal of so many entries, with an action that has a member at a port."""
-    begun = b"lra-journal 2 7\n1 0 enrol\n1 5 start 1 * 0\n1 6 join 1 1 http://%s:%d/compensate * * * *\n" % (HOST.encode(), port)
+    begun = (
+        b"lra-journal 2 7\n1 0 enrol\n1 5 start 1 * 0\n1 6 join 1 1 http://%s:%d/compensate * * * *\n"
+        % (HOST.encode(), port)
+    )
     put(setting, SEVENTH + ".journal", begun + b"1 7 restart\n" * (entries - 3))
 
 
@@ -588,7 +638,12 @@ def test_from_three_quarters_on_a_silent_member_is_asked_once(setting):
     with Participant(lambda _: (500, b"")) as member:
         nearly_full(setting, member.port, ENTRIES * 3 // 4)
         with Folder(setting, "--retry-last", "200", "--remember", "3600") as folder, folder.client() as client:
-            wait_until("it is told", lambda: folder.told() == line_of(folder, "3/4 of its entries: silent members are asked once in ten minutes"))
+            wait_until(
+                "it is told",
+                lambda: folder.told() == line_of(
+                    folder, "3/4 of its entries: silent members are asked once in ten minutes"
+                ),
+            )
             client.end(NEAR, "cancel")
             other = client.start()
             client.join(other, **member.addresses("complete", "compensate"))
@@ -606,7 +661,12 @@ def test_from_fifteen_sixteenths_on_nothing_is_begun_and_what_was_begun_ends(set
     with Participant() as member:
         nearly_full(setting, member.port, ENTRIES * 15 // 16)
         with Folder(setting, "--remember", "3600") as folder, folder.client() as client:
-            wait_until("it is told", lambda: folder.told() == line_of(folder, "15/16 of its entries: silent members aren't asked again, and nothing new is begun in it"))
+            wait_until(
+                "it is told",
+                lambda: folder.told() == line_of(
+                    folder, "15/16 of its entries: silent members aren't asked again, and nothing new is begun in it"
+                ),
+            )
             folder.wait_for(2)
             path = folder.path(SEVENTH + ".journal")
             before = len(journal.read(path))

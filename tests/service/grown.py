@@ -1,7 +1,9 @@
-"""Runs a service on a journal that gets longer by a hole once it was read: python3 grown.py LENGTH FILE PROGRAM ARGUMENT..
+"""Runs a service on a journal that gets longer by a hole once it was read:
+python3 grown.py LENGTH FILE PROGRAM ARGUMENT..
 
-The program takes its address after it has read FILE, and before it looks how long FILE is: in between FILE gets LENGTH bytes (by ptrace, on Linux and
-x86-64). So what it adds stands behind so many bytes, and nobody has to read them. SIGTERM ends the program, and then this one.
+The program takes its address after it has read FILE, and before it looks how long FILE is: in between FILE gets LENGTH
+bytes (by ptrace, on Linux and x86-64). So what it adds stands behind so many bytes, and nobody has to read them.
+SIGTERM ends the program, and then this one.
 """
 import os
 import signal

@@ -1,4 +1,5 @@
-"""Runs a program, and holds it for some seconds as it begins to read a file in pieces: python3 held.py SECONDS LENGTH PROGRAM ARGUMENT..
+"""Runs a program, and holds it for some seconds as it begins to read a file in pieces:
+python3 held.py SECONDS LENGTH PROGRAM ARGUMENT..
 
 It is held at its first reading of up to LENGTH bytes (by ptrace, on Linux and x86-64). The status is the program's own.
 """

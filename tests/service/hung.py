@@ -1,4 +1,5 @@
-"""Runs a program, and holds each of its syncs that begins while a file FLAG is there, until it is gone: python3 hung.py FLAG PROGRAM ARGUMENT..
+"""Runs a program, and holds each of its syncs that begins while a file FLAG is there, until it is gone: python3 hung.py
+FLAG PROGRAM ARGUMENT..
 
 All other calls of its threads go on (by ptrace, on Linux and x86-64). The status is the program's own.
 """

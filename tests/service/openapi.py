@@ -109,7 +109,17 @@ def test_the_operators_port_answers_as_described(setting):
         action, other = client.start(), client.start()
         client.start(parent=action)
         recovery = client.join(action, **member.addresses("complete", "compensate", "status"))
-        for path in ("/health", "/health/live", "/health/ready", "/health/started", "/metrics", "/", "/actions", "/actions?limit=1", "/actions?limit=none"):
+        for path in (
+            "/health",
+            "/health/live",
+            "/health/ready",
+            "/health/started",
+            "/metrics",
+            "/",
+            "/actions",
+            "/actions?limit=1",
+            "/actions?limit=none",
+        ):
             ask(path)
         for path in ("/actions/", "/page/actions/"):
             ask(path + id_of(action))

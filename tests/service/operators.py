@@ -26,8 +26,8 @@ KEY = "a key of the operators"
 FORM = "application/x-www-form-urlencoded"
 # A line of Prometheus' text format: a name, labels if it has some, and a number.
 SAMPLE = re.compile(r'^([a-z_:][a-z0-9_:]*)(\{[a-z_]+="[^"\\\n]*"(?:,[a-z_]+="[^"\\\n]*")*\})? ([0-9]+(?:\.[0-9]+)?)$')
-# How many connections there are, so that each worker has some; and how often a client asks, by which its worker is found, and in how many turns at most. After
-# more requests its next connection may be another worker's.
+# How many connections there are, so that each worker has some; and how often a client asks, by which its worker is
+# found, and in how many turns at most. After more requests its next connection may be another worker's.
 CLIENTS = 8
 ASKED = 100
 TURNS = 10
@@ -128,11 +128,15 @@ def measures(service):
             sample = SAMPLE.match(line)
             check(f"a line of metrics: {line!r}", sample)
             name = sample[1]
-            check(f"what {name} is", name in kinds or kinds.get(re.sub("_(bucket|sum|count)$", "", name)) == "histogram")
+            check(
+                f"what {name} is", name in kinds or kinds.get(re.sub("_(bucket|sum|count)$", "", name)) == "histogram"
+            )
             check(f"{line!r} is told once", name + (sample[2] or "") not in found)
             found[name + (sample[2] or "")] = float(sample[3])
     if shutil.which("promtool"):
-        done = subprocess.run(["promtool", "check", "metrics"], input=reply.body, text=True, capture_output=True, check=False)
+        done = subprocess.run(
+            ["promtool", "check", "metrics"], input=reply.body, text=True, capture_output=True, check=False
+        )
         equal("promtool", (done.returncode, done.stdout + done.stderr), (0, ""))
     return found
 
@@ -162,7 +166,11 @@ def test_health_is_down_on_a_full_disk(setting):
             equal("a close", client.call("PUT", f"/lra-coordinator/{id_of(action)}/close").code, 503)
             for probe in ("", "/live", "/ready"):
                 told = service.read("/health" + probe, 503)
-                equal("the status", (told["status"], told["checks"][0]["name"], told["checks"][0]["status"]), ("DOWN", "journal", "DOWN"))
+                equal(
+                    "the status",
+                    (told["status"], told["checks"][0]["name"], told["checks"][0]["status"]),
+                    ("DOWN", "journal", "DOWN"),
+                )
             equal("metrics", measures(service)["lra_journal_failed"], 1)
             equal("an order", service.ask(f"/actions/{id_of(action)}/cancel", "POST").code, 503)
 
@@ -232,13 +240,15 @@ class Starved(WatchedFolder):
         return found
 
     def worker_of(self, client, action):
-        """The thread that answers a client: it runs while the client asks, and most others rest. (Another may have something to do once, as to prepare the
-        next journal.)"""
+        """The thread that answers a client: it runs while the client asks, and most others rest. (Another may have
+        something to do once, as to prepare the next journal.)"""
         for _ in range(TURNS):
             before = self.busy()
             for _ in range(ASKED):
                 client.status(action)
-            grown = sorted((time_taken - before[thread], thread) for thread, time_taken in self.busy().items() if thread in before)
+            grown = sorted(
+                (time_taken - before[thread], thread) for thread, time_taken in self.busy().items() if thread in before
+            )
             if grown[-1][0] > 2 * grown[-2][0]:
                 return grown[-1][1]
         raise AssertionError(f"no thread answers more than another: {grown}")
@@ -251,7 +261,8 @@ def checks(service):
 
 
 def test_a_worker_that_cannot_follow_the_set_is_told(setting):
-    """One worker has no memory while the next journal comes: the check says so until it has, and then it answers for that journal too."""
+    """One worker has no memory while the next journal comes: the check says so until it has, and then it answers for
+    that journal too."""
     service = Starved(setting)
     with contextlib.ExitStack() as stack:
         stack.enter_context(service)
@@ -270,13 +281,21 @@ def test_a_worker_that_cannot_follow_the_set_is_told(setting):
         wait_until("the next journal is in use", is_next_in_use)
         # The worker looks while it has nothing to do, too.
         wait_until("the check is down", lambda: checks(service)["set"] == "DOWN")
-        equal("the code and the measure", (service.ask("/health/ready").code, measures(service)["lra_set_behind"]), (503, 1))
+        equal(
+            "the code and the measure",
+            (service.ask("/health/ready").code, measures(service)["lra_set_behind"]),
+            (503, 1),
+        )
         equal("it is live", service.ask("/health/live").code, 200)
         time.sleep(1)
         equal("it still is down", checks(service)["set"], "DOWN")
         service.allocations.starve(0)
         wait_until("the check is up", lambda: checks(service)["set"] == "UP")
-        equal("the code and the measure then", (service.ask("/health/ready").code, measures(service)["lra_set_behind"]), (200, 0))
+        equal(
+            "the code and the measure then",
+            (service.ask("/health/ready").code, measures(service)["lra_set_behind"]),
+            (200, 0),
+        )
         for client in clients:
             for action in actions:
                 equal(f"the status of {action}", client.status(action), "Active")
@@ -316,12 +335,16 @@ def test_metrics_are_as_prometheus_reads_them(setting):
             path = path_of(service)
             equal("the bytes", found["lra_journal_bytes"], os.path.getsize(path))
             # A folder counts the first line of a journal that it has made too.
-            check("the entries", found["lra_journal_entries"] - len(journal.entries(path)) == isinstance(service, WatchedFolder))
+            check(
+                "the entries",
+                found["lra_journal_entries"] - len(journal.entries(path)) == isinstance(service, WatchedFolder),
+            )
             check("the memory", found["process_resident_memory_bytes"] > 10**6)
 
 
 def test_syncs_are_measured(setting):
-    """One histogram has how long each took, the other how many commands each kept: five, of which each waits for the disk before the next is given."""
+    """One histogram has how long each took, the other how many commands each kept: five, of which each waits for the
+    disk before the next is given."""
     names = [f"{name}_{it}" for name in ("lra_sync_seconds", "lra_commands_per_sync") for it in ("count", "sum")]
     for kind in (Watched, WatchedFolder):
         with kind(setting) as service, service.client() as client:
@@ -334,13 +357,21 @@ def test_syncs_are_measured(setting):
             equal("as many", grown["lra_sync_seconds_count"], grown["lra_commands_per_sync_count"])
             check(f"the time that they took: {grown}", 0 <= grown["lra_sync_seconds_sum"] < PATIENCE)
             # Each has one line here, as the journal's first has. A folder has begun the next journal too.
-            paths = [setting.journal] if kind is Watched else [service.path(it) for it in os.listdir(service.folder) if it.endswith((".journal", ".next"))]
+            paths = (
+                [setting.journal]
+                if kind is Watched
+                else [service.path(it) for it in os.listdir(service.folder) if it.endswith((".journal", ".next"))]
+            )
             kept, lines = found["lra_commands_per_sync_sum"], sum(len(journal.read(it).splitlines()) for it in paths)
-            check(f"a line each: {kept} and {lines}", kept == lines if kind is Watched else len(journal.read(path_of(service)).splitlines()) <= kept <= lines)
+            check(
+                f"a line each: {kept} and {lines}",
+                kept == lines if kind is Watched else len(journal.read(path_of(service)).splitlines()) <= kept <= lines,
+            )
 
 
 def test_members_that_hold_up_an_end_are_counted(setting):
-    """One that nobody can reach is silent once it was asked in vain three times, and isn't any more once it is given up."""
+    """One that nobody can reach is silent once it was asked in vain three times,
+    and isn't any more once it is given up."""
     with Watched(setting) as service, Participant() as member, service.client() as client:
         gone = f"http://{HOST}:{free_port()}/"
         action = client.start()
@@ -356,8 +387,14 @@ def test_members_that_hold_up_an_end_are_counted(setting):
         last = next(it["last"] for it in shown["members"] if it["member"] == id_of(recovery))
         equal("what came of it", (last["address"], last["reply"]), (gone + "complete", "connection refused"))
         page = service.ask("/page/actions/" + id_of(action)).body
-        check("its reply, its age and its address", re.search(rf"connection refused, [0-9]+ s ago<br><code>{re.escape(gone)}complete</code>", page))
-        check("when it is asked next", re.search(r"complete (now|in [0-9]+ s), in vain [0-9]+ times|is being asked", service.ask("/").body))
+        check(
+            "its reply, its age and its address",
+            re.search(rf"connection refused, [0-9]+ s ago<br><code>{re.escape(gone)}complete</code>", page),
+        )
+        check(
+            "when it is asked next",
+            re.search(r"complete (now|in [0-9]+ s), in vain [0-9]+ times|is being asked", service.ask("/").body),
+        )
         reply = service.ask(f"/members/{id_of(recovery)}/give-up", "POST", json.dumps({"status": "FailedToComplete"}))
         equal("it is given up", reply.code, 200)
         wait_until("none is silent", lambda: measures(service)[silent] == 0)
@@ -372,7 +409,9 @@ def test_a_member_that_is_at_it_is_not_silent(setting):
         wait_until("it is at it", lambda: measures(service)["lra_members_at_it"] == 1)
         equal("and not silent", measures(service)['lra_members_overdue{why="silent"}'], 0)
         told = service.read("/actions/" + id_of(action))["members"][0]["last"]
-        equal("what it answered", (told["address"], told["reply"]), (member.uri("complete"), "answered 202: it is at it"))
+        equal(
+            "what it answered", (told["address"], told["reply"]), (member.uri("complete"), "answered 202: it is at it")
+        )
 
 
 def scraped(port, measure):
@@ -398,17 +437,29 @@ def test_a_prometheus_scrapes_the_port(setting):
         client.end(client.start(), "close")
         shutil.copy(f"{setting.root}/examples/prometheus/rules.yml", setting.folder)
         text = journal.read(f"{setting.root}/examples/prometheus/prometheus.yml").decode()
-        for old, new in (("15s", "1s"), ("/etc/lra/operators-key", setting.folder + "/key"), ("127.0.0.1:5001", f"{HOST}:{service.operators}")):
+        for old, new in (
+            ("15s", "1s"),
+            ("/etc/lra/operators-key", setting.folder + "/key"),
+            ("127.0.0.1:5001", f"{HOST}:{service.operators}"),
+        ):
             check(f"{old} is there", old in text)
             text = text.replace(old, new)
         journal.write(setting.folder + "/prometheus.yml", text.encode())
         port = free_port()
-        words = [f"--config.file={setting.folder}/prometheus.yml", f"--storage.tsdb.path={setting.folder}/data", f"--web.listen-address={HOST}:{port}"]
-        process = subprocess.Popen(["prometheus", *words], stdin=subprocess.DEVNULL, stdout=subprocess.DEVNULL, stderr=subprocess.DEVNULL)
+        words = [
+            f"--config.file={setting.folder}/prometheus.yml",
+            f"--storage.tsdb.path={setting.folder}/data",
+            f"--web.listen-address={HOST}:{port}",
+        ]
+        process = subprocess.Popen(
+            ["prometheus", *words], stdin=subprocess.DEVNULL, stdout=subprocess.DEVNULL, stderr=subprocess.DEVNULL
+        )
         try:
             wait_until("it is scraped", lambda: scraped(port, 'lra_actions{state="Closed"}') == [1], 2 * PATIENCE)
             equal("it is up", scraped(port, 'up{job="lra"}'), [1])
-            equal("the rest", (scraped(port, "sum(lra_actions)"), len(scraped(port, "lra_journal_room_ratio"))), ([2], 4))
+            equal(
+                "the rest", (scraped(port, "sum(lra_actions)"), len(scraped(port, "lra_journal_room_ratio"))), ([2], 4)
+            )
         finally:
             process.kill()
             process.wait()
@@ -440,13 +491,21 @@ def test_actions_are_listed_and_shown(setting):
         first = service.read("/actions?limit=4")
         equal("the first page", [it["action"] for it in first["actions"]], [id_of(it) for it in actions[:4]])
         rest = service.read("/actions?from=" + first["next"])
-        equal("the rest", [(it["action"], it["parent"]) for it in rest["actions"]], [(id_of(actions[4]), None), (id_of(nested), id_of(actions[0]))])
+        equal(
+            "the rest",
+            [(it["action"], it["parent"]) for it in rest["actions"]],
+            [(id_of(actions[4]), None), (id_of(nested), id_of(actions[0]))],
+        )
         check("the end", rest["next"] is None)
         shown = service.read("/actions/" + id_of(actions[0]))
         equal("the members", [(it["member"], it["status"]) for it in shown["members"]], [(id_of(recovery), "Active")])
         equal("the nested", [it["action"] for it in shown["nested"]], [id_of(nested)])
         client.end(actions[1], "close")
-        equal("those of a state", [it["action"] for it in service.read("/actions?state=Closed")["actions"]], [id_of(actions[1])])
+        equal(
+            "those of a state",
+            [it["action"] for it in service.read("/actions?state=Closed")["actions"]],
+            [id_of(actions[1])],
+        )
         for query in ("state=Closd", "limit=x", "limit=-1", "journal=one", "from=nothing"):
             code, word = (404, "NoSuchAction") if query.startswith("from") else (400, "BadQuery")
             refusal(service.ask("/actions?" + query), code, word)
@@ -504,11 +563,27 @@ def test_a_folder_s_journals_are_all_told(setting):
         told = [[it["action"] for it in service.read(f"/actions?journal={place}")["actions"]] for place in (0, 1)]
         equal("the actions", sorted(told[0] + told[1]), sorted(map(id_of, [*old, new])))
         equal("the newest", told[1][-1], id_of(new))
-        equal("one of each", [service.read("/actions/" + id_of(it))["status"] for it in (old[0], new)], ["Active", "Active"])
+        equal(
+            "one of each",
+            [service.read("/actions/" + id_of(it))["status"] for it in (old[0], new)],
+            ["Active", "Active"],
+        )
         found = measures(service)
-        equal("the counts", (found["lra_journals"], found['lra_actions{state="Active"}'], found['lra_actions{state="Cancelled"}']), (2, 4, 1))
-        equal("an order to the older", json.loads(service.ask(f"/actions/{id_of(old[0])}/cancel", "POST").body), {"status": "Cancelled"})
-        equal("one to the newest", json.loads(service.ask(f"/actions/{id_of(new)}/close", "POST").body), {"status": "Closed"})
+        equal(
+            "the counts",
+            (found["lra_journals"], found['lra_actions{state="Active"}'], found['lra_actions{state="Cancelled"}']),
+            (2, 4, 1),
+        )
+        equal(
+            "an order to the older",
+            json.loads(service.ask(f"/actions/{id_of(old[0])}/cancel", "POST").body),
+            {"status": "Cancelled"},
+        )
+        equal(
+            "one to the newest",
+            json.loads(service.ask(f"/actions/{id_of(new)}/close", "POST").body),
+            {"status": "Closed"},
+        )
         check("the oldest is on the page", id_of(old[2]) in service.ask("/").body)
         check("and the newest journal on its own", id_of(new) not in service.ask("/?journal=1").body)
     folders.check_sound(service)
@@ -528,7 +603,11 @@ def test_a_journal_that_is_put_away_is_told_no_more(setting):
         wait_until("it is put away", lambda: service.ended())
         wait_until("one journal is left", lambda: measures(service)["lra_journals"] == 1)
         after = measures(service)
-        fallen = [name for name, number in before.items() if name.split("{")[0].endswith("_total") and after.get(name, 0) < number]
+        fallen = [
+            name
+            for name, number in before.items()
+            if name.split("{")[0].endswith("_total") and after.get(name, 0) < number
+        ]
         equal("what has fallen that counts on and on", fallen, [])
         total = "lra_actions_started_total"
         check("no total falls", measures(service)[total] >= found[total] >= len(actions))
@@ -559,7 +638,11 @@ def test_a_member_that_is_given_up_ends_its_action_as_failed(setting):
         wait_until("the action has failed", lambda: client.status(action) == "FailedToClose")
         wait_until("it is counted", lambda: measures(service)["lra_actions_failed_total"] == 1)
         check("the page finds it", id_of(action) in service.ask("/?state=FailedToClose").body)
-        check("where it is asked for", id_of(action) not in service.ask("/?state=FailedToCancel").body and id_of(action) not in service.ask("/").body)
+        check(
+            "where it is asked for",
+            id_of(action) not in service.ask("/?state=FailedToCancel").body
+            and id_of(action) not in service.ask("/").body,
+        )
     audited(setting, setting.journal)
 
 
@@ -576,7 +659,10 @@ def test_a_member_that_cannot_be_told_is_given_up(setting):
             reply = service.ask(path, "POST", json.dumps({"status": "Ended"}))
             equal("the reply", (reply.code, json.loads(reply.body)), (200, {"status": "Done"}))
             missing = id_of(recovery)[:-12] + "00ffffffffff"
-            check("another isn't there", service.ask(f"/members/{missing}/give-up", "POST", json.dumps({"status": "Ended"})).code in (404,))
+            check(
+                "another isn't there",
+                service.ask(f"/members/{missing}/give-up", "POST", json.dumps({"status": "Ended"})).code in (404,),
+            )
             noted = journal.read(service.path("given-up")).decode().split("\n")
             check(f"it is noted: {noted}", any(it.endswith(" given up") for it in noted))
             time.sleep(0.5)
@@ -627,7 +713,11 @@ def test_a_member_that_was_given_up_is_so_after_a_restart(setting):
             recovery = client.join(actions[0], **member.addresses("compensate", "after"))
             client.end(actions[0], "cancel")
             member.wait("after", 3)
-            equal("the code", service.ask(f"/members/{id_of(recovery)}/give-up", "POST", json.dumps({"status": "Ended"})).code, 200)
+            equal(
+                "the code",
+                service.ask(f"/members/{id_of(recovery)}/give-up", "POST", json.dumps({"status": "Ended"})).code,
+                200,
+            )
             time.sleep(0.5)
         before = len(member.at("after"))
         with folder as service, service.client() as client:
@@ -639,12 +729,20 @@ def test_a_member_that_was_given_up_is_so_after_a_restart(setting):
 
 
 def test_a_give_up_needs_a_key_at_a_loopback_address_too(setting):
-    with Watched(setting, key=None) as service, Participant(lambda request: (202, b"")) as member, service.client() as client:
+    with (
+        Watched(setting, key=None) as service,
+        Participant(lambda request: (202, b"")) as member,
+        service.client() as client,
+    ):
         action = client.start()
         recovery = client.join(action, **member.addresses("complete", "compensate", "status"))
         client.end(action, "close")
         body = json.dumps({"status": "FailedToComplete"})
-        refusal(service.ask(f"/members/{id_of(recovery)}/give-up", "POST", body, Content_Type="application/json"), 403, "NeedsKey")
+        refusal(
+            service.ask(f"/members/{id_of(recovery)}/give-up", "POST", body, Content_Type="application/json"),
+            403,
+            "NeedsKey",
+        )
         equal("the status", client.status(action), "Closing")
 
 
@@ -655,7 +753,8 @@ def basic(key, user="anyone"):
 def test_another_key_is_refused(setting):
     with Watched(setting) as service, service.client() as client:
         action = client.start()
-        wrong = [f"Bearer {it}" for it in ("another key", KEY + "s", KEY[:-1], "")] + [basic(it) for it in (KEY + "s", KEY[:-1], "")]
+        wrong = [f"Bearer {it}" for it in ("another key", KEY + "s", KEY[:-1], "")]
+        wrong += [basic(it) for it in (KEY + "s", KEY[:-1], "")]
         for given in (None, *wrong, "Basic", "Basic ****", "Digest " + KEY, KEY):
             fields = {"Authorization": given} if given else {}
             for path, method in (("/health", "GET"), ("/", "GET"), (f"/actions/{id_of(action)}/cancel", "POST")):
@@ -674,7 +773,13 @@ def test_the_key_is_taken_as_a_browser_gives_it(setting):
         path = f"/actions/{id_of(action)}/cancel"
         refusal(service.ask(path, "POST", "key=", key=None, Authorization=basic(KEY), Content_Type=FORM), 403, "Forged")
         token = re.search(r'name="token" value="([0-9a-f]{32})"', page.body)[1]
-        refusal(service.ask(path, "POST", f"token={token}&key=another", key=None, Authorization=basic(KEY), Content_Type=FORM), 403, "WrongKey")
+        refusal(
+            service.ask(
+                path, "POST", f"token={token}&key=another", key=None, Authorization=basic(KEY), Content_Type=FORM
+            ),
+            403,
+            "WrongKey",
+        )
         equal("nothing is ordered", client.status(action), "Active")
         reply = service.ask(path, "POST", f"token={token}&key=", key=None, Authorization=basic(KEY), Content_Type=FORM)
         equal("the form", (reply.code, reply.fields["Location"]), (303, "/"))
@@ -699,7 +804,9 @@ def test_a_forged_form_is_refused(setting):
 def test_what_is_not_served_is_refused_by_name(setting):
     with Watched(setting) as service:
         refusal(service.ask("/nothing"), 404, "NoSuchPath")
-        for path, method, allowed in (("/health", "POST", "GET"), ("/metrics", "DELETE", "GET"), ("/actions/1/close", "GET", "POST")):
+        for path, method, allowed in (
+            ("/health", "POST", "GET"), ("/metrics", "DELETE", "GET"), ("/actions/1/close", "GET", "POST")
+        ):
             reply = service.ask(path, method)
             refusal(reply, 405, "BadMethod")
             equal("what is allowed", reply.fields["Allow"], allowed)
@@ -712,7 +819,12 @@ def test_text_of_others_is_no_markup(setting):
         action = client.start()
         # Where an address with such marks is taken at all, no page has it as it stands.
         for path in ("complete", f"complete?{MARKUP}", "complete?%3Ci%3E%26%22'"):
-            client.call("PUT", "/lra-coordinator/" + id_of(action), complete=member.uri(path), compensate=member.uri("compensate" + path[8:]))
+            client.call(
+                "PUT",
+                "/lra-coordinator/" + id_of(action),
+                complete=member.uri(path),
+                compensate=member.uri("compensate" + path[8:]),
+            )
         client.end(action, "close")
         reply = service.ask("/page/<script>alert('1')</script>?a&b\"")
         equal("the code", reply.code, 404)
@@ -721,7 +833,10 @@ def test_text_of_others_is_no_markup(setting):
             page = service.ask(path)
             equal("the code", page.code, 200)
             policy = page.fields["Content-Security-Policy"]
-            check("a policy", policy.startswith("default-src 'none'; style-src 'unsafe-inline'; img-src data:; form-action 'self'"))
+            check(
+                "a policy",
+                policy.startswith("default-src 'none'; style-src 'unsafe-inline'; img-src data:; form-action 'self'"),
+            )
             check("text of others", "<i>" not in page.body and "<script" not in page.body)
             for place in re.findall(r"&[^;]{0,6};?", page.body):
                 check(f"{place!r} is a reference", place in ("&lt;", "&gt;", "&amp;", "&quot;", "&#39;"))
@@ -730,7 +845,11 @@ def test_text_of_others_is_no_markup(setting):
 def test_a_service_without_a_key_is_the_machine_s_own(setting):
     words = ("serve", "--operators", f"0.0.0.0:{free_port()}", f"{HOST}:{free_port()}", setting.journal, "1")
     told = setting.run(*words)
-    equal("a port of all", (told.status, told.output, told.told), (2, "", f"lra: no operators at {words[2]}: other machines reach it, and no key is given\n"))
+    equal(
+        "a port of all",
+        (told.status, told.output, told.told),
+        (2, "", f"lra: no operators at {words[2]}: other machines reach it, and no key is given\n"),
+    )
     check("no journal was made", not os.path.exists(setting.journal))
 
 
@@ -780,7 +899,9 @@ def test_those_who_are_slow_hold_nobody_up(setting):
 
 def test_a_request_that_is_too_long_is_refused(setting):
     with Watched(setting) as service:
-        for head in (b"POST /actions/1/close HTTP/1.1\r\nContent-Length: 10000000\r\n\r\n", b"GET /health HTTP/1.1\r\nX: "):
+        for head in (
+            b"POST /actions/1/close HTTP/1.1\r\nContent-Length: 10000000\r\n\r\n", b"GET /health HTTP/1.1\r\nX: "
+        ):
             visitor = service.visitor()
             visitor.sendall(head)
             for _ in range(160):
@@ -820,7 +941,9 @@ def test_a_flood_at_the_front_does_not_blind_who_looks(setting):
             thread.join(PATIENCE)
         crowds.close_all(idle)
         check(f"the longest look took {longest:.2f} s", longest < LATE)
-    return f"{len(counts) / 5:.0f} requests a second at the front, the longest look with a scrape {1000 * longest:.0f} ms"
+    return (
+        f"{len(counts) / 5:.0f} requests a second at the front, the longest look with a scrape {1000 * longest:.0f} ms"
+    )
 
 
 def look_again(service, end, looks):
@@ -836,7 +959,9 @@ def test_a_crowd_of_operators_leaves_the_processors_to_services(setting):
         for _ in range(MANY):
             client.start()
         looks, begun, before = [], time.monotonic(), service.seconds()
-        threads = [threading.Thread(target=look_again, args=(service, begun + 5, looks), daemon=True) for _ in range(16)]
+        threads = [
+            threading.Thread(target=look_again, args=(service, begun + 5, looks), daemon=True) for _ in range(16)
+        ]
         for thread in threads:
             thread.start()
         for thread in threads:
@@ -866,9 +991,17 @@ def test_many_actions_are_paged(setting):
         begun = time.monotonic()
         page = service.ask("/").body
         paged = time.monotonic() - begun
-        equal("those that are left, the oldest first", re.findall(r'href="/page/actions/([-0-9a-f]{36})"', page), [id_of(it) for it in left])
+        equal(
+            "those that are left, the oldest first",
+            re.findall(r'href="/page/actions/([-0-9a-f]{36})"', page),
+            [id_of(it) for it in left],
+        )
         counts = {name: it for name, it in measures(service).items() if name.startswith("lra_actions{") and it}
-        equal("the counts", counts, {'lra_actions{state="Active"}': len(left), 'lra_actions{state="Closed"}': MANY - len(left)})
+        equal(
+            "the counts",
+            counts,
+            {'lra_actions{state="Active"}': len(left), 'lra_actions{state="Closed"}': MANY - len(left)},
+        )
         client.end(left[0], "close")
         wait_until("the next is the oldest", lambda: id_of(left[0]) not in service.ask("/").body)
         client.end(left[1], "cancel")

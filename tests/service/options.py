@@ -1,4 +1,5 @@
-"""Options on the line and in a file: what is served by them, what is refused, what would be served, and a gentle end with standard input."""
+"""Options on the line and in a file: what is served by them, what is refused, what would be served, and a gentle end
+with standard input."""
 import os
 import resource
 import subprocess
@@ -33,7 +34,9 @@ NUMBERS = (
     ("site", 0, 0, 65535),
 )
 # Options whose values are texts, and those of them that may be said any number of times.
-WORDS = ("base", "also-base", "token", "operators", "operators-key", "key", "origin", "members", "log", "log-format", "fence")
+WORDS = (
+    "base", "also-base", "token", "operators", "operators-key", "key", "origin", "members", "log", "log-format", "fence"
+)
 LISTS = ("also-base", "origin", "members")
 USUAL = {name: str(usual) for name, usual, _, _ in NUMBERS} | {"stop-at-eof": "false"}
 # How many seconds what is in flight has at a gentle end.
@@ -75,7 +78,9 @@ def test_without_options_the_settings_are_the_usual_ones(setting):
 
 def test_each_option_is_taken_from_the_line(setting):
     for name, usual, least, most in NUMBERS:
-        for value in (near(usual, most), least if name != "retry-last" else 100, most if name != "retry-first" else 60000):
+        for value in (
+            near(usual, most), least if name != "retry-last" else 100, most if name != "retry-first" else 60000
+        ):
             equal(name, settings_of(setting, f"--{name}", str(value)), USUAL | {name: str(value)})
     equal("by =", settings_of(setting, "--callbacks=7"), USUAL | {"callbacks": "7"})
     equal("the end", settings_of(setting, "--stop-at-eof"), USUAL | {"stop-at-eof": "true"})
@@ -86,7 +91,11 @@ def test_each_option_is_taken_from_a_file_and_the_line_wins(setting):
         in_file, on_line = near(usual, most, 2), near(usual, most)
         path = config(setting, f"{name} = {in_file}\n")
         equal(name, settings_of(setting, "--config", path), USUAL | {name: str(in_file)})
-        equal(f"{name} by the line", settings_of(setting, "--config", path, f"--{name}", str(on_line)), USUAL | {name: str(on_line)})
+        equal(
+            f"{name} by the line",
+            settings_of(setting, "--config", path, f"--{name}", str(on_line)),
+            USUAL | {name: str(on_line)},
+        )
     path = config(setting, "# all of it\nstop-at-eof = true\nretry-first = 5\n'retry-last' = 5\n")
     wanted = USUAL | {"stop-at-eof": "true", "retry-first": "5", "retry-last": "5"}
     equal("a file", settings_of(setting, "--config", path), wanted)
@@ -126,7 +135,11 @@ def refused_beginning(setting, front, *options):
 
 def test_words_that_are_no_options_are_refused(setting):
     refused_beginning(setting, "lra: unexpected argument '--colour' found", "--colour", "red")
-    refused_beginning(setting, "lra: the argument '--callbacks <N>' cannot be used multiple times", "--callbacks", "5", "--callbacks", "6")
+    refused_beginning(
+        setting,
+        "lra: the argument '--callbacks <N>' cannot be used multiple times",
+        "--callbacks", "5", "--callbacks", "6",
+    )
     refused_beginning(setting, "lra: the argument '--check' cannot be used multiple times", "--check", "--check")
     refused_beginning(setting, "lra: unexpected argument '2' found", "--check", "more")
     told = setting.run("serve", "--check", f"{HOST}:1", setting.journal)
@@ -163,16 +176,25 @@ def test_the_operators_address_and_key_are_told_and_the_line_wins(setting):
         check(f"{name} is there", name not in told_of(setting))
         path = config(setting, f'{name} = "127.0.0.1:9090"\n')
         equal(f"{name} of a file", told_of(setting, "--config", path)[name], '"127.0.0.1:9090"')
-        equal(f"{name} of the line", told_of(setting, "--config", path, f"--{name}", "[::1]:9091")[name], '"[::1]:9091"')
+        equal(
+            f"{name} of the line", told_of(setting, "--config", path, f"--{name}", "[::1]:9091")[name], '"[::1]:9091"'
+        )
 
 
 def test_words_of_the_log_and_of_terms_are_told_and_faults_named(setting):
-    told = told_of(setting, "--log", "info", "--log-format", "json", "--origin", "a.test", "--origin", "b.test:80", "--members", "*")
+    told = told_of(
+        setting, "--log", "info", "--log-format", "json",
+        "--origin", "a.test", "--origin", "b.test:80", "--members", "*",
+    )
     equal("the log", (told["log"], told["log-format"]), ('"info"', '"json"'))
     equal("the lists", (told["origin"], told["members"]), ('["a.test", "b.test:80"]', '["*"]'))
     path = config(setting, 'members = ["*", "10.0.0.0/8"]\n')
     equal("those of a file", told_of(setting, "--config", path)["members"], '["*", "10.0.0.0/8"]')
-    equal("those of the line in their place", told_of(setting, "--config", path, "--members", "h.test")["members"], '["h.test"]')
+    equal(
+        "those of the line in their place",
+        told_of(setting, "--config", path, "--members", "h.test")["members"],
+        '["h.test"]',
+    )
     refused(setting, "--log: loud is not error, warn, info or debug", "--log", "loud")
     refused(setting, "--log-format: xml is not text or json", "--log-format", "xml")
     refused(setting, "--origin: no name: a b", "--origin", "a b")
@@ -192,7 +214,13 @@ def test_help_is_told(setting):
 def test_a_check_tells_what_would_be_served_and_leaves_all_as_it_is(setting):
     port = free_port()
     told = serve_by(setting, "--check", address=f"{HOST}:{port}", workers=3)
-    lines = [f'address = "{HOST}:{port}"', f'base = "http://{HOST}:{port}/"', f'file = "{setting.journal}"', "workers = 3", 'journal = "new"']
+    lines = [
+        f'address = "{HOST}:{port}"',
+        f'base = "http://{HOST}:{port}/"',
+        f'file = "{setting.journal}"',
+        "workers = 3",
+        'journal = "new"',
+    ]
     lines += [f"{name} = {value}" for name, value in USUAL.items()]
     equal("what is told", told, (0, "\n".join(lines) + "\n", ""))
     check("a file was made", not os.path.exists(setting.journal))
@@ -219,13 +247,23 @@ def test_a_check_tells_faults_as_a_start_does(setting):
     equal("no folder", setting.run("serve", "--check", f"{HOST}:1", path, "1"), (2, "", f"lra: cannot write {path}\n"))
     path = setting.folder + "/circle"
     os.symlink(path, path)
-    equal("a link to itself", setting.run("serve", "--check", f"{HOST}:1", path, "1"), (2, "", f"lra: cannot read {path}\n"))
+    equal(
+        "a link to itself",
+        setting.run("serve", "--check", f"{HOST}:1", path, "1"),
+        (2, "", f"lra: cannot read {path}\n"),
+    )
 
 
 def held_check(setting, told):
-    """What a check says that is held at its first reading of the journal for longer than a second, with `told` as standard error."""
-    words = [sys.executable, held.__file__, "1.2", "65536", setting.program, "serve", "--check", f"{HOST}:1", setting.journal, "1"]
-    done = subprocess.run(words, stdin=subprocess.DEVNULL, stdout=subprocess.PIPE, stderr=told, timeout=PATIENCE, check=False)
+    """What a check says that is held at its first reading of the journal for longer than a second,
+    with `told` as standard error."""
+    words = [
+        sys.executable, held.__file__, "1.2", "65536",
+        setting.program, "serve", "--check", f"{HOST}:1", setting.journal, "1",
+    ]
+    done = subprocess.run(
+        words, stdin=subprocess.DEVNULL, stdout=subprocess.PIPE, stderr=told, timeout=PATIENCE, check=False
+    )
     output = watched(done.stdout.decode())
     equal("the status", done.returncode, 0)
     return output
@@ -306,7 +344,8 @@ def test_a_service_that_is_not_told_to_goes_on_without_standard_input(setting):
 
 
 def test_replies_in_flight_arrive_at_a_gentle_end(setting):
-    """Clients call without rest while standard input ends: each gets whole replies, and what was answered is in the journal."""
+    """Clients call without rest while standard input ends: each gets whole replies,
+    and what was answered is in the journal."""
     with Stopping(setting, workers=3) as service:
         answered, faults = [], []
 
@@ -332,7 +371,10 @@ def test_replies_in_flight_arrive_at_a_gentle_end(setting):
     check("an answer that isn't in the journal", set(answered) <= starts)
     check(f"{len(starts) - len(answered)} starts weren't answered", len(starts) <= len(answered) + len(clients))
     kinds = {type(it).__name__ for it in faults}
-    check(f"clients met {kinds}", kinds <= {"RemoteDisconnected", "ConnectionResetError", "BrokenPipeError", "ConnectionRefusedError"})
+    check(
+        f"clients met {kinds}",
+        kinds <= {"RemoteDisconnected", "ConnectionResetError", "BrokenPipeError", "ConnectionRefusedError"},
+    )
     return f"{seconds}, {len(answered)} answered"
 
 
@@ -361,7 +403,11 @@ def test_a_callback_in_flight_is_recorded_at_a_gentle_end(setting):
 
 def test_a_member_that_never_answers_is_given_up_at_a_gentle_end(setting):
     release = threading.Event()
-    with Participant(lambda _: (release.wait(PATIENCE), None)[1]) as member, Stopping(setting) as service, service.client() as client:
+    with (
+        Participant(lambda _: (release.wait(PATIENCE), None)[1]) as member,
+        Stopping(setting) as service,
+        service.client() as client,
+    ):
         action = client.start()
         recovery = client.join(action, **member.addresses("compensate"))
         client.end(action, "cancel")
@@ -423,7 +469,11 @@ def test_times_that_are_set_are_kept(setting):
 def test_a_callback_s_time_and_pauses_that_are_set_are_kept(setting):
     options = ("--callback-timeout", "1", "--retry-first", "700", "--retry-last", "700")
     release = threading.Event()
-    with Participant(lambda _: (release.wait(PATIENCE), None)[1]) as member, Stopping(setting, *options) as service, service.client() as client:
+    with (
+        Participant(lambda _: (release.wait(PATIENCE), None)[1]) as member,
+        Stopping(setting, *options) as service,
+        service.client() as client,
+    ):
         action = client.start()
         recovery = client.join(action, **member.addresses("compensate"))
         client.end(action, "cancel")
@@ -481,4 +531,7 @@ def test_a_disk_that_is_full_is_still_told_by_status_two_or_a_gentle_end(setting
         status, seconds, said = service.ended()
         equal("the status", status, 0)
         check(f"it ended after {seconds:.1f} s", seconds < LATE)
-        check(f"it says {said!r}", all(line.startswith("lra: a thread that carried has ended: ") for line in said.splitlines()))
+        check(
+            f"it says {said!r}",
+            all(line.startswith("lra: a thread that carried has ended: ") for line in said.splitlines()),
+        )

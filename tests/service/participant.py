@@ -51,7 +51,8 @@ def plain(code, body=b""):
 
 
 class Participant:
-    """A service that answers each request as `answer` says: a code and a body; pieces of bytes, as they stand; or nothing."""
+    """A service that answers each request as `answer` says: a code and a body; pieces of bytes, as they stand;
+    or nothing."""
 
     def __init__(self, answer=lambda request: (200, b"")):
         self.answer = answer

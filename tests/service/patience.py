@@ -1,4 +1,5 @@
-"""Clients and members that take their time: each is waited for so long and no longer, and others are served meanwhile."""
+"""Clients and members that take their time: each is waited for so long and no longer,
+and others are served meanwhile."""
 import resource
 import select
 import socket
@@ -102,7 +103,8 @@ def narrow(service):
 
 
 def left_with_its_replies(setting, each_second):
-    """A client that asks much and takes little: its connection ends, and what it can still take is the beginning of its replies."""
+    """A client that asks much and takes little: its connection ends,
+    and what it can still take is the beginning of its replies."""
     with setting.serve(2) as service, narrow(service) as stream:
         with service.client(keep=False) as client:
             request = f"GET /lra-coordinator/{id_of(client.start())} HTTP/1.1\r\nHost: h\r\n\r\n".encode()
@@ -123,7 +125,9 @@ def left_with_its_replies(setting, each_second):
         seconds = seconds_until(ended, service, MESSAGE + 2 * LATE)
         check_about("it was left", seconds, MESSAGE)
         taken += received(stream)[0]
-        check(f"{len(taken)} bytes are no front of the replies", len(taken) < len(replies) and replies.startswith(taken))
+        check(
+            f"{len(taken)} bytes are no front of the replies", len(taken) < len(replies) and replies.startswith(taken)
+        )
         return f"{len(taken)} of {len(replies)} bytes taken"
 
 
@@ -136,7 +140,8 @@ def test_a_client_that_takes_a_byte_a_second_is_left_after_ten_seconds(setting):
 
 
 def silent_after(setting, addresses, wanted):
-    """Two workers, a member that takes its time, and one that answers: when the first one's reply is recorded as silent."""
+    """Two workers, a member that takes its time, and one that answers:
+    when the first one's reply is recorded as silent."""
     with setting.serve(2) as service, Participant() as other, service.client() as client:
         slow = client.start()
         recovery = client.join(slow, **addresses)
@@ -246,7 +251,8 @@ def test_clients_that_break_off_do_no_harm(setting):
 
 
 def asked_near_the_end(setting, last):
-    """How often a journal whose last moment is that one asks a silent member within two seconds. Another is asked at once."""
+    """How often a journal whose last moment is that one asks a silent member within two seconds.
+    Another is asked at once."""
     journal.write(setting.journal, SOUND.replace(b"1 7 ", b"1 %d " % last))
     with setting.serve(2) as service, Participant() as other, service.client() as client:
         silent, swift = client.start(), client.start()

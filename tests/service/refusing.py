@@ -1,8 +1,9 @@
 """Runs a program, and refuses memory to threads: python3 refusing.py FLAG PROGRAM ARGUMENT..
 
-A thread that begins while there is a file FLAG gets no memory of the system, until that file is gone: its calls mmap, brk,
-mprotect and mremap fail (by ptrace, on Linux and x86-64). What it could have of memory that is there already is kept small: all
-threads share one heap, and pieces of 32 KiB and more are asked of the system each. The status is the program's own.
+A thread that begins while there is a file FLAG gets no memory of the system, until that file is gone: its calls mmap,
+brk, mprotect and mremap fail (by ptrace, on Linux and x86-64). What it could have of memory that is there already is
+kept small: all threads share one heap, and pieces of 32 KiB and more are asked of the system each.
+The status is the program's own.
 """
 import errno
 import os
@@ -17,7 +18,9 @@ import ptrace
 MMAP, MPROTECT, BRK, MREMAP = 9, 10, 12, 25
 MEMORY = {MMAP, MPROTECT, BRK, MREMAP}
 # How the C library takes its memory: one heap, which grows and shrinks by what is wanted, and pieces of their own.
-TUNABLES = "glibc.malloc.arena_max=1:glibc.malloc.top_pad=0:glibc.malloc.trim_threshold=4096:glibc.malloc.mmap_threshold=32768"
+TUNABLES = (
+    "glibc.malloc.arena_max=1:glibc.malloc.top_pad=0:glibc.malloc.trim_threshold=4096:glibc.malloc.mmap_threshold=32768"
+)
 
 
 def wants_memory(call, first):

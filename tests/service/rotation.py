@@ -24,7 +24,8 @@ QUIET = 2.5
 SOME = (3, 4, 5, 6, 8, 13)
 # The same of those that want memory.
 SOME_MEMORY = (1, 2, 4, 8, 16, 32)
-# How many allocations of a rotation are refused in the test, each in a run of its own; tools/fail-rotation --allocations has more.
+# How many allocations of a rotation are refused in the test, each in a run of its own; tools/fail-rotation
+# --allocations has more.
 SOME_ALLOCATIONS = 8
 # What may be answered while a journal can't be written, or a worker can't follow.
 ANSWERS = {200, 201, 202, 503}
@@ -33,8 +34,8 @@ CLOSED = (http.client.RemoteDisconnected, ConnectionResetError, BrokenPipeError)
 
 
 class Failing(folders.Folder):
-    """A service over a folder, one of whose calls fails, from when that is switched on: of those that write, or of those that want memory. Where its journal has
-    no room it may end."""
+    """A service over a folder, one of whose calls fails, from when that is switched on: of those that write, or of
+    those that want memory. Where its journal has no room it may end."""
 
     goes_on = False
 
@@ -94,7 +95,8 @@ class Answered:
         self.asked_to_end = []
 
     def call(self, client, method, path, **keys):
-        """The body of a reply that says that something was done, if it does. A connection may be closed with no reply, too."""
+        """The body of a reply that says that something was done, if it does.
+        A connection may be closed with no reply, too."""
         try:
             reply = client.call(method, path, **keys)
         except CLOSED:
@@ -139,7 +141,8 @@ def work(service, answered):
 
 
 class Once:
-    """Gives one call once more, of all that are given: the one whose own allocation was refused, so that its connection is closed with no reply."""
+    """Gives one call once more, of all that are given: the one whose own allocation was refused, so that its connection
+    is closed with no reply."""
 
     def __init__(self):
         self.is_left = True
@@ -156,7 +159,8 @@ class Once:
 
 
 def check_goes_on(service, answered):
-    """Nobody of a service has stopped: all that it has is found by each worker, more is begun, members are asked, and what has ended is archived."""
+    """Nobody of a service has stopped: all that it has is found by each worker, more is begun, members are asked, and
+    what has ended is archived."""
     left = [action for action in answered.starts if action not in answered.asked_to_end]
     give = Once()
     with contextlib.ExitStack() as stack:
@@ -224,14 +228,17 @@ def try_one(setting, workers, number, way=failing):
             try:
                 check_goes_on(service, answered)
             except (AssertionError, OSError) as fault:
-                raise AssertionError(f"{fault}; the program has the status {service.process.poll()} and told {service.told()[-500:]!r}") from fault
+                raise AssertionError(
+                    f"{fault}; the program has the status {service.process.poll()} and told {service.told()[-500:]!r}"
+                ) from fault
         service.kill()
     check_journals(service, answered)
     return count
 
 
 def try_each(setting, workers, numbers, way=failing):
-    """Has each of these calls or allocations fail, each in a run of its own. Answers the counts of them, and the faults of runs."""
+    """Has each of these calls or allocations fail, each in a run of its own. Answers the counts of them,
+    and the faults of runs."""
     counts, faults = {}, {}
 
     def one(number):
@@ -265,6 +272,8 @@ def test_what_was_answered_is_in_the_journals_whichever_memory_of_a_rotation_is_
 
 def test_a_service_goes_on_whichever_allocation_of_a_rotation_is_refused(setting):
     most = try_one(setting, 2, 0, allocations)
-    counts, faults = try_each(setting, 2, [1 + place * most // SOME_ALLOCATIONS for place in range(SOME_ALLOCATIONS)], allocations)
+    counts, faults = try_each(
+        setting, 2, [1 + place * most // SOME_ALLOCATIONS for place in range(SOME_ALLOCATIONS)], allocations
+    )
     equal("runs that lost something, or ended, by the allocation that was refused", faults, {})
     return f"{len(counts)} of {most} allocations are refused"

@@ -1,4 +1,5 @@
-"""What the system has too few of, threads, descriptors and memory: a service that lacks them says so, and one that serves answers."""
+"""What the system has too few of, threads, descriptors and memory: a service that lacks them says so,
+and one that serves answers."""
 import http.client
 import os
 import re
@@ -23,7 +24,8 @@ from watching import watched
 USER, THREADS = 61_234, 24
 # How many seconds an idle connection has to make room for a newcomer.
 ROOM = 1
-# How many seconds lie between two newcomers at least: idle times are kept in milliseconds, and one of a millisecond counts as another of it.
+# How many seconds lie between two newcomers at least: idle times are kept in milliseconds, and one of a millisecond
+# counts as another of it.
 APART = 0.005
 # The line that tells of lowered limits.
 LOWERED = re.compile(r"at most (\d+) connections and (\d+) callbacks at once: the limit of open files is 128\n")
@@ -171,7 +173,9 @@ def test_a_worker_that_ends_is_told_and_the_last_one_ends_the_service(setting):
         folder.end_one()
         wait_until("that health is DOWN", lambda: not folder.is_ready())
         told = folder.told()
-        check(told, "error thread ended" in told and "a thread that answered has ended: the system tells no more" in told)
+        check(
+            told, "error thread ended" in told and "a thread that answered has ended: the system tells no more" in told
+        )
         for _ in range(3):
             folder.first()
         folder.end_one()
@@ -181,7 +185,8 @@ def test_a_worker_that_ends_is_told_and_the_last_one_ends_the_service(setting):
 
 
 class Refusing(operators.WatchedFolder):
-    """A service of a folder, with a port for operators and a log: threads that begin while a file is there get no memory."""
+    """A service of a folder, with a port for operators and a log:
+    threads that begin while a file is there get no memory."""
 
     def __init__(self, setting):
         super().__init__(setting, "--roll-after", "2", "--remember", "3600", "--log", "warn", key=None)
@@ -193,7 +198,8 @@ class Refusing(operators.WatchedFolder):
 
 
 def test_a_callback_thread_that_is_refused_memory_goes_on(setting):
-    """That of the next journal but one begins while there is none. Until there is, health is DOWN and says whose callbacks stand still."""
+    """That of the next journal but one begins while there is none. Until there is, health is DOWN and says whose
+    callbacks stand still."""
     with Refusing(setting) as folder, Participant() as member:
         time.sleep(0.5)
         journal.write(folder.flag, b"")
@@ -307,7 +313,8 @@ MOST_REFUSED = 200
 
 
 def until_done(client, method, path):
-    """Repeats a request for which there may be no memory until it is done: 503 or no reply at all says that it may not be."""
+    """Repeats a request for which there may be no memory until it is done:
+    503 or no reply at all says that it may not be."""
 
     def is_done():
         try:

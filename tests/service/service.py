@@ -44,8 +44,9 @@ def check(what, holds):
 
 
 def free_port():
-    """A port of four digits that nothing listens at, and that wasn't given before. The system chooses none of these itself. It is asked
-    by a connection: a socket that was bound to it would be held for a while by a process that another thread is just starting."""
+    """A port of four digits that nothing listens at, and that wasn't given before. The system chooses none of these
+    itself. It is asked by a connection: a socket that was bound to it would be held for a while by a process that
+    another thread is just starting."""
     while True:
         port = random.randint(2000, 9999)
         with lock, socket.socket() as probe:
@@ -90,7 +91,9 @@ def id_of(uri):
 
 def run(program, *words):
     """Runs the program to its end."""
-    done = subprocess.run([program, *words], stdin=subprocess.DEVNULL, capture_output=True, timeout=PATIENCE, check=False)
+    done = subprocess.run(
+        [program, *words], stdin=subprocess.DEVNULL, capture_output=True, timeout=PATIENCE, check=False
+    )
     return Run(done.returncode, done.stdout.decode(), done.stderr.decode())
 
 
@@ -158,7 +161,9 @@ class Service:
     def begin(self, stdin=subprocess.DEVNULL, stderr=subprocess.STDOUT):
         """Starts the program."""
         # SIGXFSZ stays ignored, as Python has it: else a file that may not grow would end the program.
-        self.process = subprocess.Popen(self.words, stdin=stdin, stdout=subprocess.PIPE, stderr=stderr, restore_signals=False)
+        self.process = subprocess.Popen(
+            self.words, stdin=stdin, stdout=subprocess.PIPE, stderr=stderr, restore_signals=False
+        )
         with lock:
             started.append(self.process)
 
@@ -220,7 +225,10 @@ class Telling(Service):
         if line != f"serving {self.address}\n":
             told, taken = self.told(), self.seconds()
             self.kill()
-            raise AssertionError(f"the service says {line!r} and {told!r} after {taken:.1f} s of a processor, wanted 'serving {self.address}'")
+            raise AssertionError(
+                f"the service says {line!r} and {told!r} after {taken:.1f} s of a processor, "
+                f"wanted 'serving {self.address}'"
+            )
         return self
 
     def kill(self, *signals):

@@ -1,4 +1,5 @@
-"""What becomes of one site of several: it is drained, its folder is restored from a copy, and its folder is another's."""
+"""What becomes of one site of several: it is drained, its folder is restored from a copy,
+and its folder is another's."""
 import json
 import os
 import shutil
@@ -42,7 +43,10 @@ def test_a_site_that_drains_ends_once_its_actions_have(setting):
         with Folder(setting, *BASE) as folder, folder.client() as client:
             action = client.start()
             client.join(action, **member.addresses("complete", "compensate"))
-        with WatchedFolder(setting, *BASE, "--drain", "--remember", str(REMEMBERED)) as service, service.client() as client:
+        with (
+            WatchedFolder(setting, *BASE, "--drain", "--remember", str(REMEMBERED)) as service,
+            service.client() as client,
+        ):
             full(client.call("POST", "/lra-coordinator"))
             equal("what is ready", checks(service, "/ready"), (503, dict.fromkeys(READY, "UP") | {"starts": "DOWN"}))
             equal("what lives", checks(service, "/live"), (200, dict.fromkeys(LIVE, "UP")))
@@ -162,8 +166,16 @@ def test_what_only_a_folder_can_do_is_refused_of_a_file(setting):
     check("nothing is made", not os.path.exists(setting.journal))
     folder = Folder(setting)
     journal.write(f"{setting.folder}/long", b"1" * 4097)
-    for path, why in ((f"{setting.folder}/missing", "cannot read {}"), (setting.folder, "cannot read {}"), (f"{setting.folder}/long", "{}: too long")):
+    for path, why in (
+        (f"{setting.folder}/missing", "cannot read {}"),
+        (setting.folder, "cannot read {}"),
+        (f"{setting.folder}/long", "{}: too long"),
+    ):
         equal("the refusal", refused(folder, "--fence", path), (2, "", f"lra: {why.format(path)}\n"))
     told = refused(folder, "--check", "--drain", "--restored", "--fence", fence)
-    equal("the check", (told.status, told.told, told.output.splitlines()[-3:]), (0, "", [f'fence = "{fence}"', "drain = true", "restored = true"]))
+    equal(
+        "the check",
+        (told.status, told.told, told.output.splitlines()[-3:]),
+        (0, "", [f'fence = "{fence}"', "drain = true", "restored = true"]),
+    )
     equal("what is there", os.listdir(folder.folder), [])

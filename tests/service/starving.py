@@ -1,8 +1,8 @@
 """Runs a service, and refuses memory once: python3 starving.py FOLDER NUMBER SWITCH PROGRAM ARGUMENT..
 
-Once there is a file SWITCH the calls are counted that want memory of the system: the one with that number fails, and so do those that
-its thread makes right behind it, since the C library tries another way where one fails (by ptrace, on Linux and x86-64). SWITCH gets a
-line for each call. The status is the program's own.
+Once there is a file SWITCH the calls are counted that want memory of the system: the one with that number fails, and so
+do those that its thread makes right behind it, since the C library tries another way where one fails (by ptrace, on
+Linux and x86-64). SWITCH gets a line for each call. The status is the program's own.
 """
 import os
 import sys

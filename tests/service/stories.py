@@ -1,4 +1,5 @@
-"""Stories, listings, and journals that are followed: journals that scripts make, and the sentences that are wanted of them."""
+"""Stories, listings, and journals that are followed: journals that scripts make,
+and the sentences that are wanted of them."""
 import os
 import signal
 import subprocess
@@ -23,7 +24,8 @@ SCRIPT = f"""\
 1 {AT + 6000} tick
 1 {AT + 6000} ask
 """
-# What the second action's journal comes to, line by line: 1 is the header, 2 enrols the clerk, 3 starts the first action.
+# What the second action's journal comes to, line by line: 1 is the header, 2 enrols the clerk,
+# 3 starts the first action.
 STARTED = "line 4: started by clerk 1 at 2026-11-26T22:15:02.250Z, below action 1, with a limit of 5.000 s\n"
 MIDDLE = (
     STARTED
@@ -35,7 +37,8 @@ MIDDLE = (
 )
 WAITING = "action 2 (nested in 1) is Cancelling\n" + MIDDLE + (
     "waits for member 1, which is Compensating\n"
-    "member 1 is asked to compensate at http://n.test/u: ask 1, of line 9, has no answer since 2026-11-26T22:15:07.250Z\n"
+    "member 1 is asked to compensate at http://n.test/u: ask 1, of line 9, "
+    "has no answer since 2026-11-26T22:15:07.250Z\n"
 )
 ENDED = "action 2 (nested in 1) is Cancelled\n" + MIDDLE + (
     "line 10: member 1 answered that it is compensated\n"
@@ -61,13 +64,15 @@ SILENT = "action 2 (nested in 1) is Cancelling\n" + MIDDLE + (
     "line 11: member 1 is asked to compensate (ask 2)\n"
     "line 12: member 1 gave no answer to ask 2\n"
     "waits for member 1, which is Compensating\n"
-    "member 1 is to be asked to compensate at http://n.test/u again, from 2026-11-26T22:15:09.350Z on by the default pauses\n"
+    "member 1 is to be asked to compensate at http://n.test/u again, "
+    "from 2026-11-26T22:15:09.350Z on by the default pauses\n"
     "member 1 was called 2 times for that, last without an answer (line 12): the operators' page has the reason\n"
 )
 AT_IT = "action 2 (nested in 1) is Cancelling\n" + MIDDLE + (
     "line 10: member 1 answered that it goes on\n"
     "waits for member 1, which is Compensating\n"
-    "member 1 is to be asked to compensate at http://n.test/u again, from 2026-11-26T22:15:07.450Z on by the default pauses\n"
+    "member 1 is to be asked to compensate at http://n.test/u again, "
+    "from 2026-11-26T22:15:07.450Z on by the default pauses\n"
     "member 1 was called once for that, last with the answer that it goes on (line 10)\n"
 )
 # An action that closed, and of which a member is still to be told; its addresses have marks that XML reads.
@@ -82,7 +87,8 @@ NOTICES = (
 TOLD = (
     "action 1 is Closed\n"
     "line 3: started by clerk 1 at 2026-11-26T22:15:01.250Z\n"
-    "line 4: member 1 joined, compensate http://n.test/u, complete http://n.test/c, status http://n.test/s, forget http://n.test/f, "
+    "line 4: member 1 joined, compensate http://n.test/u, complete http://n.test/c, status http://n.test/s, "
+    "forget http://n.test/f, "
     "after http://n.test/a'b?x=1&y=2\n"
     "line 5: its client closes it: it is Closing\n"
     "line 6: member 1 is asked to complete (ask 1)\n"
@@ -90,10 +96,14 @@ TOLD = (
     "line 8: it is Closed: all that it waited for has ended well\n"
     "line 9: member 1 is told how the action ended (ask 2)\n"
 )
-OPEN_NOTICE = "member 1 is told how the action ended at http://n.test/a'b?x=1&y=2: ask 2, of line 9, has no answer since 2026-11-26T22:15:02.250Z\n"
+OPEN_NOTICE = (
+    "member 1 is told how the action ended at http://n.test/a'b?x=1&y=2: ask 2, of line 9, "
+    "has no answer since 2026-11-26T22:15:02.250Z\n"
+)
 SILENT_NOTICE = (
     "line 10: member 1 gave no answer to ask 2\n"
-    "member 1 is to be told how the action ended at http://n.test/a'b?x=1&y=2 again, from 2026-11-26T22:15:03.350Z on by the default pauses\n"
+    "member 1 is to be told how the action ended at http://n.test/a'b?x=1&y=2 again, "
+    "from 2026-11-26T22:15:03.350Z on by the default pauses\n"
     "member 1 was called once for that, last without an answer (line 10): the operators' page has the reason\n"
 )
 # The identifier of the second action at the instance of every script, 7.
@@ -159,9 +169,15 @@ def test_a_story_that_has_ended_but_for_a_notice(setting):
     write_played(setting, notices((2000, "reply 2 silent")))
     equal("it gave no answer", explained(setting, "1"), (0, TOLD + SILENT_NOTICE, ""))
     texts = pieces(drawn(setting, "1").output, "text")
-    equal("the lines of the picture", "".join(text for _, look, text in texts if look != "moment"), TOLD + SILENT_NOTICE)
+    equal(
+        "the lines of the picture", "".join(text for _, look, text in texts if look != "moment"), TOLD + SILENT_NOTICE
+    )
     write_played(setting, notices((2000, "reply 2 done")))
-    equal("it was told", explained(setting, "1"), (0, TOLD + "line 10: member 1 answered that it knows how the action ended\n", ""))
+    equal(
+        "it was told",
+        explained(setting, "1"),
+        (0, TOLD + "line 10: member 1 answered that it knows how the action ended\n", ""),
+    )
 
 
 def test_a_story_of_no_action(setting):
@@ -226,14 +242,23 @@ def drawn(setting, name):
 
 def pieces(picture, *names):
     """The pieces of a picture that have these names, in their order, each as its name, its class and its text."""
-    found = ((it.tag.removeprefix("{http://www.w3.org/2000/svg}"), it.get("class"), it.text) for it in ElementTree.fromstring(picture).iter())
+    found = (
+        (it.tag.removeprefix("{http://www.w3.org/2000/svg}"), it.get("class"), it.text)
+        for it in ElementTree.fromstring(picture).iter()
+    )
     return [it for it in found if it[0] in names]
 
 
 def test_a_picture_of_a_story(setting):
     """Its texts are the lines of the story, and beside each entry's are its moment and its mark."""
     done, failed = (6100, "reply 1 done"), (6100, "reply 1 failed")
-    for more, name, lines in (((), "2", WAITING), (SILENCES, "2", SILENT), ((done,), ID, ENDED), ((failed,), "2", FAILED), ((done,), "1", OUTER)):
+    for more, name, lines in (
+        ((), "2", WAITING),
+        (SILENCES, "2", SILENT),
+        ((done,), ID, ENDED),
+        ((failed,), "2", FAILED),
+        ((done,), "1", OUTER),
+    ):
         played(setting, *more)
         picture = drawn(setting, name)
         equal("the status, and what is told", (picture.status, picture.told), (0, ""))
@@ -258,9 +283,16 @@ def test_no_picture(setting):
     text = played(setting)
     for name in ("3", "0", ID[:-1] + "9"):
         equal(name, drawn(setting, name), (1, f"unknown action {name}\n", ""))
-    for words in (("--svg", setting.journal, "2"), (setting.journal, "--svg", "2"), (setting.journal, "--svg"), (setting.journal, "2", "--png")):
+    for words in (
+        ("--svg", setting.journal, "2"),
+        (setting.journal, "--svg", "2"),
+        (setting.journal, "--svg"),
+        (setting.journal, "2", "--png"),
+    ):
         equal(f"explain {words}", setting.run("explain", *words), (2, "", "lra: usage\n"))
-    for words in ((setting.journal, "2", "--svg", "--svg"), (setting.journal, "2x", "--svg"), (setting.journal, "2", "")):
+    for words in (
+        (setting.journal, "2", "--svg", "--svg"), (setting.journal, "2x", "--svg"), (setting.journal, "2", "")
+    ):
         equal(f"explain {words}", setting.run("explain", *words), (2, "", "lra: usage\n"))
     with open(setting.journal, "a") as it:
         it.write(f"1 {AT + 9000} end 1 Closed\n")
@@ -327,7 +359,9 @@ def test_a_listing_of_what_ended_badly(setting):
     line = f"2 {ID} FailedToCancel 1 5.100 FailedToCompensate=1,Left=1\n"
     for state, lines in (("FailedToCancel", line), ("Cancelled", ""), ("FailedToClose", "")):
         equal(f"those that are {state}", setting.run("list", setting.journal, "--state", state), (0, lines, ""))
-    begun = "".join(f"1 {AT} {words}\n" for words in ("start * 0", "join 1 http://n.test/u http://n.test/c * * *", "close 1", "ask"))
+    begun = "".join(
+        f"1 {AT} {words}\n" for words in ("start * 0", "join 1 http://n.test/u http://n.test/c * * *", "close 1", "ask")
+    )
     write_played(setting, f"0 {AT} enrol\n{begun}1 {AT + 1000} reply 1 failed\n")
     line = f"1 {FIRST_ID} FailedToClose * 1.000 FailedToComplete=1\n"
     for state, lines in (("FailedToClose", line), ("Closed", ""), ("FailedToCancel", "")):
@@ -339,7 +373,12 @@ def test_a_listing_of_a_folder(setting):
     os.remove(setting.journal)
     os.remove(f"{setting.folder}/script")
     os.makedirs(f"{setting.folder}/ended")
-    for name, content in (("b.journal", text), ("a.journal", HEADER + "\n1 0 end 1 Closed\n"), ("ended/c.journal", HEADER + "\n"), ("notes", "")):
+    for name, content in (
+        ("b.journal", text),
+        ("a.journal", HEADER + "\n1 0 end 1 Closed\n"),
+        ("ended/c.journal", HEADER + "\n"),
+        ("notes", ""),
+    ):
         with open(f"{setting.folder}/{name}", "w") as it:
             it.write(content)
     wanted = (
@@ -347,7 +386,9 @@ def test_a_listing_of_a_folder(setting):
         f"b.journal 1 {FIRST_ID} Active * 6.100 *\n"
         f"b.journal 2 {ID} Cancelled 1 5.100 Compensated=1,Left=1\n"
     )
-    equal("the folder", setting.run("list", setting.folder), (1, wanted, f"lra: {setting.folder}/notes is no journal\n"))
+    equal(
+        "the folder", setting.run("list", setting.folder), (1, wanted, f"lra: {setting.folder}/notes is no journal\n")
+    )
 
 
 def test_names_that_are_no_text_or_have_control_characters(setting):
@@ -371,7 +412,11 @@ class Following:
         self.output = open(f"{setting.folder}/followed", "w+")
         self.told = open(f"{setting.folder}/told", "w+")
         self.process = subprocess.Popen(
-            [setting.program, "follow", place or setting.journal, *options], stdin=subprocess.PIPE, stdout=self.output, stderr=self.told, text=True
+            [setting.program, "follow", place or setting.journal, *options],
+            stdin=subprocess.PIPE,
+            stdout=self.output,
+            stderr=self.told,
+            text=True,
         )
 
     def __enter__(self):
@@ -518,7 +563,11 @@ def test_a_journal_of_a_folder_that_is_lost(setting):
             following.ends(2, f"lra: {place.path}/b.journal {wanted}\n")
     os.chmod(f"{place.path}/b.journal", 0)
     if not os.access(f"{place.path}/b.journal", os.R_OK):
-        equal("one that can't be read", setting.run("follow", place.path), (2, "", f"lra: cannot read {place.path}/b.journal\n"))
+        equal(
+            "one that can't be read",
+            setting.run("follow", place.path),
+            (2, "", f"lra: cannot read {place.path}/b.journal\n"),
+        )
 
 
 def test_a_folder_that_is_served_and_followed(setting):
@@ -550,4 +599,6 @@ def test_a_folder_that_is_served_and_followed(setting):
 def test_what_cannot_be_read(setting):
     for words in (("explain", setting.journal, "1"), ("list", setting.journal), ("follow", setting.journal)):
         equal(words[0], setting.run(*words), (2, "", f"lra: cannot read {setting.journal}\n"))
-    check("help has them", all(f"lra {verb} " in setting.run("--help").output for verb in ("explain", "list", "follow")))
+    check(
+        "help has them", all(f"lra {verb} " in setting.run("--help").output for verb in ("explain", "list", "follow"))
+    )

@@ -1,4 +1,5 @@
-"""Where a service is: a secret that identifiers begin with, without which nothing is served; and a port that the system chooses."""
+"""Where a service is: a secret that identifiers begin with, without which nothing is served;
+and a port that the system chooses."""
 import os
 import re
 
@@ -10,7 +11,16 @@ from service import HOST, Service, check, equal, id_of
 
 TOKEN, OTHER = "c2VjcmV0LXdvcmQtMDE", "YW5vdGhlci13b3JkLTAy"
 # Texts that are no tokens: too short, too long, and with what has no place in a path.
-OTHERS = ("", "short", "x" * 15, "x" * 129, "c2VjcmV0/d29yZC0wMQ", "c2VjcmV0.d29yZC0wMQ", "c2VjcmV0 d29yZC0wMQ", "sécret-word-of-mine")
+OTHERS = (
+    "",
+    "short",
+    "x" * 15,
+    "x" * 129,
+    "c2VjcmV0/d29yZC0wMQ",
+    "c2VjcmV0.d29yZC0wMQ",
+    "c2VjcmV0 d29yZC0wMQ",
+    "sécret-word-of-mine",
+)
 NO_PATH = (404, {"error": "NoSuchPath"})
 
 
@@ -30,18 +40,33 @@ def answer(client, method, path, **keys):
 
 def check_token(setting, place):
     """Everything lies behind the secret, and nothing beside it."""
-    with Participant() as member, Based(setting, place, "--token", token_file(setting)) as service, service.client() as client:
+    with (
+        Participant() as member,
+        Based(setting, place, "--token", token_file(setting)) as service,
+        service.client() as client,
+    ):
         own = f"http://{service.address}/{TOKEN}/"
         action = client.call("POST", f"/{TOKEN}/lra-coordinator").body["lra"]
         check(f"the action is {action}", action.startswith(own + "lra-coordinator/"))
         for path in ("", "/" + OTHER, "/" + TOKEN[:-1], f"/{TOKEN}x", f"//{TOKEN}", f"/x/{TOKEN}"):
-            for method, rest in (("GET", "/lra-coordinator/" + id_of(action)), ("POST", "/lra-coordinator"), ("DELETE", "/x"), ("PUT", f"/lra-coordinator/{id_of(action)}/close")):
+            for method, rest in (
+                ("GET", "/lra-coordinator/" + id_of(action)),
+                ("POST", "/lra-coordinator"),
+                ("DELETE", "/x"),
+                ("PUT", f"/lra-coordinator/{id_of(action)}/close"),
+            ):
                 equal(f"{method} at {path!r}", answer(client, method, path + rest), NO_PATH)
         inside = f"/{TOKEN}/lra-coordinator/{id_of(action)}"
-        recovery = client.call("PUT", inside, complete=member.uri("complete"), compensate=member.uri("compensate")).body["recovery"]
+        recovery = client.call(
+            "PUT", inside, complete=member.uri("complete"), compensate=member.uri("compensate")
+        ).body["recovery"]
         check(f"the member is {recovery}", recovery.startswith(own + "lra-recovery/"))
         equal("a nested start", client.call("POST", f"/{TOKEN}/lra-coordinator", parent=action).code, 201)
-        equal("one that names its parent without the secret", client.call("POST", f"/{TOKEN}/lra-coordinator", parent=action.replace(TOKEN + "/", "")).code, 404)
+        equal(
+            "one that names its parent without the secret",
+            client.call("POST", f"/{TOKEN}/lra-coordinator", parent=action.replace(TOKEN + "/", "")).code,
+            404,
+        )
         check("the close", client.call("PUT", inside + "/close").code in (200, 202))
         equal("what the member is told", member.wait("complete")[0].fields["Long-Running-Action"], action)
 
@@ -52,7 +77,10 @@ def test_nothing_is_served_beside_the_token(setting):
 
 
 def test_a_token_stands_behind_a_base(setting):
-    with Based(setting, setting.journal, "--base", BASE, "--token", token_file(setting)) as service, service.client() as client:
+    with (
+        Based(setting, setting.journal, "--base", BASE, "--token", token_file(setting)) as service,
+        service.client() as client,
+    ):
         for path in (f"/{TOKEN}", f"/shop/{TOKEN}"):
             reply = client.call("POST", path + "/lra-coordinator")
             came = (reply.code, (reply.body.get("lra") or "").startswith(f"{BASE}{TOKEN}/lra-coordinator/"))
@@ -67,7 +95,11 @@ def test_what_is_no_token_is_refused_and_told_by_its_file(setting):
     for text in OTHERS:
         told = serve_by(setting, "--token", token_file(setting, text + "\n"))
         equal(f"a file with {text!r}", told, (2, "", f"lra: {path}: no token of 16 to 128 letters, digits, - and _\n"))
-    equal("a file of others", serve_by(setting, "--token", token_file(setting, mode=0o640)), (2, "", f"lra: {path}: others than its owner may read it\n"))
+    equal(
+        "a file of others",
+        serve_by(setting, "--token", token_file(setting, mode=0o640)),
+        (2, "", f"lra: {path}: others than its owner may read it\n"),
+    )
     os.remove(path)
     equal("no file", serve_by(setting, "--token", path), (2, "", f"lra: cannot read {path}\n"))
     check("a file was made", not os.path.exists(setting.journal))
@@ -81,7 +113,10 @@ def test_another_token_is_told_without_it(setting):
     service.begin()
     line = service.first_line()
     service.kill()
-    check(f"what is told is {line!r}", line.startswith("lra: identifiers begin otherwise than they did") and TOKEN not in line and OTHER not in line)
+    check(
+        f"what is told is {line!r}",
+        line.startswith("lra: identifiers begin otherwise than they did") and TOKEN not in line and OTHER not in line,
+    )
 
 
 class Chosen(Service):
@@ -108,7 +143,10 @@ def test_a_port_of_0_is_one_that_the_system_chooses(setting):
         with Chosen(setting, place) as service, service.client() as client:
             action = client.start()
             check(f"the action is {action}", action.startswith(f"http://{service.address}/lra-coordinator/"))
-            with Chosen(setting, setting.folder + "/other", "--base", BASE, host="0.0.0.0") as other, other.client() as beside:
+            with (
+                Chosen(setting, setting.folder + "/other", "--base", BASE, host="0.0.0.0") as other,
+                other.client() as beside,
+            ):
                 check("two have one port", other.port != service.port)
                 check("the base", beside.start().startswith(BASE + "lra-coordinator/"))
         os.remove(setting.folder + "/other")

@@ -1,5 +1,5 @@
-"""Bad worlds: peers that reset at each byte, sockets that take a byte at a time, files that are used up, polls that are woken for nothing, and a thousand
-members that never answer; others are served beside them."""
+"""Bad worlds: peers that reset at each byte, sockets that take a byte at a time, files that are used up, polls that are
+woken for nothing, and a thousand members that never answer; others are served beside them."""
 import contextlib
 import fcntl
 import itertools
@@ -28,7 +28,8 @@ TAKEN = 300
 FILES, MORE = 96, 100
 # How many connections are opened and closed without a byte, so many at once.
 EMPTY, AT_ONCE = 3000, 100
-# How many peers wake the other side for nothing, for how many seconds; and at how many hosts those that are members are.
+# How many peers wake the other side for nothing, for how many seconds;
+# and at how many hosts those that are members are.
 PEERS, NUDGES, NUDGERS = 500, 2, 5
 # Members that never answer, the hosts that they are at, and how often it is looked how late others are.
 SILENT, HOSTS, LOOKS = 1000, 16, 20
@@ -113,7 +114,8 @@ def test_a_client_that_resets_at_each_byte_of_a_reply_does_no_harm(setting):
 
 
 class Member:
-    """A member's service that does with each connection what it is told to, one after another, over a socket whose buffers are small where it is to be narrow."""
+    """A member's service that does with each connection what it is told to, one after another, over a socket whose
+    buffers are small where it is to be narrow."""
 
     def __init__(self, talk, is_narrow=False):
         self.talk = talk
@@ -174,7 +176,8 @@ ANSWERS = (
 
 
 class Breaking:
-    """A member that resets each connection at another byte of the request, and then of each of its answers; once it has been through all it answers."""
+    """A member that resets each connection at another byte of the request, and then of each of its answers; once it has
+    been through all it answers."""
 
     def __init__(self):
         self.length = None
@@ -252,7 +255,9 @@ def test_a_client_that_takes_a_byte_at_a_time_has_all_its_replies(setting):
 
 
 def test_a_member_that_takes_and_answers_a_byte_at_a_time_is_heard(setting):
-    answer = b"HTTP/1.1 200 OK\r\nTransfer-Encoding: chunked\r\n\r\n%s0\r\n\r\n" % b"".join(b"1\r\n%c\r\n" % it for it in b"Compensated")
+    answer = b"HTTP/1.1 200 OK\r\nTransfer-Encoding: chunked\r\n\r\n%s0\r\n\r\n" % b"".join(
+        b"1\r\n%c\r\n" % it for it in b"Compensated"
+    )
     requests = []
 
     def talk(stream):
@@ -281,10 +286,16 @@ def share(service, seconds):
 
 
 def test_files_that_are_few_are_shared(setting):
-    """More clients than there are files for: each is answered, for those that have been idle for longest make room, and a member is called beside them."""
+    """More clients than there are files for: each is answered, for those that have been idle for longest make room, and
+    a member is called beside them."""
     few = setting.serve(2)
     few.words = ["sh", "-c", f'ulimit -n {FILES}; exec "$@" 2>/dev/null', "sh", *few.words]
-    with few as service, Participant() as member, service.client(keep=False) as client, contextlib.ExitStack() as open_ones:
+    with (
+        few as service,
+        Participant() as member,
+        service.client(keep=False) as client,
+        contextlib.ExitStack() as open_ones,
+    ):
         action = client.start()
         client.join(action, **member.addresses("compensate"))
         slowest = 0
@@ -308,7 +319,10 @@ def wakes(service):
     count = 0
     for thread in os.listdir(f"/proc/{service.process.pid}/task"):
         # (a thread that has made the service ready may have ended since)
-        with contextlib.suppress(FileNotFoundError, ProcessLookupError), open(f"/proc/{service.process.pid}/task/{thread}/status", encoding="ascii") as it:
+        with (
+            contextlib.suppress(FileNotFoundError, ProcessLookupError),
+            open(f"/proc/{service.process.pid}/task/{thread}/status", encoding="ascii") as it,
+        ):
             count += next(int(line.split()[1]) for line in it if line.startswith("voluntary_ctxt_switches:"))
     return count
 
@@ -319,8 +333,8 @@ def unacknowledged(stream):
 
 
 def nudge(streams, counts):
-    """Has peers wake the other side again and again without a byte that it could read, and counts how often: what is urgent comes in no read, as long as
-    no more is urgent before it has arrived."""
+    """Has peers wake the other side again and again without a byte that it could read, and counts how often: what is
+    urgent comes in no read, as long as no more is urgent before it has arrived."""
     end = time.monotonic() + NUDGES
     while time.monotonic() < end:
         for stream in streams:
@@ -358,7 +372,10 @@ def test_polls_of_clients_that_are_woken_for_nothing(setting):
         count = wakes(service) - before
         service.kill()
     check_kept(setting, told)
-    return f"{EMPTY} connections without a byte and {counts['nudges']} urgent bytes, {count} wakes, {len(told)} starts meanwhile"
+    return (
+        f"{EMPTY} connections without a byte and {counts['nudges']} urgent bytes, {count} wakes, "
+        f"{len(told)} starts meanwhile"
+    )
 
 
 def come(listener, count):
@@ -373,10 +390,18 @@ def come(listener, count):
 
 def test_polls_of_callbacks_that_are_woken_for_nothing(setting):
     each = 64 // 2
-    with setting.serve(1) as service, Participant() as other, service.client() as client, contextlib.ExitStack() as open_ones:
+    with (
+        setting.serve(1) as service,
+        Participant() as other,
+        service.client() as client,
+        contextlib.ExitStack() as open_ones,
+    ):
         room_for(service, NUDGERS * each)
         before, counts = wakes(service), Counter()
-        listeners = [open_ones.enter_context(socket.create_server((f"127.0.0.{place + 2}", 0), backlog=128)) for place in range(NUDGERS)]
+        listeners = [
+            open_ones.enter_context(socket.create_server((f"127.0.0.{place + 2}", 0), backlog=128))
+            for place in range(NUDGERS)
+        ]
         uris = ["http://{}:{}/u".format(*listener.getsockname()) for listener in listeners]
         actions = [cancelled(client, uri) for uri in uris for _ in range(each)]
         streams = [open_ones.enter_context(stream) for listener in listeners for stream in come(listener, each)]
@@ -398,7 +423,9 @@ def test_polls_of_callbacks_that_are_woken_for_nothing(setting):
 def never_answering(stack, hosts):
     """A listener on each of some hosts, at which connections wait for ever."""
     for place in range(hosts):
-        listener = stack.enter_context(socket.create_server((f"127.0.{place // 250}.{place % 250 + 2}", 0), backlog=SILENT))
+        listener = stack.enter_context(
+            socket.create_server((f"127.0.{place // 250}.{place % 250 + 2}", 0), backlog=SILENT)
+        )
         yield "http://{}:{}/u".format(*listener.getsockname())
 
 
@@ -424,7 +451,12 @@ def asked(setting):
 
 
 def test_a_thousand_silent_members_hold_up_nobody(setting):
-    with setting.serve(4) as service, Participant() as member, service.client() as client, contextlib.ExitStack() as open_ones:
+    with (
+        setting.serve(4) as service,
+        Participant() as member,
+        service.client() as client,
+        contextlib.ExitStack() as open_ones,
+    ):
         room_for(service, SILENT)
         silent = list(never_answering(open_ones, HOSTS))
         for place in range(SILENT):
@@ -435,12 +467,22 @@ def test_a_thousand_silent_members_hold_up_nobody(setting):
         passed = lateness_of_limits(setting.journal)
         check(f"only {len(asked(setting))} members are asked", len(asked(setting)) >= SILENT)
         check(f"a member is called after {max(late):.2f} s", max(late) < LATE)
-        check(f"a limit is {max(passed)} ms late", len(passed) == LOOKS and 0 <= min(passed) and max(passed) < 1000 * LATE)
-        return f"a good member is called after {1000 * max(late):.0f} ms at most, a limit fires {max(passed)} ms late at most"
+        check(
+            f"a limit is {max(passed)} ms late", len(passed) == LOOKS and 0 <= min(passed) and max(passed) < 1000 * LATE
+        )
+        return (
+            f"a good member is called after {1000 * max(late):.0f} ms at most, "
+            f"a limit fires {max(passed)} ms late at most"
+        )
 
 
 def test_silent_members_that_fall_due_at_once_hold_up_nobody(setting):
-    with setting.serve(4) as service, Participant() as member, service.client() as client, contextlib.ExitStack() as open_ones:
+    with (
+        setting.serve(4) as service,
+        Participant() as member,
+        service.client() as client,
+        contextlib.ExitStack() as open_ones,
+    ):
         room_for(service, DUE)
         action = client.start()
         for uri in never_answering(open_ones, DUE):
