@@ -64,6 +64,13 @@ def sum_of(name, paragraphs):
     return hashlib.sha256(repr(sorted(found or paragraphs)).encode()).hexdigest()
 
 
+def plain(paragraph):
+    """A paragraph without what its layout alone decides: the breaks of its lines, and the separators that stand before
+    a closing bracket, or behind an opening one, where what they enclose takes several lines."""
+    words = re.sub(r"\s+", " ", paragraph).strip()
+    return re.sub(r"([(\[{])(?: \|)? ", r"\1", re.sub(r"[,;]? ([)\]}])", r"\1", words))
+
+
 class Definitions:
     """What is defined in the sources of all crates."""
 
@@ -129,7 +136,7 @@ class Definitions:
     def paragraphs(self, text):
         """The paragraphs of a text, without comments and without what brings names into it."""
         parts = re.split(r"\n[ \t]*\n", ASIDE.sub("", BRINGS.sub("", text)))
-        return [re.sub(r"\s+", " ", it).strip().replace("pub(crate) ", "pub ") for it in parts if it.strip()]
+        return [plain(it).replace("pub(crate) ", "pub ") for it in parts if it.strip()]
 
     @functools.cache
     def token(self, path, name):
