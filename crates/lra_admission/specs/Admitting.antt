@@ -38,7 +38,8 @@ has_host names host = option_map_or (is_own_host names) host false
 abbrev pub has_origin : List (List ℕ) → Option (List ℕ) → Bool
 has_origin names origin = option_map_or (is_own_origin names) origin true
 
--- why a request with these fields isn't let in, where it isn't (this project's choice): first its key is looked at, then, where there are names, its host and its origin
+-- why a request with these fields isn't let in, where it isn't (this project's choice): first its key is looked at,
+-- then, where there are names, its host and its origin
 abbrev pub denial_of : Rules → Fields → Option Denial
 denial_of rules fields =
     if lacks_key rules.keys fields.authorization then Some denial.WrongKey

@@ -41,7 +41,8 @@ begins_with_space (b ∷ rest) = is_space b
 abbrev pub digest_in : List ℕ → Option (List ℕ)
 digest_in line = if begins_with_space line then None else result_ok (decode_sized (skip_spaces (skip_name line)) 32)
 
--- the digests before a line of some number, and those that it and the lines behind it name; or the number of the first that says something and names none
+-- the digests before a line of some number, and those that it and the lines behind it name; or the number of the first
+-- that says something and names none
 unfoldable pub digests_from : List (List ℕ) → ℕ → List (List ℕ) → Result (List (List ℕ)) ℕ
 digests_from before number [] = Ok before
 digests_from before number (line ∷ lines) =

@@ -17,7 +17,8 @@ pub record Denies {S : Type 0} (before : S) (answered : Answered) (after : S) (d
   pub position : answered.position ≡ None
   pub unchanged : after ≡ before
 
--- What a request at a moment does. First it is looked what is in force from then on; by that it is let in, and does what it does without a guard, or it is denied.
+-- What a request at a moment does. First it is looked what is in force from then on; by that it is let in, and does
+-- what it does without a guard, or it is denied.
 pub record Responds {S : Type 0} (looks : Rules → Rules → Type 0) (responds : S → ℕ → Request → Answered → S → Type 0)
     (before : Guard S) (moment : ℕ) (request : Request) (answered : Answered) (after : Guard S) : Type 0 where
   pub looked : looks before.rules after.rules
@@ -30,7 +31,8 @@ pub record Rests {S : Type 0} (rests : S → S → Type 0) (before after : Guard
   pub inner : rests before.inner after.inner
   pub rules : after.rules ≡ before.rules
 
--- a look at the file of the keys: other keys may be in force after it, but keys go on to be asked for where they were, and the names stay
+-- a look at the file of the keys: other keys may be in force after it, but keys go on to be asked for where they were,
+-- and the names stay
 pub record RenewsKeys (before after : Rules) : Type 0 where
   pub asked : is_some after.keys ≡ is_some before.keys
   pub names : after.names ≡ before.names

@@ -133,8 +133,9 @@ impl KeyBook {
         Some(kept.take(seen, read_at(rt, self.alloc, path, &seen)))
     }
 
-    /// Looks at the file at a moment, in milliseconds, unless that was done less than a second before, and reads it again where it has changed. Keys that are
-    /// wrong then, or that others may read, leave those in force that are. While one looks the others go on.
+    /// Looks at the file at a moment, in milliseconds, unless that was done less than a second before, and reads it
+    /// again where it has changed. Keys that are wrong then, or that others may read, leave those in force that are.
+    /// While one looks the others go on.
     pub(crate) fn look<R: KeyFiles, H: Renewed>(&self, rt: &R, moment: u64, herald: &H) {
         if moment < self.next.load(Ordering::SeqCst) {
             return;

@@ -101,7 +101,8 @@ impl Keys {
     ghost use Rattle.lra_admission.specs.Lines.{digests_in};
     ghost use Rattle.lra_admission.specs.Keys.{digests_of, is_known, IsWrong};
 
-    /// The keys of a file with this text: each line is a name, spaces and the SHA-256 of a secret in 64 hexadecimal digits, or is empty or begins with `#`.
+    /// The keys of a file with this text: each line is a name, spaces and the SHA-256 of a secret in 64 hexadecimal
+    /// digits, or is empty or begins with `#`.
     pub fn read(alloc: Global, text: &[u8]) -> Result<Keys, KeysFault>
         ensures ok { IfOk result (λ keys. digests_in text.now ≡ Ok (digests_of keys)) }
         ensures err { IfErr result (IsWrong text.now) }

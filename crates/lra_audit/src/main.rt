@@ -1,5 +1,5 @@
-//! `lra_audit`: audits a journal of long running actions or a folder of them, lists its actions and members, upgrades it, and salvages what is
-//! sound of it, without a coordinator.
+//! `lra_audit`: audits a journal of long running actions or a folder of them, lists its actions and members, upgrades
+//! it, and salvages what is sound of it, without a coordinator.
 #![tactic(auto)]
 
 use lra_audits::{tell_usage, words_of};

@@ -34,8 +34,8 @@ pub record IsFaultAfter (bytes : List ℕ) (number : ℕ) (r : Rule) (v : Versio
   pub goes_on : 0 < length rest
   pub breaks : Breaks v J rest r
 
--- line `number` of the bytes, counted from 1, is the first at fault, and r the first rule that it breaks: line 1 is no header, or a
--- later line follows a legal history and isn't spelled or isn't allowed
+-- line `number` of the bytes, counted from 1, is the first at fault, and r the first rule that it breaks: line 1 is no
+-- header, or a later line follows a legal history and isn't spelled or isn't allowed
 abbrev pub IsFault : List ℕ → ℕ → Rule → Type 0
 IsFault bytes number r =
     ((number ≡ 1) × (r ≡ rule.Header) × HasNoHeader bytes)

@@ -2,8 +2,8 @@
 
 ghost use Rattle.lra_auditor.specs.OneVerdict.{BytesHaveOneVerdict, LegalTextsAreSound};
 
-/// Bytes have one verdict at most: what `audit` answers, or an `Auditor` in whatever pieces it was fed, is settled by the
-/// bytes alone.
+/// Bytes have one verdict at most: what `audit` answers, or an `Auditor` in whatever pieces it was fed, is settled by
+/// the bytes alone.
 pub fn bytes_have_one_verdict()
     ensures { BytesHaveOneVerdict }
 {}

@@ -18,7 +18,8 @@ pub fn open_file<R: Files>(rt: &R, name: &str) -> Result<R::File, RunFault>
     fs::open(rt, name).map_err(|_| RunFault::Read)
 }
 
-/// Prints the line of a fault on standard error, or that there was no memory for it. The answer is the program's status.
+/// Prints the line of a fault on standard error, or that there was no memory for it. The answer is the program's
+/// status.
 pub fn tell<R: Eprint>(rt: &R, line: Result<String, AllocError>) -> u8
     ensures { result ≡ FAULT }
 {

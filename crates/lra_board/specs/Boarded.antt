@@ -8,8 +8,8 @@ use Rattle.lra_rows.specs.Rowed as rows
 use Rattle.lra_rows.specs.Rowed.{Rowed}
 use Rattle.lra_rows.specs.Steps.{Step, taken_back}
 
--- rows, and how many more members and actions their marks take: whether a member may be skipped, whether its parent does something to an
--- action, and whether an action may end (this project's choice)
+-- rows, and how many more members and actions their marks take: whether a member may be skipped, whether its parent
+-- does something to an action, and whether an action may end (this project's choice)
 pub record Boarded : Type 0 where
   pub rows : Rowed
   pub skips : ℕ

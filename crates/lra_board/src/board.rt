@@ -109,8 +109,8 @@ impl Board {
         self.ready.reserve(&entry.deed)
     }
 
-    /// One more entry, which is allowed after those that the board stands for, and has room: it takes no memory. The addresses
-    /// of a member that joins are handed in.
+    /// One more entry, which is allowed after those that the board stands for, and has room: it takes no memory. The
+    /// addresses of a member that joins are handed in.
     pub fn carry(&mut self, entry: &Entry, uris: Option<Packed>) -> Step
         requires follows { Follows self.old.rows.sheet entry.now }
         requires room { has_room entry.now self.old ≡ true }
@@ -127,8 +127,8 @@ impl Board {
         step
     }
 
-    /// Takes the entry that was carried out last back, by its step, and gives the addresses of the member that joined by it: the
-    /// board is as before it, and has the room that it had. This takes no memory.
+    /// Takes the entry that was carried out last back, by its step, and gives the addresses of the member that joined
+    /// by it: the board is as before it, and has the room that it had. This takes no memory.
     pub fn take_back(&mut self, entry: &Entry, step: Step) -> Option<Packed>
         requires { CameBy entry.now step self.old }
         ensures back { self.new ≡ uncarried entry.now step self.old }

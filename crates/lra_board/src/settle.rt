@@ -87,8 +87,8 @@ impl Board {
         trail.push(entry, step);
     }
 
-    /// Takes all entries of a trail back, the last one first, and gives the addresses of the member that joined by the first of
-    /// them.
+    /// Takes all entries of a trail back, the last one first, and gives the addresses of the member that joined by the
+    /// first of them.
     fn go_back(&mut self, trail: &Trail) -> Option<Packed>
         requires { HasTrail trail.now.entries.items trail.now.steps.items self.old }
         ensures back { (b : Boarded) → IsTrail b trail.now.entries.items trail.now.steps.items self.old → self.new ≡ b }
@@ -182,8 +182,8 @@ impl Board {
         self.settle_all(by, moment, most, trail)
     }
 
-    /// An entry that is allowed now, and all that settles after it, with room made for the entry, and the addresses of the member that
-    /// joins by it. The board stays as it is, also where memory was refused.
+    /// An entry that is allowed now, and all that settles after it, with room made for the entry, and the addresses of
+    /// the member that joins by it. The board stays as it is, also where memory was refused.
     pub fn plan(&mut self, entry: Entry, alloc: Global) -> Result<Ahead, Memory>
         requires { Follows self.old.rows.sheet entry }
         ensures same { self.new.rows.sheet ≡ self.old.rows.sheet }

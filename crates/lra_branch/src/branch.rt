@@ -21,8 +21,8 @@ use lra_office::{Clerk, OfficeOf, OfficeRefusal, Serving};
 use lra_workers::{Gate, WorkerEnd, run_carrier};
 use std::sync::{Arc, Wait};
 
-/// An office that many threads share, with one clerk of it: where orders are given as at a counter of one's own. A thread may have several, of different
-/// offices; an office ends with the last of its branches.
+/// An office that many threads share, with one clerk of it: where orders are given as at a counter of one's own. A
+/// thread may have several, of different offices; an office ends with the last of its branches.
 #[derive(Drop)]
 pub struct Branch<V: Serving, R> {
     rt: R,
@@ -45,7 +45,8 @@ impl<V: Serving, R> Branch<V, R> {
 }
 
 impl<V: Serving, R: Wait + Clone + Drop> Branch<V, R> {
-    /// Another branch of the office, for a clerk that is enrolled beside this one's, whether that can be done or not this one's stays as it is.
+    /// Another branch of the office, for a clerk that is enrolled beside this one's, whether that can be done or not
+    /// this one's stays as it is.
     pub fn fork(&mut self, moment: u64) -> Result<Branch<V, R>, OfficeRefusal>
         ensures number { self.new.clerk.number ≡ self.old.clerk.number }
         ensures same { clerk_view self.new.clerk ≡ clerk_view self.old.clerk }
@@ -171,7 +172,8 @@ pub trait Clerkship: Session {
     /// Ends its office, where that has no other clerk: no order reaches it any more. Else the clerk is given back.
     fn close(self) -> Result<(), Self>;
 
-    /// Works as its clerk with many errands under way, until a gate lets no further turn be made, and tells why it has ended.
+    /// Works as its clerk with many errands under way, until a gate lets no further turn be made, and tells why it has
+    /// ended.
     fn carry<C: Carriage, G: Gate, K: Clock>(
         self,
         carriage: &mut C,

@@ -101,7 +101,8 @@ pub(crate) struct Flight {
     kept: u64,
 }
 
-/// The callback of an errand, and the host and port that are asked. Nothing, where it has no address or memory is refused.
+/// The callback of an errand, and the host and port that are asked. Nothing, where it has no address or memory is
+/// refused.
 fn callback_of(alloc: Global, errand: &Errand) -> Option<(Carrying, String)>
     ensures { IfSome result (λ made. Goes made.0 made.1 errand.now) }
 {
@@ -158,7 +159,8 @@ impl<G: SyncGroup> Attempt<G> {
         self.errand.position()
     }
 
-    /// The callback of the errand, and the host and port that are asked. Nothing, where it has no address or memory is refused.
+    /// The callback of the errand, and the host and port that are asked. Nothing, where it has no address or memory is
+    /// refused.
     fn callback(&self, alloc: Global) -> Option<(Carrying, String)>
         ensures { IfSome result (λ made. ForSome self.now.errand (λ h. Goes made.0 made.1 h.0)) }
     {
@@ -213,7 +215,8 @@ impl<G: SyncGroup> Attempt<G> {
         flight.carrying.outcome().unwrap_or(Outcome::Silent)
     }
 
-    /// Returns what is told of it where it ended so, unless it brought its member further. Where memory is refused nothing is known.
+    /// Returns what is told of it where it ended so, unless it brought its member further. Where memory is refused
+    /// nothing is known.
     pub(crate) fn reply(&self, end: End) -> Result<Option<Reply>, Memory>
         ensures { IfOk result (λ reply. Replies end self.now.flight reply) }
     {

@@ -8,7 +8,8 @@ use std::net::{Net, SocketAddr, ToSocketAddrs};
 use std::sync::{Condvar, Mutex, Wait};
 use std::time::Clock;
 
-/// What was found of hosts that have names, for all carriers: threads of its own look them up, since the system lets who asks wait.
+/// What was found of hosts that have names, for all carriers: threads of its own look them up, since the system lets
+/// who asks wait.
 #[derive(Drop)]
 pub struct Names {
     alloc: Global,
@@ -53,7 +54,8 @@ impl Names {
         found
     }
 
-    /// Looks up what is asked for, and rings after each, until it is told that nothing more will be. A thread of its own is to call it, or several.
+    /// Looks up what is asked for, and rings after each, until it is told that nothing more will be. A thread of its
+    /// own is to call it, or several.
     pub fn run<R: Wait + Net + Clock>(&self, rt: &R, bells: &[Waker]) {
         for _ in rt.forever() {
             let book = self.book.lock(rt);

@@ -68,8 +68,8 @@ fn reply_with(outcome: Outcome, code: u16) -> Option<Reply>
     }
 }
 
-/// Returns what is told of a callback that ended so, by what came of its bytes, and by the code of the response. Nothing is told of
-/// one that brought its member further.
+/// Returns what is told of a callback that ended so, by what came of its bytes, and by the code of the response.
+/// Nothing is told of one that brought its member further.
 pub(crate) fn reply_of(
     end: End,
     told: Option<Result<Outcome, CallFault>>,

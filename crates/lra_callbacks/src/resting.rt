@@ -19,7 +19,8 @@ fn most_rest(has_room: bool, is_watchful: bool) -> u64
     }
 }
 
-/// How long a carrier may wait for its sockets at a moment of its office's clock, where something is due next at that other one, if anything is.
+/// How long a carrier may wait for its sockets at a moment of its office's clock, where something is due next at that
+/// other one, if anything is.
 pub(crate) fn rest_for(next: Option<u64>, now: u64, has_room: bool, is_watchful: bool) -> u64
     ensures { result ≡ rest next now has_room is_watchful }
 {

@@ -27,7 +27,8 @@ pub struct Share {
 }
 
 impl Share {
-    /// The share of each of so many carriers, which have so many sockets open in all, and so many to one host and port; but each may have one.
+    /// The share of each of so many carriers, which have so many sockets open in all, and so many to one host and port;
+    /// but each may have one.
     pub fn of(carriers: u32, sockets: u32, each: u32, patience: Patience) -> Share
         ensures sockets { result.sockets ≡ max (sockets / max carriers 1) 1 }
         ensures each { result.each ≡ max (each / max carriers 1) 1 }

@@ -51,7 +51,8 @@ impl Silences {
         }
     }
 
-    /// From when on an errand's member may be asked, with so many milliseconds between two asks in one stage. Where it wasn't silent in that stage it may be at any time.
+    /// From when on an errand's member may be asked, with so many milliseconds between two asks in one stage. Where it
+    /// wasn't silent in that stage it may be at any time.
     pub(crate) fn until(&self, errand: &Errand, pause: u64) -> Option<u64>
         ensures { result ≡ again (get nat_eq self.now.by_member errand.now.member)
             (wants.stage_of errand.now.kind errand.now.direction) pause }

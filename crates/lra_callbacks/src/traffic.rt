@@ -117,7 +117,8 @@ impl Traffic {
             .ok()
     }
 
-    /// One that waited for its time waits for the disk, before all others: it keeps what that one has to, and there is room for all.
+    /// One that waited for its time waits for the disk, before all others: it keeps what that one has to, and there is
+    /// room for all.
     pub(crate) fn go_on(&mut self, key: usize) {
         let _ = self.unkept.push_front(key);
     }

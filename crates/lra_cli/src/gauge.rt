@@ -21,8 +21,8 @@ const MEGABYTE: u64 = 1_000_000;
 /// The bytes that clear the line.
 const BLANK: &str = "\r                                                \r";
 
-/// The progress of a run. Nothing is promised of it: where the clock or memory fails, or two threads report at once, there
-/// is one line less.
+/// The progress of a run. Nothing is promised of it: where the clock or memory fails, or two threads report at once,
+/// there is one line less.
 #[derive(Drop)]
 pub(crate) struct Gauge<'a, R, H> {
     alloc: Global,

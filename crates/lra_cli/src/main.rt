@@ -1,5 +1,6 @@
-//! `lra`: audits a journal of long running actions or a folder of them, lists its actions and members, tells what happened to one, follows it as it grows, upgrades it, and
-//! salvages what is sound of it; plays scripts of commands; and serves a coordinator.
+//! `lra`: audits a journal of long running actions or a folder of them, lists its actions and members, tells what
+//! happened to one, follows it as it grows, upgrades it, and salvages what is sound of it; plays scripts of commands;
+//! and serves a coordinator.
 #![tactic(auto)]
 
 mod asking;

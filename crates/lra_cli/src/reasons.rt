@@ -1,5 +1,5 @@
-//! The reasons for which the system doesn't give what a call needs, behind the line of the fault: on a terminal, and in a
-//! log.
+//! The reasons for which the system doesn't give what a call needs, behind the line of the fault: on a terminal, and in
+//! a log.
 
 use crate::misuse::{misuse_line, misuse_of};
 use lra_audits::{tell, tell_usage};
@@ -197,8 +197,8 @@ pub(crate) fn log_unsound<L: FaultLog>(alloc: Global, log: &L, file: &str) {
     }
 }
 
-/// Reports the line of a fault, and why: where a terminal shows standard error, and in the log, if there is one. Returns
-/// the program's status.
+/// Reports the line of a fault, and why: where a terminal shows standard error, and in the log, if there is one.
+/// Returns the program's status.
 pub(crate) fn fail<
     R: AllocGlobal + Files<File = File> + Net<Stream = TcpStream, Listener = TcpListener> + Eprint,
     H: Herald,
@@ -222,8 +222,8 @@ pub(crate) fn fail<
     FAULT
 }
 
-/// Reports behind the fault of a call, where a terminal shows it, why the place that it names can't be read. Returns the
-/// call's status.
+/// Reports behind the fault of a call, where a terminal shows it, why the place that it names can't be read. Returns
+/// the call's status.
 pub(crate) fn behind<R: AllocGlobal + Files<File = File>, H: Herald>(
     rt: &R,
     watcher: &H,

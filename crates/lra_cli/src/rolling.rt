@@ -22,8 +22,8 @@ use std::sync::Wait;
 use std::thread::Threads;
 use std::time::Clock;
 
-/// The status of a service over a folder that has ended, or isn't there. A fault is told, and so is where a journal isn't sound the way to what is sound
-/// of it.
+/// The status of a service over a folder that has ended, or isn't there. A fault is told, and so is where a journal
+/// isn't sound the way to what is sound of it.
 fn settle_rolling<
     R: AllocGlobal + Files<File = File> + Net<Stream = TcpStream, Listener = TcpListener> + Eprint,
     H: Herald,
@@ -91,7 +91,8 @@ fn tell_words<R: AllocGlobal + Print>(
     Ok(FolderServed::Ended)
 }
 
-/// Serves a folder, until an input has ended if there is one, and answers the program's status. The watcher is told how far journals have been read.
+/// Serves a folder, until an input has ended if there is one, and answers the program's status. The watcher is told how
+/// far journals have been read.
 pub(crate) fn serve_rolling<
     R: AllocGlobal
         + Files<File = File>

@@ -42,8 +42,8 @@ fn nothing<R: Files<File = File>>(rt: &R) -> Option<File> {
         .ok()
 }
 
-/// Files with the system's numbers of those standard streams that are closed: else the journal's file would get one, and what is printed
-/// would go there.
+/// Files with the system's numbers of those standard streams that are closed: else the journal's file would get one,
+/// and what is printed would go there.
 fn stand_ins<R: Files<File = File>>(rt: &R) -> [Option<File>; 3] {
     [nothing(rt), nothing(rt), nothing(rt)]
 }
@@ -75,8 +75,8 @@ pub(crate) fn tell_way<R: AllocGlobal + Eprint>(rt: &R, file: &str) {
     }
 }
 
-/// The status of a service that has ended, or isn't there. A fault is told, and so is where a journal isn't sound the way to what is sound
-/// of it.
+/// The status of a service that has ended, or isn't there. A fault is told, and so is where a journal isn't sound the
+/// way to what is sound of it.
 fn settle_serving<
     R: AllocGlobal + Files<File = File> + Net<Stream = TcpStream, Listener = TcpListener> + Eprint,
     H: Herald,
@@ -363,7 +363,8 @@ fn serve_file<
     )
 }
 
-/// Serves, until an input has ended if there is one, and answers the program's status. The watcher is told how far the journal has been read.
+/// Serves, until an input has ended if there is one, and answers the program's status. The watcher is told how far the
+/// journal has been read.
 fn answer_until<
     R: AllocGlobal
         + Files<File = File>
@@ -524,7 +525,8 @@ where
     }
 }
 
-/// Prints the line of what is wrong with options on standard error, or help on standard output. The answer is the program's status.
+/// Prints the line of what is wrong with options on standard error, or help on standard output. The answer is the
+/// program's status.
 fn tell_fault<
     R: AllocGlobal
         + Files<File = File>

@@ -131,7 +131,8 @@ fn print_listing<R: AllocGlobal + Print + Eprint>(
     }
 }
 
-/// Lists the actions of a folder's journals, as many side by side as threads run and files can be open. The answer is the greatest status of any.
+/// Lists the actions of a folder's journals, as many side by side as threads run and files can be open. The answer is
+/// the greatest status of any.
 fn list_found<R: AllocGlobal + Files<File = File> + Threads + Input + Print + Eprint + Sync>(
     rt: &R,
     folder: &str,
@@ -199,7 +200,8 @@ where
     }
 }
 
-/// Follows the journals of a folder, until a line of one is at fault, one is lost or can't be read, or the end is asked for.
+/// Follows the journals of a folder, until a line of one is at fault, one is lost or can't be read, or the end is asked
+/// for.
 fn follow_found<R: AllocGlobal + Files<File = File> + Clock + Wait + Print + Eprint + Clone + Drop>(
     rt: &R,
     folder: &str,
@@ -235,7 +237,8 @@ fn follow_place<R: AllocGlobal + Files<File = File> + Clock + Wait + Print + Epr
     }
 }
 
-/// Follows a journal or those of a folder, until standard input ends if it is to be so, and answers the program's status.
+/// Follows a journal or those of a folder, until standard input ends if it is to be so, and answers the program's
+/// status.
 fn answer_follow<
     R: AllocGlobal
         + Files<File = File>

@@ -8,7 +8,8 @@ use std::io;
 use std::io::ErrorKind;
 use std::time::{Clock, Duration, Instant};
 
-/// The moment so many seconds from now. Which moment a clock tells as now isn't known, and so of the result only how early it can be.
+/// The moment so many seconds from now. Which moment a clock tells as now isn't known, and so of the result only how
+/// early it can be.
 pub fn seconds_on<R: Clock>(clock: &R, secs: u64) -> io::Result<Instant>
     ensures { IfOk result (λ end. secs * 1_000_000_000 ≤ instant_nanos end) }
 {

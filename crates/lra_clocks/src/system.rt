@@ -49,9 +49,9 @@ fn milliseconds_of(time: Duration) -> Option<u64>
     u64::try_from(time.as_millis()).ok()
 }
 
-/// The system's clock, in milliseconds since 1970. It goes on by the system's steady clock from the moment that it was given, and where the
-/// system's clock is ahead of that, from there. So it stands still only where neither can be read, and where the system's clock was
-/// set back, or the moment lies ahead of it, it goes on at its own pace.
+/// The system's clock, in milliseconds since 1970. It goes on by the system's steady clock from the moment that it was
+/// given, and where the system's clock is ahead of that, from there. So it stands still only where neither can be read,
+/// and where the system's clock was set back, or the moment lies ahead of it, it goes on at its own pace.
 #[derive(Drop)]
 pub struct SystemClock<'a, R> {
     rt: &'a R,

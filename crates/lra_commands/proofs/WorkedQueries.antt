@@ -46,7 +46,8 @@ unfolding steps actions members action_status children members_of addresses_of h
     member_status is_outstanding outstanding_ask rows_of awaited_from tell
 nested_waits = refl
 
--- an action with four members: one that only listens, one that has left, one that has completed, and one whose ask a restart made void
+-- an action with four members: one that only listens, one that has left, one that has completed, and one whose ask a
+-- restart made void
 abbrev four_members : History
 four_members =
     at 0 Enrol ∷ at 0 (Start 1 None 0) ∷ at 1 (Join 1 1 (uris None None None None u))

@@ -18,7 +18,8 @@ use Rattle.lra_model.specs.Joins.{already_member}
 use Rattle.lra_commands.specs.Blocks.{block}
 use Rattle.lra_commands.specs.Refusals.{status_at, refused}
 
--- what a command is told, where it isn't refused: J is the history before it, and K the one after; a status after what was written is that in K
+-- what a command is told, where it isn't refused: J is the history before it, and K the one after; a status after what
+-- was written is that in K
 abbrev pub tells : Terms → History → History → ℕ → Command → Told
 tells s J K m command.Enrol = told.Clerk (length (clerks K))
 tells s J K m (command.Start parent limit) = told.Action (length (actions K))

@@ -8,7 +8,7 @@ use Rattle.lra_commands.specs.declared.limits.Terms.{Terms}
 use Rattle.lra_commands.specs.Calls.{Call}
 use Rattle.lra_commands.specs.Deeds.{own_entry}
 
--- what a call appends where it isn't refused: its own entry, and those that settle the history; nothing for a repeat, where nothing is due, and
--- where it only reads (this project's choice of order)
+-- what a call appends where it isn't refused: its own entry, and those that settle the history; nothing for a repeat,
+-- where nothing is due, and where it only reads (this project's choice of order)
 unfoldable pub block : Terms → History → Call → List Entry
 block s J c = option_map_or (with_settling J) (own_entry s J c) []

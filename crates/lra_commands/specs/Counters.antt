@@ -34,7 +34,8 @@ pub record Setting : Type 0 where
 abbrev pub terms_of : Setting → Terms
 terms_of s = record { version = s.version; limits = s.limits }
 
--- what callers know of a counter: what the coordinator behind it was made with, the clerk's number, and the history that it has seen
+-- what callers know of a counter: what the coordinator behind it was made with, the clerk's number, and the history
+-- that it has seen
 pub record Sight : Type 0 where
   pub setting : Setting
   pub number : ℕ
@@ -58,8 +59,8 @@ command_of (order.MemberStatus member) = command.MemberStatus member
 abbrev pub call_of : ℕ → ℕ → Order → Call
 call_of number moment o = record { by = number; moment = moment; command = command_of o }
 
--- why an order is refused at a history: the definitions refuse it; or what it would write can't be kept; or a growth was refused, where it takes
--- memory and nothing that comes before that refuses it
+-- why an order is refused at a history: the definitions refuse it; or what it would write can't be kept; or a growth
+-- was refused, where it takes memory and nothing that comes before that refuses it
 abbrev pub IsRefusedAt : Terms → History → Call → Refusal → Type 0
 IsRefusedAt s J c refusal.Stopped = IsOk (answer s J c) × (block s J c ≢ [])
 IsRefusedAt s J c refusal.Memory = MayRunOut s J c
@@ -82,8 +83,8 @@ pub record IsGivenAt (s : Setting) (J : History) (c : Call) (reply : Result Told
 abbrev pub entries_under : ℕ → History → History
 entries_under number J = filter (λ (e : Entry). e.by == number) J
 
--- some history began with what was seen, since others may have written meanwhile, though nothing under the clerk's number, and the order was given
--- at it
+-- some history began with what was seen, since others may have written meanwhile, though nothing under the clerk's
+-- number, and the order was given at it
 abbrev pub IsGivenSince : Setting → History → Call → Result Told CounterFault → History → Type 0
 IsGivenSince s seen c reply K = (since : History) × (entries_under c.by since ≡ [])
     × IsGivenAt s (seen ++ since) c reply K
@@ -103,7 +104,8 @@ pub record KeepsHistory (before : Sight) (moment : ℕ) (o : Order) (reply : Res
   pub same : IsSameCounter before after
   pub seen : IsSeenAfter before.setting before.seen (call_of before.number moment o) reply after.seen
 
--- what a counter of its own keeps, where nobody else writes: the order is given at the very history that it has seen, and it is never worn
+-- what a counter of its own keeps, where nobody else writes: the order is given at the very history that it has seen,
+-- and it is never worn
 pub record OwnsHistory (before : Sight) (moment : ℕ) (o : Order) (reply : Result Told CounterFault) (after : Sight) : Type 0 where
   pub same : IsSameCounter before after
   pub given : IsGivenAt before.setting before.seen (call_of before.number moment o) reply after.seen
@@ -143,8 +145,8 @@ abbrev pub added_by : Terms → History → Call → Result Told CounterFault �
 added_by s J c (Ok told) = growth s J c
 added_by s J c (Err fault) = []
 
--- under the clerk's number stand the entries from before, and then what the order adds at a history that begins with all that was seen: once, and
--- nothing else
+-- under the clerk's number stand the entries from before, and then what the order adds at a history that begins with
+-- all that was seen: once, and nothing else
 pub record WritesOnce (before : Sight) (moment : ℕ) (o : Order) (reply : Result Told CounterFault) (after : Sight) : Type 0 where
   pub met : History
   pub begins : IsPrefix before.seen met

@@ -67,7 +67,8 @@ is_open J a = option_map_or is_active (action_status J a) false
 abbrev pub may_be_cancelled : Terms → History → ℕ → Bool
 may_be_cancelled s J a = at_action (may_cancel_as_client s.version (facts_of J)) (facts_of J) a
 
--- the deed that a command writes, where it isn't refused: none for a repeat, where nothing is due, and where it only reads
+-- the deed that a command writes, where it isn't refused: none for a repeat, where nothing is due, and where it only
+-- reads
 abbrev pub own_deed : Terms → History → ℕ → Command → Option Deed
 own_deed s J m command.Enrol = Some deed.Enrol
 own_deed s J m (command.Start parent limit) = Some (deed.Start (length (actions J) + 1) parent limit)

@@ -49,7 +49,8 @@ want_of l J p =
           (last_repeat J p (stage_wanted J p kind));
     }) (wants J p)
 
--- the member whose want is due: the one with the least due moment that has come, and of these the least (this project's choice)
+-- the member whose want is due: the one with the least due moment that has come, and of these the least (this project's
+-- choice)
 unfoldable pub due : Limits → History → ℕ → Option ℕ
 due l J now = first_due now (filter_map (want_of l J) (members J))
 
@@ -59,6 +60,7 @@ deadline_of J a =
     when (action_is is_active J a && not ((limit_in_force J a).length_of == 0))
     (record { number = a; moment = (limit_in_force J a).since + (limit_in_force J a).length_of })
 
--- the action whose limit has passed: the one with the least deadline, and of these the least (MicroProfile LRA 2.0, timeLimit; the order is this project's choice)
+-- the action whose limit has passed: the one with the least deadline, and of these the least (MicroProfile LRA 2.0,
+-- timeLimit; the order is this project's choice)
 unfoldable pub late : History → ℕ → Option ℕ
 late J now = first_due now (filter_map (deadline_of J) (actions J))

@@ -10,8 +10,8 @@ use Rattle.lra_model.specs.Actions.{parent, action_status}
 use Rattle.lra_model.specs.Members.{Asked, action_of, addresses_of}
 use Rattle.lra_ids.specs.Identifiers.{action_uri, recovery_uri}
 
--- an ask with what its request needs: where it goes, the URIs of the action, of its parent and of the member, and for an after notice how
--- the action ended (MicroProfile LRA 2.0, participant methods)
+-- an ask with what its request needs: where it goes, the URIs of the action, of its parent and of the member, and for
+-- an after notice how the action ended (MicroProfile LRA 2.0, participant methods)
 pub record Asking : Type 0 where
   pub ask : ℕ
   pub member : ℕ
@@ -32,13 +32,14 @@ address_for ask.Status u = u.status
 address_for ask.Forget u = u.forget
 address_for ask.After u = u.after
 
--- what an ask of a kind tells of how the action ended: an after notice tells it, and no other does (MicroProfile LRA 2.0, AfterLRA)
+-- what an ask of a kind tells of how the action ended: an after notice tells it, and no other does (MicroProfile LRA
+-- 2.0, AfterLRA)
 abbrev pub told_of_end : AskKind → Option ActionStatus → Option ActionStatus
 told_of_end ask.After status = status
 told_of_end _ status = None
 
--- what the errand of an ask says, by the history before it and the coordinator's instance and base (MicroProfile LRA 2.0, participant
--- methods; the URIs are this project's choice)
+-- what the errand of an ask says, by the history before it and the coordinator's instance and base (MicroProfile LRA
+-- 2.0, participant methods; the URIs are this project's choice)
 abbrev pub asking_of : ℕ → List ℕ → History → Asked → Asking
 asking_of instance base J x = record {
   ask = x.number;

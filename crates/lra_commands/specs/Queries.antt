@@ -49,21 +49,22 @@ looked_at xs place = take most_rows (drop place xs)
 abbrev pub none_told : {X : Type 0} → Known → List X → ℕ → Known
 none_told last xs place = cond (nat_lt (place + most_rows) (length xs)) (known.Further (place + most_rows)) last
 
--- what is told of rows from a place on: the first of those looked at that passes a test, with its place (this project's choice)
+-- what is told of rows from a place on: the first of those looked at that passes a test, with its place (this project's
+-- choice)
 abbrev pub first_from : {X : Type 0} → (X → Bool) → (ℕ → X → Known) → Known → List X → ℕ → Known
 first_from test told last xs place = option_map_or (told (place + position_or_len test (looked_at xs place)))
     (find test (looked_at xs place)) (none_told last xs place)
 
 -- ---- what an action waits for
 
--- the rows of an action: its members, those that left among them, each with the ask of it that is outstanding, and then the actions nested directly
--- in it (this project's choice of order)
+-- the rows of an action: its members, those that left among them, each with the ask of it that is outstanding, and then
+-- the actions nested directly in it (this project's choice of order)
 unfoldable pub rows_of : History → ℕ → List Awaited
 rows_of J a = map (λ p. awaited.Member p (outstanding_ask J p)) (members_of J a) ++ map awaited.Action (children J a)
 
--- whether a row holds the end of an action that has a status: of a Closing one a member that stays and is not done completing, or a nested action
--- that hasn't ended; of a Cancelling one a member that stays and is not done compensating, or a nested action that hasn't finished cancelling
--- (MicroProfile LRA 2.0, LRAStatus)
+-- whether a row holds the end of an action that has a status: of a Closing one a member that stays and is not done
+-- completing, or a nested action that hasn't ended; of a Cancelling one a member that stays and is not done
+-- compensating, or a nested action that hasn't finished cancelling (MicroProfile LRA 2.0, LRAStatus)
 abbrev pub holds_end : ActionStatus → History → Awaited → Bool
 holds_end action.Closing J (awaited.Member p ask) = stays J p && not (is_done_completing (member_status J p))
 holds_end action.Closing J (awaited.Action b) = not (action_is has_ended J b)
@@ -77,7 +78,8 @@ awaited_from J a place = first_from (holds_end (status_at J a) J) known.Awaits k
 
 -- ---- listings
 
--- what a member is to be asked next: how often it was asked for that in vain, and from when on it is asked again (this project's choice)
+-- what a member is to be asked next: how often it was asked for that in vain, and from when on it is asked again (this
+-- project's choice)
 abbrev pub want_told : Limits → History → ℕ → Option Want
 want_told l J p =
     option_map
@@ -88,8 +90,8 @@ want_told l J p =
     })
     (wants J p)
 
--- a member's row: its status, the ask of it that is outstanding, and what it is to be asked next (MicroProfile LRA 2.0, ParticipantStatus; the asks
--- are this project's choice)
+-- a member's row: its status, the ask of it that is outstanding, and what it is to be asked next (MicroProfile LRA 2.0,
+-- ParticipantStatus; the asks are this project's choice)
 abbrev pub member_row : Limits → History → ℕ → Row
 member_row l J p = row.Member p (member_status J p) (outstanding_ask J p) (want_told l J p)
 
@@ -97,15 +99,15 @@ member_row l J p = row.Member p (member_status J p) (outstanding_ask J p) (want_
 abbrev pub action_row : History → ℕ → Row
 action_row J a = row.Action a (status_at J a) (parent J a)
 
--- the rows that a listing goes along: an action's members, those that left among them, the actions nested directly in it, or all actions
--- (MicroProfile LRA 2.0, participants, nested LRAs and LRAs)
+-- the rows that a listing goes along: an action's members, those that left among them, the actions nested directly in
+-- it, or all actions (MicroProfile LRA 2.0, participants, nested LRAs and LRAs)
 unfoldable pub rows_along : Limits → History → Listing → List Row
 rows_along l J (listing.Members a) = map (member_row l J) (members_of J a)
 rows_along l J (listing.Nested a) = map (action_row J) (children J a)
 rows_along l J (listing.Actions status) = map (action_row J) (actions J)
 
--- whether a row that a listing goes along belongs to it: of actions, where a status is given, one that has it (MicroProfile LRA 2.0, all LRAs by
--- status)
+-- whether a row that a listing goes along belongs to it: of actions, where a status is given, one that has it
+-- (MicroProfile LRA 2.0, all LRAs by status)
 abbrev pub belongs : Listing → Row → Bool
 belongs (listing.Actions (Some status)) (row.Action a now parent) = same_status status now
 belongs _ _ = true
@@ -135,7 +137,8 @@ is_listed J (listing.Actions status) = true
 abbrev pub known_where : Bool → Known → Refusal → Result Known Refusal
 known_where there k r = cond there (Ok k) (Err r)
 
--- what a query is told of a history, which nothing else decides but the pauses between asks; it changes nothing (this project's choice)
+-- what a query is told of a history, which nothing else decides but the pauses between asks; it changes nothing (this
+-- project's choice)
 unfoldable pub tell : Limits → History → Query → Result Known Refusal
 tell l J (query.ActionStatus a) = known_where (is_among (actions J) a) (known.ActionIs (status_at J a))
     refusal.NoSuchAction
@@ -180,7 +183,8 @@ abbrev pub RowsHoldEnds : Type 0
 RowsHoldEnds = (J : History) (a : ℕ) (status : ActionStatus) → (status ≡ action.Closing) ⊎ (status ≡ action.Cancelling)
     → settles (Some status) J a ≡ not (list_any (holds_end status J) (rows_of J a))
 
--- the rows that are told from what one query was told on: its row and what is told from the place after it, or what is told from where to go on
+-- the rows that are told from what one query was told on: its row and what is told from the place after it, or what is
+-- told from where to go on
 abbrev pub rows_after : (ℕ → List Row) → Known → List Row
 rows_after on (known.Row place r) = r ∷ on (place + 1)
 rows_after on (known.Further place) = on place

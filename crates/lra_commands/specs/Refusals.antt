@@ -144,8 +144,8 @@ abbrev pub is_stranger : History → ℕ → Command → Bool
 is_stranger J by command.Enrol = false
 is_stranger J by _ = not (is_among (clerks J) by)
 
--- all refusals that bear on a call, in their order; where something is asked, nothing is written unless it was, so what there may be too
--- much of comes last (this project's choice)
+-- all refusals that bear on a call, in their order; where something is asked, nothing is written unless it was, so what
+-- there may be too much of comes last (this project's choice)
 abbrev pub grounds : Terms → History → Call → List Ground
 grounds s J c =
     (refusal.NoSuchClerk, is_stranger J c.by c.command) ∷ (command_grounds s J (moment_of J c) c.command

@@ -12,8 +12,8 @@ use Rattle.lra_commands.specs.Blocks.{block}
 use Rattle.lra_commands.specs.Refusals.{Ground, no_action, status_at, is_filled, overfills, command_grounds, is_stranger, first_ground}
 use Rattle.lra_commands.specs.Answers.{answer}
 
--- the refusals that come before a growth that the checks of a call need: a join reads its addresses once its action is known to be open, and
--- every other command makes its block before the entries are counted (this project's choice)
+-- the refusals that come before a growth that the checks of a call need: a join reads its addresses once its action is
+-- known to be open, and every other command makes its block before the entries are counted (this project's choice)
 abbrev pub checks_before_growth : Terms → History → Call → List Ground
 checks_before_growth s J c = by_command c.command
   where
@@ -35,7 +35,8 @@ abbrev pub has_addresses : Command → Bool
 has_addresses (command.Join a uris) = true
 has_addresses _ = false
 
--- a call may find no memory: it takes some, since it writes or has addresses to read, and nothing that comes before that refuses it
+-- a call may find no memory: it takes some, since it writes or has addresses to read, and nothing that comes before
+-- that refuses it
 pub record MayRunOut (s : Terms) (J : History) (c : Call) : Type 0 where
   pub takes : (is_filled (block s J c) || has_addresses c.command) ≡ true
   pub before : first_ground (grounds_before_growth s J c) ≡ None

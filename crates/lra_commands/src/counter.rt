@@ -71,9 +71,9 @@ impl<'a> Order<'a> {
 
 /// Where one clerk gives its orders.
 ///
-/// Callers know of it what the coordinator behind it was made with, the clerk's number, and the history that it has seen.
-/// What an order does is a relation that is fixed by the type; whatever that is, it is a law that the order is given once, at
-/// a history that begins with all that was seen, and that the reply is the definitions' answer there.
+/// Callers know of it what the coordinator behind it was made with, the clerk's number, and the history that it has
+/// seen. What an order does is a relation that is fixed by the type; whatever that is, it is a law that the order is
+/// given once, at a history that begins with all that was seen, and that the reply is the definitions' answer there.
 pub trait Counter {
     ghost use Rattle.std.specs.Prelude.{ℕ, Result};
     ghost use Rattle.lra_commands.specs.declared.command.Told.{Told};

@@ -21,14 +21,15 @@ pub fn calls_leave_quiet_histories()
     ensures { CallsLeaveQuiet }
 {}
 
-/// Whatever a counter tells of an order is of the one kind that such an order is told, and a number in it is one that an
-/// identifier can have.
+/// Whatever a counter tells of an order is of the one kind that such an order is told, and a number in it is one that
+/// an identifier can have.
 pub fn counters_tell()
     ensures { CountersTell }
 {}
 
-/// Each order is written once: under its clerk's number stand, after it, the entries from before and then what the definitions append
-/// for it at a history that begins with all that the counter had seen; and nothing where it wasn't done.
+/// Each order is written once: under its clerk's number stand, after it, the entries from before and then what the
+/// definitions append for it at a history that begins with all that the counter had seen; and nothing where it wasn't
+/// done.
 pub fn counters_write_once()
     ensures { CountersWriteOnce }
 {}
@@ -38,8 +39,8 @@ pub fn commands_ask()
     ensures { CommandsAsk }
 {}
 
-/// A query is refused by `NoSuchAction` and `NoSuchMember` alone, whatever limits and memory there are, and whatever has become of the
-/// journal's writer.
+/// A query is refused by `NoSuchAction` and `NoSuchMember` alone, whatever limits and memory there are, and whatever
+/// has become of the journal's writer.
 pub fn queries_miss()
     ensures { QueriesMiss }
 {}
@@ -50,13 +51,14 @@ pub fn rows_hold_ends()
     ensures { RowsHoldEnds }
 {}
 
-/// A listing that is asked for row by row, each time from the place after the row that was told, is told whole: each of its rows
-/// once, in order.
+/// A listing that is asked for row by row, each time from the place after the row that was told, is told whole: each of
+/// its rows once, in order.
 pub fn listings_are_told_whole()
     ensures { ListingsAreToldWhole }
 {}
 
-/// A listing that is counted part by part, each time from where the count before says to go on, is counted whole: each of its rows once.
+/// A listing that is counted part by part, each time from where the count before says to go on, is counted whole: each
+/// of its rows once.
 pub fn listings_are_counted_whole()
     ensures { ListingsAreCountedWhole }
 {}

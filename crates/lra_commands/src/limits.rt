@@ -38,8 +38,8 @@ impl Limits {
         }
     }
 
-    /// From when on a member is asked that was asked so often in vain, the last time at that moment, in milliseconds: at once, or
-    /// after a pause.
+    /// From when on a member is asked that was asked so often in vain, the last time at that moment, in milliseconds:
+    /// at once, or after a pause.
     pub fn due_after(&self, repeats: u64, last: Option<u64>) -> u64
         ensures { result ≡ due_after self.now repeats last }
     {

@@ -18,8 +18,8 @@ pub enum Query {
     /// it, those that came first before the others; the place of the first is 0. At most 256 of them are looked at,
     /// from this place on.
     Awaited { action: u64, place: u64 },
-    /// The next row of a listing. The place of the first is 0. At most 256 rows are looked at, from this place on, so that a page
-    /// is this query asked again, each time from the place after the one that it told.
+    /// The next row of a listing. The place of the first is 0. At most 256 rows are looked at, from this place on, so
+    /// that a page is this query asked again, each time from the place after the one that it told.
     Row { of: Listing, place: u64 },
     /// The number of rows that belong to a listing. At most 256 are looked at, from this place on, so that a count of
     /// all is the sum of what this query is told, each time from where to go on.
@@ -33,14 +33,16 @@ pub enum Listing {
     Members { action: u64 },
     /// The actions nested directly in an action.
     Nested { action: u64 },
-    /// All actions, or those alone that have a status. The place of each is its number less one, whether or not it is told.
+    /// All actions, or those alone that have a status. The place of each is its number less one, whether or not it is
+    /// told.
     Actions { status: Option<ActionStatus> },
 }
 
 /// A row of a listing.
 #[derive(Clone, Copy, Debug, PartialEq, Eq)]
 pub enum Row {
-    /// A member, its status, the ask of it that is outstanding, if one is, and else what it is to be asked, if anything.
+    /// A member, its status, the ask of it that is outstanding, if one is, and else what it is to be asked, if
+    /// anything.
     Member {
         member: u64,
         status: MemberStatus,

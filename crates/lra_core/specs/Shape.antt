@@ -20,8 +20,8 @@ pub record Shape : Type 0 where
   pub history : History
   pub room : Room
 
--- what holds of every coordinator: its limits can be kept, and its history is legal in its version and passes none of them,
--- depth among them
+-- what holds of every coordinator: its limits can be kept, and its history is legal in its version and passes none of
+-- them, depth among them
 pub record IsCoordinator (c : Shape) : Type 0 where
   pub limits : AreKeepable c.setting.limits
   pub history : IsLawful (terms_of c.setting) c.history

@@ -16,8 +16,8 @@ pub record IsSoundAlone (bytes : List ℕ) (J : History) : Type 0 where
   pub sound : IsVerdict bytes (Sound (summary J))
   pub alone : (x : Verdict) → IsVerdict bytes x → x ≡ Sound (summary J)
 
--- from the history of a new or a reopened coordinator, whatever calls are made, the journal's text is sound, whichever its version and
--- instance
+-- from the history of a new or a reopened coordinator, whatever calls are made, the journal's text is sound, whichever
+-- its version and instance
 abbrev pub CallsMakeSoundTexts : Type 0
 CallsMakeSoundTexts =
     (s : Terms) (i : ℕ) (J : History) (cs : List Call) → i < 2 ^ 60 → AreKeepable s.limits → IsLawful s J

@@ -8,8 +8,8 @@ use lra_commands::{Counter, CounterFault, Order, Refusal, Session, Told};
 use lra_ids::{Base, Instance};
 use std::marker::Model;
 
-/// A coordinator, with the number of the clerk that gives its orders there. Nobody else writes, so that all of its history is
-/// seen.
+/// A coordinator, with the number of the clerk that gives its orders there. Nobody else writes, so that all of its
+/// history is seen.
 #[derive(Drop)]
 pub struct Bench {
     coordinator: Coordinator,

@@ -5,8 +5,8 @@ ghost use Rattle.std.specs.Borrow.{ftrue};
 
 use std::marker::Model;
 
-/// Bytes that contracts alone have: they take no memory, and noting some of them does nothing at run time. A clause reads them as
-/// `bytes`.
+/// Bytes that contracts alone have: they take no memory, and noting some of them does nothing at run time. A clause
+/// reads them as `bytes`.
 #[derive(Drop)]
 pub struct Front {
     pub ghost bytes: { List ℕ },

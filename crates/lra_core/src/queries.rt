@@ -22,8 +22,9 @@ impl<P: Past> CoordinatorOf<P> {
         tell(&self.terms.limits, &self.tables, query)
     }
 
-    /// The first moment at which a want is due or a limit has passed, in milliseconds, where there is any: one that has come lies back. A command comes no earlier
-    /// than the last entry, so what isn't due yet at a moment may be so at once. This changes nothing and takes no memory.
+    /// The first moment at which a want is due or a limit has passed, in milliseconds, where there is any: one that has
+    /// come lies back. A command comes no earlier than the last entry, so what isn't due yet at a moment may be so at
+    /// once. This changes nothing and takes no memory.
     pub fn next_moment(&self) -> Option<u64>
         ensures { IsFirstMoment self.now.setting.limits self.now.history result }
     {

@@ -42,7 +42,8 @@ method_of ask.Status = codes "GET"
 method_of ask.Forget = codes "DELETE"
 method_of ask.After = codes "PUT"
 
--- the body: an after notice has the name of the action's final state, the others have none (MicroProfile LRA 2.0, AfterLRA)
+-- the body: an after notice has the name of the action's final state, the others have none (MicroProfile LRA 2.0,
+-- AfterLRA)
 abbrev pub body_of : AskKind → Option ActionStatus → List ℕ
 body_of ask.After ended = option_map_or action_status_name ended []
 body_of _ ended = []

@@ -28,7 +28,8 @@ Lacks gives d address (Send Memory) = ⊤
 Lacks gives d address (Send Io) = ⊥
 Lacks gives d address (Reply fault) = ⊥
 
--- a request and its response came to this over the connection that was had, whose bytes are those that come once the request went out
+-- a request and its response came to this over the connection that was had, whose bytes are those that come once the
+-- request went out
 pub record CallsOver {D S : Type 0} (gives : Giving D S) (contents remaining : S → Option (List ℕ)) (d : D) (c : Calling) (told : Result Outcome CallFault) : Type 0 where
   pub stream : S
   pub sent : S

@@ -40,7 +40,8 @@ pub record IsReply (kind : AskKind) (direction : Direction) (bytes rest : List �
 abbrev pub OfStream : Bool → List ℕ → (List ℕ → Type 0) → Type 0
 OfStream closed bytes P = (more : List ℕ) → (IsTrue closed → more ≡ []) → P (bytes ++ more)
 
--- What a stream that is behind a request comes to: the outcome of the response that it begins with, or why it begins with none, or that it has failed.
+-- What a stream that is behind a request comes to: the outcome of the response that it begins with, or why it begins
+-- with none, or that it has failed.
 abbrev pub Replies : Bool → Bool → AskKind → Direction → List ℕ → Result Outcome WireFault → Type 0
 Replies closed failed kind direction bytes (Ok outcome) = OfStream closed bytes
     (λ stream. (rest : List ℕ) × IsReply kind direction stream rest outcome)
@@ -60,7 +61,8 @@ Replies closed failed kind direction bytes (Err Memory) = ⊥
 abbrev pub IsSent : Carried → Type 0
 IsSent h = h.gone ≡ length h.request
 
--- What it came to, as `Converses` has it of a request and its response: only where all of the request was handed out is the response heard.
+-- What it came to, as `Converses` has it of a request and its response: only where all of the request was handed out is
+-- the response heard.
 abbrev pub Comes : Carried → Result Outcome CallFault → Type 0
 Comes h (Ok outcome) = IsSent h × Replies h.closed h.failed h.kind h.direction h.taken (Ok outcome)
 Comes h (Err (Reply fault)) = IsSent h × Replies h.closed h.failed h.kind h.direction h.taken (Err fault)

@@ -14,7 +14,8 @@ use Rattle.lra_courier.specs.declared.fault.CallFault.TheVariants.{Unreached, Se
 use Rattle.lra_courier.specs.Replies.{classify}
 use Rattle.lra_courier.specs.Callbacks.{Calling, request_bytes}
 
--- All of the request went out. Or none of it, since the address is none or memory was refused. Or a proper front, since the writer failed or took nothing.
+-- All of the request went out. Or none of it, since the address is none or memory was refused. Or a proper front, since
+-- the writer failed or took nothing.
 abbrev pub Posts : Option (List ℕ) → Option (List ℕ) → Calling → Result (Unit {0}) SendFault → Type 0
 Posts old new c (Ok u) = Appends old new (request_bytes c)
 Posts old new c (Err BadAddress) = Keeps old new × (is_address c.address ≡ false)
@@ -32,20 +33,23 @@ pub record IsAnswer (c : Calling) (bytes rest : List ℕ) (outcome : Outcome) : 
 abbrev pub AppendsSome : Option (List ℕ) → Option (List ℕ) → List ℕ → Type 0
 AppendsSome old new text = (front : List ℕ) × (rest : List ℕ) × (text ≡ front ++ rest) × Appends old new front
 
--- A request and its response, over streams that may be known: some front of the request went out. The outcome is Silent, or all of the request went out, and the outcome is that of the response which the bytes begin with.
+-- A request and its response, over streams that may be known: some front of the request went out. The outcome is
+-- Silent, or all of the request went out, and the outcome is that of the response which the bytes begin with.
 pub record Exchanges (old new stream : Option (List ℕ)) (c : Calling) (outcome : Outcome) : Type 0 where
   pub front : AppendsSome old new (request_bytes c)
   pub whole : outcome ≢ Silent → Appends old new (request_bytes c)
   pub answer : outcome ≢ Silent → IfSome stream (λ bytes. (rest : List ℕ) × IsAnswer c bytes rest outcome)
 
--- what the bytes behind a request come to: the outcome of the response that they begin with, or why they are no response
+-- what the bytes behind a request come to: the outcome of the response that they begin with, or why they are no
+-- response
 abbrev pub Answers : Option (List ℕ) → Calling → Result Outcome CallFault → Type 0
 Answers stream c (Ok outcome) = IfSome stream (λ bytes. (rest : List ℕ) × IsAnswer c bytes rest outcome)
 Answers stream c (Err (Reply fault)) = IfSome stream (λ bytes. RefusesResponse bytes fault)
 Answers stream c (Err (Send fault)) = ⊥
 Answers stream c (Err Unreached) = ⊥
 
--- What a request and its response came to, over streams that may be known: why the request wasn't sent, or once all of it went out, what the bytes behind it come to.
+-- What a request and its response came to, over streams that may be known: why the request wasn't sent, or once all of
+-- it went out, what the bytes behind it come to.
 abbrev pub Converses : Option (List ℕ) → Option (List ℕ) → Option (List ℕ) → Calling → Result Outcome CallFault → Type 0
 Converses old new stream c (Ok outcome) = Appends old new (request_bytes c) × Answers stream c (Ok outcome)
 Converses old new stream c (Err (Reply fault)) = Appends old new (request_bytes c)

@@ -1,4 +1,5 @@
--- What a member's reply comes to (MicroProfile LRA 2.0, participant methods; which class a reply is of is this project's choice).
+-- What a member's reply comes to (MicroProfile LRA 2.0, participant methods; which class a reply is of is this
+-- project's choice).
 use Rattle.std.specs.Prelude.{ℕ, ◌-◌, Bool, ◌&&◌, ◌||◌, ◌==◌, nat_le, nat_lt, if◌then◌else◌, List, [], ◌∷◌, length, reverse, slice_index, slice_range, bytes_eq, Option}
 use Rattle.std.specs.Option.{option_map_or}
 use Rattle.std.specs.List.{find}
@@ -48,7 +49,8 @@ states = member.Active ∷ member.Completing ∷ member.Completed ∷ member.Fai
 abbrev pub state_named : List ℕ → Option MemberStatus
 state_named text = find (λ state. bytes_eq text (member_status_name state)) states
 
--- what a member's state comes to in a direction: one of another direction, or of none, says nothing (this project's choice)
+-- what a member's state comes to in a direction: one of another direction, or of none, says nothing (this project's
+-- choice)
 abbrev pub outcome_in : Direction → MemberStatus → Outcome
 outcome_in direction.Completion member.Completing = outcome.Accepted
 outcome_in direction.Completion member.Completed = outcome.Done
@@ -90,7 +92,8 @@ status_rows way code body =
     ∷ (code == 410, outcome.Done)
     ∷ []
 
--- a reply to forget or after: it went well, or the member is no longer there (MicroProfile LRA 2.0, forget and AfterLRA)
+-- a reply to forget or after: it went well, or the member is no longer there (MicroProfile LRA 2.0, forget and
+-- AfterLRA)
 abbrev pub notice_rows : ℕ → List Row
 notice_rows code = ((nat_le 200 code && nat_lt code 300) || code == 410, outcome.Done) ∷ []
 

@@ -6,7 +6,8 @@ use Rattle.lra_courier.specs.declared.carrying.Step.{Step}
 use Rattle.lra_courier.specs.declared.carrying.Step.TheVariants.{Sends, Wants, Came}
 use Rattle.lra_courier.specs.Carried.{Carried, IsSent, Comes, room_of, took, tells}
 
--- What a step says of all before it, and what it changes: more bytes are wanted only where those that came are no whole response; and what a callback came to stays.
+-- What a step says of all before it, and what it changes: more bytes are wanted only where those that came are no whole
+-- response; and what a callback came to stays.
 abbrev pub StepsTo : Step → Carried → Carried → Type 0
 StepsTo Sends old new = (old.came ≡ None) × IsFalse old.failed × (old.gone < length old.request) × (new ≡ old)
 StepsTo Wants old new = (old.came ≡ None) × IsFalse old.failed × IsFalse old.closed × IsSent old

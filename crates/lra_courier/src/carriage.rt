@@ -28,9 +28,9 @@ pub trait Carriage {
         ensures ok { OnOk result (Gains (held self.old) (held self.new) (errand, position)) }
         ensures err { IfErr result (λ back. (back ≡ errand) × AreSame (held self.old) (held self.new)) };
 
-    /// Moves what can be moved, and waits for a while where nothing can be: no longer than until `next`, the moment, in milliseconds of the office's clock, from
-    /// which on something will be due there, and where there is none as long as suits it. A moment that has passed says that something is due already, of
-    /// which no errand was taken.
+    /// Moves what can be moved, and waits for a while where nothing can be: no longer than until `next`, the moment, in
+    /// milliseconds of the office's clock, from which on something will be due there, and where there is none as long
+    /// as suits it. A moment that has passed says that something is due already, of which no errand was taken.
     fn carry(&mut self, next: Option<u64>)
         ensures { AreSame (held self.old) (held self.new) };
 

@@ -41,8 +41,8 @@ impl<'a> Callback<'a> {
         self.answer(alloc, &mut inbox)
     }
 
-    // Writes the request to a stream, reads the response from what the stream then has left, and tells what it comes to, where
-    // the member's address has been read.
+    // Writes the request to a stream, reads the response from what the stream then has left, and tells what it comes
+    // to, where the member's address has been read.
     pub(crate) fn converse_at<S: Read + Write + Drop>(
         &self,
         alloc: Global,
@@ -61,7 +61,8 @@ impl<'a> Callback<'a> {
         }
     }
 
-    /// Writes the request to a stream, reads the response from what the stream then has left, and tells what it comes to.
+    /// Writes the request to a stream, reads the response from what the stream then has left, and tells what it comes
+    /// to.
     pub fn converse<S: Read + Write + Drop>(
         &self,
         alloc: Global,

@@ -45,8 +45,8 @@ impl<S: Write + OpenStream, R: Clock> Write for Timed<S, R> {
     }
 }
 
-/// Opens connections over the system's sockets. A peer has 5 s to take one, and 30 s in all until its whole reply has come:
-/// from then on the stream fails. The look-up of a host's name is the system's, and has no such limit.
+/// Opens connections over the system's sockets. A peer has 5 s to take one, and 30 s in all until its whole reply has
+/// come: from then on the stream fails. The look-up of a host's name is the system's, and has no such limit.
 #[derive(Clone, Copy)]
 pub struct Sockets<R> {
     rt: R,
@@ -91,8 +91,8 @@ impl<R: Net + Clock + Copy> Dialler for Sockets<R> {
     }
 }
 
-/// Carries errands over TCP, a connection each. A member has 5 s to take the connection, and 30 s in all until its whole
-/// reply has come; then the outcome is [`Outcome::Silent`](lra_model::Outcome::Silent).
+/// Carries errands over TCP, a connection each. A member has 5 s to take the connection, and 30 s in all until its
+/// whole reply has come; then the outcome is [`Outcome::Silent`](lra_model::Outcome::Silent).
 pub type TcpCourier<R> = DiallingCourier<Sockets<R>>;
 
 impl<R: Net + Clock + Copy> DiallingCourier<Sockets<R>> {

@@ -34,8 +34,8 @@ fn own_address(alloc: Global, text: &str) -> Result<Address, SendFault>
 }
 
 impl<'a> Callback<'a> {
-    /// Where the member is asked, as an address that is read once for all that is done with it. Refused by `BadAddress` where the
-    /// text isn't an address as it stands, and by `Memory`.
+    /// Where the member is asked, as an address that is read once for all that is done with it. Refused by `BadAddress`
+    /// where the text isn't an address as it stands, and by `Memory`.
     pub fn to(&self, alloc: Global) -> Result<Address, SendFault>
         ensures ok { IfOk result (λ to. to ≡ self.now.address) }
         ensures address { OnOk result (is_address self.now.address ≡ true) }
@@ -75,8 +75,8 @@ impl<'a> Callback<'a> {
         }
     }
 
-    /// Writes the request. Where memory was refused, or the address isn't one as it stands, nothing was written; where the
-    /// writer failed, a front of the request was.
+    /// Writes the request. Where memory was refused, or the address isn't one as it stands, nothing was written; where
+    /// the writer failed, a front of the request was.
     pub fn send<W: Write>(&self, alloc: Global, writer: &mut W) -> Result<(), SendFault>
         ensures { Posts (W.contents writer.old) (W.contents writer.new) self.now result }
     {

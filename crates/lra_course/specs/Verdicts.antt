@@ -17,7 +17,8 @@ use Rattle.lra_course.specs.declared.verdict.Summary.{Summary}
 use Rattle.lra_course.specs.declared.verdict.Verdict.{Verdict}
 use Rattle.lra_course.specs.declared.verdict.Verdict.TheVariants.{Sound, Unsound}
 
--- an action that ended in failure, with the least member that failed and stays in it or below it; a legal history has one for each
+-- an action that ended in failure, with the least member that failed and stays in it or below it; a legal history has
+-- one for each
 abbrev pub failed_end : History → ℕ → Option FailedEnd
 failed_end J a = option_map
     (λ p. record { action = a; status = unwrap_or (action_status J a) action.Active; member = p }) (least_failed J a)
@@ -26,7 +27,8 @@ failed_end J a = option_map
 abbrev pub ended_cancelled : ActionStatus → Bool
 ended_cancelled s = same_status s action.Cancelled
 
--- the summary of a history: how many entries and actions it has, how many of these have ended and how, and the failed ends
+-- the summary of a history: how many entries and actions it has, how many of these have ended and how, and the failed
+-- ends
 unfoldable pub summary : History → Summary
 summary J = record {
   entries = length J;

@@ -255,7 +255,8 @@ impl Rows {
         }
     }
 
-    /// One more entry, which breaks no rule. After `Memory` the actions' rows are as before, and nothing is known of the rest.
+    /// One more entry, which breaks no rule. After `Memory` the actions' rows are as before, and nothing is known of
+    /// the rest.
     pub(crate) fn advance(&mut self, entry: &EntryRef<'_>) -> Result<(), Memory>
         requires counts { AllCanCount self.old.actions }
         requires next { TakesNextNumber self.old (deed_seen entry.now.deed) entry.now.by }

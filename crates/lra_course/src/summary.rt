@@ -100,8 +100,8 @@ fn parents_are_less(actions: &[ActionState]) -> bool
     true
 }
 
-/// Puts a member at its action and at each above it, where none is there yet. Where each parent's number is less, all above
-/// an action with a member have one too, so the walk stops there: all walks together visit each action once.
+/// Puts a member at its action and at each above it, where none is there yet. Where each parent's number is less, all
+/// above an action with a member have one too, so the walk stops there: all walks together visit each action once.
 fn mark_up(
     actions: &[ActionState],
     are_less: bool,

@@ -5,8 +5,8 @@ ghost use Rattle.std.specs.Prelude.{◌≡◌};
 use lra_model::{ActionStatus, Rule};
 use std::marker::Model;
 
-/// An action that ended in failure: the status that it ended with, and the least numbered of the members that failed and
-/// stay in it or in an action below it.
+/// An action that ended in failure: the status that it ended with, and the least numbered of the members that failed
+/// and stay in it or in an action below it.
 #[derive(Clone, Copy, Debug, PartialEq, Eq)]
 pub struct FailedEnd {
     pub action: u64,

@@ -1,4 +1,5 @@
-//! Tests of what a disk takes and keeps: over disks in memory, and a storage's over the system's files; over public surfaces alone.
+//! Tests of what a disk takes and keeps: over disks in memory, and a storage's over the system's files; over public
+//! surfaces alone.
 #![tactic(auto)]
 
 #[cfg(test)]

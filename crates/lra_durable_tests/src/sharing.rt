@@ -24,7 +24,8 @@ fn wait<R: Wait>(
     progress.keep(rt, progress.taken(rt)).ok().flatten()
 }
 
-/// Writes two bytes, and three more while the sync of those goes on, which waits for that. Whether the three weren't kept before.
+/// Writes two bytes, and three more while the sync of those goes on, which waits for that. Whether the three weren't
+/// kept before.
 fn write_both<R: Wait>(
     rt: &R,
     platter: &Platter,

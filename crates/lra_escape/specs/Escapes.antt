@@ -3,7 +3,8 @@ use Rattle.std.specs.Prelude.{◌≡◌, ℕ, ◌==◌, Bool, ◌||◌, if◌the
 use Rattle.std.specs.List.{flat_map}
 use Rattle.std.specs.Option.{option_map_or}
 
--- a byte: a reference for each of the five that markup and quoted values are told by (HTML, section 13.1.4), and itself for any other
+-- a byte: a reference for each of the five that markup and quoted values are told by (HTML, section 13.1.4), and itself
+-- for any other
 abbrev pub spelled : ℕ → List ℕ
 spelled b =
     if b == 60 then codes "&lt;"
@@ -31,7 +32,8 @@ named name =
 abbrev pub is_bare : ℕ → Bool
 is_bare b = (b == 60) || (b == 62) || (b == 34) || (b == 39)
 
--- what bytes spell, in a reference of which so much came, or in none: nothing where a mark stands bare, or a reference isn't one of the five, or isn't ended
+-- what bytes spell, in a reference of which so much came, or in none: nothing where a mark stands bare, or a reference
+-- isn't one of the five, or isn't ended
 abbrev pub unescaped_in : Option (List ℕ) → List ℕ → Option (List ℕ)
 unescaped_in None [] = Some []
 unescaped_in (Some name) [] = None

@@ -19,7 +19,8 @@ fn push_spelled(page: &mut Vec<u8>, byte: u8) -> Result<(), AllocError>
     }
 }
 
-/// Adds a text to a page of HTML, in an element or between the quotes of an attribute. Where memory is refused a front of it may have been added.
+/// Adds a text to a page of HTML, in an element or between the quotes of an attribute. Where memory is refused a front
+/// of it may have been added.
 pub fn escape(page: &mut Vec<u8>, text: &str) -> Result<(), AllocError>
     ensures { OnOk result (page.new.items ≡ page.old.items ++ escaped text.now) }
 {

@@ -48,14 +48,15 @@ abbrev pub IdentifiersName : Type 0
 IdentifiersName = (request : Request) (i : ℕ) → HasIdentifier request i ⊎ HasParent request i → instance_of request
     ≡ Some i
 
--- A coordinator that isn't the one which a request names denies it, whatever its base: as an identifier that isn't its own.
+-- A coordinator that isn't the one which a request names denies it, whatever its base: as an identifier that isn't its
+-- own.
 abbrev pub StrangersDeny : Type 0
 StrangersDeny = (i j : ℕ) (base : List ℕ) (request : Request) (w : Result Wish Denial) → i < 2 ^ 60
     → instance_of request ≡ Some j → i ≢ j
     → MayAsk i base request w → (d : Denial) × IsUnknown request d × (w ≡ Err d)
 
--- A member leaves by a recovery URI of another instance than that of the coordinator which is asked: it is refused as one that isn't its own, after the
--- identifier of the path.
+-- A member leaves by a recovery URI of another instance than that of the coordinator which is asked: it is refused as
+-- one that isn't its own, after the identifier of the path.
 abbrev pub TwoAreRefused : Type 0
 TwoAreRefused = (i : ℕ) (base : List ℕ) (request : Request) (members : Members) (uri : List ℕ) (w : Result Wish Denial)
     → i < 2 ^ 60

@@ -39,8 +39,8 @@ unknown_at operation.MemberStatus = no_member
 unknown_at operation.Report = no_member
 unknown_at _ = no_action
 
--- How a request is denied whose identifier is of no journal that is there: as each counter denies one that isn't its own. What is wrong with the
--- body is said first, and memory may be refused in reading it.
+-- How a request is denied whose identifier is of no journal that is there: as each counter denies one that isn't its
+-- own. What is wrong with the body is said first, and memory may be refused in reading it.
 abbrev pub IsUnknown : Request → Denial → Type 0
 IsUnknown request d = ((d ≡ Refused refusal.Memory) × LacksMemory request)
     ⊎ MatchResult (operation_of request.method request.target)

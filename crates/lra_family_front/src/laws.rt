@@ -25,8 +25,9 @@ pub fn two_instances_are_refused()
     ensures { TwoAreRefused }
 {}
 
-/// The requests that name a journal are its own, each once and in order: to it they are a connection over it alone, whatever the others are
-/// asked. Those that name none that is there are denied, and reach none. What `respond` does is a turn of such a run.
+/// The requests that name a journal are its own, each once and in order: to it they are a connection over it alone,
+/// whatever the others are asked. Those that name none that is there are denied, and reach none. What `respond` does is
+/// a turn of such a run.
 pub fn each_member_answers_its_own<C: Counter>()
     ensures turns { AnswersAreTurns C.gives }
     ensures chains { laws.EachHasItsChain name names (Does C.gives) Lacks }
@@ -34,9 +35,9 @@ pub fn each_member_answers_its_own<C: Counter>()
     ensures cut { laws.RunsCanBeCut name names (Does C.gives) Lacks }
 {}
 
-/// Requests that a household answers one after another are turns of a run of its family, with joins and leaves between them: so what is known of such
-/// runs is known of the members of a household. A request that is refused while a member may be lacked is no turn of
-/// the run. Rests between the requests add joins and leaves alone.
+/// Requests that a household answers one after another are turns of a run of its family, with joins and leaves between
+/// them: so what is known of such runs is known of the members of a household. A request that is refused while a member
+/// may be lacked is no turn of the run. Rests between the requests add joins and leaves alone.
 pub fn households_are_families<C: Session + Drop, H: Kinship<C>, K: Clock>()
     ensures runs { HouseholdsRun H.tells C.sight C.covers C.gives K.tells }
     ensures rests { HouseholdsRest H.tells C.sight C.covers C.gives K.tells }

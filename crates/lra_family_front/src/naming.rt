@@ -54,8 +54,8 @@ fn named_at(
     Ok(instance_in(id_in(request.target.as_str()).as_bytes()))
 }
 
-/// The instance that a request names: by the identifier in its path, or by the parent in the body of a start. Memory may be refused where
-/// the body of a start is read.
+/// The instance that a request names: by the identifier in its path, or by the parent in the body of a start. Memory
+/// may be refused where the body of a start is read.
 pub fn instance_of(
     alloc: Global,
     routes: &Routes,

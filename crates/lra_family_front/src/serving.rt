@@ -86,9 +86,9 @@ fn answer<C: Session + Drop>(
     }
 }
 
-/// Answers a request at a moment: it does at the journal that it names what the front does over that one alone, and every other stays. Where
-/// no such journal is there, the newest denies it, which doesn't know the identifier either: no order is given then,
-/// and the answer has no position.
+/// Answers a request at a moment: it does at the journal that it names what the front does over that one alone, and
+/// every other stays. Where no such journal is there, the newest denies it, which doesn't know the identifier either:
+/// no order is given then, and the answer has no position.
 pub fn respond<C: Session + Drop>(
     alloc: Global,
     routes: &Routes,

@@ -31,7 +31,8 @@ pub fn is_shared(file: &File) -> bool {
     }
 }
 
-/// All that a reader has to its end, where that is no more than so many bytes. Of what has no end one byte more is read.
+/// All that a reader has to its end, where that is no more than so many bytes. Of what has no end one byte more is
+/// read.
 pub fn read_whole<F: Read + Drop>(
     alloc: Global,
     file: F,

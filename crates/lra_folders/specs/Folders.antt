@@ -33,7 +33,8 @@ pub record Progress : Type 0 where
 abbrev pub at_first : Option (List ℕ) → Progress
 at_first written = record { written = written; told = []; tally = record { sound = 0; unsound = 0; unread = 0 } }
 
--- one journal more, of these bytes: it has this verdict, and its name and its report were written; or it can't be read, which is told
+-- one journal more, of these bytes: it has this verdict, and its name and its report were written; or it can't be read,
+-- which is told
 abbrev pub AuditsNext : List ℕ → List ℕ → List ℕ → Option Verdict → Progress → Progress → Type 0
 AuditsNext bytes path name (Some verdict) p q =
     IsVerdict bytes verdict × Appends p.written q.written (joined (name ∷ codes " " ∷ report_of verdict ∷ []))
@@ -83,7 +84,8 @@ Tells Show bytes status before after = ReportsListing bytes status before after
 abbrev pub counted_as : ℕ → Tally → Tally
 counted_as status t = if nat_eq status 0 then record t { sound = t.sound + 1 } else record t { unsound = t.unsound + 1 }
 
--- one journal more, of these bytes: what is told of it, of this status and with this text, was written; or it can't be read, which is told
+-- one journal more, of these bytes: what is told of it, of this status and with this text, was written; or it can't be
+-- read, which is told
 abbrev pub TellsNext : Deed → List ℕ → List ℕ → List ℕ → Option (ℕ × List ℕ) → Progress → Progress → Type 0
 TellsNext deed bytes path name (Some (status, text)) p q =
     Tells deed bytes status (Some (name ++ behind deed)) (Some text) × Appends p.written q.written text
@@ -99,7 +101,8 @@ TellsEach deed bytes folder (name ∷ names) p q =
     (line : Option (ℕ × List ℕ)) × (r : Progress) × TellsNext deed (bytes (path_of folder name)) (path_of folder name)
     name line p r × TellsEach deed bytes folder names r q
 
--- what is told of the journals of these names, whose bytes are those, was written one after another; then the counts were
+-- what is told of the journals of these names, whose bytes are those, was written one after another; then the counts
+-- were
 pub record TellsAll (deed : Deed) (bytes : List ℕ → List ℕ) (folder : List ℕ) (names : List (List ℕ)) (before after : Option (List ℕ)) (told : List ℕ) (status : ℕ) : Type 0 where
   pub last : Progress
   pub each : TellsEach deed bytes folder names (at_first before) last

@@ -15,10 +15,12 @@ pub const NEWEST: &str = "newest";
 /// The file in it that has what identifiers began with when it was served last.
 pub const BASE: &str = "base";
 
-/// The file in it that has the greatest instance of those journals in which nothing is begun any more since the folder was restored.
+/// The file in it that has the greatest instance of those journals in which nothing is begun any more since the folder
+/// was restored.
 pub const RESTORED: &str = "restored";
 
-/// The file in it that has the members which operators have given up and which aren't told any more that their action has ended.
+/// The file in it that has the members which operators have given up and which aren't told any more that their action
+/// has ended.
 pub const GIVEN_UP: &str = "given-up";
 
 /// The names of what a folder has.

@@ -145,7 +145,8 @@ fn status_by(tally: Tally) -> u8
     0
 }
 
-/// Does this with the journals of these names in a folder, and counts them: as many side by side as threads run and files can be open, and then as many again.
+/// Does this with the journals of these names in a folder, and counts them: as many side by side as threads run and
+/// files can be open, and then as many again.
 fn tell_each<R: Threads + Sync, F: Read + Send + Drop, S: Sources<File = F>, W: Write>(
     rt: &R,
     alloc: Global,
@@ -183,8 +184,8 @@ fn tell_each<R: Threads + Sync, F: Read + Send + Drop, S: Sources<File = F>, W: 
     Ok(tally)
 }
 
-/// Does this with the journals of these names in a folder: writes what is told of each, and at the end how many there are. One that can't be
-/// read, or has more than 2^30 bytes, is told, and the others go on.
+/// Does this with the journals of these names in a folder: writes what is told of each, and at the end how many there
+/// are. One that can't be read, or has more than 2^30 bytes, is told, and the others go on.
 fn tell_journals<R: Threads + Sync, F: Read + Send + Drop, S: Sources<File = F>, W: Write>(
     rt: &R,
     alloc: Global,
@@ -208,8 +209,9 @@ fn tell_journals<R: Threads + Sync, F: Read + Send + Drop, S: Sources<File = F>,
     })
 }
 
-/// Audits the journals of these names in a folder, as many side by side as threads run: writes each with its report behind its name, in the order of
-/// the names, and at the end how many there are. One that can't be read, or has more than 2^30 bytes, is told, and the others go on.
+/// Audits the journals of these names in a folder, as many side by side as threads run: writes each with its report
+/// behind its name, in the order of the names, and at the end how many there are. One that can't be read, or has more
+/// than 2^30 bytes, is told, and the others go on.
 pub fn audit_journals<R: Threads + Sync, F: Read + Send + Drop, S: Sources<File = F>, W: Write>(
     rt: &R,
     alloc: Global,
@@ -226,8 +228,9 @@ pub fn audit_journals<R: Threads + Sync, F: Read + Send + Drop, S: Sources<File 
     tell_journals(rt, alloc, Deed::Audit, sources, folder, names, writer)
 }
 
-/// Lists the journals of these names in a folder, side by side too: writes each one's listing below its name, or the line of its first fault, and
-/// at the end how many there are. One that can't be read, or has more than 2^30 bytes, is told, and the others go on.
+/// Lists the journals of these names in a folder, side by side too: writes each one's listing below its name, or the
+/// line of its first fault, and at the end how many there are. One that can't be read, or has more than 2^30 bytes, is
+/// told, and the others go on.
 pub fn list_journals<R: Threads + Sync, F: Read + Send + Drop, S: Sources<File = F>, W: Write>(
     rt: &R,
     alloc: Global,

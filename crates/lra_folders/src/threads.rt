@@ -42,8 +42,8 @@ fn open_next<F: Read + Drop, S: Sources<File = F>>(
     Ok((own, sources.open(path.as_str()).ok()))
 }
 
-/// The names of journals in a folder, each with its file, where that can be opened: work for as many threads. They end before one that can't be
-/// opened beside those: the system may let no more be open at once.
+/// The names of journals in a folder, each with its file, where that can be opened: work for as many threads. They end
+/// before one that can't be opened beside those: the system may let no more be open at once.
 pub fn open_each<F: Read + Drop, S: Sources<File = F>>(
     alloc: Global,
     sources: &S,

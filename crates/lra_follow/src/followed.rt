@@ -53,7 +53,8 @@ impl Followed {
         self.watch.extent()
     }
 
-    /// Goes on at another path, with another text before each line, where its file is there now. The answer is whether it is.
+    /// Goes on at another path, with another text before each line, where its file is there now. The answer is whether
+    /// it is.
     pub(crate) fn moves_to<R: Files<File = File>>(
         &mut self,
         rt: &R,
@@ -91,7 +92,8 @@ impl Followed {
         writer.flush().map_err(|_| RunFault::Write)
     }
 
-    /// Tells that the journal has been sound so far, where entries came that weren't told of, and the last line is old enough or this is the last.
+    /// Tells that the journal has been sound so far, where entries came that weren't told of, and the last line is old
+    /// enough or this is the last.
     fn tell_sound<W: Write>(&mut self, is_last: bool, writer: &mut W) -> Result<(), RunFault> {
         self.looks = self.looks.saturating_add(1);
         if !self.is_told() && (is_last || self.looks >= LOOKS) {

@@ -172,7 +172,8 @@ impl<'a> Journals<'a> {
         }
     }
 
-    /// Looks at those that were there at the look before, and lets go of those that were put away and aren't there any more.
+    /// Looks at those that were there at the look before, and lets go of those that were put away and aren't there any
+    /// more.
     fn look_at_known<R: AllocGlobal + Files<File = File> + Eprint, W: Write>(
         &mut self,
         rt: &R,

@@ -61,7 +61,8 @@ fn read_out<I: Read>(input: &mut I) {
     }
 }
 
-/// Asks for the end once an input has ended. A thread of its own waits for that. It is left to itself, so that it holds nobody up.
+/// Asks for the end once an input has ended. A thread of its own waits for that. It is left to itself, so that it holds
+/// nobody up.
 pub fn watch_input<R: Threads, I: Read + Send + Drop + 'static>(
     rt: &R,
     stop: &Arc<Stop>,
@@ -108,8 +109,8 @@ fn follow_to<R: AllocGlobal + Files<File = File> + Clock + Wait + Eprint, W: Wri
     Ok(0)
 }
 
-/// Follows a journal, and answers the program's status: 1 where a line of it is at fault, 2 where its file is lost or can't be read, and 0
-/// where the end was asked for.
+/// Follows a journal, and answers the program's status: 1 where a line of it is at fault, 2 where its file is lost or
+/// can't be read, and 0 where the end was asked for.
 pub fn follow<R: AllocGlobal + Files<File = File> + Clock + Wait + Print + Eprint>(
     rt: &R,
     file: &str,

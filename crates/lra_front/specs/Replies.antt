@@ -131,7 +131,8 @@ body_of uri (answer.Denied d) = denial_body d
 abbrev pub Field : Type 0
 Field = List ℕ × List ℕ
 
--- how a key is given, where that was another (RFC 6750, section 3), and the methods that a place takes, where another was asked for (RFC 9110, section 15.5.6)
+-- how a key is given, where that was another (RFC 6750, section 3), and the methods that a place takes, where another
+-- was asked for (RFC 9110, section 15.5.6)
 abbrev pub denial_fields : Denial → List Field
 denial_fields denial.WrongKey = (codes "WWW-Authenticate", codes "Bearer realm=\"lra\"") ∷ []
 denial_fields (denial.BadMethod place) = (codes "Allow", allowed place) ∷ []
@@ -165,8 +166,8 @@ line_end = 13 ∷ 10 ∷ []
 abbrev pub line_of : Field → List ℕ
 line_of field = field.0 ++ codes ": " ++ field.1 ++ line_end
 
--- the one text of a reply: its line, its fields, an empty line, and the body (RFC 9112, section 2.1); of the body only the length is told where
--- the head alone was asked for (RFC 9110, section 9.3.2)
+-- the one text of a reply: its line, its fields, an empty line, and the body (RFC 9112, section 2.1); of the body only
+-- the length is told where the head alone was asked for (RFC 9110, section 9.3.2)
 abbrev pub reply_text : List ℕ → Answer → List ℕ → Bool → Bool → List ℕ
 reply_text uri a text head close =
     (codes "HTTP/1.1 " ++ (decimal (code_of a) ++ (codes " " ++ phrase_of (code_of a))))

@@ -15,7 +15,8 @@ use Rattle.lra_front.specs.Paths.{served_at}
 abbrev pub has_query : List ℕ → Bool
 has_query target = list_any (λ b. b == 63) target
 
--- what a target names: the path that `matchit` finds for it; nothing where it has a query, wherever that stands, or is in absolute form
+-- what a target names: the path that `matchit` finds for it; nothing where it has a query, wherever that stands, or is
+-- in absolute form
 unfoldable pub place_of : List ℕ → Option Place
 place_of target = if has_query target then None else served_at path_of places target
 

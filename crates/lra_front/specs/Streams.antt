@@ -22,7 +22,8 @@ use Rattle.lra_front.specs.declared.stream.Served.TheVariants.{Going, Ended}
 use Rattle.lra_front.specs.Replies.{reply_bytes}
 use Rattle.lra_front.specs.Serving.{Responds}
 
--- where a stream stands: the bytes to come and those that went out, where they are known, what is known of the counter, and the clock
+-- where a stream stands: the bytes to come and those that went out, where they are known, what is known of the counter,
+-- and the clock
 pub record Standing (K : Type 0) : Type 0 where
   pub bytes : Option (List ℕ)
   pub sight : Sight

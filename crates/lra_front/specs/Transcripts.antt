@@ -1,4 +1,5 @@
--- What a whole stream comes to, as lists: the requests that its bytes spell, the moments, the answers, and the bytes of the replies.
+-- What a whole stream comes to, as lists: the requests that its bytes spell, the moments, the answers, and the bytes of
+-- the replies.
 use Rattle.std.specs.Prelude.{◌≡◌, ◌⊎◌, ℕ, zero, suc, ◌<◌, Bool, true, false, List, [], ◌∷◌, ◌++◌, length, Some, Result, Ok, Err, ⊤}
 use mathlib.Core.List.{IsPrefix}
 use Rattle.lra_model.specs.History.{History}
@@ -104,8 +105,8 @@ module _ {K : Type 0} (gives : Sight → ℕ → Order → Result Told CounterFa
       ≡ Some old
       → ServesUpTo gives tells n s end t → Transcript n bytes old s end t
 
-  -- what a request adds to the entries under its clerk's number: what its one order adds, at a history that begins with all that was seen, and nothing
-  -- where it is denied
+  -- what a request adds to the entries under its clerk's number: what its one order adds, at a history that begins with
+  -- all that was seen, and nothing where it is denied
   abbrev pub IsAdded : (v : Sight) (moment : ℕ) (w : Result Wish Denial) (u : Sight) (a : Answer)
       → Does gives v moment w u a → History → Type 0
   IsAdded v moment (Ok wish) u a given added = (met : History) × IsPrefix v.seen met
@@ -120,7 +121,8 @@ module _ {K : Type 0} (gives : Sight → ℕ → Order → Result Told CounterFa
       (first : History) × (more : History) × IsAdded v turn.moment chain.3.0 chain.0 turn.answer chain.3.2 first
       × AreAdded chain.0 chain.1 turns w l chain.4 more × (added ≡ first ++ more)
 
-  -- The entries under the clerk's number are those from before, and then what its orders add, in their order, each once.
+  -- The entries under the clerk's number are those from before, and then what its orders add, in their order, each
+  -- once.
   abbrev pub AreWrittenInTurn : Type 0
   AreWrittenInTurn = (v w : Sight) (k l : K) (turns : List Turn) (chain : Chain v k turns w l) → (added : History)
       × AreAdded v k turns w l chain added

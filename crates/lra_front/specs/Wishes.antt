@@ -26,7 +26,8 @@ no_action = Refused refusal.NoSuchAction
 abbrev pub no_member : Denial
 no_member = Refused refusal.NoSuchMember
 
--- The text is spelled from a number, and what is asked for goes on from it; or it is spelled from none, and that is denied.
+-- The text is spelled from a number, and what is asked for goes on from it; or it is spelled from none, and that is
+-- denied.
 abbrev pub IsNamed : (ℕ → List ℕ) → List ℕ → Denial → (ℕ → Result Wish Denial → Type 0) → Result Wish Denial → Type 0
 IsNamed spelled text none Next w =
     ((n : ℕ) × IsSpelling spelled text n × Next n w) ⊎ (((n : ℕ) → ¬ (IsSpelling spelled text n)) × (w ≡ Err none))
@@ -63,7 +64,8 @@ IsOfMember ms operation.MemberStatus m w = w ≡ Ok (wish.MemberStatus m)
 IsOfMember ms operation.Report m w = w ≡ Ok (wish.Report m (ending_in ms))
 IsOfMember ms _ m w = ⊥
 
--- What an operation asks for, of a coordinator with that instance and base: the path's ID is looked at before the body's.
+-- What an operation asks for, of a coordinator with that instance and base: the path's ID is looked at before the
+-- body's.
 abbrev pub IsWish : ℕ → List ℕ → List ℕ → Members → Operation → Result Wish Denial → Type 0
 IsWish i base id ms operation.Start w = IsStart i base ms w
 IsWish i base id ms operation.MemberStatus w = IsNamed (id_text i) id no_member (IsOfMember ms operation.MemberStatus) w

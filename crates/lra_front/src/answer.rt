@@ -252,8 +252,8 @@ impl Answer {
         Ok(Parts { uri, text, digits })
     }
 
-    /// Writes its reply: the head alone where that was asked for, and that the stream is closed where it is. The reply's text
-    /// is made in the page, in place of what stood there before.
+    /// Writes its reply: the head alone where that was asked for, and that the stream is closed where it is. The
+    /// reply's text is made in the page, in place of what stood there before.
     pub fn write<W: Write>(
         self,
         page: &mut Vec<u8>,

@@ -114,8 +114,9 @@ fn exchange<W: Write, C: Counter, K: Clock>(
     }
 }
 
-/// Answers the next request of an inbox, or tells how the stream ended. After the last request that is taken the stream is
-/// closed. The page is where replies are made: what stands in it before is dropped, so that one page serves many streams.
+/// Answers the next request of an inbox, or tells how the stream ended. After the last request that is taken the stream
+/// is closed. The page is where replies are made: what stands in it before is dropped, so that one page serves many
+/// streams.
 pub fn serve_request<R: Read + Drop, W: Write, C: Counter, K: Clock>(
     page: &mut Vec<u8>,
     routes: &Routes,
@@ -169,8 +170,8 @@ fn serve_inbox<R: Read + Drop, W: Write, C: Counter, K: Clock>(
     }
 }
 
-/// Answers the requests that a reader gives, one after another: up to its end, to one after which the stream is closed, to
-/// a fault, or to the 1,000th. What was asked for stands, whether or not its reply could be written.
+/// Answers the requests that a reader gives, one after another: up to its end, to one after which the stream is closed,
+/// to a fault, or to the 1,000th. What was asked for stands, whether or not its reply could be written.
 pub fn serve_stream<R: Read + Drop, W: Write, C: Counter, K: Clock>(
     alloc: Global,
     reader: R,

@@ -12,7 +12,8 @@ is_web url =
     (bytes_eq url.scheme (codes "http") || bytes_eq url.scheme (codes "https"))
     && length url.username == 0 && length url.password == 0 && list_all is_ascii_graphic (serialize url)
 
--- the paths of identifiers can be appended to the text: it ends in `/`, and has no query, no fragment, and at most 400 bytes
+-- the paths of identifiers can be appended to the text: it ends in `/`, and has no query, no fragment, and at most 400
+-- bytes
 abbrev pub is_stem : List ℕ → Bool
 is_stem text =
     slice_index text (length text - 1) == slash

@@ -47,7 +47,8 @@ fn base_in(alloc: Global, text: &str) -> Result<Option<Address>, Memory>
     }
 }
 
-/// The base of the identifiers that are served at an address: `http://`, the address and `/`, where that text is a base as it stands.
+/// The base of the identifiers that are served at an address: `http://`, the address and `/`, where that text is a base
+/// as it stands.
 pub fn base_of(alloc: Global, to: &str) -> Result<Option<Address>, Memory>
     ensures text { IfOk result (λ found. IfSome found (λ base. base ≡ base_text to.now)) }
     ensures base { IfOk result (λ found. IfSome found (λ base. is_base base ≡ true)) }

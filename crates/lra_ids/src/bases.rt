@@ -69,8 +69,8 @@ fn url_in(alloc: Global, text: &str) -> Result<Option<Url>, Memory>
 }
 
 impl Base {
-    /// The base that a text stands for, where it stands for one: an `http` or `https` URL by the URL Standard, without a user, a query or a fragment, whose
-    /// path ends in `/`, and whose own text has at most 400 bytes.
+    /// The base that a text stands for, where it stands for one: an `http` or `https` URL by the URL Standard, without
+    /// a user, a query or a fragment, whose path ends in `/`, and whose own text has at most 400 bytes.
     #[tactic(auto, unfolding(crate::specs::Bases::base_for))]
     pub fn read(alloc: Global, text: &str) -> Result<Option<Base>, Memory>
         ensures { IfOk result (λ found. found ≡ base_for text.now) }

@@ -27,8 +27,8 @@ fn is_http(url: &Url) -> bool
 }
 
 /// The address that a text stands for by the URL Standard. The faults are looked for in this order: a text of more than
-/// 512 bytes, one that is no URL, a URL whose scheme isn't `http` or whose own text has a byte outside 0x21 to 0x7E, and
-/// one whose own text has more than 512 bytes. Where a growth is refused the answer is `Memory` at once.
+/// 512 bytes, one that is no URL, a URL whose scheme isn't `http` or whose own text has a byte outside 0x21 to 0x7E,
+/// and one whose own text has more than 512 bytes. Where a growth is refused the answer is `Memory` at once.
 pub fn address(alloc: Global, text: &str) -> Result<Address, UriFault>
     ensures ok { IfOk result (λ address. address_of text.now ≡ Ok address) }
     ensures fault { IfErr result (λ fault. fault ≢ UriFault.Memory → address_of text.now ≡ Err fault) }

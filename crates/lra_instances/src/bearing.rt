@@ -9,7 +9,8 @@ use uuid::Uuid;
 /// The number of characters in the text of an identifier.
 const ID_LENGTH: usize = 36;
 
-/// The instance that a text bears, where it is a UUID in any of its forms. Whether it is spelled as an identifier isn't looked at.
+/// The instance that a text bears, where it is a UUID in any of its forms. Whether it is spelled as an identifier isn't
+/// looked at.
 pub fn instance_in(text: &[u8]) -> Option<Instance>
     ensures { result ≡ spec.instance_in text.now }
 {

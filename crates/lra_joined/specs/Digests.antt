@@ -10,7 +10,8 @@ abbrev pub fed : Option (List ℕ) → DefaultHasher → DefaultHasher
 fed None s = write s (0 ∷ [])
 fed (Some text) s = write (write (write s (1 ∷ [])) text) (255 ∷ [])
 
--- the digest of an action and five addresses under a key: SipHash-1-3 of them all, the key first (this project's choice)
+-- the digest of an action and five addresses under a key: SipHash-1-3 of them all, the key first (this project's
+-- choice)
 unfoldable pub digest_of : ℕ → ℕ → Addresses → ℕ
 digest_of key action u =
     finish (fed u.after (fed u.forget

@@ -2,7 +2,8 @@
 use Rattle.std.specs.Prelude.{◌≡◌, ℕ, ◌<◌, ◌^◌, ◌==◌, ◌&&◌, cond, List, [], ◌∷◌, length, Option, slice_get, nat_eq}
 use Rattle.std.specs.Map.{lookup}
 
--- an index: the key of its digests, numbers by digest and rank, and for how many more there is room (this project's choice)
+-- an index: the key of its digests, numbers by digest and rank, and for how many more there is room (this project's
+-- choice)
 pub record Indexed : Type 0 where
   pub key : ℕ
   pub numbers : List ((ℕ × ℕ) × ℕ)

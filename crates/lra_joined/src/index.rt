@@ -13,8 +13,8 @@ use std::alloc::Global;
 use std::collections::HashMap;
 use std::marker::Model;
 
-/// Numbers under digests, those of one digest in the order in which they were added. Each takes one place of what there is room
-/// for.
+/// Numbers under digests, those of one digest in the order in which they were added. Each takes one place of what there
+/// is room for.
 #[derive(Drop)]
 pub struct Index {
     key: u128,

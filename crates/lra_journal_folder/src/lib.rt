@@ -1,4 +1,5 @@
-//! A folder of journals on disk: its names, its lock, the file of the greatest instance, what was put away, and its journals, found and audited.
+//! A folder of journals on disk: its names, its lock, the file of the greatest instance, what was put away, and its
+//! journals, found and audited.
 #![tactic(auto)]
 
 mod fault;

@@ -33,7 +33,8 @@ pub record IsTold (s : Terms) (J : History) (c : Call) (t : Told) : Type 0 where
   pub answered : answer s J c ≡ Ok t
   pub nothing : block s J c ≡ []
 
--- a call writes this entry of its own, which may come now, and nothing speaks against it but too many entries, all that settles counted
+-- a call writes this entry of its own, which may come now, and nothing speaks against it but too many entries, all that
+-- settles counted
 pub record IsWritten (s : Terms) (J : History) (c : Call) (e : Entry) : Type 0 where
   pub own : own_entry s J c ≡ Some e
   pub allowed : allows s.version is_address J e ≡ true
@@ -41,7 +42,8 @@ pub record IsWritten (s : Terms) (J : History) (c : Call) (e : Entry) : Type 0 w
   pub refused : refused s J c ≡ when (passes s.limits resource.Entries (J ++ with_settling J e))
       (refusal.Full resource.Entries)
 
--- whether a call comes to where addresses are read, which takes memory: a join by an enrolled clerk, of an action that is Active
+-- whether a call comes to where addresses are read, which takes memory: a join by an enrolled clerk, of an action that
+-- is Active
 abbrev pub reads_addresses : History → Call → Bool
 reads_addresses J c = by_command c.command
   where

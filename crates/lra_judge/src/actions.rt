@@ -129,8 +129,8 @@ impl Judge<'_> {
         }
     }
 
-    /// The cancel of an action: taken where it is Active, or has closed and may be taken back; refused where it is being closed
-    /// or was; and else a repeat.
+    /// The cancel of an action: taken where it is Active, or has closed and may be taken back; refused where it is
+    /// being closed or was; and else a repeat.
     pub(crate) fn cancel(&self, action: u64) -> Result<Decision, Refusal>
         ensures { (J : History) → StandsFor self.now.tables.now.sheet J → result
             ≡ judged.cancel self.now.terms.version J self.now.by self.now.moment action }

@@ -57,8 +57,8 @@ fn judge<E: Carries>(
 /// writes nothing, or the entry that it writes of its own. The moment, in milliseconds, is the one handed in; what is
 /// written has that of the last entry where this is later.
 ///
-/// That the entries don't fit isn't looked at, since what settles after the entry isn't known yet. Only a join takes memory, to
-/// read its addresses; `Memory` comes in no other place.
+/// That the entries don't fit isn't looked at, since what settles after the entry isn't known yet. Only a join takes
+/// memory, to read its addresses; `Memory` comes in no other place.
 pub fn decide<E: Carries>(
     alloc: Global,
     terms: &Terms,

@@ -11,8 +11,8 @@ use lra_ids::{UriFault, address};
 use lra_model::Uris;
 use std::alloc::Global;
 
-/// The text of the address that a text stands for. It is `BadAddresses` where there is none, and `Memory` where a growth was
-/// refused.
+/// The text of the address that a text stands for. It is `BadAddresses` where there is none, and `Memory` where a
+/// growth was refused.
 fn stored_text(alloc: Global, text: &str) -> Result<String, Refusal>
     ensures ok { IfOk result (λ own. address_of text.now ≡ Ok (string_bytes own)) }
     ensures err { IfErr result (λ r. r ≢ Refusal.Memory → (r ≡ Refusal.BadAddresses) × (reads text.now ≡ false)) }

@@ -1,4 +1,5 @@
--- An entry and all that settles after it leave the wants and the deadlines of all that aren't listed by the history before them as they were.
+-- An entry and all that settles after it leave the wants and the deadlines of all that aren't listed by the history
+-- before them as they were.
 use Rattle.std.proofs.Common.{◌≡◌, ℕ, zero, suc, Bool, true, false, List, [], ◌∷◌, ◌++◌, Option, Some, None, refl, sym, ap, ◌∙◌, subst, cond, append-nil, append_assoc}
 use Rattle.std.specs.Prelude.{◌==◌, ◌&&◌, ◌||◌, is_some}
 use Rattle.std.specs.Option.{option_map_or}

@@ -1,4 +1,5 @@
--- Every legal history has good ends: up from a member to an action that closed or was cancelled, and down from one that failed to a member that did.
+-- Every legal history has good ends: up from a member to an action that closed or was cancelled, and down from one that
+-- failed to a member that did.
 use Rattle.std.proofs.Common.{◌≡◌, ℕ, zero, suc, ◌+◌, ◌<◌, ◌≤◌, Bool, true, false, List, length, Option, Some, None, ◌⊎◌, inl, inr, refl, sym, ap, ◌∙◌, cond, arith, le_refl, true≢false, eqb-true, eq-eqb}
 use Rattle.std.specs.Prelude.{◌==◌, ◌&&◌, ◌||◌, not, is_some}
 use Rattle.std.specs.Option.{option_or, option_map_or}

@@ -139,8 +139,8 @@ unfolding steps clerks actions members asks last_moment parent top action_status
     is_outstanding outstanding_ask staying is_settled right_end top_has_ended facts_of broken is_legal
 kept_is_legal = refl
 
--- what the good end of action 1 reads: its status and that of action 2, nested in it; whether member 1 stays below it; the member's status;
--- whether it was asked to compensate; and whether an action between the two was cancelled
+-- what the good end of action 1 reads: its status and that of action 2, nested in it; whether member 1 stays below it;
+-- the member's status; whether it was asked to compensate; and whether an action between the two was cancelled
 pub record Reads : Type 0 where
   pub outer : Option ActionStatus
   pub nested : Option ActionStatus

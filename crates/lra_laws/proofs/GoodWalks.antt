@@ -1,4 +1,5 @@
--- The walks up by parents are plain recursions in a legal history: a parent's number is less, so the count of steps that each is given is enough.
+-- The walks up by parents are plain recursions in a legal history: a parent's number is less, so the count of steps
+-- that each is given is enough.
 use Rattle.std.proofs.Common.{◌≡◌, ℕ, zero, suc, ◌<◌, ◌≤◌, Bool, true, false, List, [], ◌∷◌, Option, Some, None, refl, sym, ap, ◌∙◌, cond, arith}
 use Rattle.std.specs.Prelude.{◌==◌, ◌||◌, unwrap_or, option_map}
 use Rattle.std.specs.Option.{option_map_or}
@@ -96,7 +97,8 @@ is_under_lem v t J l x a =
     ∙ ap (λ (y : Bool). (a == x) || y) (sym (map_or (λ b. is_within b J x b) (parent J a) false)
     ∙ map_or-same (λ b. sym (under_climbs J x b)) (parent J a) false)
 
--- a cancellation stands below t, above an action or at it, where the action isn't t, and was cancelled or one stands above or at its parent
+-- a cancellation stands below t, above an action or at it, where the action isn't t, and was cancelled or one stands
+-- above or at its parent
 pub was_cancelled_below_lem : (v : Version) (t : List ℕ → Bool) (J : History) → is_legal v t J ≡ true → (x a : ℕ)
     → was_cancelled_below J x a ≡ cond (a == x) false (was_cancelled J a
     || option_map_or (was_cancelled_below J x) (parent J a) false)

@@ -1,4 +1,5 @@
--- Legal histories: induction along them, what the rules say that an entry keeps, and that what a history names is there.
+-- Legal histories: induction along them, what the rules say that an entry keeps, and that what a history names is
+-- there.
 use Rattle.std.proofs.Common.{◌≡◌, ℕ, zero, suc, ◌+◌, ◌<◌, ◌≤◌, Bool, true, false, List, [], ◌∷◌, ◌++◌, length, Option, Some, None, refl, sym, ap, ◌∙◌, subst, append_assoc, append-nil, cond, arith, eqb-true, eq-eqb, ne_eqb, leb-true, length-append}
 use Rattle.std.proofs.lemmas.Bool.{eqb-false}
 use Rattle.std.proofs.Math.Bool.{and-true, or-false, or-true}
@@ -80,7 +81,8 @@ pub legal_empty : (v : Version) (t : List ℕ → Bool) → is_legal v t [] ≡ 
 unfolding is_legal steps
 legal_empty v t = refl
 
--- what holds of no entries, and of one more allowed entry wherever it holds of a legal history, holds of every legal history
+-- what holds of no entries, and of one more allowed entry wherever it holds of a legal history, holds of every legal
+-- history
 pub legal_induction : (v : Version) (t : List ℕ → Bool) (P : History → Type 0) → P []
     → ((J : History) (e : Entry) → is_legal v t J ≡ true → Allowed v t J e → P J → P (J ++ e ∷ []))
     → (J : History) → is_legal v t J ≡ true → P J

@@ -149,7 +149,8 @@ some_map : {X Y : Type 0} (f : X → Y) (o : Option X) (y : Y) → option_map f 
 some_map f None y h = absurd cc
 some_map f (Some x) y h = (x, refl, cc)
 
--- what settles a legal history next may be written, by any clerk that is there, at a moment that isn't before the last one
+-- what settles a legal history next may be written, by any clerk that is there, at a moment that isn't before the last
+-- one
 pub settling_allowed : (v : Version) (t : List ℕ → Bool) (J : History) (by m : ℕ) (d : Deed) → MayWrite v t J by m
     → next_settling J ≡ Some d → Allowed v t J (record { by = by; moment = m; deed = d })
 unfolding next_settling

@@ -1,4 +1,5 @@
--- What settles next is found by the least member that may be skipped, the least action that is turned, and the greatest that may end.
+-- What settles next is found by the least member that may be skipped, the least action that is turned, and the greatest
+-- that may end.
 use Rattle.std.proofs.Common.{◌≡◌, ℕ, zero, suc, ◌+◌, ◌≤◌, ◌<◌, Bool, true, false, List, [], ◌∷◌, length, Option, Some, None, inl, inr, refl, sym, ap, ◌∙◌, cond, arith}
 use Rattle.std.proofs.lemmas.Bool.{cases_eq}
 use Rattle.std.specs.Prelude.{is_some, option_map}

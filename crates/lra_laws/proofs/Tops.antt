@@ -1,4 +1,5 @@
--- The lineage of an action after one more entry: so its outermost action and its depth stay; and its depth by its parent.
+-- The lineage of an action after one more entry: so its outermost action and its depth stay; and its depth by its
+-- parent.
 use Rattle.std.proofs.Common.{◌≡◌, ℕ, zero, suc, ◌≤◌, Bool, true, List, [], ◌∷◌, ◌++◌, length, Option, Some, None, refl, ap, ◌∙◌, arith}
 use Rattle.std.specs.Prelude.{unwrap_or}
 use Rattle.std.specs.Option.{option_map_or}

@@ -1,5 +1,5 @@
--- What is legal or allowed in some version, with some test of an address's text, is so in version 2 with every text for an address; and what is
--- allowed after one of the histories that a sheet stands for is allowed so after each.
+-- What is legal or allowed in some version, with some test of an address's text, is so in version 2 with every text for
+-- an address; and what is allowed after one of the histories that a sheet stands for is allowed so after each.
 use Rattle.std.proofs.Common.{◌≡◌, ℕ, Bool, true, false, List, Option, Some, None, refl, sym, ap, ◌∙◌, subst}
 use Rattle.std.specs.Prelude.{◌&&◌, ◌||◌, is_some, is_none}
 use Rattle.std.specs.Option.{option_map_or}

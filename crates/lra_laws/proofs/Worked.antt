@@ -227,7 +227,8 @@ unfolding steps clerks actions members asks last_moment parent top action_status
     is_outstanding outstanding_ask staying is_settled right_end top_has_ended facts_of broken first_fault
 of_version_two = refl
 
--- the statuses in the end: of the failing nest; of the member whose late reply changes nothing; of the one that was taken back
+-- the statuses in the end: of the failing nest; of the member whose late reply changes nothing; of the one that was
+-- taken back
 pub statuses : map (action_status failing) (1 ∷ 2 ∷ []) ++ map (action_status taken_back) (1 ∷ 2 ∷ [])
     ≡ Some action.FailedToClose ∷ Some action.FailedToClose ∷ Some action.Closed ∷ Some action.Cancelled ∷ []
 unfolding action_status
@@ -239,7 +240,8 @@ pub member_states : member_status failing 1 ∷ member_status late_reply 1 ∷ m
 unfolding steps has_left was_asked ask_of decided member_status
 member_states = refl
 
--- what a summary counts: entries, actions, those that haven't ended, that closed, that were cancelled, and the failed ones with their least failed member
+-- what a summary counts: entries, actions, those that haven't ended, that closed, that were cancelled, and the failed
+-- ones with their least failed member
 pub record Tally : Type 0 where
   pub unended : ℕ
   pub closed : ℕ
@@ -288,8 +290,8 @@ unfolding steps clerks actions members asks last_moment parent top action_status
     is_outstanding outstanding_ask staying is_settled right_end top_has_ended facts_of next_settling
 cascades = refl
 
--- what members want: one that accepted is asked for its status, one that failed in a nested action that ended is told to forget,
--- and an after notice is repeated until it is answered well
+-- what members want: one that accepted is asked for its status, one that failed in a nested action that ended is told
+-- to forget, and an after notice is repeated until it is answered well
 pub wishes : wants two_members 1 ∷ wants two_members 2 ∷ wants restarted 1 ∷ wants failing 1
     ∷ wants (nest ++ at 3 (Close 2 cause.Client) ∷ []) 1 ∷ wants cancelled_below 1 ∷ wants undone 1 ∷ []
     ≡ Some ask.Status ∷ None ∷ None ∷ None ∷ Some ask.Complete ∷ Some ask.After ∷ None ∷ []

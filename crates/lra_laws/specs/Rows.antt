@@ -27,8 +27,8 @@ pub record Standing : Type 0 where
   pub kind : AskKind
   pub direction : Direction
 
--- a member, as the rules see it: completion and compensation are its last replies both ways, and completed_as and compensated_as the outcomes that
--- decide them
+-- a member, as the rules see it: completion and compensation are its last replies both ways, and completed_as and
+-- compensated_as the outcomes that decide them
 pub record MemberRow : Type 0 where
   pub action : ℕ
   pub addresses : Presence
@@ -41,8 +41,9 @@ pub record MemberRow : Type 0 where
   pub has_forgotten : Bool
   pub was_told : Bool
 
--- an action, as the rules see it, with how many of its staying members a Closing one and a Cancelling one wait for, and haven't completed
--- and compensated, and how many of the actions nested in it haven't ended, haven't ended cancelled, and have failed
+-- an action, as the rules see it, with how many of its staying members a Closing one and a Cancelling one wait for, and
+-- haven't completed and compensated, and how many of the actions nested in it haven't ended, haven't ended cancelled,
+-- and have failed
 pub record ActionRow : Type 0 where
   pub parent : Option ℕ
   pub top : ℕ

@@ -1,4 +1,5 @@
--- What tables keep of a history: the rows that the rules read, and what else is asked of an action, of a member and of an ask.
+-- What tables keep of a history: the rows that the rules read, and what else is asked of an action, of a member and of
+-- an ask.
 use Rattle.std.specs.Prelude.{◌≡◌, ℕ, suc, ◌+◌, Bool, true, cond, List, [], ◌∷◌, ◌++◌, length, map, Option, unwrap_or}
 use Rattle.std.specs.Option.{option_map_or}
 use Rattle.std.specs.List.{filter_map}
@@ -18,8 +19,8 @@ use Rattle.lra_model.specs.Wants.{stage_of, repeat_count, last_repeat}
 use Rattle.lra_model.specs.Rules.{is_legal, allows}
 use Rattle.lra_laws.specs.Rows.{State, ActionRow, MemberRow, state_of, row_at, change_row, change_member, way_asked, with_reply, after_deed}
 
--- where an action stands among others: how deep it is nested, the actions nested in it, its members, and, where it is an outermost one, the
--- members of all that stand in it
+-- where an action stands among others: how deep it is nested, the actions nested in it, its members, and, where it is
+-- an outermost one, the members of all that stand in it
 pub record Nest : Type 0 where
   pub depth : ℕ
   pub children : List ℕ
@@ -39,7 +40,8 @@ pub record Contact : Type 0 where
   pub forgetting : Repeats
   pub telling : Repeats
 
--- the state with all that tables keep beside it: how many entries there are, and lists by the number of the action, of the member and of the ask
+-- the state with all that tables keep beside it: how many entries there are, and lists by the number of the action, of
+-- the member and of the ask
 pub record Sheet : Type 0 where
   pub entries : ℕ
   pub state : State

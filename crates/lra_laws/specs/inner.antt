@@ -1,3 +1,4 @@
--- The words that private functions and proofs alone use, here and in the crates above: no public contract stands on them.
+-- The words that private functions and proofs alone use, here and in the crates above: no public contract stands on
+-- them.
 pub mod Concerned
 pub mod RowFacts

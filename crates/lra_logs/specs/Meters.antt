@@ -34,7 +34,8 @@ share urgent = if urgent then 0 else 1
 abbrev pub unless_urgent : Bool → Verdict
 unless_urgent urgent = if urgent then Write else Suppress
 
--- what becomes of a line: it is written as long as there is room for it, and for a line on those that weren't. An urgent one is written anyway
+-- what becomes of a line: it is written as long as there is room for it, and for a line on those that weren't. An
+-- urgent one is written anyway
 abbrev pub verdict_at : Pace → Bool → Verdict
 verdict_at p urgent =
     if p.suppressed == 0 then (if nat_lt p.written most then Write else unless_urgent urgent)

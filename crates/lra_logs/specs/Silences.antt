@@ -43,7 +43,8 @@ is_told times = (times == 1) || (times % 10 == 0)
 abbrev pub silence : ℕ → ℕ → ℕ → Option Event
 silence journal member times = if is_told times then Some (event.MemberSilent journal member times None) else None
 
--- the event that an entry tells of behind others: an action has started, or ended as it says, or a member was silent once more
+-- the event that an entry tells of behind others: an action has started, or ended as it says, or a member was silent
+-- once more
 abbrev pub event_of : ℕ → Sight → Deed → Option Event
 event_of journal s (deed.Start action parent limit) = Some (event.ActionStarted journal action)
 event_of journal s (deed.End action status) = Some (event.ActionEnded journal action status)

@@ -23,7 +23,8 @@ clock_text moment =
 abbrev pub day_of : ℕ → ℕ
 day_of moment = moment / 86_400_000
 
--- the text of a moment, in milliseconds since 1970: the day's date and the time of the day; what RFC 3339 can't spell, since it is past the year 9999, is the number itself
+-- the text of a moment, in milliseconds since 1970: the day's date and the time of the day; what RFC 3339 can't spell,
+-- since it is past the year 9999, is the number itself
 pub record IsTime (moment : ℕ) (text : List ℕ) : Type 0 where
   pub spelled : day_of moment ≤ 2_932_896 → (d : Date) × (epoch_day d ≡ pos (day_of moment))
       × (text ≡ date_text d ++ (codes "T" ++ (clock_text moment ++ codes "Z")))

@@ -89,7 +89,8 @@ impl Vigil {
         Ok(times)
     }
 
-    /// Something came of an ask: the event, where that was another silence, and it is told of. Where memory is refused the silence isn't counted.
+    /// Something came of an ask: the event, where that was another silence, and it is told of. Where memory is refused
+    /// the silence isn't counted.
     fn reply(
         &mut self,
         journal: Instance,

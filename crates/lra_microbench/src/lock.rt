@@ -115,8 +115,8 @@ fn through_tickets<R: Threads + Wait + Clock + Sync>(
     }
 }
 
-/// Prints a line for 1, 2, 4 and 8 threads: handovers a second through the ticket lock, and how many times those through the Mutex they
-/// are.
+/// Prints a line for 1, 2, 4 and 8 threads: handovers a second through the ticket lock, and how many times those
+/// through the Mutex they are.
 pub fn run<R: Threads + Wait + Clock + Print + Sync>(rt: &R, alloc: Global) -> Result<()> {
     for threads in [1u64, 2, 4, 8] {
         let ours = through_tickets(rt, alloc, threads)?;

@@ -1,5 +1,5 @@
-//! Measures calls that no program tells the time of. Each prints ratios of times that it took in one run, since times themselves don't hold
-//! from machine to machine.
+//! Measures calls that no program tells the time of. Each prints ratios of times that it took in one run, since times
+//! themselves don't hold from machine to machine.
 #![tactic(auto)]
 
 mod ids;

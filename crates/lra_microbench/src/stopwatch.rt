@@ -3,7 +3,8 @@
 use std::num::nearest_u64_to_f64;
 use std::time::{Clock, Instant};
 
-/// Takes a time. Where the clock can't be read the time is infinite, so that whoever has something in hand needn't let go of it.
+/// Takes a time. Where the clock can't be read the time is infinite, so that whoever has something in hand needn't let
+/// go of it.
 #[derive(Clone, Copy)]
 pub struct Stopwatch {
     start: Option<Instant>,

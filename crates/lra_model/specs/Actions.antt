@@ -25,8 +25,8 @@ abbrev pub lineage_within : ℕ → History → ℕ → List ℕ
 lineage_within zero J a = a ∷ []
 lineage_within (suc n) J a = a ∷ option_map_or (lineage_within n J) (parent J a) []
 
--- The lineage of an action: itself, the action that it is nested in, and so on up to one that has no parent (MicroProfile LRA 2.0, nested
--- LRAs). A parent has the lesser number, so that the action's own number is steps enough.
+-- The lineage of an action: itself, the action that it is nested in, and so on up to one that has no parent
+-- (MicroProfile LRA 2.0, nested LRAs). A parent has the lesser number, so that the action's own number is steps enough.
 abbrev pub lineage : History → ℕ → List ℕ
 lineage J a = lineage_within a J a
 
@@ -38,7 +38,8 @@ top J a = unwrap_or (last (lineage J a)) a
 unfoldable pub is_under : History → ℕ → ℕ → Bool
 is_under J t a = is_among (lineage J a) t
 
--- how deep an action is nested: the length of its lineage, so that an action with no parent is at depth 1 (this project's choice of counting)
+-- how deep an action is nested: the length of its lineage, so that an action with no parent is at depth 1 (this
+-- project's choice of counting)
 unfoldable pub depth : History → ℕ → ℕ
 depth J a = length (lineage J a)
 
@@ -50,7 +51,8 @@ status_given a (Cancel b cause) = when (b == a) action.Cancelling
 status_given a (End b status) = when (b == a) status
 status_given a _ = None
 
--- the status of an action: what the last entry that starts, closes, cancels or ends it gave it (MicroProfile LRA 2.0, LRAStatus)
+-- the status of an action: what the last entry that starts, closes, cancels or ends it gave it (MicroProfile LRA 2.0,
+-- LRAStatus)
 unfoldable pub action_status : History → ℕ → Option ActionStatus
 action_status J a = last (read_deeds (status_given a) J)
 
@@ -99,6 +101,7 @@ is_cancel_of a _ = false
 unfoldable pub was_cancelled : History → ℕ → Bool
 was_cancelled J a = list_any (λ (e : Entry). is_cancel_of a e.deed) J
 
--- whether one of the actions from an action up to t, t left out, was cancelled: one of its lineage before t (MicroProfile LRA 2.0, nested LRAs)
+-- whether one of the actions from an action up to t, t left out, was cancelled: one of its lineage before t
+-- (MicroProfile LRA 2.0, nested LRAs)
 unfoldable pub was_cancelled_below : History → ℕ → ℕ → Bool
 was_cancelled_below J t a = list_any (was_cancelled J) (before_first (λ b. b == t) (lineage J a))

@@ -17,9 +17,10 @@ staying J a = filter (stays J) (members_of J a)
 abbrev pub action_is : (ActionStatus → Bool) → History → ℕ → Bool
 action_is test J a = option_map_or test (action_status J a) false
 
--- Whether nothing below an action is left to wait for. A Closing one waits until its staying members have completed or failed and its nested
--- actions have ended; a Cancelling one until its staying members have compensated or failed and its nested actions have finished cancelling
--- (MicroProfile LRA 2.0, LRAStatus; on nested actions this project's choice).
+-- Whether nothing below an action is left to wait for. A Closing one waits until its staying members have completed or
+-- failed and its nested actions have ended; a Cancelling one until its staying members have compensated or failed and
+-- its nested actions have finished cancelling (MicroProfile LRA 2.0, LRAStatus; on nested actions this project's
+-- choice).
 abbrev pub settles : Option ActionStatus → History → ℕ → Bool
 settles (Some action.Closing) J a = list_all (λ p. is_done_completing (member_status J p)) (staying J a)
     && list_all (action_is has_ended J) (children J a)
@@ -35,9 +36,9 @@ is_settled J a = settles (action_status J a) J a
 abbrev pub children_are_well : History → ℕ → Bool
 children_are_well J a = not (list_any (action_is has_failed J) (children J a))
 
--- The status that an action ends in. A Closing one ends Closed where each staying member has completed and no nested action has failed, else
--- FailedToClose; a Cancelling one ends Cancelled where each has compensated and none has failed, else FailedToCancel (MicroProfile LRA 2.0,
--- LRAStatus; on nested actions this project's choice).
+-- The status that an action ends in. A Closing one ends Closed where each staying member has completed and no nested
+-- action has failed, else FailedToClose; a Cancelling one ends Cancelled where each has compensated and none has
+-- failed, else FailedToCancel (MicroProfile LRA 2.0, LRAStatus; on nested actions this project's choice).
 abbrev pub ends_as : Option ActionStatus → History → ℕ → ActionStatus
 ends_as (Some action.Closing) J a = cond (list_all (λ p. is_completed (member_status J p)) (staying J a)
     && children_are_well J a) action.Closed action.FailedToClose
@@ -48,6 +49,7 @@ ends_as _ J a = cond (list_all (λ p. is_compensated (member_status J p)) (stayi
 unfoldable pub right_end : History → ℕ → ActionStatus
 right_end J a = ends_as (action_status J a) J a
 
--- whether the outermost action that an action stands in has ended: forget and after notices wait for that (this project's choice)
+-- whether the outermost action that an action stands in has ended: forget and after notices wait for that (this
+-- project's choice)
 unfoldable pub top_has_ended : History → ℕ → Bool
 top_has_ended J a = action_is has_ended J (top J a)

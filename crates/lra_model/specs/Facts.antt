@@ -22,8 +22,8 @@ pub record ActionFacts : Type 0 where
   pub right_end : ActionStatus
   pub top_has_ended : Bool
 
--- what the rules ask of a member: which addresses it has, its last replies both ways, whether an ask of it is outstanding, and which notices
--- it has answered well (this project's choice)
+-- what the rules ask of a member: which addresses it has, its last replies both ways, whether an ask of it is
+-- outstanding, and which notices it has answered well (this project's choice)
 pub record MemberFacts : Type 0 where
   pub action : ℕ
   pub addresses : Presence
@@ -34,8 +34,8 @@ pub record MemberFacts : Type 0 where
   pub has_forgotten : Bool
   pub was_told : Bool
 
--- what the rules ask of a history: its last moment, how many clerks, actions, members and asks it has, which clerks are enrolled, the facts
--- of each action and member, and the kind of each outstanding ask (this project's choice)
+-- what the rules ask of a history: its last moment, how many clerks, actions, members and asks it has, which clerks are
+-- enrolled, the facts of each action and member, and the kind of each outstanding ask (this project's choice)
 pub record Facts : Type 0 where
   pub moment : ℕ
   pub clerks : ℕ

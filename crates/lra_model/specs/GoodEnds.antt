@@ -20,10 +20,10 @@ pub record IsCompletedForGood (J : History) (p : ℕ) : Type 0 where
   pub completed : member_status J p ≡ member.Completed
   pub never_asked : was_asked J p ask.Compensate ≡ false
 
--- What the end of an action t means for the members that stay in it or below it. Where it Closed, each is completed and was never asked to
--- compensate, unless a cancellation nested in t compensated it. Where it was Cancelled, each is compensated. Where it failed, one of them
--- failed; where it ended and did not fail, none of them did: an end is a failed one exactly where a member failed
--- (MicroProfile LRA 2.0, LRAStatus: all or nothing).
+-- What the end of an action t means for the members that stay in it or below it. Where it Closed, each is completed and
+-- was never asked to compensate, unless a cancellation nested in t compensated it. Where it was Cancelled, each is
+-- compensated. Where it failed, one of them failed; where it ended and did not fail, none of them did: an end is a
+-- failed one exactly where a member failed (MicroProfile LRA 2.0, LRAStatus: all or nothing).
 pub record HasGoodEnd (J : History) (t : ℕ) : Type 0 where
   pub closed : action_status J t ≡ Some action.Closed → (p : ℕ) → StaysUnder J t p
       → was_cancelled_below J t (action_of J p) ≡ false → IsCompletedForGood J p
@@ -40,7 +40,8 @@ pub record HasGoodEnd (J : History) (t : ℕ) : Type 0 where
 abbrev pub GoodEnds : History → Type 0
 GoodEnds J = (t : ℕ) → HasGoodEnd J t
 
--- every legal history of either version has good ends, whatever the test of an address's text (MicroProfile LRA 2.0, LRAStatus)
+-- every legal history of either version has good ends, whatever the test of an address's text (MicroProfile LRA 2.0,
+-- LRAStatus)
 abbrev pub LegalHistoriesHaveGoodEnds : Type 0
 LegalHistoriesHaveGoodEnds = (v : Version) (is_address : List ℕ → Bool) (J : History) → is_legal v is_address J ≡ true
     → GoodEnds J

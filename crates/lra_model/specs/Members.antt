@@ -22,12 +22,13 @@ abbrev pub action_given : ℕ → Deed → Option ℕ
 action_given p (Join q a uris) = when (q == p) a
 action_given p _ = None
 
--- the action that a member joined, or 0, which no action bears, where there is no such member (MicroProfile LRA 2.0, joining an LRA)
+-- the action that a member joined, or 0, which no action bears, where there is no such member (MicroProfile LRA 2.0,
+-- joining an LRA)
 unfoldable pub action_of : History → ℕ → ℕ
 action_of J p = unwrap_or (first (read_deeds (action_given p) J)) 0
 
--- the members of an outermost action and of all that stand below it, those that left among them; an action that is nested in another has
--- none (MicroProfile LRA 2.0, top-level LRA)
+-- the members of an outermost action and of all that stand below it, those that left among them; an action that is
+-- nested in another has none (MicroProfile LRA 2.0, top-level LRA)
 unfoldable pub members_under : History → ℕ → List ℕ
 members_under J t = filter (λ p. top J (action_of J p) == t) (members J)
 
@@ -53,8 +54,8 @@ is_leave_of p _ = false
 unfoldable pub has_left : History → ℕ → Bool
 has_left J p = list_any (λ (e : Entry). is_leave_of p e.deed) J
 
--- whether a member stays: it can be compensated and has not left, so that a listener, with an after address alone, never does (MicroProfile
--- LRA 2.0, participants and listeners)
+-- whether a member stays: it can be compensated and has not left, so that a listener, with an after address alone,
+-- never does (MicroProfile LRA 2.0, participants and listeners)
 unfoldable pub stays : History → ℕ → Bool
 stays J p = is_some (addresses_of J p).compensate && not (has_left J p)
 
@@ -67,7 +68,8 @@ is_ask_for p kind _ = false
 unfoldable pub was_asked : History → ℕ → AskKind → Bool
 was_asked J p kind = list_any (λ (e : Entry). is_ask_for p kind e.deed) J
 
--- the direction of a status ask and of a report: compensation once the member was asked to compensate, completion before (this project's choice)
+-- the direction of a status ask and of a report: compensation once the member was asked to compensate, completion
+-- before (this project's choice)
 abbrev pub status_direction : History → ℕ → Direction
 status_direction J p = cond (was_asked J p ask.Compensate) direction.Compensation direction.Completion
 
@@ -124,8 +126,8 @@ pub record Heard : Type 0 where
   pub direction : Direction
   pub outcome : Outcome
 
--- What a step lets hear: a reply in the direction of its ask, a report in that of the member, and a skip as Done in completion (this
--- project's choice).
+-- What a step lets hear: a reply in the direction of its ask, a report in that of the member, and a skip as Done in
+-- completion (this project's choice).
 abbrev pub heard_at : Step → Option Heard
 heard_at s = of_deed s.entry.deed
   where
@@ -140,7 +142,8 @@ heard_at s = of_deed s.entry.deed
 abbrev pub decides : ℕ → Direction → Heard → Bool
 decides p d h = (h.member == p) && same_direction h.direction d && is_decisive h.outcome
 
--- the outcome that decides a direction of a member: the first decisive one heard, which later ones don't change (this project's choice)
+-- the outcome that decides a direction of a member: the first decisive one heard, which later ones don't change (this
+-- project's choice)
 unfoldable pub decided : History → ℕ → Direction → Option Outcome
 decided J p d = option_map (λ (h : Heard). h.outcome) (find (decides p d) (filter_map heard_at (steps J)))
 
@@ -150,9 +153,9 @@ by_decision (Some outcome.Done) done failed open_yet = done
 by_decision (Some outcome.Failed) done failed open_yet = failed
 by_decision _ done failed open_yet = open_yet
 
--- The status of a member, the first that fits: Left; Compensated or FailedToCompensate where compensation is decided; Compensating where it
--- was asked to compensate; Completed or FailedToComplete where completion is decided; Completing where it was asked to complete; else Active
--- (MicroProfile LRA 2.0, ParticipantStatus; Left is this project's choice).
+-- The status of a member, the first that fits: Left; Compensated or FailedToCompensate where compensation is decided;
+-- Compensating where it was asked to compensate; Completed or FailedToComplete where completion is decided; Completing
+-- where it was asked to complete; else Active (MicroProfile LRA 2.0, ParticipantStatus; Left is this project's choice).
 unfoldable pub member_status : History → ℕ → MemberStatus
 member_status J p =
     cond (has_left J p) member.Left
@@ -178,7 +181,8 @@ standing_given n (Reply m o) = when (m == n) false
 standing_given n Restart = Some false
 standing_given n _ = None
 
--- whether an ask is outstanding: it was made, and neither its reply nor a restart stands after it (this project's choice)
+-- whether an ask is outstanding: it was made, and neither its reply nor a restart stands after it (this project's
+-- choice)
 unfoldable pub is_outstanding : History → ℕ → Bool
 is_outstanding J n = unwrap_or (last (read_deeds (standing_given n) J)) false
 

@@ -23,8 +23,8 @@ abbrev pub has_deed : Version → Deed → Bool
 has_deed version.One (Renew a limit) = false
 has_deed _ _ = true
 
--- whether an entry's clerk may write it: a clerk that enrols has the next number, and one that does anything else is enrolled (this project's
--- choice)
+-- whether an entry's clerk may write it: a clerk that enrols has the next number, and one that does anything else is
+-- enrolled (this project's choice)
 abbrev pub clerk_fits : Facts → ℕ → Deed → Bool
 clerk_fits f by Enrol = by == f.clerks + 1
 clerk_fits f by _ = f.is_clerk by
@@ -41,8 +41,8 @@ is_member = at_member (λ (p : MemberFacts). true)
 abbrev pub is_here : Facts → ℕ → Bool
 is_here = at_member (λ (p : MemberFacts). not (has_gone p.status))
 
--- the rules that bear on a deed, in the order in which they are looked at (MicroProfile LRA 2.0 as each test says; the order is this
--- project's choice)
+-- the rules that bear on a deed, in the order in which they are looked at (MicroProfile LRA 2.0 as each test says; the
+-- order is this project's choice)
 abbrev pub deed_rules : Version → (List ℕ → Bool) → Facts → ℕ → Deed → List Ruling
 deed_rules v t f m Enrol = []
 deed_rules v t f m (Start a parent limit) =
@@ -76,7 +76,8 @@ deed_rules v t f m Restart = []
 deed_rules v t f m (Renew a limit) =
     (rule.Action, is_action f a) ∷ (rule.Active, status_is is_active f a) ∷ (rule.Limit, is_moment (m + limit)) ∷ []
 
--- all rules that bear on an entry, in the order in which they are looked at; t is the test of an address's text (this project's choice)
+-- all rules that bear on an entry, in the order in which they are looked at; t is the test of an address's text (this
+-- project's choice)
 abbrev pub rules_on : Version → (List ℕ → Bool) → Facts → Entry → List Ruling
 rules_on v t f e = (rule.Grammar, has_deed v e.deed) ∷ (rule.Clerk, clerk_fits f e.by e.deed)
     ∷ (rule.Moment, nat_le f.moment e.moment) ∷ deed_rules v t f e.moment e.deed
@@ -110,7 +111,8 @@ numbers_fit (End a status) = is_number a
 numbers_fit Restart = true
 numbers_fit (Renew a limit) = is_number a && is_number limit
 
--- whether the numbers of an entry are such as the journal has: a clerk's below 2^32, the others below 2^64 (this project's choice)
+-- whether the numbers of an entry are such as the journal has: a clerk's below 2^32, the others below 2^64 (this
+-- project's choice)
 abbrev pub in_range : Entry → Bool
 in_range e = nat_lt e.by (2 ^ 32) && is_number e.moment && numbers_fit e.deed
 
@@ -122,7 +124,8 @@ allows v t J e = in_range e && is_none (broken v t J e)
 unfoldable pub is_legal : Version → (List ℕ → Bool) → History → Bool
 is_legal v t J = list_all (λ (s : Step). allows v t s.past s.entry) (steps J)
 
--- where a journal is at fault: its line, counted from 1, and the first rule that the line breaks (this project's choice)
+-- where a journal is at fault: its line, counted from 1, and the first rule that the line breaks (this project's
+-- choice)
 pub record Fault : Type 0 where
   pub line : ℕ
   pub rule : Rule

@@ -13,7 +13,8 @@ use Rattle.lra_model.specs.Facts.{facts_of}
 use Rattle.lra_model.specs.Tests.{at_action, at_member, may_close_with_parent, may_cancel_with_parent, may_skip}
 use Rattle.lra_model.specs.Rules.{allows}
 
--- whether a coordinator does a deed of itself: a skip, what a parent does to an action nested in it, or an end (this project's choice)
+-- whether a coordinator does a deed of itself: a skip, what a parent does to an action nested in it, or an end (this
+-- project's choice)
 abbrev pub is_settling : Deed → Bool
 is_settling (Close a cause.Parent) = true
 is_settling (Cancel a cause.Parent) = true
@@ -26,18 +27,21 @@ abbrev pub IsQuiet : Version → (List ℕ → Bool) → History → Type 0
 IsQuiet v t J = (by : ℕ) (d : Deed) → is_settling d ≡ true → allows v t J
     (record { by = by; moment = last_moment J; deed = d }) ≡ false
 
--- whether a member may be completed without being asked (MicroProfile LRA 2.0: a participant may have no complete callback)
+-- whether a member may be completed without being asked (MicroProfile LRA 2.0: a participant may have no complete
+-- callback)
 abbrev pub may_be_skipped : History → ℕ → Bool
 may_be_skipped J p = at_member (may_skip (facts_of J)) (facts_of J) p
 
--- what its parent does to an action, where it does anything: closes it, or cancels it (MicroProfile LRA 2.0, nested LRAs)
+-- what its parent does to an action, where it does anything: closes it, or cancels it (MicroProfile LRA 2.0, nested
+-- LRAs)
 abbrev pub by_parent : History → ℕ → Option Deed
 by_parent J a =
     cond (at_action (may_close_with_parent (facts_of J)) (facts_of J) a) (Some (Close a cause.Parent))
     (cond (at_action (may_cancel_with_parent (facts_of J)) (facts_of J) a) (Some (Cancel a cause.Parent)) None)
 
--- The deed that a coordinator does next of itself, where there is one: the skip of the least member that may be skipped; else what its
--- parent does to the least action to which it does anything; else the end of the greatest action that may end (this project's choice).
+-- The deed that a coordinator does next of itself, where there is one: the skip of the least member that may be
+-- skipped; else what its parent does to the least action to which it does anything; else the end of the greatest action
+-- that may end (this project's choice).
 unfoldable pub next_settling : History → Option Deed
 next_settling J =
     option_or (option_map Skip (find (may_be_skipped J) (members J)))
@@ -51,7 +55,8 @@ settling_within zero by moment J = []
 settling_within (suc n) by moment J = option_map_or (λ (d : Deed). (record { by = by; moment = moment; deed = d })
     ∷ settling_within n by moment (J ++ record { by = by; moment = moment; deed = d } ∷ [])) (next_settling J) []
 
--- how many settling entries there can be: a member is skipped once, and an action turns four times at most, to Closing, its end, Cancelling and its end
+-- how many settling entries there can be: a member is skipped once, and an action turns four times at most, to Closing,
+-- its end, Cancelling and its end
 abbrev pub most_settling : History → ℕ
 most_settling J = length (members J) + 4 * length (actions J)
 

@@ -37,19 +37,20 @@ each_parent test parent = option_map_or test parent true
 abbrev pub is_moment : ℕ → Bool
 is_moment n = nat_le n (2 ^ 64 - 1)
 
--- An action may be closed with its parent where it is Active and its parent is Closing (MicroProfile LRA 2.0: closing an LRA closes what is
--- nested in it).
+-- An action may be closed with its parent where it is Active and its parent is Closing (MicroProfile LRA 2.0: closing
+-- an LRA closes what is nested in it).
 abbrev pub may_close_with_parent : Facts → ActionFacts → Bool
 may_close_with_parent f a = is_active a.status && parent_is is_closing f a
 
--- A close is allowed by its cause: the client may close an Active action (MicroProfile LRA 2.0, closing an LRA), the parent what it takes
--- with it, and a limit nothing.
+-- A close is allowed by its cause: the client may close an Active action (MicroProfile LRA 2.0, closing an LRA), the
+-- parent what it takes with it, and a limit nothing.
 abbrev pub may_close : Cause → Facts → ActionFacts → Bool
 may_close cause.Client f a = is_active a.status
 may_close cause.Parent f a = may_close_with_parent f a
 may_close cause.Limit f a = false
 
--- Version 2 lets a client take back a nested action that has closed, as long as its parent is Active (this project's choice).
+-- Version 2 lets a client take back a nested action that has closed, as long as its parent is Active (this project's
+-- choice).
 abbrev pub may_take_back : Version → Facts → ActionFacts → Bool
 may_take_back version.One f a = false
 may_take_back version.Two f a = is_closed a.status && parent_is is_active f a
@@ -58,16 +59,18 @@ may_take_back version.Two f a = is_closed a.status && parent_is is_active f a
 abbrev pub limit_has_passed : ℕ → ActionFacts → Bool
 limit_has_passed moment a = not (a.limit.length_of == 0) && nat_le (a.limit.since + a.limit.length_of) moment
 
--- The client may cancel an Active action (MicroProfile LRA 2.0, cancelling an LRA), and take back what the version lets it.
+-- The client may cancel an Active action (MicroProfile LRA 2.0, cancelling an LRA), and take back what the version lets
+-- it.
 abbrev pub may_cancel_as_client : Version → Facts → ActionFacts → Bool
 may_cancel_as_client v f a = is_active a.status || may_take_back v f a
 
--- An action may be cancelled with its parent where it is Active or has closed and its parent is Cancelling (MicroProfile LRA 2.0: cancelling
--- an LRA cancels what is nested in it).
+-- An action may be cancelled with its parent where it is Active or has closed and its parent is Cancelling
+-- (MicroProfile LRA 2.0: cancelling an LRA cancels what is nested in it).
 abbrev pub may_cancel_with_parent : Facts → ActionFacts → Bool
 may_cancel_with_parent f a = is_cancellable a.status && parent_is is_cancelling f a
 
--- An action may be cancelled by its limit where it is Active and the limit has passed (MicroProfile LRA 2.0, timeLimit).
+-- An action may be cancelled by its limit where it is Active and the limit has passed (MicroProfile LRA 2.0,
+-- timeLimit).
 abbrev pub may_cancel_by_limit : ℕ → ActionFacts → Bool
 may_cancel_by_limit moment a = is_active a.status && limit_has_passed moment a
 
@@ -77,8 +80,8 @@ may_cancel v moment cause.Client f a = may_cancel_as_client v f a
 may_cancel v moment cause.Parent f a = may_cancel_with_parent f a
 may_cancel v moment cause.Limit f a = may_cancel_by_limit moment a
 
--- A member may have up to five addresses: compensate or after at least; complete, status and forget go with compensate. Each is the text
--- of an address (MicroProfile LRA 2.0, joining an LRA).
+-- A member may have up to five addresses: compensate or after at least; complete, status and forget go with compensate.
+-- Each is the text of an address (MicroProfile LRA 2.0, joining an LRA).
 abbrev pub addresses_fit : (List ℕ → Bool) → Addresses → Bool
 addresses_fit is_address u =
     (is_some u.compensate || (is_some u.after && is_none u.complete && is_none u.status && is_none u.forget))
@@ -87,8 +90,8 @@ addresses_fit is_address u =
     is_text : Option (List ℕ) → Bool
     is_text text = option_map_or is_address text true
 
--- A member may be completed without being asked where it is Active in a Closing action and has a compensate address and no complete address
--- (MicroProfile LRA 2.0: a participant may have no complete callback).
+-- A member may be completed without being asked where it is Active in a Closing action and has a compensate address and
+-- no complete address (MicroProfile LRA 2.0: a participant may have no complete callback).
 abbrev pub may_skip : Facts → MemberFacts → Bool
 may_skip f p = status_is is_closing f p.action && is_untouched p.status && not p.addresses.complete
     && p.addresses.compensate
@@ -101,13 +104,14 @@ has_address ask.Status u = u.status
 has_address ask.Forget u = u.forget
 has_address ask.After u = u.after
 
--- whether the last answer, where there is one, is that of a member that goes on by itself (MicroProfile LRA 2.0: 202 Accepted)
+-- whether the last answer, where there is one, is that of a member that goes on by itself (MicroProfile LRA 2.0: 202
+-- Accepted)
 abbrev pub was_accepted : Option Outcome → Bool
 was_accepted reply = option_map_or is_accepted reply false
 
--- When it is time for an ask of a kind, whatever addresses the member has and whether or not it is being asked (MicroProfile LRA 2.0,
--- ParticipantStatus). Forget goes to members that failed and to completed members of nested actions; both notices wait until the outermost
--- action has ended (this project's choice).
+-- When it is time for an ask of a kind, whatever addresses the member has and whether or not it is being asked
+-- (MicroProfile LRA 2.0, ParticipantStatus). Forget goes to members that failed and to completed members of nested
+-- actions; both notices wait until the outermost action has ended (this project's choice).
 abbrev pub is_time_for : AskKind → Facts → MemberFacts → Bool
 is_time_for ask.Complete f p = status_is is_closing f p.action && (is_untouched p.status || is_completing p.status)
 is_time_for ask.Compensate f p = status_is is_cancelling f p.action &&
@@ -119,7 +123,8 @@ is_time_for ask.Forget f p =
     || (is_completed p.status && is_some a.parent))) f p.action && not p.has_forgotten
 is_time_for ask.After f p = at_action (λ (a : ActionFacts). a.top_has_ended) f p.action && not p.was_told
 
--- whether a member may be asked for a kind now: no ask of it is outstanding, it has the address, and it is time (this project's choice)
+-- whether a member may be asked for a kind now: no ask of it is outstanding, it has the address, and it is time (this
+-- project's choice)
 abbrev pub may_ask : AskKind → Facts → MemberFacts → Bool
 may_ask kind f p = not p.is_asked && has_address kind p.addresses && is_time_for kind f p
 
@@ -127,6 +132,7 @@ may_ask kind f p = not p.is_asked && has_address kind p.addresses && is_time_for
 abbrev pub may_reply : Facts → ℕ → Outcome → Bool
 may_reply f n o = option_map_or (λ (kind : AskKind). outcome_suits kind o) (f.outstanding n) false
 
--- whether a member may tell of itself: it is completing or compensating, and tells how that ended (MicroProfile LRA 2.0, ParticipantStatus)
+-- whether a member may tell of itself: it is completing or compensating, and tells how that ended (MicroProfile LRA
+-- 2.0, ParticipantStatus)
 abbrev pub may_report : Outcome → MemberFacts → Bool
 may_report o p = (is_completing p.status || is_compensating p.status) && is_decisive o

@@ -12,8 +12,8 @@ use Rattle.lra_model.specs.Members.{Replied, replies}
 use Rattle.lra_model.specs.Facts.{MemberFacts, Facts, facts_of}
 use Rattle.lra_model.specs.Tests.{has_address, is_time_for, was_accepted}
 
--- What a member wants in completion: one that goes on by itself is asked for its status where it has an address for that, else to complete
--- again (MicroProfile LRA 2.0: 202 Accepted).
+-- What a member wants in completion: one that goes on by itself is asked for its status where it has an address for
+-- that, else to complete again (MicroProfile LRA 2.0: 202 Accepted).
 abbrev pub wants_completion : Facts → MemberFacts → Option AskKind
 wants_completion f p =
     when (is_time_for ask.Complete f p && has_address ask.Complete p.addresses)
@@ -30,7 +30,8 @@ wants_compensation f p =
 abbrev pub wants_notice : AskKind → Facts → MemberFacts → Option AskKind
 wants_notice kind f p = when (is_time_for kind f p && has_address kind p.addresses) kind
 
--- the first of these that a member wants, and nothing while an ask of it is outstanding or once it has left (this project's choice of order)
+-- the first of these that a member wants, and nothing while an ask of it is outstanding or once it has left (this
+-- project's choice of order)
 abbrev pub wanted : Facts → MemberFacts → Option AskKind
 wanted f p =
     cond (p.is_asked || has_gone p.status) None
@@ -41,7 +42,8 @@ wanted f p =
 unfoldable pub wants : History → ℕ → Option AskKind
 wants J p = option_map_or (wanted (facts_of J)) ((facts_of J).member p) None
 
--- the stage that an ask belongs to, which is its kind, but for a status ask, which belongs to its direction's (this project's choice)
+-- the stage that an ask belongs to, which is its kind, but for a status ask, which belongs to its direction's (this
+-- project's choice)
 abbrev pub stage_of : AskKind → Direction → AskKind
 stage_of kind direction.Completion = ask.Complete
 stage_of kind direction.Compensation = ask.Compensate

@@ -36,7 +36,8 @@ abbrev pub is_closed : ActionStatus → Bool
 is_closed action.Closed = true
 is_closed _ = false
 
--- whether an action has ended, well or in failure: Closed, FailedToClose, Cancelled or FailedToCancel (MicroProfile LRA 2.0, LRAStatus)
+-- whether an action has ended, well or in failure: Closed, FailedToClose, Cancelled or FailedToCancel (MicroProfile LRA
+-- 2.0, LRAStatus)
 abbrev pub has_ended : ActionStatus → Bool
 has_ended action.Closed = true
 has_ended action.FailedToClose = true
@@ -50,14 +51,15 @@ has_failed action.FailedToClose = true
 has_failed action.FailedToCancel = true
 has_failed _ = false
 
--- whether an action has ended after it was cancelled, well or in failure: Cancelled or FailedToCancel (MicroProfile LRA 2.0, LRAStatus)
+-- whether an action has ended after it was cancelled, well or in failure: Cancelled or FailedToCancel (MicroProfile LRA
+-- 2.0, LRAStatus)
 abbrev pub has_finished_cancelling : ActionStatus → Bool
 has_finished_cancelling action.Cancelled = true
 has_finished_cancelling action.FailedToCancel = true
 has_finished_cancelling _ = false
 
--- whether a Cancelling parent cancels an action: one that is Active, Closed or FailedToClose (MicroProfile LRA 2.0, nested LRAs; FailedToClose is
--- this project's choice)
+-- whether a Cancelling parent cancels an action: one that is Active, Closed or FailedToClose (MicroProfile LRA 2.0,
+-- nested LRAs; FailedToClose is this project's choice)
 abbrev pub is_cancellable : ActionStatus → Bool
 is_cancellable action.Active = true
 is_cancellable action.Closed = true
@@ -100,7 +102,8 @@ abbrev pub is_compensated : MemberStatus → Bool
 is_compensated member.Compensated = true
 is_compensated _ = false
 
--- whether a member has failed, either way: FailedToComplete or FailedToCompensate (MicroProfile LRA 2.0, ParticipantStatus)
+-- whether a member has failed, either way: FailedToComplete or FailedToCompensate (MicroProfile LRA 2.0,
+-- ParticipantStatus)
 abbrev pub member_has_failed : MemberStatus → Bool
 member_has_failed member.FailedToComplete = true
 member_has_failed member.FailedToCompensate = true
@@ -130,7 +133,8 @@ is_decisive outcome.Done = true
 is_decisive outcome.Failed = true
 is_decisive _ = false
 
--- whether an outcome is Done: a forget or an after notice is repeated until it is (MicroProfile LRA 2.0, AfterLRA and forget)
+-- whether an outcome is Done: a forget or an after notice is repeated until it is (MicroProfile LRA 2.0, AfterLRA and
+-- forget)
 abbrev pub is_done : Outcome → Bool
 is_done outcome.Done = true
 is_done _ = false
@@ -167,7 +171,8 @@ abbrev pub is_silent : Outcome → Bool
 is_silent outcome.Silent = true
 is_silent _ = false
 
--- whether an ask of a kind may have an outcome: forget and after notices are answered with Done or not at all (this project's choice)
+-- whether an ask of a kind may have an outcome: forget and after notices are answered with Done or not at all (this
+-- project's choice)
 abbrev pub outcome_suits : AskKind → Outcome → Bool
 outcome_suits ask.Forget o = is_done o || is_silent o
 outcome_suits ask.After o = is_done o || is_silent o

@@ -34,7 +34,8 @@ pub record IsWritten (o : Origin) (J : History) (contents : Option (List ℕ)) (
   pub going : is_stopped ≡ false → tail ≡ []
   pub stopped : is_stopped ≡ true → IsCut o.setting J tail
 
--- what holds of a desk whenever the lock is free: its coordinator can be, nothing is left to settle, and its journal is written
+-- what holds of a desk whenever the lock is free: its coordinator can be, nothing is left to settle, and its journal is
+-- written
 pub record IsDesk (o : Origin) (c : Shape) (contents : Option (List ℕ)) (count : ℕ) (is_stopped : Bool) : Type 0 where
   pub coordinator : IsCoordinator c
   pub rest : IsAtRest c

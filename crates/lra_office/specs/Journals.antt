@@ -8,8 +8,8 @@ use Rattle.lra_office.specs.Origins.{Origin}
 use Rattle.lra_office.specs.Desks.{IsDesk}
 use Rattle.lra_office.specs.Wholes.{whole_lines}
 
--- the whole lines of a journal are sound and nothing else: they are the text of a history and of what was written of a block that was cut
--- short; of none, and nothing is torn, while the scribe goes on
+-- the whole lines of a journal are sound and nothing else: they are the text of a history and of what was written of a
+-- block that was cut short; of none, and nothing is torn, while the scribe goes on
 pub record HasSoundJournal (J : History) (journal : List ℕ) (is_stopped : Bool) : Type 0 where
   pub cut : List Entry
   pub sound : IsSoundAlone (whole_lines journal) (J ++ cut)

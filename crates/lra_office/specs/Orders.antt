@@ -26,8 +26,8 @@ use Rattle.lra_office.specs.declared.fault.TryRefusal.{TryRefusal}
 use Rattle.lra_office.specs.declared.fault.TryRefusal.TheVariants as try
 use Rattle.lra_office.specs.Serves.{IsHeldBack, IsDone, IsKeptBy}
 
--- the history that a call met: it begins with all that was seen before, has nothing more under the number, where there is one something, and can be a
--- coordinator's
+-- the history that a call met: it begins with all that was seen before, has nothing more under the number, where there
+-- is one something, and can be a coordinator's
 pub record IsMet {O : Type 0} (g : Setting) (v : View O) (J : History) : Type 0 where
   pub begins : IsPrefix v.seen J
   pub seen_own : entries_by v.number v.seen ≡ v.mine

@@ -13,8 +13,8 @@ use Rattle.lra_commands.specs.Counters.{Setting, Sight, KeepsHistory, terms_of}
 use Rattle.lra_core.specs.declared.block.Committed.{Committed}
 use Rattle.lra_office.specs.Serves.{IsServed, IsStopped}
 
--- a value that was handed out at a turn and given back: lawful, of the origin that is known, and with just the history that is known since; its
--- scribe has stopped
+-- a value that was handed out at a turn and given back: lawful, of the origin that is known, and with just the history
+-- that is known since; its scribe has stopped
 pub record HasStopped {X O : Type 0} (origin : X → O) (history : X → History) (lawful : X → Type 0) (has_stopped : X → Bool) (v : View O) : Type 0 where
   pub value : X
   pub lawful_now : lawful value
@@ -22,7 +22,8 @@ pub record HasStopped {X O : Type 0} (origin : X → O) (history : X → History
   pub same_history : history value ≡ v.seen
   pub stopped : has_stopped value ≡ true
 
--- what each window keeps: what every counter does; and where its reply is that the scribe has stopped, that has, at the history that is known then
+-- what each window keeps: what every counter does; and where its reply is that the scribe has stopped, that has, at the
+-- history that is known then
 pub record KeepsInTurn {X O : Type 0} (setting : O → Setting) (origin : X → O) (history : X → History)
     (lawful : X → Type 0) (has_stopped : X → Bool)
     (before : Sight) (moment : ℕ) (o : Order) (reply : Result Told CounterFault) (after : Sight) : Type 0 where

@@ -46,8 +46,8 @@ impl<V: Serving> OfficeOf<V> {
         Ok(told)
     }
 
-    /// Starts an action, nested in its parent where it has one (MicroProfile LRA 2.0, starting an LRA). The limit is in milliseconds
-    /// from now, and 0 is none.
+    /// Starts an action, nested in its parent where it has one (MicroProfile LRA 2.0, starting an LRA). The limit is in
+    /// milliseconds from now, and 0 is none.
     pub fn start<R: Wait>(
         &self,
         rt: &R,

@@ -26,7 +26,8 @@ pub trait Serving: Kept {
     // Whether so many bytes of the journal, from the first that was written behind an origin, tell of all of a history.
     ghost covers: { Self.Origin → History → ℕ → Bool };
 
-    /// Does a command of a clerk, and gives what it is told, or changes nothing. That its scribe has stopped it says only where that has.
+    /// Does a command of a clerk, and gives what it is told, or changes nothing. That its scribe has stopped it says
+    /// only where that has.
     fn serve(&mut self, by: u32, moment: u64, command: &Command<'_>) -> Result<Committed, Refusal>
         requires suited { is_suited command.now ≡ true }
         requires lawful { Self.lawful self.old }

@@ -16,8 +16,9 @@ use lra_ids::{Base, Instance};
 use std::marker::{Brand, PhantomData};
 use std::sync::Wait;
 
-/// Which lock a window's clerks ask for. It is fixed by the window's type, so it stays through a call that may put another window
-/// in its place. A function over such a type is called at `Brand`, and the proof of that call says which lock it is.
+/// Which lock a window's clerks ask for. It is fixed by the window's type, so it stays through a call that may put
+/// another window in its place. A function over such a type is called at `Brand`, and the proof of that call says which
+/// lock it is.
 pub trait WhichLock {
     ghost use Rattle.atomic_table.specs.Seated.{TableId};
 

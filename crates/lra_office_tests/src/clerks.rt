@@ -110,7 +110,8 @@ fn enrols_and_starts<V: Serving, R: Wait>(
     }
 }
 
-/// A clerk and one that is enrolled in a second thread, each of which has started an action, and the number of the second one's.
+/// A clerk and one that is enrolled in a second thread, each of which has started an action, and the number of the
+/// second one's.
 fn two<V: Serving + Send, R: Threads + Wait + Sync>(
     rt: &R,
     office: &OfficeOf<V>,

@@ -1,4 +1,5 @@
-//! Tests of offices, of the lock that they stand on, and of the workers at them: over the public surface of these crates alone.
+//! Tests of offices, of the lock that they stand on, and of the workers at them: over the public surface of these
+//! crates alone.
 #![tactic(auto)]
 
 #[cfg(test)]

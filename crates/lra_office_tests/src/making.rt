@@ -126,7 +126,8 @@ pub fn shut<W: Write + Drop, T: Drop>(
     }
 }
 
-/// The addresses of a participant at a host: of a compensation and a completion, and of its status where that is asked for.
+/// The addresses of a participant at a host: of a compensation and a completion, and of its status where that is asked
+/// for.
 pub fn participant(alloc: Global, host: &str, has_status: bool) -> Result<Uris, AllocError> {
     let status = if has_status {
         Some(format!(in alloc; "{host}/s")?)

@@ -36,8 +36,8 @@ fn writer_with(alloc: Global, room: usize, bad_call: u32) -> Faulty {
 
 /// The answers to each command after the enrolment, and to a status at the end, each by a letter.
 ///
-/// `t` where something was told, `S` where it was refused since the writer has failed, `x` where it was refused else, and `-` where nothing
-/// was to be done; of the status `a` for Active, `g` for Closing and `d` for Closed.
+/// `t` where something was told, `S` where it was refused since the writer has failed, `x` where it was refused else,
+/// and `-` where nothing was to be done; of the status `a` for Active, `g` for Closing and `d` for Closed.
 #[derive(Clone, Copy)]
 struct Answers {
     letters: [u8; 10],

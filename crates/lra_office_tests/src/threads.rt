@@ -53,8 +53,8 @@ fn own_entry(entry: &Entry) -> Option<Own> {
     }
 }
 
-/// Takes down what a command wrote, by what it was told: the decision, where it was one. Nothing comes back where it was told
-/// something else than it may be.
+/// Takes down what a command wrote, by what it was told: the decision, where it was one. Nothing comes back where it
+/// was told something else than it may be.
 fn note(
     written: &mut Vec<Own>,
     decision: Option<Own>,

@@ -49,7 +49,8 @@ fn push(entries: &mut Vec<Entry>, entry: Entry) -> bool
     }
 }
 
-// Adds one entry under the holder's number, and gives the list back. Where memory is refused, the counts of the test are short.
+// Adds one entry under the holder's number, and gives the list back. Where memory is refused, the counts of the test
+// are short.
 fn write(
     lock: &EntryLock,
     held: Held<Vec<Entry>>,
@@ -383,7 +384,8 @@ fn counts_up(entries: &[Entry], number: u32, blocks: u64) -> bool {
     next == blocks.wrapping_add(1)
 }
 
-// Whether there are so many entries, and those of each of these numbers have the moments from 0 up to this many, in order.
+// Whether there are so many entries, and those of each of these numbers have the moments from 0 up to this many, in
+// order.
 fn has(entries: &[Entry], len: usize, numbers: &[u32], blocks: u64) -> bool {
     let mut has = entries.len() == len;
     for number in numbers {

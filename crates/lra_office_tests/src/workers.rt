@@ -58,7 +58,8 @@ impl Clock for Still {
     }
 }
 
-/// A gate that holds each errand back so often, and ends its worker once something was answered. It counts how often it was asked.
+/// A gate that holds each errand back so often, and ends its worker once something was answered. It counts how often it
+/// was asked.
 #[derive(Drop)]
 struct Holding {
     holds: u32,

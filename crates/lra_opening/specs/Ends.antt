@@ -17,8 +17,9 @@ serving_line address = joined (codes "serving " ∷ address ∷ line_feed ∷ []
 abbrev pub SaysAtMost : List ℕ → Option (List ℕ) → Option (List ℕ) → Type 0
 SaysAtMost address before after = (after ≡ before) ⊎ Appends before after (serving_line address)
 
--- what has gone out by a fault: nothing before an address is served, and that line at most where the service may have ended;
--- the file may fail before that or after; where standard output can't be written nobody knows; no fault is a script's line
+-- what has gone out by a fault: nothing before an address is served, and that line at most where the service may have
+-- ended; the file may fail before that or after; where standard output can't be written nobody knows; no fault is a
+-- script's line
 abbrev pub IsSaid : List ℕ → Option (List ℕ) → Option (List ℕ) → ServeFault → Type 0
 IsSaid address before after (Run Read) = after ≡ before
 IsSaid address before after (Run TooLong) = after ≡ before
@@ -35,8 +36,8 @@ pub record IsFoundSound (lines : List ℕ) : Type 0 where
   pub right : IsVerdict lines verdict
   pub sound : status_of verdict ≡ 0
 
--- what has gone out where a journal isn't served: its audit's report, which finds the whole lines of what was read unsound; and what was read
--- is what was found where it is kept, if that is known
+-- what has gone out where a journal isn't served: its audit's report, which finds the whole lines of what was read
+-- unsound; and what was read is what was found where it is kept, if that is known
 pub record IsRefused (found before after : Option (List ℕ)) (status : ℕ) : Type 0 where
   pub journal : List ℕ
   pub read : IfSome found (λ (bytes : List ℕ). journal ≡ bytes)

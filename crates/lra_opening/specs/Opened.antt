@@ -22,8 +22,9 @@ pub record IsBegun {X : Type 0} {g : Ghosts X Origin} (o : Origin) (moment : ℕ
   pub copies : IsOfficeOf o.setting office
   pub enrolled : IsEnrolled o.setting (first_view 0 o []) moment clerk.number (clerk_view clerk)
 
--- the office of a journal's bytes, at a base and with these limits, and its first clerk, where the writer had taken this before: it goes on
--- from just their whole lines; or, of no bytes, it is new, and its instance is the moment (this project's choice)
+-- the office of a journal's bytes, at a base and with these limits, and its first clerk, where the writer had taken
+-- this before: it goes on from just their whole lines; or, of no bytes, it is new, and its instance is the moment (this
+-- project's choice)
 abbrev pub GoesOn : {X : Type 0} {g : Ghosts X Origin} → List ℕ → Limits → List ℕ → ℕ → Option (List ℕ)
     → OfficeOf X Origin → Clerk X Origin g → Type 0
 GoesOn base limits [] moment had office clerk = IsBegun (new_origin moment base limits had) moment office clerk

@@ -14,8 +14,8 @@ use lra_core::Opening;
 use std::alloc::Global;
 use std::io::Write;
 
-/// Audits what was found where a journal is kept: nothing is told where it can be served. Else that is the fault, or the audit was written
-/// as `lra audit` does, with the program's status.
+/// Audits what was found where a journal is kept: nothing is told where it can be served. Else that is the fault, or
+/// the audit was written as `lra audit` does, with the program's status.
 pub fn refuse<W: Write>(
     alloc: Global,
     opening: &Opening,

@@ -19,8 +19,8 @@ pub enum ServeFault {
     /// Another holds its lock, or it can't be created, cut, locked or written.
     #[error("the file can't be written")]
     File,
-    /// It is no base, or can't be bound; the clock can't be read, stands before 1970, or is past what an instance can be; the journal passes the
-    /// limits; or all threads that answered have ended.
+    /// It is no base, or can't be bound; the clock can't be read, stands before 1970, or is past what an instance can
+    /// be; the journal passes the limits; or all threads that answered have ended.
     #[error("the address can't be served")]
     Address,
 }

@@ -14,8 +14,8 @@ const PAUSE: u64 = 1;
 /// A megabyte, in bytes.
 const MEGABYTE: u64 = 1_000_000;
 
-/// A reader of a file that tells once a second how far it is. Of what is told nothing is promised: where the clock or memory fails there is
-/// one line less.
+/// A reader of a file that tells once a second how far it is. Of what is told nothing is promised: where the clock or
+/// memory fails there is one line less.
 #[derive(Drop)]
 pub(crate) struct Progress<'a, F, R, H> {
     reader: F,

@@ -41,7 +41,8 @@ is_space b = b == 32
 abbrev pub is_colon : ℕ → Bool
 is_colon b = b == 58
 
--- the key that a value of Authorization gives as Bearer: what follows that word and a space, or nothing (RFC 6750, section 2.1)
+-- the key that a value of Authorization gives as Bearer: what follows that word and a space, or nothing (RFC 6750,
+-- section 2.1)
 abbrev pub bearer_in : List ℕ → List ℕ
 bearer_in value = if str_eq_ignore_ascii_case (before_first is_space value) (codes "bearer") then after_first is_space
     value else []
@@ -72,7 +73,8 @@ password_in value = after_first is_colon (text_of (decoded (basic_in value)))
 abbrev pub is_numeric : ℕ → Bool
 is_numeric b = is_ascii_digit b || b == 46
 
--- an address of the machine's own in numbers: it begins as all those do, and no other name has digits and points alone (RFC 1122, section 3.2.1.3)
+-- an address of the machine's own in numbers: it begins as all those do, and no other name has digits and points alone
+-- (RFC 1122, section 3.2.1.3)
 abbrev pub is_loopback : List ℕ → Bool
 is_loopback name = begins (codes "127.") name && list_all is_numeric name
 
@@ -80,7 +82,8 @@ is_loopback name = begins (codes "127.") name && list_all is_numeric name
 abbrev pub is_own_host : List ℕ → Bool
 is_own_host name = bytes_eq name (codes "localhost") || is_loopback name
 
--- a host that is the machine's own, as those name it who are on it: such a name with any port, or the address of version 6
+-- a host that is the machine's own, as those name it who are on it: such a name with any port, or the address of
+-- version 6
 abbrev pub is_own_name : List ℕ → Bool
 is_own_name host = is_own_host (before_first is_colon host) || bytes_eq host (codes "[::1]")
     || begins (codes "[::1]:") host
@@ -97,7 +100,8 @@ bearer_of fields = option_map (λ value. bearer_in (text_of value)) fields.autho
 abbrev pub password_of : Fields → Option (List ℕ)
 password_of fields = option_map (λ value. password_in (text_of value)) fields.authorization
 
--- whether a body is said to be JSON, which no form of another place can say (Fetch Standard, safelisted values of Content-Type)
+-- whether a body is said to be JSON, which no form of another place can say (Fetch Standard, safelisted values of
+-- Content-Type)
 abbrev pub is_json : Option (List ℕ) → Bool
 is_json kind = option_map_or (λ value. begins (codes "application/json") value) kind false
 
@@ -127,8 +131,9 @@ seen access request p = record {
   is_json = is_json request.fields.content_type;
 }
 
--- of an order: with the key as Bearer it may be given; else no other key is typed into its form, and it has the key, where one is wanted, in its head or in its form, and it is a form with the token, or says that it is no form.
--- A browser sends the password of Basic with the form of any other place too, so that it alone doesn't do
+-- of an order: with the key as Bearer it may be given; else no other key is typed into its form, and it has the key,
+-- where one is wanted, in its head or in its form, and it is a form with the token, or says that it is no form. A
+-- browser sends the password of Basic with the form of any other place too, so that it alone doesn't do
 abbrev pub order_admission : Seen → Admission
 order_admission s =
     if s.is_give_up && not s.wants_key then admission.NeedsKey
@@ -138,7 +143,8 @@ order_admission s =
     else if s.form_has_token || s.is_json then admission.Admitted
     else admission.Forged
 
--- of any request: where no key is wanted it has to come by a name of the machine's own; and where one is, what tells has it in its head
+-- of any request: where no key is wanted it has to come by a name of the machine's own; and where one is, what tells
+-- has it in its head
 abbrev pub admission_of : Seen → Admission
 admission_of s =
     if not s.wants_key && not s.is_own then admission.WrongHost

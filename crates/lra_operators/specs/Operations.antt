@@ -63,8 +63,8 @@ summary operation.GiveUp =
 summary operation.Home = codes "Shows counts, and what hasn't ended or has a status"
 summary operation.Tree = codes "Shows an action"
 
--- the codes of an operation's replies where it is done: of health 503 too, where it is down, and of an order 303, where a
--- form gave it
+-- the codes of an operation's replies where it is done: of health 503 too, where it is down, and of an order 303, where
+-- a form gave it
 abbrev pub success : Operation → List ℕ
 success operation.Health = 200 ∷ 503 ∷ []
 success operation.Live = 200 ∷ 503 ∷ []

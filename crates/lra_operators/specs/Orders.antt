@@ -27,8 +27,8 @@ pub record IsAsked (target : List ℕ) (p : Operation) (i : ℕ) (o : Order) : T
   pub names : IsSpelling (id_text i) (id_in (path_in target)) number
   pub orders : IsOrderAt p number o
 
--- a request gives an order: its path and method ask for an operation that gives one, it may be made, and the order is the
--- one that it asks for
+-- a request gives an order: its path and method ask for an operation that gives one, it may be made, and the order is
+-- the one that it asks for
 pub record GivesOrder (access : Access) (request : Request) (i : ℕ) (o : Order) : Type 0 where
   pub at : Operation
   pub routed : operation_of request.method request.target ≡ Ok at

@@ -490,7 +490,8 @@ fn show_home<O: Overview>(
     }
 }
 
-/// The first page: what hasn't ended, the oldest first. Unless another journal is named, it is of the first in which there is something.
+/// The first page: what hasn't ended, the oldest first. Unless another journal is named, it is of the first in which
+/// there is something.
 pub(crate) fn tell_home<O: Overview>(
     alloc: Global,
     overview: &mut O,

@@ -1,5 +1,5 @@
-//! A service with a history of three actions: action 2 is nested in action 1, and has two members. Action 3 has ended, and
-//! its member is still to be told so.
+//! A service with a history of three actions: action 2 is nested in action 1, and has two members. Action 3 has ended,
+//! and its member is still to be told so.
 
 ghost use Rattle.std.specs.Prelude.{◌≡◌, true, IfSome};
 ghost use Rattle.lra_ids.specs.Addresses.{is_base};

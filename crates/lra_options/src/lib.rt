@@ -1,4 +1,5 @@
-//! The words after `lra serve` that are options, and the file that they may name: what is to be served, and by which settings.
+//! The words after `lra serve` that are options, and the file that they may name: what is to be served, and by which
+//! settings.
 #![tactic(auto)]
 
 mod config;

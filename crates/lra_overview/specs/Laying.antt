@@ -41,7 +41,8 @@ span_unit ms =
 unfoldable pub span : ℕ → List ℕ
 span ms = joined (decimal (span_count ms) ∷ span_unit ms ∷ [])
 
--- a piece of a text: what is this program's own stands as it is, a text from elsewhere is escaped, and all others are digits, identifiers and words
+-- a piece of a text: what is this program's own stands as it is, a text from elsewhere is escaped, and all others are
+-- digits, identifiers and words
 abbrev pub spelled : ℕ → Piece → List ℕ
 spelled i (piece.Own text) = text.now
 spelled i (piece.Told text) = escaped text.now

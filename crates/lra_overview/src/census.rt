@@ -250,7 +250,8 @@ impl Census {
         self.telling.count(overview, instance)
     }
 
-    /// Where those stretches begin in which some actions are closing or cancelling, as was counted last, in their order.
+    /// Where those stretches begin in which some actions are closing or cancelling, as was counted last, in their
+    /// order.
     pub(crate) fn ending(&self) -> &[u64] {
         self.ending.as_slice()
     }

@@ -201,7 +201,8 @@ fn add_members<O: Overview>(
     Ok(true)
 }
 
-/// So many actions, or those alone that have a status, those that were started first before the others, from a place on.
+/// So many actions, or those alone that have a status, those that were started first before the others, from a place
+/// on.
 pub fn list_actions<O: Overview>(
     alloc: Global,
     overview: &mut O,

@@ -1,4 +1,5 @@
-//! Pages for a browser: no script, and nothing of another place. All that is known from elsewhere is added by `Piece::Told`, and so escaped.
+//! Pages for a browser: no script, and nothing of another place. All that is known from elsewhere is added by
+//! `Piece::Told`, and so escaped.
 
 ghost use Rattle.std.specs.Prelude.{◌≡◌, ◌++◌, OnOk};
 ghost use Rattle.std.specs.List.{flat_map};

@@ -2,8 +2,9 @@
 
 ghost use Rattle.lra_overview.specs.Marks.{HomeKeepsMarks, ActionKeepsMarks, ReplyKeepsMarks, PlainKeepsMarks, HomeRefers, ActionRefers, PlainRefers};
 
-/// Which marks a page has, by which markup and quoted values are told, depends on no text from elsewhere: each page has the same ones, in the same order,
-/// whatever the base of the coordinator is, the token of the forms, the address and the words of a member's last callback, and the text that is told.
+/// Which marks a page has, by which markup and quoted values are told, depends on no text from elsewhere: each page has
+/// the same ones, in the same order, whatever the base of the coordinator is, the token of the forms, the address and
+/// the words of a member's last callback, and the text that is told.
 pub fn pages_keep_marks()
     ensures home { HomeKeepsMarks }
     ensures action { ActionKeepsMarks }

@@ -25,7 +25,8 @@ pub fn put_number(page: &mut Vec<u8>, number: u64) -> Result<(), Memory>
     page.extend_from_slice(buffer.format(number).as_bytes())
 }
 
-/// Returns how many seconds, minutes, hours or days so many milliseconds are: in the largest unit of which there are two.
+/// Returns how many seconds, minutes, hours or days so many milliseconds are: in the largest unit of which there are
+/// two.
 fn span_count(ms: u64) -> u64
     ensures { result ≡ spec.span_count ms }
 {

@@ -314,8 +314,8 @@ fn put_process(page: &mut Vec<u8>, facts: &Facts) -> Result<(), Memory> {
     put_memory(page, facts)
 }
 
-/// Adds what is measured of a service; of counts what was told last, of all journals and of the newest, and how long, in milliseconds, the oldest action that
-/// hasn't ended is known of.
+/// Adds what is measured of a service; of counts what was told last, of all journals and of the newest, and how long,
+/// in milliseconds, the oldest action that hasn't ended is known of.
 pub fn put_metrics(
     page: &mut Vec<u8>,
     facts: &Facts,

@@ -43,8 +43,8 @@ pub enum Standing {
     Timely,
 }
 
-/// Returns how a member holds up an end at a moment that was asked so often in vain, is to be asked from a moment on, and
-/// answered last that it is at it or didn't.
+/// Returns how a member holds up an end at a moment that was asked so often in vain, is to be asked from a moment on,
+/// and answered last that it is at it or didn't.
 pub fn standing_of(repeats: u64, due: u64, moment: u64, is_at_it: bool) -> Standing
     ensures { result ≡ spec.standing_of repeats due moment is_at_it }
 {
@@ -97,7 +97,8 @@ struct Tally {
 }
 
 impl Tally {
-    /// The row of a listing at a place or behind it, of those that one query looks at. Where no more may be asked there is none.
+    /// The row of a listing at a place or behind it, of those that one query looks at. Where no more may be asked there
+    /// is none.
     fn row<O: Overview>(
         &mut self,
         overview: &mut O,

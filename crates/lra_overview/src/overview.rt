@@ -49,7 +49,8 @@ pub struct Facts {
     pub standing: Option<Instance>,
 }
 
-/// Where operators' questions are asked and their orders given: one office, or those of several journals, each known by its instance.
+/// Where operators' questions are asked and their orders given: one office, or those of several journals, each known by
+/// its instance.
 ///
 /// Contracts see of it which orders were given there.
 pub trait Overview {
@@ -98,7 +99,8 @@ pub trait Overview {
     fn give(&mut self, instance: Instance, order: &Order<'_>) -> Result<Told, CounterFault>
         ensures { Gives instance order.now (orders self.old) (orders self.new) };
 
-    /// Has a member of a journal that has ended not asked any more whether it knows that its action has. It writes nothing into the journal.
+    /// Has a member of a journal that has ended not asked any more whether it knows that its action has. It writes
+    /// nothing into the journal.
     fn end_asking(&mut self, instance: Instance, member: u64) -> Result<(), CounterFault>
         ensures { orders self.new ≡ orders self.old };
 }

@@ -98,7 +98,8 @@ fn add_all<O: Overview>(
     Ok(())
 }
 
-/// The tree of an action: each action before its members, and those before the actions nested in it. Of a large one only its first nodes are had.
+/// The tree of an action: each action before its members, and those before the actions nested in it. Of a large one
+/// only its first nodes are had.
 pub fn tree_of<O: Overview>(
     alloc: Global,
     overview: &mut O,

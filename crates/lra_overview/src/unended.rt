@@ -64,7 +64,8 @@ impl Cursor {
         }
     }
 
-    /// Looks for its next row, where none was found yet: at so many rows as one query does. Gives the row that was found before.
+    /// Looks for its next row, where none was found yet: at so many rows as one query does. Gives the row that was
+    /// found before.
     fn step<O: Overview>(
         &mut self,
         overview: &mut O,
@@ -187,7 +188,8 @@ fn add_unended<O: Overview>(
     Ok(Some(from))
 }
 
-/// So many actions that haven't ended, the oldest first, from a place on. Where all have ended, as a census knows, none is looked for.
+/// So many actions that haven't ended, the oldest first, from a place on. Where all have ended, as a census knows, none
+/// is looked for.
 pub fn list_unended<O: Overview>(
     alloc: Global,
     overview: &mut O,

@@ -12,8 +12,8 @@ use std::alloc::Global;
 /// The most queries that are asked for one count of the actions that were looked at before, and as many of the others.
 const MOST: u64 = 4_096;
 
-/// Returns whether a member of an action that has ended is still to be told so, or to be forgotten: it is being asked, or is
-/// to be asked, and operators haven't given it up.
+/// Returns whether a member of an action that has ended is still to be told so, or to be forgotten: it is being asked,
+/// or is to be asked, and operators haven't given it up.
 pub fn is_untold(ask: Option<u64>, want: Option<Want>, is_given_up: bool) -> bool
     ensures { result ≡ spec.is_untold ask want is_given_up }
 {
@@ -253,8 +253,8 @@ impl Telling {
         total
     }
 
-    /// Returns how many members are untold, as far as was looked: some thousands of queries are asked at most, and the next
-    /// count goes on there.
+    /// Returns how many members are untold, as far as was looked: some thousands of queries are asked at most, and the
+    /// next count goes on there.
     pub(crate) fn count<O: Overview>(
         &mut self,
         overview: &mut O,

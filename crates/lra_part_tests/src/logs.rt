@@ -211,7 +211,8 @@ fn each_event_has_its_line(rt: HostRuntime) {
     assert!(rt; level_named(b"trace").is_none());
 }
 
-/// A journal in which member 5 is silent ten times in a row, answers, and is silent once more, and member 6 is silent once.
+/// A journal in which member 5 is silent ten times in a row, answers, and is silent once more, and member 6 is silent
+/// once.
 fn journal_text(alloc: Global) -> Option<String> {
     let mut text = String::from_str(
         alloc,

@@ -7,7 +7,8 @@ use std::sync::Arc;
 /// Syncs that keep so many writes.
 const KEPT: [u64; 6] = [0, 1, 0, 2, 5, 1_001];
 
-/// The syncs that are taken down, as how many of them kept up to 1, 2, 5, 1,000 and more writes, and how many writes that were.
+/// The syncs that are taken down, as how many of them kept up to 1, 2, 5, 1,000 and more writes, and how many writes
+/// that were.
 fn taken_down<R: Timed>(rt: &R, alloc: Global) -> Option<[u64; 6]> {
     let syncs = Arc::new(alloc, Syncs::new(alloc, rt.stopwatch()).ok()?).ok();
     for writes in &KEPT {

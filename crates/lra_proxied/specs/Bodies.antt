@@ -6,7 +6,8 @@ use Rattle.lra_front.specs.declared.denial.Denial.{Denial}
 use Rattle.lra_front.specs.Bodies.{identifier_key, object_in, text_under}
 use Rattle.lra_proxied.specs.Texts.{other_text}
 
--- the members with the text under a key that the one there means (RFC 8259, section 4), where that is another; all else in them stays
+-- the members with the text under a key that the one there means (RFC 8259, section 4), where that is another; all else
+-- in them stays
 abbrev pub other_members : List ℕ → List (List ℕ) → List ℕ → Members → Option Members
 other_members base olders key ms = option_map (λ text. put key (string text) ms)
     (option_and_then (other_text base olders) (text_under key ms))

@@ -19,7 +19,8 @@ served_behind front text = option_and_then (λ rest. if is_served rest then Some
 unfoldable pub path_of : List ℕ → List ℕ
 path_of base = after_first is_slash (after_first is_slash (after_first is_slash base))
 
--- what a target (RFC 9112, section 3.2.1) has behind that path, where a proxy passed it on; a base whose path is `/` alone has none to pass on
+-- what a target (RFC 9112, section 3.2.1) has behind that path, where a proxy passed it on; a base whose path is `/`
+-- alone has none to pass on
 abbrev pub passed_on : List ℕ → List ℕ → Option (List ℕ)
 passed_on [] target = None
 passed_on (b ∷ path) target = option_and_then (served_behind (b ∷ path)) (behind (codes "/") target)
@@ -28,6 +29,7 @@ passed_on (b ∷ path) target = option_and_then (served_behind (b ∷ path)) (be
 abbrev pub is_outside : List ℕ → List ℕ → Bool
 is_outside base target = is_none (passed_on (path_of base) target)
 
--- the target that one means, where that is another (this project's choice): the same without the path of the base, but with its slash
+-- the target that one means, where that is another (this project's choice): the same without the path of the base, but
+-- with its slash
 abbrev pub other_target : List ℕ → List ℕ → Option (List ℕ)
 other_target base target = option_map (λ rest. codes "/" ++ rest) (passed_on (path_of base) target)

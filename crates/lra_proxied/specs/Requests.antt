@@ -10,8 +10,8 @@ use Rattle.lra_proxied.specs.Bodies.{other_body, IsRead}
 abbrev pub target_meant : List ℕ → List ℕ → List ℕ
 target_meant base target = unwrap_or (other_target base target) target
 
--- What a request means: one that is the same but for its target, and for its body where an identifier is exchanged in that. What such a body is written as
--- isn't said, but what it is read as (RFC 8259).
+-- What a request means: one that is the same but for its target, and for its body where an identifier is exchanged in
+-- that. What such a body is written as isn't said, but what it is read as (RFC 8259).
 pub record Means (base : List ℕ) (olders : List (List ℕ)) (request meant : Request) : Type 0 where
   pub method : meant.method ≡ request.method
   pub target : meant.target ≡ target_meant base request.target

@@ -8,7 +8,8 @@ use Rattle.lra_steps.specs.declared.responder.Answered.{Answered}
 use Rattle.lra_proxied.specs.Paths.{is_outside}
 use Rattle.lra_proxied.specs.Requests.{Means, LacksMemory}
 
--- what there is to know of who answers, the older bases in their order, and whether requests are let in by the path of the base alone
+-- what there is to know of who answers, the older bases in their order, and whether requests are let in by the path of
+-- the base alone
 pub record Served (S : Type 0) : Type 0 where
   pub inner : S
   pub olders : List (List ℕ)
@@ -38,7 +39,8 @@ module _ {S : Type 0} (base_of : S → List ℕ) (responds : S → ℕ → Reque
     pub position : answered.position ≡ None
     pub unchanged : after ≡ before.inner
 
-  -- What a request at a moment does: it is kept out; or what the one does that it means, unless memory was refused in making that. The older bases stay.
+  -- What a request at a moment does: it is kept out; or what the one does that it means, unless memory was refused in
+  -- making that. The older bases stay.
   pub record Responds (before : Served S) (moment : ℕ) (request : Request) (answered : Answered) (after : Served S) : Type 0 where
     pub olders : after.olders ≡ before.olders
     pub is_strict : after.is_strict ≡ before.is_strict

@@ -96,7 +96,8 @@ fn other_at(
     }
 }
 
-/// The body that one means of a request which asks for that, where it is another. Where there is no older base it isn't looked at.
+/// The body that one means of a request which asks for that, where it is another. Where there is no older base it isn't
+/// looked at.
 pub(crate) fn other_body(
     alloc: Global,
     base: &str,

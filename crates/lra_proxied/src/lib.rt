@@ -1,4 +1,5 @@
-//! Requests that came by a proxy, or that name identifiers under an older base: what each means, and who answers them so.
+//! Requests that came by a proxy, or that name identifiers under an older base: what each means, and who answers them
+//! so.
 #![tactic(auto)]
 
 mod bodies;

@@ -21,8 +21,8 @@ pub struct Proxied<A: Responder> {
 }
 
 impl<A: Responder> Proxied<A> {
-    /// That of one who answers, where identifiers may be under older bases, of which the first counts that one is under. A strict one keeps out what isn't
-    /// behind the path of the base, which is all where that path is `/` alone.
+    /// That of one who answers, where identifiers may be under older bases, of which the first counts that one is
+    /// under. A strict one keeps out what isn't behind the path of the base, which is all where that path is `/` alone.
     pub fn new(inner: A, olders: Vec<Base>, is_strict: bool) -> Proxied<A>
         ensures inner { result.inner ≡ inner }
         ensures olders { result.olders ≡ olders }

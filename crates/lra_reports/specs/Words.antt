@@ -5,7 +5,8 @@ use Rattle.lra_reports.specs.declared.words.Invocation.TheVariants.{AuditInput, 
 use Rattle.lra_reports.specs.declared.words.Question.{Question}
 use Rattle.lra_reports.specs.declared.words.Question.TheVariants.{Run, Salvage, Help, Version}
 
--- no word is to audit standard input; `audit FILE` is to audit a file, `show FILE` to list it, and `upgrade FILE` to upgrade it
+-- no word is to audit standard input; `audit FILE` is to audit a file, `show FILE` to list it, and `upgrade FILE` to
+-- upgrade it
 abbrev pub IsInvocation : List (List ℕ) → Invocation → Type 0
 IsInvocation words AuditInput = words ≡ []
 IsInvocation words (Audit file) = words ≡ codes "audit" ∷ file.now ∷ []

@@ -48,8 +48,8 @@ fn answer_run<R: AllocGlobal + Files + Input + Print + Eprint>(
     settle(rt, outcome, input_name(invocation))
 }
 
-/// Prints the line that a salvage tells, if it does, on standard error. The answer is the program's status: 1 where something was left
-/// out, else 0.
+/// Prints the line that a salvage tells, if it does, on standard error. The answer is the program's status: 1 where
+/// something was left out, else 0.
 fn tell_end<R: Eprint>(rt: &R, told: Option<String>) -> u8
     ensures all { IfNone told (result ≡ 0) }
     ensures front { IfSome told (λ _. result ≡ 1) }

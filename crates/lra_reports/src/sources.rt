@@ -27,7 +27,8 @@ pub trait Sources {
             (λ all. Self.File.remaining file ≡ Some all)) }
         ensures err { IfErr result (λ fault. fault ≡ RunFault.Read) };
 
-    /// Opens it beside that, to be read a second time: none where what stands behind the name can be read once alone, as a pipe.
+    /// Opens it beside that, to be read a second time: none where what stands behind the name can be read once alone,
+    /// as a pipe.
     fn open_again(&self, name: &str) -> Option<Self::File>
         ensures bytes { IfSome result (λ file. IfSome (named self.now name.now)
             (λ all. Self.File.remaining file ≡ Some all)) };

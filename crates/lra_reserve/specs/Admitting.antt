@@ -42,7 +42,8 @@ module _ (tells : Option ℕ → Option ℕ → Type 0) where
   abbrev pub IsLet : Request → Type 0
   IsLet request = (begins request ≡ false) ⊎ (is_stray request ≡ true) ⊎ tells (instance_of request) None
 
-  -- it is refused as one that doesn't fit: it is told which journal near its end would take it, and that is the one that it names, if it names any
+  -- it is refused as one that doesn't fit: it is told which journal near its end would take it, and that is the one
+  -- that it names, if it names any
   pub record IsFull (request : Request) (answered : Answered) : Type 0 where
     pub placed : is_stray request ≡ false
     pub told : tells (instance_of request) (Some answered.instance)

@@ -15,7 +15,8 @@ use std::sync::Arc;
 pub struct Conduct<'a> {
     /// No more starts are taken that name no action of it, and the service ends once nothing is left to be done.
     pub drains: bool,
-    /// It was restored from a copy, which may lack what was answered since: in the journals that it has nothing is begun any more.
+    /// It was restored from a copy, which may lack what was answered since: in the journals that it has nothing is
+    /// begun any more.
     pub is_restored: bool,
     /// Fence that says whose the folder is: once it has fallen, nothing is written or synced.
     pub fence: Option<&'a Arc<Fence>>,
@@ -42,7 +43,8 @@ impl Conduct<'_> {
     }
 }
 
-/// The least number of an instance in whose journal anything is begun, where nothing is up to the last one, if there is one.
+/// The least number of an instance in whose journal anything is begun, where nothing is up to the last one, if there is
+/// one.
 pub(crate) fn first_open(last: Option<Instance>) -> u64 {
     match last {
         Some(last) => last.number().saturating_add(1),
@@ -50,7 +52,8 @@ pub(crate) fn first_open(last: Option<Instance>) -> u64 {
     }
 }
 
-/// Has nothing new begun in journals before the first one. Tells whether there is a newest one, which comes last, that takes what is begun.
+/// Has nothing new begun in journals before the first one. Tells whether there is a newest one, which comes last, that
+/// takes what is begun.
 pub(crate) fn retire<B: Clerkship + Drop>(watches: &[Watch<B>], first: u64) -> bool {
     let mut takes = false;
     for watch in watches {

@@ -15,7 +15,8 @@ const MOST_EVENTS: usize = 8;
 /// How many milliseconds pass at most before it looks again.
 const LOOK: u64 = 1_000;
 
-/// Who wakes those who carry, once their journals have grown: those who answer, and those who look up names, know no more than that some may have.
+/// Who wakes those who carry, once their journals have grown: those who answer, and those who look up names, know no
+/// more than that some may have.
 #[derive(Drop)]
 pub(crate) struct Crier {
     poll: Mutex<Option<Poll>>,

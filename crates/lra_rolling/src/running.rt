@@ -225,7 +225,8 @@ impl<
         Ok(watches)
     }
 
-    /// The journals of a folder, of which there is one at least, and the newest takes what is begun. In those before the first of these numbers nothing is.
+    /// The journals of a folder, of which there is one at least, and the newest takes what is begun. In those before
+    /// the first of these numbers nothing is.
     fn open<O: Opener>(
         &self,
         maker: &mut Maker<'a, R, O>,
@@ -390,7 +391,8 @@ impl<
         Ok(())
     }
 
-    /// Notes what identifiers begin with, and tells where that isn't what they began with when the folder was served last.
+    /// Notes what identifiers begin with, and tells where that isn't what they began with when the folder was served
+    /// last.
     fn note_base(&self) -> Result<(), RollingFault> {
         let base = self.site.base.as_str();
         if let Some(before) = self.folder.base()? {
@@ -432,9 +434,10 @@ fn notes_of<R: Files<File = File> + AllocGlobal + Clone + Drop>(
     }
 }
 
-/// Serves the coordinators of a folder's journals at an address, as [`lra_service::serve_with`] does that of a file. What is begun, and names no journal,
-/// goes to the newest; once that is full, or has as many actions as it is to have, the next one takes its place. A journal that isn't the newest is put away
-/// once nothing of it is left to be done. Where there is a post for operators, one more thread answers them there, of all journals. A service that drains ends
+/// Serves the coordinators of a folder's journals at an address, as [`lra_service::serve_with`] does that of a file.
+/// What is begun, and names no journal, goes to the newest; once that is full, or has as many actions as it is to have,
+/// the next one takes its place. A journal that isn't the newest is put away once nothing of it is left to be done.
+/// Where there is a post for operators, one more thread answers them there, of all journals. A service that drains ends
 /// gently once nothing is left to be done of any journal, for as long as that would be kept at hand.
 pub fn serve_folder<
     R: Files<File = File>

@@ -220,7 +220,8 @@ impl<
         }
     }
 
-    /// Hands on the connections that come, until there are to be no others. Then those who carry look whether they are to end.
+    /// Hands on the connections that come, until there are to be no others. Then those who carry look whether they are
+    /// to end.
     fn admit(&self) {
         self.door.open();
         self.roster.ring(self.rt);
@@ -281,8 +282,8 @@ impl<
         self.names.run(self.rt, &self.crier.bells);
     }
 
-    /// Tries to make the callbacks of a journal's callback worker: none are under way. Where memory is refused the poll is
-    /// given back.
+    /// Tries to make the callbacks of a journal's callback worker: none are under way. Where memory is refused the poll
+    /// is given back.
     fn try_callbacks<'b>(
         &'b self,
         journal: &'b Journal<B>,
@@ -379,8 +380,8 @@ impl<
         self.tell_end(end, journal.instance);
     }
 
-    /// Lets limits fire and carries errands of a journal, many at once. Where it has no place for that no one answers any
-    /// more.
+    /// Lets limits fire and carries errands of a journal, many at once. Where it has no place for that no one answers
+    /// any more.
     pub(crate) fn carry(&self, journal: &Journal<B>) {
         let poll = journal.stall.poll.lock(self.rt).take();
         match poll {
@@ -394,7 +395,8 @@ impl<
         self.door.close();
     }
 
-    /// Tells why the one who carried for a journal has ended, unless the disk has failed: then the program ends, and says so.
+    /// Tells why the one who carried for a journal has ended, unless the disk has failed: then the program ends, and
+    /// says so.
     fn tell_end(&self, end: WorkerEnd, journal: Instance) {
         if !self.has_failed() {
             let tallies = &self.tower.tallies;

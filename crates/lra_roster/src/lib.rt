@@ -1,4 +1,5 @@
-//! The journals of a folder that are served: what each thread answers for, what is known of each, and when one is full or may be put away.
+//! The journals of a folder that are served: what each thread answers for, what is known of each, and when one is full
+//! or may be put away.
 #![tactic(auto)]
 
 mod journal;

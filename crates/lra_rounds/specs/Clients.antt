@@ -8,7 +8,8 @@ use Rattle.lra_rounds.specs.declared.client.Reading.TheVariants.{Came, Waits as 
 use Rattle.lra_rounds.specs.declared.client.Handing.{Handing}
 use Rattle.lra_rounds.specs.declared.client.Handing.TheVariants.{Went, Waits, Unkept, Done}
 
--- The bytes that came were taken, all and in order; or none came yet; or the stream has ended, and no more will come. No byte is lost.
+-- The bytes that came were taken, all and in order; or none came yet; or the stream has ended, and no more will come.
+-- No byte is lost.
 abbrev pub Reads : Option (List ℕ) → Option (List ℕ) → History → History → Reading → Type 0
 Reads before after old new Came = (bytes : List ℕ) × Consumes before after bytes × (new ≡ took old bytes)
 Reads before after old new WaitsForBytes = Keeps before after × (new ≡ old)

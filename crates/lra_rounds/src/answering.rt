@@ -79,8 +79,8 @@ fn answer_next<A: Responder, K: Clock>(
     }
 }
 
-/// Has the requests answered that are whole, a few at most, and tells where the connection stands then. Where memory is refused, those stand answered
-/// that were.
+/// Has the requests answered that are whole, a few at most, and tells where the connection stands then. Where memory is
+/// refused, those stand answered that were.
 pub(crate) fn answer_some<A: Responder, K: Clock>(
     alloc: Global,
     routes: &Routes,

@@ -99,7 +99,8 @@ impl Arrivals {
         self.wants_room.swap(false, Ordering::SeqCst)
     }
 
-    /// No more come, and the thread reads no more requests: it ends once the replies that wait have left, or 10 s after.
+    /// No more come, and the thread reads no more requests: it ends once the replies that wait have left, or 10 s
+    /// after.
     pub fn finish<R: Wait>(&self, rt: &R) {
         let mut inner = self.inner.lock(rt);
         if inner.door == Door::Open {

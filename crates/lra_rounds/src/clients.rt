@@ -93,7 +93,8 @@ impl<G: SyncGroup, P: WhichBase> Clients<G, P> {
         self.agenda.drop_retry(key as u64);
     }
 
-    /// Makes room for a client under so many: where there are as many, the one that has been idle for longest is ended. Tells whether there is room.
+    /// Makes room for a client under so many: where there are as many, the one that has been idle for longest is ended.
+    /// Tells whether there is room.
     fn make_room(&mut self, most: usize) -> bool {
         self.seats.len() < most || self.end_idle()
     }
@@ -225,8 +226,9 @@ impl<G: SyncGroup, P: WhichBase> Clients<G, P> {
         }
     }
 
-    /// Reads what came of those whose streams may be ready, and of some of those to visit again, and has their requests answered that are whole, a few of each.
-    /// So one whose request has just come waits for few of those that have more to do.
+    /// Reads what came of those whose streams may be ready, and of some of those to visit again, and has their requests
+    /// answered that are whole, a few of each. So one whose request has just come waits for few of those that have more
+    /// to do.
     pub(crate) fn serve<A: Responder, K: Clock>(
         &mut self,
         means: &Means,

@@ -230,7 +230,8 @@ impl<'a, R: Wait + time::Clock, G: SyncGroup> Rounds<'a, R, G> {
         now >= until || !clients.are_owed()
     }
 
-    /// Reads what came, has the requests answered that are whole, and hands out what may leave. Tells whether nothing came, and nobody was to be visited.
+    /// Reads what came, has the requests answered that are whole, and hands out what may leave. Tells whether nothing
+    /// came, and nobody was to be visited.
     fn serve<A: Responder, K: Clock, P: WhichBase>(
         &self,
         means: &Means,
@@ -345,7 +346,8 @@ impl<'a, R: Wait + time::Clock, G: SyncGroup> Rounds<'a, R, G> {
 
     /// Answers the connections that come in, by one responder and one clock, until a journal has failed or no more
     /// connections come. Whatever
-    /// happens to one connection, the others are answered. After a round in which nothing came whoever answers rests, four times a second at most.
+    /// happens to one connection, the others are answered. After a round in which nothing came whoever answers rests,
+    /// four times a second at most.
     pub fn run<A: Responder, K: Clock>(&self, responder: &mut A, clock: &mut K) -> RoundsEnd
         ensures answered { AnsweredWithRests A.base_of A.responds A.rests K.tells (A.sight responder.old) clock.old
             (A.sight responder.new) clock.new }

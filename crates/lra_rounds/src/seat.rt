@@ -60,7 +60,8 @@ pub(crate) enum Need {
 pub(crate) struct Seat<G: SyncGroup, P: WhichBase> {
     client: Client<TcpStream, G, P>,
     turn: Turn,
-    /// The turn whose end is noted, which may have passed into others that last longer; none is, where it says that the disk's is.
+    /// The turn whose end is noted, which may have passed into others that last longer; none is, where it says that the
+    /// disk's is.
     noted: Turn,
     /// Room that it has while nothing of a request has come.
     whole: usize,
@@ -196,7 +197,8 @@ impl<G: SyncGroup, P: WhichBase> Seat<G, P> {
         need_of(self.may_read)
     }
 
-    /// Reads what came, once all requests before are answered, and has those answered that are whole; but not while replies wait to leave.
+    /// Reads what came, once all requests before are answered, and has those answered that are whole; but not while
+    /// replies wait to leave.
     pub(crate) fn serve<A: Responder, K: Clock>(
         &mut self,
         means: &Means,

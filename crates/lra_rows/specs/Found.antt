@@ -29,8 +29,8 @@ found_action J a =
     }))
     None
 
--- a member, if it is there: its action, its status, the outcomes that decide it both ways, the ask of it that is outstanding, what it wants,
--- how often it was asked for that in vain, and when it last was
+-- a member, if it is there: its action, its status, the outcomes that decide it both ways, the ask of it that is
+-- outstanding, what it wants, how often it was asked for that in vain, and when it last was
 abbrev pub found_member : History → ℕ → Option MemberRow
 found_member J p =
     cond (is_among (members J) p)

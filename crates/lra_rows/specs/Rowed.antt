@@ -20,8 +20,8 @@ pub record NestCapacity : Type 0 where
 abbrev pub no_capacity : NestCapacity
 no_capacity = record { children = 0; members = 0; under = 0 }
 
--- how many rows each list holds with no more memory, how many numbers the lists of each action do, and which members' repeats have a place
--- (this project's choice)
+-- how many rows each list holds with no more memory, how many numbers the lists of each action do, and which members'
+-- repeats have a place (this project's choice)
 pub record Capacity : Type 0 where
   pub actions : ℕ
   pub members : ℕ
@@ -36,8 +36,8 @@ pub record Rowed : Type 0 where
   pub sheet : Sheet
   pub capacity : Capacity
 
--- what the lists hold after one more deed: one that starts an action brings lists of its own, and a member that joins has no place for repeats
--- yet (this project's choice)
+-- what the lists hold after one more deed: one that starts an action brings lists of its own, and a member that joins
+-- has no place for repeats yet (this project's choice)
 abbrev pub capacity_after : Deed → Capacity → Capacity
 capacity_after (Start a parent limit) c = record c { lists = c.lists ++ no_capacity ∷ [] }
 capacity_after (Join p a uris) c = record c { ready = c.ready ++ false ∷ [] }
@@ -69,8 +69,8 @@ takes_under r a = list_takes_one (λ (n : Nest). n.under) (λ (c : NestCapacity)
 abbrev pub is_ready_at : List Bool → ℕ → Bool
 is_ready_at ready p = option_map_or (λ b. b) (row_at ready p) true
 
--- whether each list that a deed adds to takes one more, and repeats have a place that a reply adds to; the numbers of members that are asked
--- are less than 2^32 (this project's choice)
+-- whether each list that a deed adds to takes one more, and repeats have a place that a reply adds to; the numbers of
+-- members that are asked are less than 2^32 (this project's choice)
 abbrev pub deed_has_room : Deed → Rowed → Bool
 deed_has_room (Start a parent limit) r = takes_one r.sheet.state.actions r.capacity.actions
     && takes_one r.sheet.nests r.capacity.nests && option_map_or (takes_child r) parent true
@@ -83,8 +83,8 @@ deed_has_room (Reply n o) r =
     true) true
 deed_has_room _ r = true
 
--- whether an entry can be carried out with no memory: each list that it adds to takes one more, and so do the counts, which are less
--- than 2^64 (this project's choice)
+-- whether an entry can be carried out with no memory: each list that it adds to takes one more, and so do the counts,
+-- which are less than 2^64 (this project's choice)
 abbrev pub has_room : Entry → Rowed → Bool
 has_room e r = nat_lt r.sheet.entries (2 ^ 63) && deed_has_room e.deed r
 

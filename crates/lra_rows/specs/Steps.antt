@@ -10,7 +10,8 @@ use Rattle.lra_rows.specs.declared.step.Added.{Added}
 use Rattle.lra_rows.specs.declared.step.Added.TheVariants as added
 use Rattle.lra_rows.specs.Rowed.{Rowed, is_ready_at}
 
--- what is counted of a history: its entries, its clerks, its asks, the moment of the last entry, and up to which ask all are void
+-- what is counted of a history: its entries, its clerks, its asks, the moment of the last entry, and up to which ask
+-- all are void
 pub record Counts : Type 0 where
   pub entries : ℕ
   pub moment : ℕ
@@ -24,8 +25,8 @@ pub record Repeated : Type 0 where
   pub stage : AskKind
   pub repeats : Repeats
 
--- what an entry wrote over, each row by its number and as it was: a member's row, an action's, and then that of its parent, and a member's
--- repeats; and what it added
+-- what an entry wrote over, each row by its number and as it was: a member's row, an action's, and then that of its
+-- parent, and a member's repeats; and what it added
 pub record Writes : Type 0 where
   pub member : Option (ℕ × MemberRow)
   pub action : Option (ℕ × ActionRow)

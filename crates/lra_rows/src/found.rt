@@ -240,8 +240,8 @@ impl Rows {
         }
     }
 
-    /// The numbers of the members of an outermost action and of all below it, those that left among them, rising; none of a
-    /// nested one.
+    /// The numbers of the members of an outermost action and of all below it, those that left among them, rising; none
+    /// of a nested one.
     pub fn under(&self, number: u64) -> &[u64]
         ensures { (J : History) → StandsFor self.now.sheet J → result.now ≡ members_under J number }
     {

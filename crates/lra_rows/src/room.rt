@@ -168,9 +168,9 @@ impl Rows {
         }
     }
 
-    /// Makes room for one more entry: it can then be carried out with no memory. What could be before still can, and where the
-    /// entry could be, nothing changes. `Memory` where there is none for it, where there are 2^63 entries, or where a member from
-    /// 2^32 on is asked.
+    /// Makes room for one more entry: it can then be carried out with no memory. What could be before still can, and
+    /// where the entry could be, nothing changes. `Memory` where there is none for it, where there are 2^63 entries, or
+    /// where a member from 2^32 on is asked.
     pub fn reserve(&mut self, entry: &Entry) -> Result<(), Memory>
         ensures sheet { self.new.sheet ≡ self.old.sheet }
         ensures ok { OnOk result (has_room entry.now self.new ≡ true) }

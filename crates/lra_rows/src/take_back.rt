@@ -87,8 +87,8 @@ impl Rows {
         self.void = counts.void;
     }
 
-    /// Takes the last entry that was carried out back, by its step, and gives the addresses of the member that joined by it: the
-    /// rows are as before it, and have the room that they had. This takes no memory.
+    /// Takes the last entry that was carried out back, by its step, and gives the addresses of the member that joined
+    /// by it: the rows are as before it, and have the room that they had. This takes no memory.
     pub fn take_back(&mut self, step: Step) -> Option<Packed>
         ensures rows { self.new ≡ taken_back step self.old }
         ensures uris { result ≡ addresses_back step self.old }

@@ -17,7 +17,8 @@ use Rattle.lra_front.specs.Bodies.{body_of, addresses_given}
 
 -- ---- addresses
 
--- the host of an address: its authority without the port, where that names one (RFC 9110, section 7.2); a user's name and password are no part of either
+-- the host of an address: its authority without the port, where that names one (RFC 9110, section 7.2); a user's name
+-- and password are no part of either
 abbrev pub host_of : List ℕ → List ℕ
 host_of address = option_map_or (λ _. host_in (authority_of address)) (port_of address) (authority_of address)
 
@@ -63,7 +64,8 @@ is_join request = joins (operation_of request.method request.target)
 abbrev pub is_outside : List (List ℕ) → Request → Bool
 is_outside rules request = not (length rules == 0) && is_join request && is_outside_by rules request.body
 
--- Why it is refused: it asks to join outside the rules; or memory was refused in reading it, where there are rules and it asks to join.
+-- Why it is refused: it asks to join outside the rules; or memory was refused in reading it, where there are rules and
+-- it asks to join.
 abbrev pub IsRefusedBy : List (List ℕ) → Request → Refusal → Type 0
 IsRefusedBy rules request refusal.BadAddresses = is_outside rules request ≡ true
 IsRefusedBy rules request refusal.Memory = (rules ≢ []) × (is_join request ≡ true)

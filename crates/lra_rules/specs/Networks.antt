@@ -44,11 +44,13 @@ ip_of text = if is_bracketed text then option_map ipv6
 abbrev pub is_mapped : List ℕ → Bool
 is_mapped segments = bytes_eq (take 6 segments) (0 ∷ 0 ∷ 0 ∷ 0 ∷ 0 ∷ 65535 ∷ [])
 
--- an IPv6 address is one of a NAT64 (RFC 6052, section 2.1: 64:ff9b::/96), which hands what comes to it on to the IPv4 address in its last 32 bits
+-- an IPv6 address is one of a NAT64 (RFC 6052, section 2.1: 64:ff9b::/96), which hands what comes to it on to the IPv4
+-- address in its last 32 bits
 abbrev pub is_nat64 : List ℕ → Bool
 is_nat64 segments = bytes_eq (take 6 segments) (0x64 ∷ 0xff9b ∷ 0 ∷ 0 ∷ 0 ∷ 0 ∷ [])
 
--- it is one of 6to4 (RFC 3056, section 2: 2002::/16), which does so to the IPv4 address in the 32 bits behind the first 16
+-- it is one of 6to4 (RFC 3056, section 2: 2002::/16), which does so to the IPv4 address in the 32 bits behind the first
+-- 16
 abbrev pub is_6to4 : List ℕ → Bool
 is_6to4 segments = slice_index segments 0 == 0x2002
 
@@ -91,7 +93,8 @@ agree bits (x ∷ xs) (y ∷ ys) = first_bits bits x == first_bits bits y && agr
 
 -- ---- networks
 
--- an address is one of a network: its first bits are those of the network's address (RFC 4632, section 3.1; RFC 4291, section 2.3)
+-- an address is one of a network: its first bits are those of the network's address (RFC 4632, section 3.1; RFC 4291,
+-- section 2.3)
 unfoldable pub holds : Network → IpAddr → Bool
 holds network ip = agree network.bits (octets_of network.first) (octets_of ip)
 
@@ -121,8 +124,8 @@ of_v4 octets bits = record { first = ipv4 octets; bits = bits }
 abbrev pub of_v6 : List ℕ → ℕ → Network
 of_v6 segments bits = record { first = ipv6 segments; bits = bits }
 
--- The networks of special addresses: loopback, this host (RFC 1122, section 3.2.1.3), the link, and the addresses at which clouds tell their machines who they are
--- (169.254.169.254 is one of the link).
+-- The networks of special addresses: loopback, this host (RFC 1122, section 3.2.1.3), the link, and the addresses at
+-- which clouds tell their machines who they are (169.254.169.254 is one of the link).
 abbrev pub special : List Network
 special =
     of_v4 (127 ∷ 0 ∷ 0 ∷ 0 ∷ []) 8

@@ -91,13 +91,14 @@ some_names rules ip port = list_any (names ip port) rules
 abbrev pub some_has : List (List ℕ) → List ℕ → IpAddr → ℕ → Bool
 some_has rules host ip port = some_names rules ip port || some_lets rules host port
 
--- A host may be called at a port and an address that it comes to: there is no rule, or one that names the address at which that arrives; or one that names the address or lets the
--- host, and the one at which that arrives isn't special.
+-- A host may be called at a port and an address that it comes to: there is no rule, or one that names the address at
+-- which that arrives; or one that names the address or lets the host, and the one at which that arrives isn't special.
 unfoldable pub let_address : List (List ℕ) → List ℕ → IpAddr → ℕ → Bool
 let_address rules host ip port = length rules == 0 || some_names rules (inside ip) port
     || (some_has rules host ip port && not (is_special (inside ip)))
 
--- A host at a port may be a member's, as far as its text tells: in numbers, where its address may be called; and by its name, where there is no rule or one that lets it.
+-- A host at a port may be a member's, as far as its text tells: in numbers, where its address may be called; and by its
+-- name, where there is no rule or one that lets it.
 unfoldable pub let_host : List (List ℕ) → List ℕ → ℕ → Bool
 let_host rules host port = option_map_or (λ ip. let_address rules host ip port) (ip_of host)
     (length rules == 0 || some_lets rules host port)

@@ -9,7 +9,8 @@ use std::alloc::Global;
 use std::marker::Model;
 use std::net::IpAddr;
 
-/// A text that says where members may be: `*`, a name, `.` and the end of names, an address or a network, with `:` and a port or for all ports. A contract sees the text.
+/// A text that says where members may be: `*`, a name, `.` and the end of names, an address or a network, with `:` and
+/// a port or for all ports. A contract sees the text.
 #[derive(Debug, Drop)]
 pub struct Rule {
     text: String,

@@ -12,7 +12,8 @@ use std::alloc::Global;
 use std::marker::Model;
 use std::net::{IpAddr, SocketAddr};
 
-/// Where members may be: where one of these rules lets them, and anywhere where there is none. A contract sees their texts.
+/// Where members may be: where one of these rules lets them, and anywhere where there is none. A contract sees their
+/// texts.
 #[derive(Debug, Drop)]
 pub struct Rules {
     rules: Vec<Rule>,

@@ -37,7 +37,8 @@ words_of_request_line l = decimal l.by ∷ decimal l.moment ∷ request_words l.
 abbrev pub request_line : RequestLine → List ℕ
 request_line l = line_of (words_of_request_line l)
 
--- a word that can be an address: it has no space and no line feed, and isn't the `*` of an absent one; whether it is an address, the coordinator tells
+-- a word that can be an address: it has no space and no line feed, and isn't the `*` of an absent one; whether it is an
+-- address, the coordinator tells
 abbrev pub is_script_address : List ℕ → Bool
 is_script_address word = list_all (λ b. not (b == 32) && not (b == 10)) word && not (bytes_eq word (codes "*"))
 
@@ -53,7 +54,8 @@ pub record HaveScriptWords (uris : Addresses) : Type 0 where
   pub forget : HasScriptWord uris.forget
   pub after : HasScriptWord uris.after
 
--- the fields of a request that a clerk makes are such as a line can have: who enrols has no number yet, which is written 0
+-- the fields of a request that a clerk makes are such as a line can have: who enrols has no number yet, which is
+-- written 0
 abbrev pub HasFields : ℕ → Request → Type 0
 HasFields by request.Enrol = by ≡ 0
 HasFields by (request.Start parent limit) = IfSome parent (λ p. p < 2 ^ 64) × (limit < 2 ^ 64)

@@ -43,7 +43,8 @@ first_stage = record { history = []; held = λ ask. None }
 abbrev pub lent : {X : Type 0} → X → Bor X
 lent x = record { ref_ptr = (0, 0); now = x }
 
--- the command that a request is; a reply records what came of the errand that is held of its ask, and where none is held, it is no command
+-- the command that a request is; a reply records what came of the errand that is held of its ask, and where none is
+-- held, it is no command
 abbrev pub command_of : Holding → Request → Option Command
 command_of held request.Enrol = Some command.Enrol
 command_of held (request.Start parent limit) = Some (command.Start parent limit)

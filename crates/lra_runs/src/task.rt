@@ -22,7 +22,8 @@ pub enum Task<'a> {
     Play {
         script: &'a str,
     },
-    /// Serve the coordinator of a file's journal at an address, by so many threads that answer and as many that carry errands.
+    /// Serve the coordinator of a file's journal at an address, by so many threads that answer and as many that carry
+    /// errands.
     Serve {
         address: &'a str,
         file: &'a str,

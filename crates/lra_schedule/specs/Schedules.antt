@@ -12,8 +12,8 @@ use Rattle.lra_commands.specs.Due.{Timed, want_of, deadline_of, due, late}
 abbrev pub moment_of : Option Timed → Option ℕ
 moment_of t = option_map (λ (x : Timed). x.moment) t
 
--- what is planned is that of a legal history: for each member the moment from which its want is due, and for each action the moment at which its
--- limit passes
+-- what is planned is that of a legal history: for each member the moment from which its want is due, and for each
+-- action the moment at which its limit passes
 pub record IsScheduleOf (l : Limits) (s : Planned) (J : History) : Type 0 where
   pub version : Version
   pub is_address : List ℕ → Bool

@@ -55,7 +55,8 @@ impl Schedule {
         Schedule { agenda }
     }
 
-    /// Makes room for so many members and actions in the next call of `refresh`. After `Memory` there may be more room than before.
+    /// Makes room for so many members and actions in the next call of `refresh`. After `Memory` there may be more room
+    /// than before.
     pub fn room(&mut self, n: usize) -> Result<(), Memory>
         ensures room { OnOk result (n ≤ self.new.room) }
         ensures succeeds { n ≤ self.old.room → IsOk result }
@@ -102,7 +103,8 @@ impl Schedule {
         }
     }
 
-    /// The first moment at which a want is due or a limit has passed, by the same limits as before: one that has come lies back. Where there is none, neither ever is.
+    /// The first moment at which a want is due or a limit has passed, by the same limits as before: one that has come
+    /// lies back. Where there is none, neither ever is.
     pub fn next(&self, limits: &Limits, tables: &Tables) -> Option<u64>
         ensures { (J : History) → IsScheduleOf limits.now self.now J → StandsFor tables.now.sheet J
             → IsFirstMoment limits.now J result }
@@ -193,8 +195,8 @@ impl Schedule {
         Ok(())
     }
 
-    /// The moments of the history that tables stand for, as for a coordinator that is opened again. There is room for those that are there,
-    /// and for few more.
+    /// The moments of the history that tables stand for, as for a coordinator that is opened again. There is room for
+    /// those that are there, and for few more.
     pub fn of(alloc: Global, limits: &Limits, tables: &Tables) -> Result<Schedule, Memory>
         ensures { IfOk result (λ schedule. (K : History) → StandsFor tables.now.sheet K
             → IsScheduleOf limits.now schedule K) }

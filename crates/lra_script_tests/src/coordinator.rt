@@ -1,7 +1,7 @@
 //! Scripts of commands given to a coordinator, and journals that it is opened from.
 //!
-//! Each script is as well run with one allocation failing in turn: a command to which memory is refused changes nothing, and
-//! has the script's answer when it is given again.
+//! Each script is as well run with one allocation failing in turn: a command to which memory is refused changes
+//! nothing, and has the script's answer when it is given again.
 
 ghost use Rattle.std.specs.Prelude.{◌≡◌, ◌<◌, ◌^◌, IfSome, true};
 ghost use Rattle.lra_commands.specs.Terms.{AreKeepable};
@@ -246,7 +246,8 @@ fn spend(errand: Option<Errand>) {
     }
 }
 
-/// Prepares the close of action 1, and commits it if that is wanted: whether what is to be written is this, or nothing is.
+/// Prepares the close of action 1, and commits it if that is wanted: whether what is to be written is this, or nothing
+/// is.
 fn close(coordinator: &mut Coordinator, commits: bool) -> &'static str {
     match coordinator.prepare(1, 5, &Command::Close { action: 1 }) {
         Err(_) => "refused",
@@ -269,8 +270,8 @@ fn has_status(coordinator: &Coordinator, status: ActionStatus) -> bool {
     coordinator.status(1, 1) == Ok(Told::ActionIs(status))
 }
 
-/// Starts an action, prepares its close, and then commits it. Whether it was to be written both times, whether it is done, and
-/// whether nothing more is to be written.
+/// Starts an action, prepares its close, and then commits it. Whether it was to be written both times, whether it is
+/// done, and whether nothing more is to be written.
 fn close_once(coordinator: &mut Coordinator) -> [bool; 5] {
     let is_started = coordinator.enrol(0).is_ok() && coordinator.start(1, 0, None, 0).is_ok();
     let is_prepared = has_status(coordinator, ActionStatus::Active)

@@ -1,7 +1,7 @@
 //! The scripts of a coordinator, given to an office by a clerk.
 //!
-//! Each is as well run with one allocation failing in turn: a command to which memory is refused changes nothing, and has the
-//! script's answer when it is given again.
+//! Each is as well run with one allocation failing in turn: a command to which memory is refused changes nothing, and
+//! has the script's answer when it is given again.
 
 ghost use Rattle.std.specs.Prelude.{◌≡◌, IfSome};
 ghost use Rattle.lra_office.specs.Clerks.{IsClerkOf};
@@ -73,7 +73,8 @@ impl<V: Serving, R: Wait> Player<'_, V, R> {
         self.text.reserve(ROOM)
     }
 
-    /// Gives the commands of a script, up to one that is none, or one that changed something when it was refused memory.
+    /// Gives the commands of a script, up to one that is none, or one that changed something when it was refused
+    /// memory.
     fn play(&mut self, script: &str) -> Option<()> {
         if self.make_room().is_err() {
             self.make_room().ok()?;
@@ -293,8 +294,8 @@ fn is_given(line: &str) -> bool {
         || asks(parted(line, " ").0)
 }
 
-/// Adds what is to come of a script: the commands that are given, with their answers; and the journal, which is the lines that they
-/// append, after a header.
+/// Adds what is to come of a script: the commands that are given, with their answers; and the journal, which is the
+/// lines that they append, after a header.
 fn put_wanted(
     script: &str,
     answers: &mut Vec<u8>,
@@ -382,7 +383,8 @@ fn enrolment(script: &str) -> Option<u64> {
     words.number()
 }
 
-/// Plays a script at an office, whose first clerk enrols at this moment. The answers to its commands are added to a text.
+/// Plays a script at an office, whose first clerk enrols at this moment. The answers to its commands are added to a
+/// text.
 fn play_at<W: Write + Drop, R: Wait>(
     rt: &R,
     alloc: Global,

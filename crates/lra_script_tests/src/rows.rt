@@ -321,7 +321,8 @@ audit 2 -> sound 14 entries 2 actions 0 unended 1 closed 1 cancelled
 audit 1 -> unsound line 10 cause
 ";
 
-/// Where few clerks, actions, members and entries fit: how many of each, and how deep actions are nested, and what then comes of commands.
+/// Where few clerks, actions, members and entries fit: how many of each, and how deep actions are nested, and what then
+/// comes of commands.
 pub const LIMITED: &str = "\
 1 2 1 4 2
 0 0 enrol -> Clerk(1)

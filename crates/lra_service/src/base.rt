@@ -56,7 +56,8 @@ fn own_site(alloc: Global, to: &str) -> Result<Site, ServeFault>
     }
 }
 
-/// The site at an address, whose identifiers begin with a base of their own, if there is one: else with `http://`, the address and `/`.
+/// The site at an address, whose identifiers begin with a base of their own, if there is one: else with `http://`, the
+/// address and `/`.
 pub fn site_at(alloc: Global, to: &str, base: Option<Base>) -> Result<Site, ServeFault>
     ensures base { IfOk result (λ site. site.base ≡ base_served base to.now) }
     ensures own { base ≡ None → IfOk result (λ _. is_base (base_text to.now) ≡ true) }

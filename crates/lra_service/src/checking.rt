@@ -94,9 +94,10 @@ fn can_be_kept<P: Place>(place: &P, found: &Found<P::File>) -> Result<(), ServeF
     }
 }
 
-/// Writes what would be served at an address, a line each: the address, the name of the journal's file, the threads of a kind, what the journal has, and all
-/// settings. The place's file is found, locked and audited for that, as before it is served, and nothing is created, bound or written. Where the journal isn't
-/// sound, that is written as `lra audit` does. The answer is the program's status.
+/// Writes what would be served at an address, a line each: the address, the name of the journal's file, the threads of
+/// a kind, what the journal has, and all settings. The place's file is found, locked and audited for that, as before it
+/// is served, and nothing is created, bound or written. Where the journal isn't sound, that is written as `lra audit`
+/// does. The answer is the program's status.
 pub fn check_place<P: Place, W: Write>(
     alloc: Global,
     address: &str,

@@ -118,7 +118,8 @@ impl<'a, R: Wait> Entrance<'a, R> {
         all
     }
 
-    /// Hands a connection to the thread that has the fewest. One whose socket can't be set up is closed, and so is one for which there is no memory.
+    /// Hands a connection to the thread that has the fewest. One whose socket can't be set up is closed, and so is one
+    /// for which there is no memory.
     fn hand_on(&self, stream: TcpStream) {
         if stream.set_nodelay(true).is_err() {
             return;
@@ -139,8 +140,8 @@ impl<'a, R: Wait> Entrance<'a, R> {
         }
     }
 
-    /// Hands on the connections that wait. Tells how many milliseconds may pass before others are looked for, if no event has to be waited for; or nothing,
-    /// where the listener is gone.
+    /// Hands on the connections that wait. Tells how many milliseconds may pass before others are looked for, if no
+    /// event has to be waited for; or nothing, where the listener is gone.
     fn take_all(&self, line: &Line) -> Option<Option<u64>> {
         for _connection in 0..MOST_AT_ONCE {
             match accept(&line.listener) {

@@ -1,4 +1,5 @@
-//! The coordinator as a running service: its journal's file, its sockets with their time-outs, and the threads that answer and ask.
+//! The coordinator as a running service: its journal's file, its sockets with their time-outs, and the threads that
+//! answer and ask.
 #![tactic(auto)]
 
 mod base;

@@ -411,8 +411,8 @@ impl<
 /// leave, what came of the callbacks under way is recorded, for 10 s at most, and all is synced. A thread that ends
 /// before that is told of at once, with why. Where there is a post for operators, one more thread answers them there.
 ///
-/// The file that is written to has just the whole lines of what the place had, and the office that serves goes on from them
-/// ([`ready_file`], [`open_office`]).
+/// The file that is written to has just the whole lines of what the place had, and the office that serves goes on from
+/// them ([`ready_file`], [`open_office`]).
 pub fn serve_with<
     R: KeyFiles
         + Threads

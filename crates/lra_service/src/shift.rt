@@ -247,7 +247,8 @@ impl<
         }
     }
 
-    /// Hands on the connections that come, until there are to be no others. Then those who carry look whether they are to end.
+    /// Hands on the connections that come, until there are to be no others. Then those who carry look whether they are
+    /// to end.
     pub(crate) fn admit(&self) {
         self.door.open();
         ring(&self.bells);
@@ -449,8 +450,8 @@ impl<
         }
     }
 
-    /// Tells why one who carried has ended, unless the disk has failed: then the program ends, and says so. With the last one
-    /// the journal's callbacks stand still.
+    /// Tells why one who carried has ended, unless the disk has failed: then the program ends, and says so. With the
+    /// last one the journal's callbacks stand still.
     fn tell_end(&self, end: WorkerEnd, journal: Instance) {
         let is_last = self.carrying.fetch_sub(1, Ordering::SeqCst) <= 1;
         if !self.journals.has_failed(self.rt) {

@@ -37,7 +37,8 @@ least_of RollAfter = 1
 least_of Remember = 1
 least_of Site = 0
 
--- the most that a parameter may be: so many, a day in seconds, a day in milliseconds, a year in seconds, or what 16 bits hold (this project's choice)
+-- the most that a parameter may be: so many, a day in seconds, a day in milliseconds, a year in seconds, or what 16
+-- bits hold (this project's choice)
 abbrev pub most_of : Parameter → ℕ
 most_of Connections = 1000000
 most_of Callbacks = 65536

@@ -96,7 +96,8 @@ impl Given {
     }
 }
 
-/// The settings by what is said on a line and in a file: what the line says goes before what the file does, and where neither says anything they are the usual ones.
+/// The settings by what is said on a line and in a file: what the line says goes before what the file does, and where
+/// neither says anything they are the usual ones.
 pub fn settings_of(line: &Given, file: &Given) -> Settings
     ensures { result ≡ applied line.now (applied file.now usual) }
 {

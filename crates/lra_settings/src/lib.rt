@@ -1,4 +1,5 @@
-//! The settings of a service: how much it has at once, how long each waits for another, when a folder's journals roll, and what each number may be.
+//! The settings of a service: how much it has at once, how long each waits for another, when a folder's journals roll,
+//! and what each number may be.
 #![tactic(auto)]
 
 mod descriptors;

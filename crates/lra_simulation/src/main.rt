@@ -1,6 +1,6 @@
-//! Simulates many sites, each a coordinator in memory, with clients and members whose messages are lost and late, and with crashes: all of it
-//! from one seed, so that a run that fails can be had again. At the end each journal is audited, and what clients and members saw is held
-//! against it.
+//! Simulates many sites, each a coordinator in memory, with clients and members whose messages are lost and late, and
+//! with crashes: all of it from one seed, so that a run that fails can be had again. At the end each journal is
+//! audited, and what clients and members saw is held against it.
 #![tactic(auto)]
 
 mod audits;

@@ -4,7 +4,8 @@ use Rattle.uuid.specs.Text.{hex_digit, lower}
 use Rattle.lra_ids.specs.Identifiers.{action_uri, recovery_uri}
 use Rattle.lra_instances.specs.Laws.{IsBorne}
 
--- the site of an instance of 60 bits: the 16 that stand before the 44 of a moment in milliseconds (this project's choice)
+-- the site of an instance of 60 bits: the 16 that stand before the 44 of a moment in milliseconds (this project's
+-- choice)
 abbrev pub site_of : ℕ → ℕ
 site_of i = i / 2 ^ 44
 

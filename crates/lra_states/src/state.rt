@@ -140,7 +140,8 @@ impl Awaited {
     }
 }
 
-/// A member, as the rules see it. There may be very many: the wide fields come first, so that few bytes are lost between them.
+/// A member, as the rules see it. There may be very many: the wide fields come first, so that few bytes are lost
+/// between them.
 #[derive(Clone, Copy, Debug)]
 pub struct MemberState {
     pub action: u64,
@@ -200,7 +201,8 @@ pub fn was_accepted(reply: Option<Outcome>) -> bool
     matches!(reply, Some(Outcome::Accepted))
 }
 
-/// An action, as the rules see it, with how many of its staying members and of the actions nested in it are in which status.
+/// An action, as the rules see it, with how many of its staying members and of the actions nested in it are in which
+/// status.
 #[derive(Clone, Copy, Debug)]
 pub struct ActionState {
     pub parent: Option<u64>,

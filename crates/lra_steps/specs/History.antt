@@ -30,7 +30,8 @@ pub record History : Type 0 where
   pub taken : List ℕ
   pub kept : List ℕ
   pub closed : Bool
-  -- the requests that were answered, in order, with the moments and the answers that were told, and the one that stands to be answered
+  -- the requests that were answered, in order, with the moments and the answers that were told, and the one that stands
+  -- to be answered
   pub turns : List Turn
   pub stands : Option Request
   -- how the connection has ended
@@ -59,19 +60,22 @@ abbrev pub StandsAt : Option Request → List ℕ → List ℕ → Type 0
 StandsAt None bytes kept = bytes ≡ kept
 StandsAt (Some request) bytes kept = IsRequest bytes request kept
 
--- The end stays whatever bytes follow: the stream is closed after the last request, or what is kept can't become one, or a reply was lost.
+-- The end stays whatever bytes follow: the stream is closed after the last request, or what is kept can't become one,
+-- or a reply was lost.
 abbrev pub IsLasting : StreamEnd → List Turn → List ℕ → Type 0
 IsLasting Done turns kept = ClosesLast 999 (map plain turns)
 IsLasting (Refused fault) turns kept = RefusesFront kept fault
 IsLasting WriteFault turns kept = ⊤
 
--- The stream stays open after each request so far. At its end no request stands, and that end stays, or no more bytes come.
+-- The stream stays open after each request so far. At its end no request stands, and that end stays, or no more bytes
+-- come.
 abbrev pub IsOpenSo : Option StreamEnd → History → Type 0
 IsOpenSo None h = StaysOpen 999 (map plain h.turns)
 IsOpenSo (Some end) h = (h.stands ≡ None) × (IsLasting end h.turns h.kept ⊎ IsTrue h.closed)
 
--- Why a stream has ended after these turns, where the rest was still to be read, and what went out by then: the replies to the requests that were
--- answered, in order, and to a fault of reading; where the last reply was lost, a proper front of them.
+-- Why a stream has ended after these turns, where the rest was still to be read, and what went out by then: the replies
+-- to the requests that were answered, in order, and to a fault of reading; where the last reply was lost, a proper
+-- front of them.
 abbrev pub EndsAfter : ℕ → List ℕ → List Turn → List ℕ → List ℕ → StreamEnd → Type 0
 EndsAfter instance base turns rest out Done = (out ≡ replies base 999 turns)
     × (((rest ≡ []) × StaysOpen 999 (map plain turns)) ⊎ ClosesLast 999 (map plain turns))
@@ -81,7 +85,8 @@ EndsAfter instance base turns rest out (Refused fault) =
 EndsAfter instance base turns rest out WriteFault = IsFront out (replies base 999 turns)
     × StaysOpenBefore 999 (map plain turns)
 
--- What went out and what may is the replies to the requests that were answered, in order, and at the end what that comes to.
+-- What went out and what may is the replies to the requests that were answered, in order, and at the end what that
+-- comes to.
 abbrev pub Replies : Option StreamEnd → History → Type 0
 Replies None h = h.sent ++ h.out ≡ replies h.base 999 h.turns
 Replies (Some end) h = EndsAfter h.instance h.base h.turns h.kept (h.sent ++ h.out) end
@@ -111,7 +116,8 @@ begun instance base = record {
   out = [];
 }
 
--- how many bytes may be taken: none at the end, and else no more are kept than the largest request takes (this project's choice)
+-- how many bytes may be taken: none at the end, and else no more are kept than the largest request takes (this
+-- project's choice)
 abbrev pub room_of : History → ℕ
 room_of h = if h.closed || is_some h.ended then 0 else 73728 - length h.kept
 

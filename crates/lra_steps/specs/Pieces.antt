@@ -14,8 +14,8 @@ use Rattle.lra_steps.specs.Positions.{AnswersOrdered, IsCovered}
 use Rattle.lra_steps.specs.History.{History, Turn, EndsAfter, plain}
 use Rattle.lra_steps.specs.Steps.{Tells}
 
--- A session that answers by itself: what the front does over it. The answer names its identifiers, and where it has a position, that covers all that
--- the session has seen by then.
+-- A session that answers by itself: what the front does over it. The answer names its identifiers, and where it has a
+-- position, that covers all that the session has seen by then.
 pub record AnswersAlone {C : Type 0} (sight : C → Sight) (covers : C → ℕ → Bool)
     (gives : Sight → ℕ → Order → Result Told CounterFault → Sight → Type 0)
     (before : C) (moment : ℕ) (request : Request) (answered : Answered) (after : C) : Type 0 where
@@ -39,8 +39,8 @@ module _ {S K : Type 0} (responds : S → ℕ → Request → Answered → S →
     pub reply : Result (Unit {0}) AllocError
     pub told : Tells reply old new (record { request = request; moment = moment; answered = answered })
 
-  -- What bytes come to: the requests that they spell are answered one after another, and replied in their order, each by whose answer it is. The
-  -- instance is that of replies to faults of reading.
+  -- What bytes come to: the requests that they spell are answered one after another, and replied in their order, each
+  -- by whose answer it is. The instance is that of replies to faults of reading.
   pub record Serves (instance : ℕ) (base bytes old : List ℕ) (v : S) (k : K) (end : StreamEnd) (new : List ℕ) (w : S) (l : K) : Type 0 where
     pub turns : List Turn
     pub rest : List ℕ
@@ -66,7 +66,8 @@ turns_in (Some turn ∷ xs) = turn ∷ turns_in xs
 turns_in (None ∷ xs) = turns_in xs
 
 module _ {K : Type 0} (gives : Sight → ℕ → Order → Result Told CounterFault → Sight → Type 0) (tells : K → ℕ → K → Type 0) where
-  -- what these bytes come to is what a stream of them does (`AreTranscripts`), where its end and what went out are known
+  -- what these bytes come to is what a stream of them does (`AreTranscripts`), where its end and what went out are
+  -- known
   abbrev pub ServesBytes : List ℕ → List ℕ → Sight → K → StreamEnd → List ℕ → Sight → K → Type 0
   ServesBytes bytes old v k end new w l = Transcript gives tells 999 bytes old (standing (Some bytes) v k (Some old))
       end (standing None w l (Some new))

@@ -115,7 +115,8 @@ fn let_go(stands: &mut Option<RequestRead>)
     *stands = None;
 }
 
-/// The request at the front of what is kept. While bytes may come it is looked for only where it can be whole since what was seen.
+/// The request at the front of what is kept. While bytes may come it is looked for only where it can be whole since
+/// what was seen.
 fn next_front(
     alloc: Global,
     kept: &[u8],
@@ -175,7 +176,8 @@ fn end_after(replied: bool, close: bool) -> Option<StreamEnd>
 }
 
 impl Connection {
-    /// A connection at which all URIs begin with that base, and replies to faults of reading name identifiers of that instance.
+    /// A connection at which all URIs begin with that base, and replies to faults of reading name identifiers of that
+    /// instance.
     pub fn new(alloc: Global, instance: Instance, base: &Base) -> Connection
         ensures { result ≡ begun instance base.now }
     {
@@ -285,8 +287,9 @@ impl Connection {
         }
     }
 
-    /// The answer to the request that stands, and the moment at which it was given: the reply names identifiers of the instance whose answer it is.
-    /// Where memory for it is refused, the reply is lost and the connection ends: the request doesn't stand any more in any case.
+    /// The answer to the request that stands, and the moment at which it was given: the reply names identifiers of the
+    /// instance whose answer it is. Where memory for it is refused, the reply is lost and the connection ends: the
+    /// request doesn't stand any more in any case.
     pub fn told(&mut self, base: &Base, moment: u64, answered: Answered) -> Result<(), Memory>
         requires stands { IsSome self.old.stands }
         requires numbers { HasIdentifiers answered.answer }

@@ -78,7 +78,8 @@ pub trait Responder {
         // Its numbers are those that identifiers can have.
         ensures identifiers { HasIdentifiers result.answer };
 
-    /// Nobody asks for anything: what is held for nothing may be let go. This is called now and then, and so takes no long time.
+    /// Nobody asks for anything: what is held for nothing may be let go. This is called now and then, and so takes no
+    /// long time.
     fn rest(&mut self)
         ensures rests { rests (sight self.old) (sight self.new) };
 

@@ -12,8 +12,8 @@ use lra_ids::Instance;
 use lra_model::Memory;
 use std::alloc::Global;
 
-/// Has the request that stands answered, at the moment that the clock tells, and returns the answer. Where memory for the
-/// reply is refused, what was asked for stands all the same, and the connection ends.
+/// Has the request that stands answered, at the moment that the clock tells, and returns the answer. Where memory for
+/// the reply is refused, what was asked for stands all the same, and the connection ends.
 pub fn answer_request<A: Responder, K: Clock>(
     alloc: Global,
     routes: &Routes,
@@ -37,7 +37,8 @@ pub fn answer_request<A: Responder, K: Clock>(
     answered
 }
 
-/// Takes a piece of any length, and has all requests answered that are whole. Tells how the connection ended, if it did.
+/// Takes a piece of any length, and has all requests answered that are whole. Tells how the connection ended, if it
+/// did.
 fn feed<A: Responder, K: Clock>(
     alloc: Global,
     routes: &Routes,
@@ -156,8 +157,9 @@ fn serve_new<A: Responder, K: Clock>(
     end
 }
 
-/// Answers a stream that comes in these pieces by whoever answers, and appends the replies: each request of it once and in order, at a moment that the clock
-/// tells, however the bytes are cut. Where memory is refused otherwise than for a reply, that is told.
+/// Answers a stream that comes in these pieces by whoever answers, and appends the replies: each request of it once and
+/// in order, at a moment that the clock tells, however the bytes are cut. Where memory is refused otherwise than for a
+/// reply, that is told.
 pub fn answer_pieces<A: Responder, K: Clock>(
     alloc: Global,
     pieces: &[Vec<u8>],
@@ -174,8 +176,9 @@ pub fn answer_pieces<A: Responder, K: Clock>(
     serve_new(alloc, instance, pieces, sent, responder, clock)
 }
 
-/// Answers a stream that comes in these pieces, and appends the replies. What is done and replied is what `serve_stream` does and
-/// replies of all the bytes, however they are cut. Where memory is refused otherwise than for a reply, that is told.
+/// Answers a stream that comes in these pieces, and appends the replies. What is done and replied is what
+/// `serve_stream` does and replies of all the bytes, however they are cut. Where memory is refused otherwise than for a
+/// reply, that is told.
 pub fn serve_pieces<C: Session, K: Clock>(
     alloc: Global,
     pieces: &[Vec<u8>],

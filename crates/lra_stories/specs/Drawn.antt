@@ -1,6 +1,6 @@
--- The picture of what happened to an action: a row for each line of its story, so that time goes down, and a lane each for the action, for its
--- members, and for the actions that are nested in it. The lines may have addresses, and are escaped; all other text in it is made of words of this
--- program and of numbers, which have no <, > or &.
+-- The picture of what happened to an action: a row for each line of its story, so that time goes down, and a lane each
+-- for the action, for its members, and for the actions that are nested in it. The lines may have addresses, and are
+-- escaped; all other text in it is made of words of this program and of numbers, which have no <, > or &.
 use Rattle.std.specs.Prelude.{ℕ, ◌+◌, ◌*◌, List, [], ◌∷◌, ◌++◌, map, length, codes}
 use Rattle.std.specs.List.{flat_map}
 use Rattle.std.specs.Fmt.{decimal}
@@ -42,7 +42,8 @@ member_mark look = joined (codes "<rect x=\"50\" y=\"7\" width=\"12\" height=\"1
 abbrev pub nested_mark : ActionStatus → List ℕ
 nested_mark status = joined (codes "<path d=\"M84 5l8 8l-8 8l-8-8z\" class=\"" ∷ action_status_name status ∷ codes "\"/>" ∷ [])
 
--- the mark of a fact, where the action has this status after it: in the lane of whom it is about, and of the look of what that came to
+-- the mark of a fact, where the action has this status after it: in the lane of whom it is about, and of the look of
+-- what that came to
 abbrev pub mark : ActionStatus → Fact → List ℕ
 mark status (Started by moment parent limit) = action_mark status
 mark status (Joined p) = member_mark (codes "joined")
@@ -113,6 +114,7 @@ abbrev pub framed : List ℕ → List (List ℕ) → List ℕ
 framed head cs = joined (opening head (top_of (length cs)) ∷ LOOKS.now ∷ lanes (top_of (length cs)) ∷ rows 0 cs
     ∷ codes "</svg>\n" ∷ [])
 
--- the picture of a story of a history by its parts: how the action is now, what is told of it, and what is noted at the end
+-- the picture of a story of a history by its parts: how the action is now, what is told of it, and what is noted at the
+-- end
 unfoldable pub picture : History → List ℕ → List Told → List (List ℕ) → List ℕ
 picture J head ts notes = framed head (contents J head ts notes)

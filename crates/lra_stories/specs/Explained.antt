@@ -22,7 +22,8 @@ use Rattle.lra_stories.specs.Drawn.{picture}
 abbrev pub is_its : Option ℕ → ℕ → Bool
 is_its o i = option_map_or (λ j. j == i) o true
 
--- a story of a history in sentences, by its parts: how the action is now, what is told of it, and what is noted at the end
+-- a story of a history in sentences, by its parts: how the action is now, what is told of it, and what is noted at the
+-- end
 abbrev pub lines_text : History → List ℕ → List Told → List (List ℕ) → List ℕ
 lines_text J head ts notes = head ++ flat_map (told_line J) ts ++ joined notes
 
@@ -31,8 +32,8 @@ abbrev pub shown : Form → History → List ℕ → List Told → List (List �
 shown Text J head ts notes = lines_text J head ts notes
 shown Svg J head ts notes = picture J head ts notes
 
--- what is printed of an action that is there: how it is now; then each entry that concerns it, in order; then what it waits for, or which of those
--- below it failed, and what its members are asked
+-- what is printed of an action that is there: how it is now; then each entry that concerns it, in order; then what it
+-- waits for, or which of those below it failed, and what its members are asked
 abbrev pub story_text : Form → History → ℕ → ActionRow → List ℕ
 story_text form J a r = shown form J (head_line a r.parent r.status) (told a J) (notes J (told a J) a r)
 

@@ -66,8 +66,8 @@ abbrev pub of_report : History → ℕ → ℕ → Outcome → Option Fact
 of_report J a p o = option_and_then (λ (r : MemberRow). when (r.action == a)
     (fact.Reported p (stage_reported r.status) o)) (found_member J p)
 
--- what an entry that comes after a history is to an action: nothing where it concerns neither the action, nor one of its members, nor an action
--- that is nested directly in it
+-- what an entry that comes after a history is to an action: nothing where it concerns neither the action, nor one of
+-- its members, nor an action that is nested directly in it
 abbrev pub fact_in : ℕ → History → Entry → Option Fact
 fact_in a J e = of_deed e.deed
   where
@@ -90,13 +90,14 @@ fact_in a J e = of_deed e.deed
 abbrev pub status_now : History → ℕ → ActionStatus
 status_now J a = option_map_or (λ (r : ActionRow). r.status) (found_action J a) action.Active
 
--- what is told of an entry at a line and a moment, with the action's status after it: nothing where it is nothing to the action
+-- what is told of an entry at a line and a moment, with the action's status after it: nothing where it is nothing to
+-- the action
 abbrev pub told_of : ℕ → ℕ → ActionStatus → Option Fact → List Told
 told_of line moment status None = []
 told_of line moment status (Some f) = record { line = line; moment = moment; status = status; fact = f } ∷ []
 
--- what is told of a step: its line in the journal, of which the header is the first, its moment, the action's status after it, and what it is to
--- the action
+-- what is told of a step: its line in the journal, of which the header is the first, its moment, the action's status
+-- after it, and what it is to the action
 abbrev pub told_at : ℕ → Step → List Told
 told_at a s = told_of (length s.past + 2) s.entry.moment (status_now (s.past ++ s.entry ∷ []) a)
     (fact_in a s.past s.entry)

@@ -39,7 +39,8 @@ begun_by e = option_map (λ a. record { action = a; moment = e.moment }) (starte
 unfoldable pub starts : History → List Begun
 starts J = filter_map begun_by J
 
--- how old an action is that started at a moment: up to the moment that is asked for, or the history's last; 0 where that comes before
+-- how old an action is that started at a moment: up to the moment that is asked for, or the history's last; 0 where
+-- that comes before
 abbrev pub age : Choice → History → ℕ → ℕ
 age c J moment = unwrap_or c.now (last_moment J) - moment
 

@@ -12,7 +12,8 @@ year_of day = (day + day / 36524 - (day / 1460 + day / 146096)) / 365
 abbrev pub day_of_year : ℕ → ℕ
 day_of_year day = day + year_of day / 100 - (365 * year_of day + year_of day / 4)
 
--- the date of a day of a year that begins with March: the months before are of 31, 30, 31, 30 and 31 days, again and again
+-- the date of a day of a year that begins with March: the months before are of 31, 30, 31, 30 and 31 days, again and
+-- again
 abbrev pub date_in : ℕ → ℕ → ℕ → Date
 date_in year day march =
     cond (nat_lt march 10)

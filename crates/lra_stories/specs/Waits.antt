@@ -1,4 +1,5 @@
--- What is noted at the end of an action's story: what it waits for, or which of those below it failed, and what its members are asked.
+-- What is noted at the end of an action's story: what it waits for, or which of those below it failed, and what its
+-- members are asked.
 use Rattle.std.specs.Prelude.{ℕ, ◌-◌, ◌==◌, Bool, false, ◌&&◌, not, List, [], ◌∷◌, ◌++◌, map, filter, length, slice_get, codes, Option, Some, None, option_map, is_some, cond}
 use Rattle.std.specs.Option.{option_map_or, option_and_then}
 use Rattle.std.specs.List.{find, flat_map}
@@ -101,7 +102,8 @@ open_line p kind u since = joined (codes "member " ∷ decimal p ∷ codes " is 
 abbrev pub from_text : ℕ → List ℕ
 from_text moment = joined (codes " again, from " ∷ moment_text moment ∷ codes " on by the default pauses" ∷ [])
 
--- from when on a member is asked again that was asked so often in vain, the last time at that moment, by the pauses that a service has unless others are set
+-- from when on a member is asked again that was asked so often in vain, the last time at that moment, by the pauses
+-- that a service has unless others are set
 abbrev pub again_text : ℕ → Option ℕ → List ℕ
 again_text k before = cond (k == 0) [] (from_text (due_after usual k before))
 
@@ -118,7 +120,8 @@ asked_note J ts p n x = open_line p x.kind (address_at J p x.kind) (since_text n
 abbrev pub wanted_note : History → ℕ → MemberRow → AskKind → List ℕ
 wanted_note J p r kind = want_line p kind (address_at J p kind) (again_text r.k r.last)
 
--- what a member is asked, or is to be asked next, whether or not the action waits for it: at which address, and since when or from when on
+-- what a member is asked, or is to be asked next, whether or not the action waits for it: at which address, and since
+-- when or from when on
 abbrev pub ask_note : History → List Told → ℕ → MemberRow → List ℕ
 ask_note J ts p r = of_ask r.outstanding
   where
@@ -185,7 +188,8 @@ row_notes J ts status p r = row_note J status p r ∷ ask_note J ts p r ∷ repe
 abbrev pub member_notes : History → List Told → ActionStatus → ℕ → List (List ℕ)
 member_notes J ts status p = option_map_or (row_notes J ts status p) (found_member J p) []
 
--- what is noted of a nested action that has a status now: that the action waits for it; or, of an action that has failed, that it failed
+-- what is noted of a nested action that has a status now: that the action waits for it; or, of an action that has
+-- failed, that it failed
 abbrev pub nested_note : ActionStatus → ℕ → ActionStatus → List ℕ
 nested_note status b now =
     cond (waits_for_action status now) (joined (codes "waits for action " ∷ decimal b ∷ codes " below it, which is "

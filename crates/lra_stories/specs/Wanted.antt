@@ -4,7 +4,8 @@ use Rattle.std.specs.Fmt.{decimal}
 use Rattle.lra_ids.specs.Identifiers.{IsSpelling, id_text, action_uri}
 use Rattle.lra_stories.specs.declared.wanted.Wanted.{Wanted}
 
--- how a text names an action: as the number that it spells; or as the UUID, or the URI over some base, of that number at an instance
+-- how a text names an action: as the number that it spells; or as the UUID, or the URI over some base, of that number
+-- at an instance
 abbrev pub IsNamed : List ℕ → ℕ → Option ℕ → Type 0
 IsNamed text a None = text ≡ decimal a
 IsNamed text a (Some i) = IsSpelling (id_text i) text a ⊎ ((base : List ℕ) × IsSpelling (action_uri i base) text a)
@@ -13,7 +14,8 @@ IsNamed text a (Some i) = IsSpelling (id_text i) text a ⊎ ((base : List ℕ) �
 abbrev pub IsWanted : List ℕ → Wanted → Type 0
 IsWanted text w = IsNamed text w.action w.instance
 
--- a number, or an instance and a number, that there can be: a number has 64 bits, and an instance 60 (this project's choice)
+-- a number, or an instance and a number, that there can be: a number has 64 bits, and an instance 60 (this project's
+-- choice)
 abbrev pub CanBe : ℕ → Option ℕ → Type 0
 CanBe a None = a < 2 ^ 64
 CanBe a (Some i) = i < 2 ^ 60

@@ -1,4 +1,5 @@
-//! The picture of what happened to an action: an SVG document that stands alone. The lines of the story may have addresses, and are escaped.
+//! The picture of what happened to an action: an SVG document that stands alone. The lines of the story may have
+//! addresses, and are escaped.
 
 ghost use Rattle.std.specs.Prelude.{◌≡◌, ◌+◌, ◌++◌, ◌∷◌, [], ℕ, List, IfOk, OnOk, map, string_bytes};
 ghost use Rattle.std.specs.List.{flat_map};

@@ -38,7 +38,8 @@ fn place_of(status: MemberStatus) -> usize
     }
 }
 
-/// Where the count of an action's members stands that have the status of a place: there are eight counts an action, in the order of their numbers.
+/// Where the count of an action's members stands that have the status of a place: there are eight counts an action, in
+/// the order of their numbers.
 fn slot_of(action: u64, place: usize) -> Option<usize>
     ensures { IfSome result (λ slot. slot + 8 ≡ 8 * action + place) }
 {

@@ -1,4 +1,5 @@
-//! A coordinator in memory, and what is done with one. A function that owns a coordinator lends it, and lets it go at one exit.
+//! A coordinator in memory, and what is done with one. A function that owns a coordinator lends it, and lets it go at
+//! one exit.
 
 ghost use Rattle.std.specs.Prelude.{◌≡◌, IfSome, true};
 ghost use Rattle.lra_ids.specs.Addresses.{is_base};

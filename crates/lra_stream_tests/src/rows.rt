@@ -12,8 +12,8 @@ pub fn number(text: &str) -> Option<u64> {
     text.parse().ok()
 }
 
-/// Writes out a sign: `~` ends a line, and `^` is a line feed; `&` and `#` stand in a request's and in a reply's first lines, before
-/// the length; and `@`, `$` and `%` are the front of an ID, of an action's URI and of a member's.
+/// Writes out a sign: `~` ends a line, and `^` is a line feed; `&` and `#` stand in a request's and in a reply's first
+/// lines, before the length; and `@`, `$` and `%` are the front of an ID, of an action's URI and of a member's.
 fn put_sign(sign: char, text: &mut String) -> Result<(), AllocError> {
     match sign {
         '~' => text.push_str("\r\n"),

@@ -15,8 +15,8 @@ use Rattle.lra_rows.specs.declared.found.MemberRow.{MemberRow}
 use Rattle.lra_rows.specs.Rowed.{Capacity}
 use Rattle.lra_rows.specs.Found.{found_action, found_member}
 
--- tables: what they keep of a history, how much their lists hold with no more memory, how many more members and actions their marks take, how
--- many more may join, and the key of the digests of addresses
+-- tables: what they keep of a history, how much their lists hold with no more memory, how many more members and actions
+-- their marks take, how many more may join, and the key of the digests of addresses
 pub record Tabled : Type 0 where
   pub sheet : Sheet
   pub capacity : Capacity
@@ -47,7 +47,8 @@ has_room t [] = true
 has_room t (e ∷ es) = boards.has_room e (board_of t) && takes_one e.deed t.places
     && nat_le (t.sheet.entries + length (e ∷ es)) (2 ^ 63)
 
--- a plan: the entries that are to come, the members whose wants they may change, and the actions whose deadlines they may change
+-- a plan: the entries that are to come, the members whose wants they may change, and the actions whose deadlines they
+-- may change
 pub record Planned : Type 0 where
   pub entries : List Entry
   pub members : List ℕ

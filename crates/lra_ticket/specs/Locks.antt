@@ -75,7 +75,8 @@ abbrev pub HasFailed : {O : Type 0} → View O → TryFault → View O → Type 
 HasFailed v Busy w = HasMissed v w
 HasFailed v Worn w = w ≡ moved (tried v) (Peeked last_ticket)
 
--- what a lock was when it ended: a state that meets the rule, which has this view among its own, and where no one holds the lock this value
+-- what a lock was when it ended: a state that meets the rule, which has this view among its own, and where no one holds
+-- the lock this value
 pub record HasEnded {X O : Type 0} (origin : X → O) (history : X → List Entry) (lawful : X → Type 0) (o : O) (v : View O) (parts : Parts X) : Type 0 where
   pub state : State (Option X) (View O)
   pub orderly : IsOrderly origin history lawful o state

@@ -1,4 +1,5 @@
--- The rule of the lock, which holds between any two steps. Word 0 is the next ticket, word 1 the ticket that is served, and the one slot has the value, or nothing while a holder has it.
+-- The rule of the lock, which holds between any two steps. Word 0 is the next ticket, word 1 the ticket that is served,
+-- and the one slot has the value, or nothing while a holder has it.
 use Rattle.std.specs.Prelude.{◌≡◌, ◌≢◌, ◌⊎◌, ℕ, ◌^◌, ◌<◌, ◌≤◌, List, [], ◌∷◌, Option, Some, slice_get, sum_by}
 use Rattle.std.specs.List.{AllByRecursion}
 use mathlib.Core.List.{IsPrefix}

@@ -24,7 +24,8 @@ impl<V: Kept> TicketLock<V> {
         (Pass { seat }, Pass { seat: second })
     }
 
-    /// Compares two passes: of the histories that they have seen one begins the other, and no two have one number other than 0.
+    /// Compares two passes: of the histories that they have seen one begins the other, and no two have one number other
+    /// than 0.
     pub fn meet(&self, first: Pass<V>, second: Pass<V>) -> (Pass<V>, Pass<V>)
         requires { (pass_id first ≡ lock_id self.now) × (pass_id second ≡ lock_id self.now) }
         ensures lock { (pass_id result.0 ≡ lock_id self.now) × (pass_id result.1 ≡ lock_id self.now) }

@@ -29,8 +29,8 @@ const NAPS: u32 = 50;
 const NAP: u64 = 50;
 
 impl<V: Kept> TicketLock<V> {
-    /// Waits until the lock is free, though not for long, draws a ticket, waits until it is served, and hands out the value.
-    /// Where no ticket is left it draws none.
+    /// Waits until the lock is free, though not for long, draws a ticket, waits until it is served, and hands out the
+    /// value. Where no ticket is left it draws none.
     pub fn take<R: Wait>(&self, rt: &R, pass: Pass<V>) -> Result<(Held<V>, V), (Pass<V>, Worn)>
         requires { pass_id pass ≡ lock_id self.now }
         ensures lock { IfOk result (λ r. held_id r.0 ≡ lock_id self.now) }
@@ -44,8 +44,9 @@ impl<V: Kept> TicketLock<V> {
         Ok(self.wait(rt, queued))
     }
 
-    /// Waits until no one has the lock or waits for it, some milliseconds at most. A drawn ticket has to be served in its turn, by whichever
-    /// thread that is; while callers draw none, the lock goes to one that runs already, and no turn is spent on waking another.
+    /// Waits until no one has the lock or waits for it, some milliseconds at most. A drawn ticket has to be served in
+    /// its turn, by whichever thread that is; while callers draw none, the lock goes to one that runs already, and no
+    /// turn is spent on waking another.
     fn linger<R: Wait>(&self, rt: &R) {
         let shared = &self.table.shared;
         for _ in 0..TURNS {
@@ -115,8 +116,8 @@ impl<V: Kept> TicketLock<V> {
         unreachable!()
     }
 
-    /// Hands out the value where no one has the lock or waits for it. It does not wait: it reads the ticket that is served,
-    /// and draws it if it is the next one.
+    /// Hands out the value where no one has the lock or waits for it. It does not wait: it reads the ticket that is
+    /// served, and draws it if it is the next one.
     pub fn try_take(&self, pass: Pass<V>) -> Result<(Held<V>, V), (Pass<V>, TryFault)>
         requires { pass_id pass ≡ lock_id self.now }
         ensures lock { IfOk result (λ r. held_id r.0 ≡ lock_id self.now) }

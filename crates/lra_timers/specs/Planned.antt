@@ -3,7 +3,8 @@ use Rattle.std.specs.Prelude.{ℕ, refl}
 use Rattle.std.specs.Coded.{Coded, code_by, coded×, coded_ℕ}
 use Rattle.lra_timers.specs.Moments.{Moments, moments_code}
 
--- when an action's limit is reached, when a member is asked again, and how many more calls that set one of them find room
+-- when an action's limit is reached, when a member is asked again, and how many more calls that set one of them find
+-- room
 pub record Planned : Type 0 where
   pub limits : Moments
   pub retries : Moments

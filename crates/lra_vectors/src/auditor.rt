@@ -1,4 +1,5 @@
-//! Verdicts in pieces of every size, after a fault, and on entries in memory. Worked journals are asked of the built program (`vectors/audit`, `vectors/show`).
+//! Verdicts in pieces of every size, after a fault, and on entries in memory. Worked journals are asked of the built
+//! program (`vectors/audit`, `vectors/show`).
 
 ghost use Rattle.std.specs.Prelude.{◌≡◌, ◌+◌, ◌<◌, ◌^◌, length};
 
@@ -50,8 +51,8 @@ fn told_whole(alloc: Global, bytes: &[u8]) -> Result<String, Memory> {
     told(alloc, verdict)
 }
 
-/// Feeds bytes in pieces of this size, or of one byte where it is 0. Where memory runs out the auditor is spent from then on; where it
-/// isn't, that is another fault.
+/// Feeds bytes in pieces of this size, or of one byte where it is 0. Where memory runs out the auditor is spent from
+/// then on; where it isn't, that is another fault.
 fn feed_pieces(auditor: &mut Auditor, bytes: &[u8], size: usize) -> Result<(), AuditorFault>
     requires { auditor.old.fed ≡ 0 }
 {

@@ -182,8 +182,8 @@ fn filled(alloc: Global, front: &str, letter: &str, len: usize) -> Result<String
     Ok(text)
 }
 
-// A front, what it is filled with, a length, and the length of the address that this text stands for or the words of the
-// fault. The input is measured before it is read, and the URL's text after its scheme. A space becomes three bytes.
+// A front, what it is filled with, a length, and the length of the address that this text stands for or the words of
+// the fault. The input is measured before it is read, and the URL's text after its scheme. A space becomes three bytes.
 const LONG_TEXTS: &str = "\
 http://p.test/|a|512 -> 512
 http://p.test/|a|513 -> longer than 512 bytes
@@ -444,7 +444,8 @@ fn action_uri(alloc: Global) -> Option<String> {
     Some(action)
 }
 
-// Run with one allocation failing in turn: a spelling that takes a refused growth is refused, and the next one has memory.
+// Run with one allocation failing in turn: a spelling that takes a refused growth is refused, and the next one has
+// memory.
 #[test]
 fn a_refused_growth_is_memory_at_a_spelling(rt: HostRuntime) {
     let want = "http://p.test/lra-coordinator/00000000-0000-8007-8000-000000000001";

@@ -17,8 +17,8 @@ use lra_tables::{Plan, Tables};
 use std::alloc::Global;
 use std::process::Abort;
 
-/// Histories, each after its header. After each entry stand the statuses of all actions, and of all members. What follows by
-/// itself from the entry before is marked by `+`.
+/// Histories, each after its header. After each entry stand the statuses of all actions, and of all members. What
+/// follows by itself from the entry before is marked by `+`.
 const WORKED: &str = "\
 lra-journal 1 7
 1 0 enrol -> /

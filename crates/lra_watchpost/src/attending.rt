@@ -99,7 +99,8 @@ fn has_passed<R: Clock>(rt: &R, end: Instant) -> bool {
 }
 
 impl Desk {
-    /// Gives one who has come a place. Where all are taken, who came first gives way: no one who is slow, or silent, keeps others out.
+    /// Gives one who has come a place. Where all are taken, who came first gives way: no one who is slow, or silent,
+    /// keeps others out.
     fn seat<R: Clock>(&mut self, rt: &R, stream: TcpStream) {
         let Ok(end) = seconds_on(rt, VISIT) else {
             return;
@@ -239,8 +240,9 @@ impl Desk {
     }
 }
 
-/// Answers those who come to the port, by an overview of the service, until that has ended. Each has 10 s for the visit. Those who are slow hold up no one: each is
-/// read and written as far as can be at once. Who may not ask is told of.
+/// Answers those who come to the port, by an overview of the service, until that has ended. Each has 10 s for the
+/// visit. Those who are slow hold up no one: each is read and written as far as can be at once. Who may not ask is told
+/// of.
 pub fn attend<R: Wait + Clock, O: Overview, E: Ends, T: Turned>(
     rt: &R,
     alloc: Global,

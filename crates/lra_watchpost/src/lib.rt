@@ -1,4 +1,5 @@
-//! The operators' port over sockets: its listener, who answers there, what is tallied, and what the system tells of the process.
+//! The operators' port over sockets: its listener, who answers there, what is tallied, and what the system tells of the
+//! process.
 #![tactic(auto)]
 
 mod attending;

@@ -35,7 +35,8 @@ impl Pace {
         }
     }
 
-    /// Notes what was taken between two moments. The answer is how long to rest, until no more than may be taken at once is left, or half a second at most.
+    /// Notes what was taken between two moments. The answer is how long to rest, until no more than may be taken at
+    /// once is left, or half a second at most.
     pub(crate) fn rest(&mut self, begun: Instant, now: Instant) -> Duration
         ensures until { self.new.until ≡ now }
         ensures taken { as_nanos self.new.taken

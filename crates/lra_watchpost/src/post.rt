@@ -13,8 +13,8 @@ use std::fs::File;
 use std::net::{Net, TcpListener, TcpStream};
 use std::rt::Files;
 
-/// Where operators come in: a listener, the key that they have to give, if there is one, the word that the forms of the pages have, the files in which the
-/// system tells of the process, and what syncs of the disk are timed by.
+/// Where operators come in: a listener, the key that they have to give, if there is one, the word that the forms of the
+/// pages have, the files in which the system tells of the process, and what syncs of the disk are timed by.
 #[derive(Drop)]
 pub struct Watchpost {
     pub(crate) listener: TcpListener,
@@ -55,7 +55,8 @@ fn listen<R: Net<Stream = TcpStream, Listener = TcpListener>>(
 }
 
 impl Watchpost {
-    /// One at a host and port, which asks for that key, if there is one. Without a key it has to be an address of the machine's own.
+    /// One at a host and port, which asks for that key, if there is one. Without a key it has to be an address of the
+    /// machine's own.
     pub fn open<R: Net<Stream = TcpStream, Listener = TcpListener> + Files<File = File> + Timed>(
         rt: &R,
         alloc: Global,

@@ -18,7 +18,8 @@ enum Stage {
     Waits,
     /// The reply goes.
     IsTold,
-    /// The reply has gone, and what still comes is thrown away: a stream that is closed before it is read out can lose its reply.
+    /// The reply has gone, and what still comes is thrown away: a stream that is closed before it is read out can lose
+    /// its reply.
     Leaves,
 }
 

@@ -36,7 +36,8 @@ impl Vitals {
     }
 }
 
-/// The files in which the system tells of the process, where they can be read. They stay open, so that who reads them later needs no more than them.
+/// The files in which the system tells of the process, where they can be read. They stay open, so that who reads them
+/// later needs no more than them.
 #[derive(Drop)]
 pub(crate) struct Gauges {
     memory: Option<File>,

@@ -55,7 +55,8 @@ pub record IsChunked (bytes body rest : List ℕ) : Type 0 where
   pub ends : HasLast last rest
   pub joined : body ≡ content_of chunks
 
--- A front of the text lacks something, and goes on to the 2^20th byte of the response, where the text stands at that place of it.
+-- A front of the text lacks something, and goes on to the 2^20th byte of the response, where the text stands at that
+-- place of it.
 pub record PassesLimit (Lacks : List ℕ → Type 0) (place : ℕ) (text : List ℕ) : Type 0 where
   pub front : List ℕ
   pub back : List ℕ

@@ -6,7 +6,8 @@ use Rattle.lra_wire.specs.declared.fault.WireFault.{WireFault}
 use Rattle.lra_wire.specs.declared.fault.WireFault.TheVariants.{BadHead, Chunked, BadLength, TooLarge, Cut, Io, Memory}
 use Rattle.lra_wire.specs.Response.{IsResponse, RefusesResponse, AwaitsResponse}
 
--- The fault is one of the bytes, whatever follows them, and not of a stream's end or of a reader. Want of memory says nothing of the bytes.
+-- The fault is one of the bytes, whatever follows them, and not of a stream's end or of a reader. Want of memory says
+-- nothing of the bytes.
 abbrev pub Lasts : (List ℕ → WireFault → Type 0) → List ℕ → WireFault → Type 0
 Lasts Refuses bytes BadHead = (more : List ℕ) → Refuses (bytes ++ more) BadHead
 Lasts Refuses bytes Chunked = (more : List ℕ) → Refuses (bytes ++ more) Chunked

@@ -42,7 +42,8 @@ stated_by (value ∷ other ∷ values) = Malformed
 abbrev pub stated_of : List (List ℕ × List ℕ) → Stated
 stated_of fields = stated_by (values_of (codes "content-length") fields)
 
--- A coding or an expectation, which isn't served (this project's choice; RFC 9110, sections 8.4 and 10.1.1, and RFC 9112, section 6.1).
+-- A coding or an expectation, which isn't served (this project's choice; RFC 9110, sections 8.4 and 10.1.1, and RFC
+-- 9112, section 6.1).
 abbrev pub is_coded : List (List ℕ × List ℕ) → Bool
 is_coded fields = has_field (codes "transfer-encoding") fields || has_field (codes "content-encoding") fields
     || has_field (codes "expect") fields

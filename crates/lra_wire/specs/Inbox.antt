@@ -31,6 +31,7 @@ IsOutside Cut = ⊥
 abbrev pub asked_at : {R : Type 0} → Inbox R → List ℕ
 asked_at inbox = inbox.asked.value.items
 
--- The reader wasn't asked, or last of all where such bytes had come. Within a call bytes are only added, so that there were no more of them at any earlier time.
+-- The reader wasn't asked, or last of all where such bytes had come. Within a call bytes are only added, so that there
+-- were no more of them at any earlier time.
 abbrev pub AsksAt : {R : Type 0} → (List ℕ → Type 0) → Inbox R → Inbox R → Type 0
 AsksAt Awaits old new = ((new.reader ≡ old.reader) × (asked_at new ≡ asked_at old)) ⊎ Awaits (asked_at new)

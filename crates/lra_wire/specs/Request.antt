@@ -15,7 +15,8 @@ sole [] = None
 sole (value ∷ []) = Some value
 sole (value ∷ other ∷ values) = None
 
--- by which it is told who asks, from where and with what: the values of fields that a head has just once (RFC 9110, sections 7.2, 8.3 and 11.6.2; RFC 6454, section 7)
+-- by which it is told who asks, from where and with what: the values of fields that a head has just once (RFC 9110,
+-- sections 7.2, 8.3 and 11.6.2; RFC 6454, section 7)
 pub record Fields : Type 0 where
   pub authorization : Option (List ℕ)
   pub content_type : Option (List ℕ)
@@ -64,7 +65,8 @@ request_of read = record {
 abbrev pub fields_of : RequestHead → List (List ℕ × List ℕ)
 fields_of head = map name_and_value head.fields
 
--- A head within the limits, with exactly one Host where it is one of HTTP/1.1 (RFC 9112, section 3.2; the limits are this project's choice).
+-- A head within the limits, with exactly one Host where it is one of HTTP/1.1 (RFC 9112, section 3.2; the limits are
+-- this project's choice).
 pub record IsLawful (head : RequestHead) : Type 0 where
   pub size : length (print_request head) ≤ 8192
   pub count : length head.fields ≤ 64
@@ -116,7 +118,8 @@ pub record EndsInBody (bytes : List ℕ) : Type 0 where
   pub stated : body_length_of (fields_of head) ≡ Ok size
   pub short : length rest < size
 
--- Why the bytes are no request. Where they end in a head that no continuation makes lawful, two faults may hold. A failing reader and want of memory say nothing of the bytes.
+-- Why the bytes are no request. Where they end in a head that no continuation makes lawful, two faults may hold. A
+-- failing reader and want of memory say nothing of the bytes.
 abbrev pub RefusesRequest : List ℕ → WireFault → Type 0
 RefusesRequest bytes BadHead = NeverLawful bytes
 RefusesRequest bytes Chunked = RefusesBody bytes Chunked

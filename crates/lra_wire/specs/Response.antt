@@ -121,7 +121,8 @@ pub record EndsInResponse (bytes : List ℕ) : Type 0 where
   pub open_head : HasNoResponse rest
   pub lawful : MayBecomeResponse rest
 
--- Why the bytes are no response. Where several hold of a chunked body, or where they end in a head that no continuation makes lawful, each is right. A failing reader and want of memory say nothing of the bytes.
+-- Why the bytes are no response. Where several hold of a chunked body, or where they end in a head that no continuation
+-- makes lawful, each is right. A failing reader and want of memory say nothing of the bytes.
 abbrev pub RefusesResponse : List ℕ → WireFault → Type 0
 RefusesResponse bytes BadHead = RefusesHead bytes
 RefusesResponse bytes Chunked = RefusesRest bytes Chunked

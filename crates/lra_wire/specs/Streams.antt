@@ -2,7 +2,8 @@
 use Rattle.std.specs.Prelude.{◌≡◌, ℕ, ◌==◌, false, List, ◌++◌, Option, Some, None, ⊤}
 use Rattle.std.specs.List.{list_any}
 
--- A relation between the bytes of a stream before a call and after it, where they are known: a stream that was known stays so.
+-- A relation between the bytes of a stream before a call and after it, where they are known: a stream that was known
+-- stays so.
 abbrev pub IfBothKnown : Option (List ℕ) → Option (List ℕ) → (List ℕ → List ℕ → Type 0) → Type 0
 IfBothKnown None new P = ⊤
 IfBothKnown (Some xs) None P = ⊥

@@ -33,7 +33,8 @@ abbrev pub AppendsFront : Option (List ℕ) → Option (List ℕ) → List ℕ �
 AppendsFront old new text = (front : List ℕ) × (rest : List ℕ) × (text ≡ front ++ rest) × (0 < length rest)
     × Appends old new front
 
--- All of the text went out, or a proper front of it, since the writer failed or took nothing, or since memory was refused.
+-- All of the text went out, or a proper front of it, since the writer failed or took nothing, or since memory was
+-- refused.
 abbrev pub Sends : Option (List ℕ) → Option (List ℕ) → List ℕ → Result (Unit {0}) WireFault → Type 0
 Sends old new text (Ok u) = Appends old new text
 Sends old new text (Err fault) = IsOutside fault × AppendsFront old new text

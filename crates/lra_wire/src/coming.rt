@@ -216,16 +216,17 @@ fn body_at(
     }
 }
 
-/// The response at the front of the bytes that came so far, or how many there have to be before it can be whole. Its faults are
-/// those of [`read_response`](crate::read_response), but for what the end of a stream or a reader brings; a body that ends with
-/// the stream is never whole here.
+/// The response at the front of the bytes that came so far, or how many there have to be before it can be whole. Its
+/// faults are those of [`read_response`](crate::read_response), but for what the end of a stream or a reader brings; a
+/// body that ends with the stream is never whole here.
 pub fn response_front(alloc: Global, bytes: &[u8]) -> Result<Coming, WireFault>
     ensures { IsComing bytes.now result }
 {
     response_front_seen(alloc, bytes, &mut SeenResponse::nothing(alloc))
 }
 
-/// The same of bytes of which a front was seen: it is gone on from there, and only where a line may end in what came since, or a body.
+/// The same of bytes of which a front was seen: it is gone on from there, and only where a line may end in what came
+/// since, or a body.
 pub fn response_front_seen(
     alloc: Global,
     bytes: &[u8],

@@ -83,8 +83,8 @@ pub fn write_response<W: Write>(
     write_response_in(&mut Vec::new(alloc), writer, reply)
 }
 
-/// Writes a response of HTTP/1.1 (RFC 9112, section 4). Its text is made in the page, where it takes the place of what stood
-/// there before, so that a page which is kept needs no memory for a text that is no longer than one before it.
+/// Writes a response of HTTP/1.1 (RFC 9112, section 4). Its text is made in the page, where it takes the place of what
+/// stood there before, so that a page which is kept needs no memory for a text that is no longer than one before it.
 pub fn write_response_in<W: Write>(
     page: &mut Vec<u8>,
     writer: &mut W,

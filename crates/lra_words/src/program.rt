@@ -16,7 +16,8 @@ pub fn tell_usage<R: Eprint>(rt: &R) -> u8
     FAULT
 }
 
-/// The words of the command line, without the program's own name; or the program's status where they can't be had, which is told.
+/// The words of the command line, without the program's own name; or the program's status where they can't be had,
+/// which is told.
 pub fn words_of<R: AllocGlobal + Env + Eprint>(rt: &R) -> Result<Vec<String>, u8>
     ensures { IfErr result (λ status. status ≡ FAULT) }
 {

@@ -31,7 +31,8 @@ module _ {O K : Type 0} (setting : O → Setting) (gives : ℕ → AskKind → O
   CarriesIn zero s t = Works setting gives tells s t
   CarriesIn (suc n) s t = (u : Post O K) × (v : Post O K) × CarriesIn n s u × GoesOn u v × Works setting gives tells v t
 
-  -- it gives a worker's calls, and no others, looks ahead between them, and passes over those that are refused for want of memory
+  -- it gives a worker's calls, and no others, looks ahead between them, and passes over those that are refused for want
+  -- of memory
   abbrev pub Carries : Post O K → Post O K → Type 0
   Carries s t = (n : ℕ) × CarriesIn n s t
 

@@ -27,8 +27,8 @@ pub record Post (O K : Type 0) : Type 0 where
 abbrev pub post : {O K : Type 0} → View O → K → Post O K
 post view clock = record { view = view; clock = clock }
 
--- what a worker gives that has seen a history: that limits fire, that something is asked, or that what a courier may answer of an errand is
--- recorded, where the errand is of an ask in that history
+-- what a worker gives that has seen a history: that limits fire, that something is asked, or that what a courier may
+-- answer of an errand is recorded, where the errand is of an ask in that history
 abbrev pub IsWorkersCommand : (ℕ → AskKind → Outcome → Type 0) → History → Command → Type 0
 IsWorkersCommand gives J Tick = Unit {0}
 IsWorkersCommand gives J NextAsk = Unit {0}
@@ -40,7 +40,8 @@ pub record IsWorkersCall {O : Type 0} (gives : ℕ → AskKind → Outcome → T
   pub by : c.by ≡ v.number
   pub command : IsWorkersCommand gives v.seen c.command
 
--- what ends a worker: no ticket is left, a growth is refused, the scribe has stopped, or the journal has no room for more entries
+-- what ends a worker: no ticket is left, a growth is refused, the scribe has stopped, or the journal has no room for
+-- more entries
 abbrev pub EndsWorker : OfficeRefusal → Type 0
 EndsWorker office.Worn = ⊤
 EndsWorker (office.Refused Memory) = ⊤
@@ -48,8 +49,8 @@ EndsWorker (office.Refused Stopped) = ⊤
 EndsWorker (office.Refused (Full Entries)) = ⊤
 EndsWorker (office.Refused _) = ⊥
 
--- what is known beside, where a worker ends that has seen a history: its gate let no further turn be made; or it held the errand of an ask in that
--- history back; or the scribe has stopped, where the refusal says so
+-- what is known beside, where a worker ends that has seen a history: its gate let no further turn be made; or it held
+-- the errand of an ask in that history back; or the scribe has stopped, where the refusal says so
 abbrev pub TellsWhy : Type 0 → (ℕ → Type 0) → Type 0 → History → WorkerEnd → Type 0
 TellsWhy is_shut holds has_stopped J Ended = is_shut
 TellsWhy is_shut holds has_stopped J Held = (e : Asking) × IsOfAsk J e × holds e.ask
@@ -72,7 +73,8 @@ module _ {O K : Type 0} (setting : O → Setting) (gives : ℕ → AskKind → O
     pub errand : Option Asking
     pub given : IsGrown (setting s.view.origin) s.view call told errand t.view
 
-  -- so many calls are given, one after another: each is done, or it is to record what came of an ask that isn't outstanding any more
+  -- so many calls are given, one after another: each is done, or it is to record what came of an ask that isn't
+  -- outstanding any more
   unfoldable pub WorksIn : ℕ → Post O K → Post O K → Type 0
   WorksIn zero s t = s ≡ t
   WorksIn (suc n) s t = (u : Post O K) × WorksIn n s u × (Does u t ⊎ Fails u (office.Refused NotAsked) t)

@@ -25,7 +25,8 @@ use std::sync::Wait;
 /// Largest number of errands that are taken in one turn: between two turns the office is others'.
 const MOST_TAKEN: u32 = 64;
 
-/// A courier that hears nothing of any errand. What it answers is known to be no more than what may come of a carriage's.
+/// A courier that hears nothing of any errand. What it answers is known to be no more than what may come of a
+/// carriage's.
 struct Unheard<C>(PhantomData<C>);
 
 impl<C: Carriage> Courier for Unheard<C> {
@@ -45,8 +46,8 @@ fn is_for_memory(end: WorkerEnd) -> bool
     end == WorkerEnd::Refused(OfficeRefusal::Refused(Refusal::Memory))
 }
 
-/// Records what came of an errand. One whose ask isn't outstanding any more is let go. Where memory is refused it is recorded after a pause, as long as the gate
-/// lets turns be made.
+/// Records what came of an errand. One whose ask isn't outstanding any more is let go. Where memory is refused it is
+/// recorded after a pause, as long as the gate lets turns be made.
 fn note<V: Serving, R: Wait, C: Carriage, G: Gate, K: Clock>(
     rt: &R,
     office: &OfficeOf<V>,
@@ -279,7 +280,8 @@ fn begin<V: Serving, R: Wait, C: Carriage, G: Gate, K: Clock>(
     take_due(rt, office, clerk, carriage, gate, clock)
 }
 
-/// Begins what new work there is, where the gate lets it, and tells the first moment at which something will be due then, or is due that wasn't taken.
+/// Begins what new work there is, where the gate lets it, and tells the first moment at which something will be due
+/// then, or is due that wasn't taken.
 fn begin_next<V: Serving, R: Wait, C: Carriage, G: Gate, K: Clock>(
     rt: &R,
     office: &OfficeOf<V>,
@@ -338,7 +340,8 @@ fn carry_on<V: Serving, R: Wait, C: Carriage, G: Gate, K: Clock>(
     record_done(rt, office, clerk, carriage, gate, clock)
 }
 
-/// Begins what new work there is, where the gate lets it, has all that is under way carried, and records what came of it.
+/// Begins what new work there is, where the gate lets it, has all that is under way carried, and records what came of
+/// it.
 fn take_turn<V: Serving, R: Wait, C: Carriage, G: Gate, K: Clock>(
     rt: &R,
     office: &OfficeOf<V>,
@@ -364,11 +367,13 @@ fn take_turn<V: Serving, R: Wait, C: Carriage, G: Gate, K: Clock>(
     }
 }
 
-/// Works as a clerk of an office, with many errands under way: lets limits fire, takes the errands of what is due in the order in which it is, and
-/// records what comes of each when it comes, turn by turn as long as the gate lets it. An errand is taken at once: the gate isn't asked to hold it. In each turn
-/// the carriage is told when something will be due next, so that it rests no longer.
+/// Works as a clerk of an office, with many errands under way: lets limits fire, takes the errands of what is due in
+/// the order in which it is, and records what comes of each when it comes, turn by turn as long as the gate lets it. An
+/// errand is taken at once: the gate isn't asked to hold it. In each turn the carriage is told when something will be
+/// due next, so that it rests no longer.
 ///
-/// Where the office is refused memory the gate pauses, and it goes on: that ends no carrier. The errands that are under way when it ends stay in the carriage.
+/// Where the office is refused memory the gate pauses, and it goes on: that ends no carrier. The errands that are under
+/// way when it ends stay in the carriage.
 pub fn run_carrier<V: Serving, R: Wait, C: Carriage, G: Gate, K: Clock>(
     rt: &R,
     office: &OfficeOf<V>,

@@ -71,8 +71,8 @@ fn answer<V: Serving, R: Wait, L: Line, K: Clock, Q: WhichLock>(
     window.into_clerk()
 }
 
-/// Answers so many connections as a clerk of an office, one after another, each as long as it lasts. It ends before that where no
-/// connection can be had.
+/// Answers so many connections as a clerk of an office, one after another, each as long as it lasts. It ends before
+/// that where no connection can be had.
 pub fn serve_connections<V: Serving, R: Wait, D: Door, K: Clock>(
     rt: &R,
     alloc: Global,

@@ -37,8 +37,8 @@ impl Line for TcpStream {
     }
 }
 
-/// One thread at a time waits for a connection. What is written to one is sent at once (RFC 9293, section 3.7.4); where a socket
-/// can't be set up so, its connection is ended.
+/// One thread at a time waits for a connection. What is written to one is sent at once (RFC 9293, section 3.7.4); where
+/// a socket can't be set up so, its connection is ended.
 impl Door for Mutex<TcpListener> {
     type Line = TcpStream;
 

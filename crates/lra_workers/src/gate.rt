@@ -44,8 +44,8 @@ pub trait Gate {
     /// Hears that what came of an ask is recorded.
     fn answered(&mut self, ask: u64);
 
-    /// Pauses, since memory was refused: what was wanted is tried again after it. A gate of a running service sleeps for a while that grows as long as that is all
-    /// that comes.
+    /// Pauses, since memory was refused: what was wanted is tried again after it. A gate of a running service sleeps
+    /// for a while that grows as long as that is all that comes.
     fn pause(&mut self) {}
 }
 

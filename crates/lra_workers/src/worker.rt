@@ -28,8 +28,8 @@ const HOLDS: u32 = 1_000;
 pub enum WorkerEnd {
     /// Its gate let it make no further turn.
     Ended,
-    /// Its gate said a thousand times of one errand that it isn't carried yet. The errand is discarded: its ask stays outstanding
-    /// until a restart.
+    /// Its gate said a thousand times of one errand that it isn't carried yet. The errand is discarded: its ask stays
+    /// outstanding until a restart.
     Held,
     /// The office refused a command. An errand that was held then is discarded.
     Refused(OfficeRefusal),
@@ -200,8 +200,8 @@ fn take_turn<V: Serving, R: Wait, C: Courier, G: Gate, K: Clock>(
     }
 }
 
-/// Works as a clerk of an office: lets limits fire, asks for what is due, carries each errand and records what came of it, turn by turn
-/// as long as the gate lets it.
+/// Works as a clerk of an office: lets limits fire, asks for what is due, carries each errand and records what came of
+/// it, turn by turn as long as the gate lets it.
 pub fn run_worker<V: Serving, R: Wait, C: Courier, G: Gate, K: Clock>(
     rt: &R,
     office: &OfficeOf<V>,

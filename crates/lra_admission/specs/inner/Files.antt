@@ -14,7 +14,8 @@ longest = 65536
 abbrev pub Holds : List ℕ → Keys → Type 0
 Holds text keys = (length text ≤ longest) × (digests_in text ≡ Ok (digests_of keys))
 
--- why there are no keys of a file with this text: it is too long, or a line is wrong, or it can't be read, or memory is refused
+-- why there are no keys of a file with this text: it is too long, or a line is wrong, or it can't be read, or memory is
+-- refused
 abbrev pub HoldsNone : List ℕ → KeysFault → Type 0
 HoldsNone text fault.TooLong = longest < length text
 HoldsNone text (fault.Line number) = digests_in text ≡ Err number

@@ -2,11 +2,13 @@
 use Rattle.std.specs.Prelude.{ℕ, ◌-◌, Bool, ◌&&◌, not, if◌then◌else◌, min, Option}
 use Rattle.std.specs.Option.{option_map_or}
 
--- how many milliseconds it waits for its sockets at most: a second; but 50 where it has no room for more, or has to look at the time before
+-- how many milliseconds it waits for its sockets at most: a second; but 50 where it has no room for more, or has to
+-- look at the time before
 abbrev pub most_rest : Bool → Bool → ℕ
 most_rest has_room is_watchful = if has_room && not is_watchful then 1_000 else 50
 
--- how many it waits: no longer than until something is due, where it has room for that, and not at all where something is already
+-- how many it waits: no longer than until something is due, where it has room for that, and not at all where something
+-- is already
 abbrev pub rest : Option ℕ → ℕ → Bool → Bool → ℕ
 rest next now has_room is_watchful =
     let most = most_rest has_room is_watchful in

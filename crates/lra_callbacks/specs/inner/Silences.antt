@@ -12,14 +12,15 @@ use Rattle.lra_callbacks.specs.declared.silences.Silence.{Silence}
 abbrev pub is_again : Silence → AskKind → Bool
 is_again silence stage = same_kind silence.stage stage
 
--- from when on a member may be asked in a stage, with so many milliseconds between: where it wasn't silent in that stage at any time, and never where that is past the
--- greatest number
+-- from when on a member may be asked in a stage, with so many milliseconds between: where it wasn't silent in that
+-- stage at any time, and never where that is past the greatest number
 abbrev pub again : Option Silence → AskKind → ℕ → Option ℕ
 again None stage pause = None
 again (Some silence) stage pause = if is_again silence stage then Some (min (silence.moment + pause) (2 ^ 64 - 1)) else
     None
 
--- what is known of a member once that came of its errand at a moment: that it was silent then, and nothing where it wasn't, or where memory is refused
+-- what is known of a member once that came of its errand at a moment: that it was silent then, and nothing where it
+-- wasn't, or where memory is refused
 abbrev pub Notes : Asking → Outcome → ℕ → Option Silence → Type 0
 Notes errand outcome moment known =
     (known ≡ None) ⊎ ((is_silent outcome ≡ true)
@@ -29,8 +30,8 @@ Notes errand outcome moment known =
 abbrev pub is_near_end : ℕ → Bool
 is_near_end moment = nat_le (2 ^ 64 - 1 - moment) 10_000
 
--- how many milliseconds there are at least between two asks of a silent member: so many as are told, and ten seconds near the end of the clock, where due moments
--- lie no further ahead
+-- how many milliseconds there are at least between two asks of a silent member: so many as are told, and ten seconds
+-- near the end of the clock, where due moments lie no further ahead
 abbrev pub pause_at : ℕ → ℕ → ℕ
 pause_at told moment = if is_near_end moment then max told 10_000 else told
 

@@ -54,7 +54,8 @@ pub record IsReady (c : Shape) (k : Call) (b : Written) : Type 0 where
 abbrev pub IsMade : Shape → Call → Result Written Refusal → Type 0
 IsMade c k result = MatchResult result (IsReady c k) (IsRefusal (terms_of c.setting) c.history k)
 
--- what a block has beside its plan is copied and spelled from that and from the ask that it makes, at the coordinator's history, which has room for it
+-- what a block has beside its plan is copied and spelled from that and from the ask that it makes, at the coordinator's
+-- history, which has room for it
 pub record ArePartsOf (c : Shape) (plan : Planned) (a : Option Ask) (p : Parts) : Type 0 where
   pub members : p.members.items ≡ plan.members
   pub actions : p.actions.items ≡ plan.actions
@@ -63,7 +64,8 @@ pub record ArePartsOf (c : Shape) (plan : Planned) (a : Option Ask) (p : Parts) 
   pub entries : length plan.entries ≤ c.room.entries
   pub moments : length plan.members + length plan.actions ≤ c.room.moments
 
--- a block is assembled of what is told, its entries and the ask that it makes, at the coordinator's history, which has room for it
+-- a block is assembled of what is told, its entries and the ask that it makes, at the coordinator's history, which has
+-- room for it
 pub record IsAssembled (c : Shape) (t : Told) (es : List Entry) (a : Option Ask) (b : Written) : Type 0 where
   pub told : b.told ≡ t
   pub entries : b.entries ≡ es

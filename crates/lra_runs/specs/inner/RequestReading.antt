@@ -1,5 +1,5 @@
--- The grammar of a script's lines from the other side (this project's own format): what the words of a line say, from left to right. Where
--- a word says nothing, the line isn't one that a script may have.
+-- The grammar of a script's lines from the other side (this project's own format): what the words of a line say, from
+-- left to right. Where a word says nothing, the line isn't one that a script may have.
 use Rattle.std.specs.Prelude.{ℕ, ◌^◌, ◌==◌, List, ◌∷◌, [], Option, Some, None, codes, option_map, if◌then◌else◌}
 use Rattle.std.specs.Str.{bytes_eq, is_utf8}
 use Rattle.lra_model.specs.declared.asks.Outcome.{Outcome}

@@ -40,8 +40,8 @@ struct Desk<'a> {
     has_changed: bool,
 }
 
-/// Gives a coordinator each command of a script, whose lines are `COMMAND -> ANSWER`, or `+ ` and a line of the journal. What came
-/// of them is the script itself, where all is as it says, and ends at a line that is none.
+/// Gives a coordinator each command of a script, whose lines are `COMMAND -> ANSWER`, or `+ ` and a line of the
+/// journal. What came of them is the script itself, where all is as it says, and ends at a line that is none.
 pub fn played(alloc: Global, coordinator: &mut Coordinator, script: &str) -> Vec<u8> {
     let mut desk = Desk {
         alloc,
@@ -73,8 +73,8 @@ impl Desk<'_> {
         self.spelled.reserve(ROOM)
     }
 
-    /// Gives each command. One that is refused memory is given again. At the end the entries are those whose lines were taken down, or
-    /// else this is what came.
+    /// Gives each command. One that is refused memory is given again. At the end the entries are those whose lines were
+    /// taken down, or else this is what came.
     fn play(&mut self, script: &str) {
         if self.make_room().is_err() && self.make_room().is_err() {
             return;

@@ -2,8 +2,8 @@
 use Rattle.std.specs.Prelude.{ℕ, Bool, ◌==◌, max}
 use Rattle.lra_timers.specs.Pauses.{pause}
 
--- the milliseconds of a pause after so many refusals of memory in a row: ten, then twice as long each time, and a second
--- at most (this project's choice)
+-- the milliseconds of a pause after so many refusals of memory in a row: ten, then twice as long each time, and a
+-- second at most (this project's choice)
 abbrev pub pause_after : ℕ → ℕ
 pause_after refusals = pause 10 1_000 (max refusals 1)
 

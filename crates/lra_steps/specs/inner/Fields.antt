@@ -33,7 +33,8 @@ history_of c = record {
   out = c.out;
 }
 
--- the history is served, what was seen is of what is kept, and as many requests are left, beside a last one, as are counted
+-- the history is served, what was seen is of what is kept, and as many requests are left, beside a last one, as are
+-- counted
 pub record Holds (c : Inside) : Type 0 where
   pub served : IsServed (history_of c)
   pub seen : Sees c.seen c.kept

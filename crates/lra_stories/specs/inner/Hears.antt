@@ -6,7 +6,8 @@ use Rattle.lra_auditor.specs.Heard.{Heard}
 use Rattle.lra_stories.specs.declared.story.Story.{Story}
 use Rattle.lra_stories.specs.Facts.{told}
 
--- a story has heard nothing, or a header and the entries of a history: it has rows of them, and what is told of its action
+-- a story has heard nothing, or a header and the entries of a history: it has rows of them, and what is told of its
+-- action
 abbrev pub Hears : Story → Option Heard → Type 0
 Hears s None = (s.rows.sheet ≡ sheet_of []) × (s.told.items ≡ [])
 Hears s (Some h) = (s.instance ≡ Some h.instance) × (s.rows.sheet ≡ sheet_of h.entries)

@@ -31,7 +31,8 @@ pub record Registers (r : Register) (i : ℕ) (J : History) : Type 0 where
   pub end : r.last ≡ last_moment J
   pub called : IfSome r.calls (λ c. Called c J)
 
--- what is said of bytes: their first fault; or, of a legal history's text, what a register has heard of it; and their account
+-- what is said of bytes: their first fault; or, of a legal history's text, what a register has heard of it; and their
+-- account
 pub record IsSaid (bytes : List ℕ) (fault : Option FaultyLine) (account : Account) (r : Register) : Type 0 where
   pub some : IfSome fault (λ f. IsFault bytes f.line f.rule)
   pub none : IfNone fault ((v : Version) × (i : ℕ) × (J : History) × IsTextOf v i J bytes

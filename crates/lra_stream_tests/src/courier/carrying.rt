@@ -5,7 +5,8 @@ use lra_courier::{CallFault, Callback, Carrying, Step};
 use lra_model::{AskKind, Direction, Outcome};
 use std::alloc::{AllocError, Global};
 
-// A response, `~` for each line's end, and what comes of it where a member was asked to complete. No byte of it is left out.
+// A response, `~` for each line's end, and what comes of it where a member was asked to complete. No byte of it is left
+// out.
 const WHOLE: &str = "\
 HTTP/1.1 200 OK~Content-Length: 9~~Completed|done
 HTTP/1.1 200 OK~Content-Length: 10~~Completing|accepted

@@ -3,8 +3,8 @@ use lra_courier::classify;
 use lra_model::{AskKind, Direction};
 use std::alloc::Global;
 
-// Kind, direction, code, the body between brackets, and the outcome. `~` stands for a line's end, and `^` for a line feed: blanks at
-// the ends of a body don't count.
+// Kind, direction, code, the body between brackets, and the outcome. `~` stands for a line's end, and `^` for a line
+// feed: blanks at the ends of a body don't count.
 const REPLIES: &str = "complete completion 200 [Completing] -> accepted
 complete completion 200 [Completed] -> done
 complete completion 200 [FailedToComplete] -> failed

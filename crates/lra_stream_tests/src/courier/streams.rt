@@ -136,8 +136,8 @@ fn nothing_goes_to_what_is_no_address_as_it_stands(rt: HostRuntime) {
     }
 }
 
-// What comes of a callback to complete where a reader gives a response, and how much of the request a writer takes that has
-// room for so many bytes.
+// What comes of a callback to complete where a reader gives a response, and how much of the request a writer takes that
+// has room for so many bytes.
 fn exchanged(alloc: Global, reader: Pieces<'_>, room: usize) -> (Outcome, usize) {
     let mut writer = Sink::new(alloc, 10, room);
     let callback = callback(AskKind::Complete, "http://p.test:9000/c");

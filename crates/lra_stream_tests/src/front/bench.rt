@@ -1,4 +1,5 @@
-//! The HTTP interface over a coordinator of its own, whose writer takes a part of a reply. What requests are answered is asked of the built program (`vectors/front`).
+//! The HTTP interface over a coordinator of its own, whose writer takes a part of a reply. What requests are answered
+//! is asked of the built program (`vectors/front`).
 
 use super::comes_to;
 use crate::coordinator::coordinator;

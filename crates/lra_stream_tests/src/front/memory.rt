@@ -10,8 +10,8 @@ use std::fmt::Write;
 const STREAM: &str =
     "POST /lra-coordinator HTTP/1.1\r\nHost: h\r\nContent-Length: 11\r\n\r\n{\"limit\":5}GET /lra-coordinator/00000000-0000-8007-8000-000000000001 HTTP/1.1\r\nHost: h\r\n\r\n";
 
-/// The other replies that there are to it, byte for byte: the action as it is; that there is none; and that memory was refused, in a
-/// request or in reading one.
+/// The other replies that there are to it, byte for byte: the action as it is; that there is none; and that memory was
+/// refused, in a request or in reading one.
 const FOUND: &str = "HTTP/1.1 200 OK\r
 Content-Type: application/json\r
 Content-Length: 102\r
@@ -49,8 +49,8 @@ const REPLIES: [(&str, &str); 5] = [
 /// The outcome of the stream: how many requests were read and entries are there; how it ended; and the replies.
 const WHOLE: &str = "2 requests, 2 entries, Done: 201 200";
 
-/// The same where a growth was refused: in making the routes or the inbox, in reading the first request, in its body or its command, in
-/// making its reply, in reading the second request, in what that asks, and in making its reply.
+/// The same where a growth was refused: in making the routes or the inbox, in reading the first request, in its body or
+/// its command, in making its reply, in reading the second request, in what that asks, and in making its reply.
 const ENDS: &str = "\
 0 requests, 1 entries, Refused(Memory):
 0 requests, 1 entries, Refused(Memory): 503 close
@@ -119,7 +119,8 @@ fn put(come: (u64, usize, StreamEnd), replies: &[u8], line: &mut String) -> Resu
     put_replies(replies, line)
 }
 
-/// Takes down what the stream comes to: nothing where memory was refused before it began. There is room for its replies.
+/// Takes down what the stream comes to: nothing where memory was refused before it began. There is room for its
+/// replies.
 fn put_come(alloc: Global, sink: &mut Sink, line: &mut String) -> Result<(), AllocError> {
     sink.taken.reserve(4096)?;
     match serve_once(alloc, sink) {

@@ -1,6 +1,7 @@
 -- The kinds of steps by which the lock is used, and no others. Each is a single step, and keeps the rule.
--- look, draw, watch, give, peek, grab and compare are on a word. Here is what each tells the one that makes it: of the step, the seat before, the number found, and the seat after.
--- make, split, pair, part and join are moves of seats, and change views alone: `first_view` and `newcomer` in Views, and `paired`, `second` and `joined`.
+-- look, draw, watch, give, peek, grab and compare are on a word. Here is what each tells the one that makes it: of the
+-- step, the seat before, the number found, and the seat after. make, split, pair, part and join are moves of seats, and
+-- change views alone: `first_view` and `newcomer` in Views, and `paired`, `second` and `joined`.
 use Rattle.std.specs.Prelude.{◌≡◌, ◌≢◌, ℕ, ◌+◌, List, [], ◌∷◌, Option, Some}
 use mathlib.Core.List.{IsPrefix}
 use Rattle.atomic_table.specs.Table.{Me, Step, rest}

@@ -1,4 +1,5 @@
--- A tree of winners in a list: the deadlines from place `width` on, and at each place i from 1 below it the winner of those at 2i and 2i + 1.
+-- A tree of winners in a list: the deadlines from place `width` on, and at each place i from 1 below it the winner of
+-- those at 2i and 2i + 1.
 use Rattle.std.specs.Prelude.{◌≡◌, ◌⊎◌, ℕ, ◌+◌, ◌*◌, ◌≤◌, ◌<◌, List, length, drop}
 use Rattle.lra_timers.specs.declared.deadline.Deadline.{Deadline}
 use Rattle.lra_timers.specs.Order.{IsNotAfter, node, last}

@@ -5,7 +5,8 @@ use lra_audits::RunFault;
 use lra_reports::salvage_file;
 use std::alloc::Global;
 
-/// Why a salvage has no answer, of a file that is read haltingly and of which 26 bytes are sound, where there is so much room.
+/// Why a salvage has no answer, of a file that is read haltingly and of which 26 bytes are sound, where there is so
+/// much room.
 fn fault(alloc: Global, fails: bool, room: usize) -> Option<RunFault> {
     let source = Halts {
         text: "lra-journal 1 7\n1 0 enrol\n1 0 sta",

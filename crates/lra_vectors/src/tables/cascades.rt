@@ -1,5 +1,5 @@
-//! A chain of nested actions, cancelled at its top: each is cancelled with its parent, the outermost first, and the innermost
-//! ends first.
+//! A chain of nested actions, cancelled at its top: each is cancelled with its parent, the outermost first, and the
+//! innermost ends first.
 
 use super::assert_history;
 use lra_journal::JournalFault;

@@ -1,5 +1,5 @@
-//! Tables where a growth is refused: run with one allocation failing in turn (`rt try --test --fail-alloc N`). A call after it
-//! has memory.
+//! Tables where a growth is refused: run with one allocation failing in turn (`rt try --test --fail-alloc N`). A call
+//! after it has memory.
 
 ghost use Rattle.std.specs.Prelude.{◌≡◌, true, OnOk, IfOk, []};
 ghost use Rattle.lra_model.specs.declared.version.Version.{Version};
@@ -14,8 +14,8 @@ use lra_tables::Tables;
 use std::alloc::{AllocError, Global};
 use std::process::Abort;
 
-/// Every deed: members of an action and of one nested in it, one that leaves, one that is completed without being asked, and
-/// one that only hears of the end.
+/// Every deed: members of an action and of one nested in it, one that leaves, one that is completed without being
+/// asked, and one that only hears of the end.
 const JOURNAL: &str = "\
 lra-journal 2 7
 1 0 enrol
@@ -136,8 +136,8 @@ fn assert_same<R: Abort>(rt: &R, left: &Tables, right: &Tables) {
     assert!(rt; are_same(left, right));
 }
 
-/// Applies an entry to tables beside others of the same history: where that is refused they are as before, and it isn't the
-/// second time.
+/// Applies an entry to tables beside others of the same history: where that is refused they are as before, and it isn't
+/// the second time.
 fn apply<R: Abort>(
     rt: &R,
     tables: &mut Tables,

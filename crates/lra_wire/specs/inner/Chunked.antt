@@ -79,7 +79,8 @@ FindsContent start room size bytes (Ok (Open wanted)) = (wanted ≡ Bytes (start
 FindsContent start room size bytes (Ok (Last end)) = ⊥
 FindsContent start room size bytes (Err fault) = LastsAt (RefusesContent start room size) start bytes fault
 
--- the chunk at a place, or the end of the body, or that more bytes are wanted for either, where the body has so much room left
+-- the chunk at a place, or the end of the body, or that more bytes are wanted for either, where the body has so much
+-- room left
 abbrev pub FindsPart : ℕ → ℕ → List ℕ → Result Part WireFault → Type 0
 FindsPart start room bytes (Ok (Content from to)) = (start < from) × (from < to) × (to + 2 ≤ length bytes)
     × (to + 2 ≤ 1048576) × (to ≤ from + room) × IsPieceAt start bytes from to

@@ -50,7 +50,8 @@ pub record Heads (bytes : List ℕ) (start interim : ℕ) : Type 0 where
 abbrev pub Passes : List ℕ → Passed → Type 0
 Passes bytes passed = Heads bytes passed.end passed.count
 
--- how many bytes there may be where a line isn't whole: those of the interim heads and one more, or of the largest response
+-- how many bytes there may be where a line isn't whole: those of the interim heads and one more, or of the largest
+-- response
 abbrev pub most_bytes : Option Head → Passed → ℕ
 most_bytes None passed = passed.end + 8192
 most_bytes (Some head) passed = 1048576
@@ -78,7 +79,8 @@ FindsHead seen bytes (Ok None) = (seen ≡ None) × IsOpenAt AwaitsResponse 0 by
     × EndsInResponse bytes
 FindsHead seen bytes (Err fault) = Lasts RefusesResponse bytes fault
 
--- What stands behind the interim heads: the final head, and the chunks behind it that were read; or no final head was read, and nothing of a body.
+-- What stands behind the interim heads: the final head, and the chunks behind it that were read; or no final head was
+-- read, and nothing of a body.
 abbrev pub SeesBody : Option Head → ChunksRead → List ℕ → Type 0
 SeesBody None read bytes = read.body.items ≡ []
 SeesBody (Some head) read bytes = IsFinalOf bytes head × (read.start ≡ head.len) × HasRead bytes read
