@@ -83,7 +83,7 @@ impl Held {
     }
 }
 
-/// Whether a callback may leave.
+/// Leave of a callback to go out.
 #[derive(Debug, Drop)]
 pub(crate) enum Leave {
     /// To this host and port.
@@ -203,7 +203,7 @@ impl<G: SyncGroup> Attempt<G> {
         }
     }
 
-    /// What has come of the callback: silence, where nothing has.
+    /// Returns the outcome of the callback: silence, where nothing has come of it.
     fn outcome(&self) -> Outcome
         ensures may { IfSome self.now.errand (λ h. MayCome (G.keeps self.now.instance) h.1 h.0.ask h.0.kind result) }
         ensures told { ForSome self.now.flight (λ f. result ≡ outcome_of f.carrying) }

@@ -1,19 +1,19 @@
-//! What is known of hosts that have names.
+//! Names of hosts, and what is known of each.
 
 use std::alloc::Global;
 use std::collections::{BTreeMap, VecDeque};
 use std::net::SocketAddr;
 
-/// How many milliseconds addresses count once they were found.
+/// Number of milliseconds that addresses count once they were found.
 const FOUND_MS: u64 = 30_000;
 
-/// How many milliseconds it counts that none were found.
+/// Number of milliseconds that it counts that none were found.
 const MISSED_MS: u64 = 5_000;
 
-/// How many names are kept at most.
+/// Largest number of names that are kept.
 const MOST_NAMES: usize = 4_096;
 
-/// What is known of a name.
+/// Knowledge of a name at a moment.
 #[derive(Drop)]
 pub(crate) enum Found {
     /// Its addresses, and until when they count.
@@ -26,7 +26,7 @@ pub(crate) enum Found {
     Asked,
 }
 
-/// What is known of one name. None of its addresses are known while it is looked up.
+/// Entry of one name. None of its addresses are known while it is looked up.
 #[derive(Drop)]
 struct Entry {
     addresses: Vec<SocketAddr>,
@@ -51,7 +51,7 @@ impl Book {
         }
     }
 
-    /// What is known of a name at a moment. What isn't is asked for.
+    /// Returns what is known of a name at a moment, and asks for what isn't.
     pub(crate) fn find(&mut self, alloc: Global, name: &str, now: u64) -> Found {
         match self.entries.get(name) {
             Some(entry) if entry.is_asked => Found::Pending,
@@ -85,7 +85,7 @@ impl Book {
         self.asked.push_back(name).ok()
     }
 
-    /// Whether there is nothing to look up yet.
+    /// Tells whether there is nothing to look up yet.
     pub(crate) fn is_idle(&self) -> bool {
         self.asked.is_empty() && !self.is_closed
     }
@@ -98,7 +98,7 @@ impl Book {
         self.asked.pop_front()
     }
 
-    /// What a look-up found that ended at this moment.
+    /// Notes what a look-up found that ended at this moment.
     pub(crate) fn tell(&mut self, name: &str, found: Option<Vec<SocketAddr>>, now: u64) {
         let Some(entry) = self.entries.get_mut(name) else {
             return;
@@ -122,7 +122,7 @@ impl Book {
     }
 }
 
-/// What an entry says.
+/// Returns what an entry says.
 fn known(alloc: Global, entry: &Entry) -> Found {
     if entry.addresses.is_empty() {
         return Found::Missed;

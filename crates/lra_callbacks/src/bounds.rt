@@ -1,8 +1,8 @@
-//! How many callbacks go out at once.
+//! Bounds of the callbacks that go out at once.
 
 ghost use Rattle.std.specs.Prelude.{◌≡◌, ◌+◌, ◌-◌, ◌<◌, ◌↔◌, if◌then◌else◌, IsTrue, IsFalse};
 
-/// How many sockets are open, and how many may be, in all and to one host.
+/// Number of sockets that are open, and numbers that may be, in all and to one host.
 #[derive(Clone, Copy)]
 pub(crate) struct Bounds {
     open: u32,
@@ -22,14 +22,14 @@ impl Bounds {
         }
     }
 
-    /// Whether as many are open as may be.
+    /// Tells whether as many are open as may be.
     pub(crate) fn are_met(&self) -> bool
         ensures { IsFalse result ↔ (self.now.open < self.now.most) }
     {
         self.open >= self.most
     }
 
-    /// How many are open.
+    /// Returns how many are open.
     pub(crate) fn open(&self) -> u32
         ensures { result ≡ self.now.open }
     {

@@ -28,7 +28,7 @@ use std::io::ErrorKind;
 use std::net::Net;
 use std::sync::Wait;
 
-/// What a look at a socket found.
+/// Result of a look at a socket.
 #[derive(Clone, Copy, Debug, PartialEq, Eq)]
 pub(crate) enum Seen {
     /// It has to be waited for.
@@ -51,11 +51,11 @@ pub(crate) struct Call<G: SyncGroup> {
     is_connected: bool,
     /// The host that it goes to, by its number.
     host: usize,
-    /// How many of the host's addresses were tried.
+    /// Number of the host's addresses that were tried.
     tried: usize,
     /// When it began to connect, in milliseconds.
     began: u64,
-    /// How it ended, or would if it did now.
+    /// Its end, or the one that it would have now.
     end: End,
 }
 
@@ -253,7 +253,7 @@ fn limit_of(is_connected: bool, patience: Patience) -> u64
     }
 }
 
-/// Whether a socket is connected.
+/// State of a socket's connection.
 #[derive(Clone, Copy, Debug, PartialEq, Eq)]
 enum Connection {
     Made,

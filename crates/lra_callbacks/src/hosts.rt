@@ -10,7 +10,7 @@ use std::collections::{BTreeMap, VecDeque};
 use std::net::SocketAddr;
 use std::sync::Wait;
 
-/// How many milliseconds a host's name may take to be looked up.
+/// Number of milliseconds that the look-up of a host's name may take.
 const NAME_MS: u64 = 10_000;
 
 /// A host and port, and the callbacks to it.
@@ -23,13 +23,13 @@ struct Host {
     until: u64,
     /// Until when they are waited for.
     patience: u64,
-    /// How many sockets to it are open.
+    /// Number of open sockets to it.
     open: u32,
     /// The callbacks that wait for it.
     waiting: VecDeque<usize>,
-    /// Whether it stands in line.
+    /// A flag, set while it stands in line.
     is_lined: bool,
-    /// Whether its name is waited for.
+    /// A flag, set while its name is waited for.
     is_unknown: bool,
 }
 
@@ -40,7 +40,7 @@ pub(crate) struct Target<'h> {
     pub(crate) address: SocketAddr,
 }
 
-/// What is next.
+/// Next thing to do for the callbacks.
 #[derive(Clone, Copy, Debug, PartialEq, Eq)]
 pub(crate) enum Next {
     /// This callback sets out to that host, and is counted there.
@@ -127,7 +127,7 @@ impl Hosts {
         self.line_up(number);
     }
 
-    /// How many sockets are open.
+    /// Returns how many sockets are open.
     pub(crate) fn open(&self) -> u32 {
         self.bounds.open()
     }
@@ -142,7 +142,7 @@ impl Hosts {
         })
     }
 
-    /// Whether any host's name is waited for.
+    /// Tells whether any host's name is waited for.
     pub(crate) fn wait_for_names(&self) -> bool {
         !self.unknown.is_empty()
     }
@@ -229,7 +229,7 @@ impl Hosts {
     }
 }
 
-/// Whether a host's addresses are known.
+/// State of a host's addresses: known, not to be found, or not known yet.
 #[derive(Clone, Copy, Debug, PartialEq, Eq)]
 enum Known {
     Yes,

@@ -8,8 +8,8 @@ use std::net::{Net, SocketAddr, ToSocketAddrs};
 use std::sync::{Condvar, Mutex, Wait};
 use std::time::Clock;
 
-/// What was found of hosts that have names, for all carriers: threads of its own look them up, since the system lets
-/// who asks wait.
+/// Book of hosts that have names, for all callback workers: resolvers look the names up, since the system lets a thread
+/// that asks wait.
 #[derive(Drop)]
 pub struct Names {
     alloc: Global,
@@ -45,7 +45,7 @@ impl Names {
         }
     }
 
-    /// What is known of a host and port at a moment. Where nothing is, it is looked up.
+    /// Returns what is known of a host and port at a moment. Where nothing is, it is looked up.
     pub(crate) fn find<R: Wait>(&self, rt: &R, socket: &str, now: u64) -> Found {
         let found = self.book.lock(rt).find(self.alloc, socket, now);
         if matches!(found, Found::Asked) {
@@ -54,8 +54,7 @@ impl Names {
         found
     }
 
-    /// Looks up what is asked for, and rings after each, until it is told that nothing more will be. A thread of its
-    /// own is to call it, or several.
+    /// Looks up what is asked for, and rings after each, until it is told that nothing more will be. A thread of its own is to call it, or several.
     pub fn run<R: Wait + Net + Clock>(&self, rt: &R, bells: &[Waker]) {
         for _ in rt.forever() {
             let book = self.book.lock(rt);

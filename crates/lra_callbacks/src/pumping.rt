@@ -5,10 +5,10 @@ ghost use Rattle.lra_callbacks.specs.inner.Attempts.{IsOfSame, HandsOut, TakesIn
 use lra_courier::{Carrying, Step};
 use std::io::{ErrorKind, Read, Write};
 
-/// How many steps a callback takes at most: more than it has bytes.
+/// Largest number of steps that a callback takes: more than it has bytes.
 const MOST_STEPS: u32 = 1 << 22;
 
-/// How far a callback got.
+/// Point that a callback got to.
 #[derive(Clone, Copy, Debug, PartialEq, Eq)]
 pub(crate) enum Moved {
     /// Its stream takes and has no more bytes now.

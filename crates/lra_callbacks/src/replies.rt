@@ -1,4 +1,4 @@
-//! What is told of a callback that has ended.
+//! Replies that are told of callbacks that have ended.
 
 ghost use Rattle.std.specs.Prelude.{◌≡◌};
 ghost use Rattle.lra_callbacks.specs.inner.Replies as spec;
@@ -9,7 +9,7 @@ use lra_outcomes::Reply;
 use lra_wire::WireFault;
 use std::io::ErrorKind;
 
-/// How a callback ended, as far as its socket tells.
+/// End of a callback, as far as its socket tells.
 #[derive(Clone, Copy, Debug, PartialEq, Eq)]
 pub(crate) enum End {
     /// The request wasn't sent.

@@ -1,27 +1,27 @@
-//! How much one of several carriers has under way.
+//! Share that one of several callback workers has of what is under way.
 
 ghost use Rattle.std.specs.Prelude.{◌≡◌, ◌/◌, max};
 
-/// How many errands all carriers hold, those that wait among them.
+/// Number of errands that all callback workers hold, those that wait among them.
 const MOST_HELD: u32 = 16_384;
 
-/// How long a callback may take, in milliseconds.
+/// Time that a callback may take, in milliseconds.
 #[derive(Clone, Copy, Debug, PartialEq, Eq)]
 pub struct Patience {
-    /// How long a member has to take the connection.
+    /// Time that a member has to take the connection.
     pub connect: u64,
-    /// How long it has in all, until the whole reply has come.
+    /// Time that it has in all, until the whole reply has come.
     pub reply: u64,
 }
 
-/// What one of several carriers has under way at most, and for how long.
+/// Bounds of what one of several callback workers has under way, and for how long.
 #[derive(Clone, Copy, Debug, PartialEq, Eq)]
 pub struct Share {
-    /// How many sockets it has open.
+    /// Number of sockets that it has open.
     pub sockets: u32,
-    /// How many of them are to one host and port.
+    /// Number of them that are to one host and port.
     pub each: u32,
-    /// How many errands it holds, those that wait among them.
+    /// Number of errands that it holds, those that wait among them.
     pub held: u32,
     pub patience: Patience,
 }

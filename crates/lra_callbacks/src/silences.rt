@@ -28,7 +28,7 @@ fn stage_of(errand: &Errand) -> AskKind
     }
 }
 
-/// Whether an ask of that stage is one again of a member that was silent so.
+/// Tells whether an ask of that stage is one again of a member that was silent so.
 fn is_again(silence: &Silence, stage: AskKind) -> bool
     ensures { result ≡ is_again silence.now stage }
 {

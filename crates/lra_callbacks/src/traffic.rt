@@ -15,10 +15,10 @@ use std::time::{Clock, Duration};
 /// The token of what rings.
 const BELL: Token = Token(usize::MAX);
 
-/// How many events one look at the sockets finds at most.
+/// Largest number of events that one look at the sockets finds.
 const MOST_EVENTS: usize = 1_024;
 
-/// How many bytes are read at once.
+/// Number of bytes that are read at once.
 const BUFFER: usize = 1 << 16;
 
 /// A poll, and what rings there from other threads: a carrier that waits then looks at its office.
@@ -35,7 +35,7 @@ pub fn ring(bells: &[Waker]) {
     }
 }
 
-/// What is written while it is waited.
+/// Memory for events, for bytes that are read, and for the places of what was reported.
 #[derive(Drop)]
 struct Buffers {
     events: Events,
@@ -53,7 +53,7 @@ impl Buffers {
     }
 }
 
-/// What goes on at the sockets, apart from the errands themselves. Each is named by the place of its errand.
+/// Traffic at the sockets, apart from the errands themselves. Each is named by the place of its errand.
 #[derive(Drop)]
 pub(crate) struct Traffic {
     pub(crate) poll: Poll,
@@ -123,7 +123,7 @@ impl Traffic {
         let _ = self.unkept.push_front(key);
     }
 
-    /// How many errands have a socket, or may have one as soon as the disk keeps what they wait for.
+    /// Returns how many errands have a socket, or may have one as soon as the disk keeps what they wait for.
     pub(crate) fn moving(&self) -> usize {
         (self.hosts.open() as usize).saturating_add(self.unkept.len())
     }
@@ -150,7 +150,8 @@ impl Traffic {
         }
     }
 
-    /// Whether one has to look at the time while it rests: a socket's time is up then, or a host's name is waited for.
+    /// Tells whether a callback worker has to look at the time while it rests: a socket's time is up then, or a host's
+    /// name is waited for.
     pub(crate) fn has_to_look(&self) -> bool {
         let end = self.now.saturating_add(REST_MS);
         self.hosts.wait_for_names() || self.agenda.first_due(end).is_some()

@@ -1,4 +1,4 @@
-//! Who wakes those who carry.
+//! Thread that wakes the callback workers.
 
 use lra_roster::Roster;
 use lra_service::Ending;
@@ -9,18 +9,18 @@ use std::sync::{Arc, Mutex, Wait};
 use std::thread;
 use std::time::{Clock, Duration};
 
-/// How many events are reported at once.
+/// Number of events that are reported at once.
 const MOST_EVENTS: usize = 8;
 
-/// How many milliseconds pass at most before it looks again.
+/// Largest number of milliseconds that pass before it looks again.
 const LOOK: u64 = 1_000;
 
-/// Who wakes those who carry, once their journals have grown: those who answer, and those who look up names, know no
+/// Thread that wakes the callback workers, once their journals have grown: connection workers and resolvers know no
 /// more than that some may have.
 #[derive(Drop)]
 pub(crate) struct Crier {
     poll: Mutex<Option<Poll>>,
-    /// What wakes it.
+    /// Bells that wake it.
     pub(crate) bells: Vec<Waker>,
 }
 

@@ -1,4 +1,4 @@
-//! What the threads of a service over a folder share, and what each does.
+//! State that the threads of a service over a folder share, and the work of each.
 
 ghost use Rattle.std.specs.Prelude.{◌≡◌, [], IfOk, IfSome};
 
@@ -68,7 +68,7 @@ pub(crate) fn duties_of(
     Ok(duties)
 }
 
-/// What the threads share.
+/// State that the threads share.
 #[derive(Drop)]
 pub(crate) struct Shift<'s, 'a, R: Wait, H, B> {
     pub(crate) rt: &'a R,
@@ -77,7 +77,7 @@ pub(crate) struct Shift<'s, 'a, R: Wait, H, B> {
     door: Entrance<'s, R>,
     /// Where the threads wait until all of them stand.
     latch: Latch,
-    /// Whether the thread that was wanted last couldn't be started.
+    /// A flag, set where the thread that was wanted last couldn't be started.
     is_refused: AtomicBool,
     pub(crate) storage: &'a Storage,
     pub(crate) ending: &'s Arc<Ending>,
@@ -86,24 +86,24 @@ pub(crate) struct Shift<'s, 'a, R: Wait, H, B> {
     terms: Terms<'s>,
     /// The moment at which it began, in milliseconds.
     moment: u64,
-    /// How many connections one who answers has at most.
+    /// Largest number of connections of one connection worker.
     most: usize,
-    /// How long a client has.
+    /// Times that a client has.
     times: Times,
-    /// How many answer connections.
+    /// Number of connection workers that haven't ended.
     answering: AtomicU64,
-    /// How many did at first.
+    /// Number of connection workers at first.
     workers: u64,
     crier: Crier,
     /// The addresses of members' hosts.
     names: Names,
-    /// What one who carries has under way at most.
+    /// Bounds of what one callback worker has under way.
     share: Share,
     /// Where operators come in, and what they are told.
     pub(crate) tower: &'s Tower<'a>,
 }
 
-/// What one who carries for a journal is let do: as at a file's, until the journal is put away.
+/// Gate of a callback worker for a journal: as at a file's, until the journal is put away.
 #[derive(Drop)]
 struct JournalGate<'a, R: Wait, B, J> {
     gate: CarrierGate<'a, R, Journals<FileDisk>, J>,
@@ -177,12 +177,12 @@ impl<'s, 'a: 's, R: Wait + time::Clock, H, B> Shift<'s, 'a, R, H, B> {
         self.moment
     }
 
-    /// How many connections there are.
+    /// Returns how many connections there are.
     pub(crate) fn load(&self) -> u64 {
         self.door.load()
     }
 
-    /// Whether the disk has failed.
+    /// Tells whether the disk has failed.
     pub(crate) fn has_failed(&self) -> bool {
         self.journals().has_failed(self.rt)
     }
@@ -346,7 +346,7 @@ impl<
         unreachable!()
     }
 
-    /// What one who carries for a journal is let do.
+    /// Returns the gate of a callback worker for a journal.
     fn gate<'b>(&'b self, journal: &'b Journal<B>) -> JournalGate<'b, R, B, H> {
         JournalGate {
             gate: CarrierGate::new(
@@ -425,7 +425,7 @@ impl<
         }
     }
 
-    /// How many threads answer connections, if none has ended.
+    /// Returns how many connection workers there are, if none has ended.
     pub(crate) fn workers(&self) -> u64 {
         self.workers
     }

@@ -18,17 +18,17 @@ use std::sync::{Arc, Mutex, Wait};
 pub struct Journal<B> {
     pub instance: Instance,
     pub file: Arc<JournalFile>,
-    /// How many entries it had when it was opened.
+    /// Number of entries that it had when it was opened.
     entries: u64,
     /// From this clerk each thread has its own.
     branch: Mutex<Option<B>>,
     /// The place of who carries.
     pub stall: Stall,
-    /// What wakes that one.
+    /// Bells that wake its callback worker.
     pub bells: Vec<Waker>,
-    /// What came of its members' last callbacks.
+    /// Outcomes of its members' last callbacks.
     pub outcomes: Outcomes,
-    /// How many bytes it had when who carries was woken last.
+    /// Number of bytes that it had when it was asked last whether it has news.
     heard: AtomicU64,
     /// Nothing new is begun in it.
     pub(crate) is_reserved: AtomicBool,
@@ -77,7 +77,7 @@ impl<B: Clerkship + Drop> Journal<B> {
         self.branch.lock(rt).as_mut()?.fork(moment)
     }
 
-    /// What its coordinator tells of its history, if it does.
+    /// Returns what its coordinator tells of its history, if it does.
     pub fn query<R: Wait>(&self, rt: &R, query: Query) -> Option<Known> {
         self.branch.lock(rt).as_mut()?.query(query)
     }
@@ -100,12 +100,12 @@ impl<B: Clerkship + Drop> Journal<B> {
 }
 
 impl<B: Drop> Journal<B> {
-    /// How many bytes it has.
+    /// Returns how many bytes it has.
     pub fn bytes(&self) -> u64 {
         self.file.bytes()
     }
 
-    /// How many entries it has.
+    /// Returns how many entries it has.
     pub fn count_entries(&self) -> u64 {
         self.entries.saturating_add(self.file.entries())
     }
@@ -115,7 +115,7 @@ impl<B: Drop> Journal<B> {
         ring(&self.bells);
     }
 
-    /// Whether it has grown since this was asked last, or something is under way.
+    /// Tells whether it has grown since this was asked last, or something is under way.
     pub fn has_news(&self) -> bool {
         let bytes = self.bytes();
         self.heard.swap(bytes, Ordering::SeqCst) != bytes || self.under_way() > 0
@@ -131,7 +131,7 @@ impl<B: Drop> Journal<B> {
         self.is_over.load(Ordering::SeqCst)
     }
 
-    /// How many callbacks are under way.
+    /// Returns how many callbacks are under way.
     pub fn under_way(&self) -> u64 {
         self.stall.under_way.load(Ordering::SeqCst)
     }

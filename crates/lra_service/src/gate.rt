@@ -1,4 +1,4 @@
-//! What those who carry are let do.
+//! Gate of a callback worker, which tells what it may do.
 
 use crate::ending::Ending;
 use crate::stamina::{is_longest, pause_after};
@@ -13,7 +13,7 @@ use std::sync::{Arc, Wait};
 use std::thread;
 use std::time::{Clock, Duration, Instant};
 
-/// How many seconds what is under way has, once the service is to end.
+/// Number of seconds that what is under way has, once the service is to end.
 const PARTING: u64 = 10;
 
 /// Lets one who carries make turns as long as someone answers. Once the service is to end, nothing is begun in them any
@@ -26,7 +26,7 @@ pub struct CarrierGate<'a, R, G: SyncGroup, J> {
     ending: &'a Arc<Ending>,
     /// The journals that are synced with its own.
     group: &'a G,
-    /// How many errands are under way.
+    /// Number of errands under way.
     under_way: &'a AtomicU64,
     tallies: &'a Tallies,
     journalist: &'a J,
@@ -34,10 +34,10 @@ pub struct CarrierGate<'a, R, G: SyncGroup, J> {
     journal: Instance,
     /// Until when turns are made, once the service is to end.
     until: Option<Instant>,
-    /// How often memory was refused in a row, and whether that is so since a turn was let be made.
+    /// Number of times in a row that memory was refused, and whether that is so since a turn was let be made.
     refusals: u64,
     is_refused: bool,
-    /// Whether the callbacks were noted to stand still.
+    /// A flag, set where the callbacks were noted to stand still.
     stands: bool,
 }
 
@@ -96,7 +96,7 @@ impl<R, G: SyncGroup, J: Journalist> CarrierGate<'_, R, G, J> {
 }
 
 impl<R: Wait + Clock, G: SyncGroup, J> CarrierGate<'_, R, G, J> {
-    /// Whether what is under way has some time left. Where the clock can't be read it has none.
+    /// Tells whether what is under way has some time left. Where the clock can't be read it has none.
     fn has_time(&mut self) -> bool {
         if self.until.is_none() {
             self.until = seconds_on(self.rt, PARTING).ok();

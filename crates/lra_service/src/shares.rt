@@ -1,4 +1,4 @@
-//! How much a service takes and has at once, and how long each waits, by its settings.
+//! Bounds of what a service takes and has at once, and of how long each waits, by its settings.
 
 ghost use Rattle.std.specs.Prelude.{◌≡◌};
 ghost use Rattle.lra_commands.specs.Terms.{AreKeepable};
@@ -14,7 +14,7 @@ fn in_ms(seconds: u64) -> u64 {
     seconds.saturating_mul(1_000)
 }
 
-/// How long a client has, by some settings.
+/// Returns how long a client has, by some settings.
 pub fn times_of(settings: &Settings) -> Times {
     Times {
         idle: in_ms(settings.idle_seconds),
@@ -23,7 +23,7 @@ pub fn times_of(settings: &Settings) -> Times {
     }
 }
 
-/// What each of so many who carry has under way at most, by some settings.
+/// Returns what each of so many callback workers has under way at most, by some settings.
 pub fn share_of(settings: &Settings, workers: usize) -> Share {
     let patience = Patience {
         connect: in_ms(settings.connect_seconds),
@@ -37,7 +37,7 @@ pub fn share_of(settings: &Settings, workers: usize) -> Share {
     )
 }
 
-/// What a coordinator takes, and how it repeats its asks, by some settings.
+/// Returns what a coordinator takes, and how it repeats its asks, by some settings.
 pub fn limits_of(settings: &Settings) -> Limits
     ensures limits { result ≡ limits_of settings.now }
     ensures keepable { AreKeepable result }

@@ -40,10 +40,10 @@ use std::sync::{Arc, Mutex, Wait};
 use std::thread;
 use std::time::{Clock, Duration};
 
-/// How many milliseconds pass from one look at what the journal's file has taken to the next.
+/// Number of milliseconds from one look at what the journal's file has taken to the next.
 const LOOK: u64 = 100;
 
-/// What the threads of a service share.
+/// State that the threads of a service share.
 #[derive(Drop)]
 pub(crate) struct Shift<'a, R, H> {
     pub(crate) rt: &'a R,
@@ -59,33 +59,33 @@ pub(crate) struct Shift<'a, R, H> {
     terms: Terms<'a>,
     /// The moment at which it began, in milliseconds.
     pub(crate) moment: u64,
-    /// How many connections one who answers has at most.
+    /// Largest number of connections of one connection worker.
     most: usize,
-    /// How long a client has.
+    /// Times that a client has.
     times: Times,
-    /// How many answer connections.
+    /// Number of connection workers that haven't ended.
     answering: AtomicU64,
-    /// How many clerks work.
+    /// Number of clerks that work.
     working: AtomicU64,
-    /// How many of those who carry haven't ended.
+    /// Number of callback workers that haven't ended.
     carrying: AtomicU64,
     /// The places of those who carry.
     stalls: Vec<Stall>,
-    /// What wakes them, once something may be due.
+    /// Bells that wake them, once something may be due.
     bells: Vec<Waker>,
     /// The addresses of members' hosts.
     names: Names,
-    /// What each who carries has under way at most.
+    /// Bounds of what each callback worker has under way.
     share: Share,
     /// Where operators come in, if any do.
     watchpost: Option<&'a Watchpost>,
-    /// What is tallied, and how much the journal has.
+    /// Tallies, and how much the journal has.
     pub(crate) measure: Measure,
     /// The journal's file, to be read as it grows.
     end: Mutex<Option<FileEnd>>,
-    /// What it takes, where that is told of.
+    /// End of that file as it grows, where what it takes is told of.
     tail: Mutex<Option<Tail>>,
-    /// What came of the members' last callbacks.
+    /// Outcomes of the members' last callbacks.
     pub(crate) outcomes: Outcomes,
 }
 
@@ -142,12 +142,12 @@ impl<'a, R: Wait + Clock, H> Shift<'a, R, H> {
         }
     }
 
-    /// Whether operators come in.
+    /// Tells whether operators come in.
     pub(crate) fn is_watched(&self) -> bool {
         self.watchpost.is_some()
     }
 
-    /// How many callbacks are under way.
+    /// Returns how many callbacks are under way.
     fn under_way(&self) -> u64 {
         let mut all: u64 = 0;
         for stall in self.stalls.as_slice() {
@@ -173,7 +173,7 @@ impl<'a, R: Wait + Clock, H> Shift<'a, R, H> {
 }
 
 impl<R: Wait + Clock, H> Shift<'_, R, H> {
-    /// What the system tells of the process, where operators come in.
+    /// Returns what the system tells of the process, where operators come in.
     fn vitals(&self) -> Vitals {
         match self.watchpost {
             Some(post) => post.vitals(),
@@ -181,7 +181,7 @@ impl<R: Wait + Clock, H> Shift<'_, R, H> {
         }
     }
 
-    /// What is known of the service at a moment.
+    /// Returns what is known of the service at a moment.
     pub(crate) fn facts(&self, instance: Instance, moment: u64) -> Facts {
         let has_failed = self.journals.has_failed(self.rt);
         let now = Now {
@@ -360,7 +360,7 @@ impl<
         unreachable!()
     }
 
-    /// What one who carries is let do, for a journal.
+    /// Returns the gate of a callback worker, for a journal.
     fn gate<'b>(
         &'b self,
         stall: &'b Stall,
