@@ -32,8 +32,8 @@ use std::time;
 /// Number of milliseconds that the office is left alone in any case.
 const PAUSE_MS: u64 = 2;
 
-/// Callbacks to members, many at once, of one journal. The request of each is made once that journal is durable up to the
-/// position that was given with the errand; it waits while as many go to its host, or in all, as may, and while its
+/// Callbacks to members, many at once, of one journal. The request of each is made once that journal is durable up to
+/// the position that was given with the errand; it waits while as many go to its host, or in all, as may, and while its
 /// member is spared, since it was silent. A contract sees which errand is under way at each place.
 #[derive(Drop)]
 pub struct Callbacks<'a, R, G: SyncGroup> {
@@ -87,8 +87,8 @@ fn note<R: time::Clock>(
     }
 }
 
-/// Notes what is told of a callback that has ended, for who asks why a member hangs, and forgets a member that got further. Where
-/// memory is refused for that, what was noted before stays.
+/// Notes what is told of a callback that has ended, for who asks why a member hangs, and forgets a member that got
+/// further. Where memory is refused for that, what was noted before stays.
 fn tell_of<R: Wait + time::Clock, G: SyncGroup>(
     rt: &R,
     outcomes: &Outcomes,
@@ -118,11 +118,14 @@ impl<'a, R, G: SyncGroup> Model for Callbacks<'a, R, G> {
 }
 
 impl<'a, R: Wait + Net + time::Clock, G: SyncGroup> Callbacks<'a, R, G> {
-    /// None is under way. What the rules don't let is not connected to, and silent. The poll is one that [`bell`](crate::bell) gave, as the bells of all who carry. How many are is told there whenever one is taken or done.
-    /// A member that was silent isn't asked again in the same stage until the least pause has passed, in milliseconds: 0 spares none, and `u64::MAX` never ends. Others may change
-    /// it at any time; what came before it was told isn't known. Who waits so isn't counted as under way. The clock is the one by which its office's moments are given:
-    /// where it has ten seconds to go until the greatest moment, or less, silent members are spared for ten seconds at least.
-    /// What came of the last callback of each member that it didn't bring further is noted in the outcomes. Where memory is refused the poll comes back.
+    /// None is under way. What the rules don't let is not connected to, and silent. The poll is one that
+    /// [`bell`](crate::bell) gave, as the bells of all who carry. How many are is told there whenever one is taken or
+    /// done. A member that was silent isn't asked again in the same stage until the least pause has passed, in
+    /// milliseconds: 0 spares none, and `u64::MAX` never ends. Others may change it at any time; what came before it
+    /// was told isn't known. Who waits so isn't counted as under way. The clock is the one by which its office's
+    /// moments are given: where it has ten seconds to go until the greatest moment, or less, silent members are spared
+    /// for ten seconds at least. What came of the last callback of each member that it didn't bring further is noted in
+    /// the outcomes. Where memory is refused the poll comes back.
     pub fn new(
         rt: &'a R,
         alloc: Global,
@@ -308,7 +311,8 @@ impl<'a, R: Wait + Net + time::Clock, G: SyncGroup> Callbacks<'a, R, G> {
         }
     }
 
-    /// Has one connect to the next of its host's addresses. Where there is none it has ended. Tells whether there is nothing more to try.
+    /// Has one connect to the next of its host's addresses. Where there is none it has ended. Tells whether there is
+    /// nothing more to try.
     fn is_connecting(&mut self, key: usize) -> bool
         ensures { self.new ≡ self.old }
     {
@@ -326,7 +330,8 @@ impl<'a, R: Wait + Net + time::Clock, G: SyncGroup> Callbacks<'a, R, G> {
         }
     }
 
-    /// Looks at one whose socket was reported. Once the disk has failed nothing goes to any member, also of what had leave before.
+    /// Looks at one whose socket was reported. Once the disk has failed nothing goes to any member, also of what had
+    /// leave before.
     fn advance(&mut self, key: usize)
         ensures { self.new ≡ self.old }
     {
@@ -464,8 +469,8 @@ impl<'a, R: Wait + Net + time::Clock, G: SyncGroup> Callbacks<'a, R, G> {
             && self.traffic.moving() < self.share.sockets as usize
     }
 
-    /// Wakes those who carry, since something is due that wasn't taken here: there is no room for it, or there was too much at once. It does so every 50 ms at
-    /// most, so that those who have no room either may rest.
+    /// Wakes those who carry, since something is due that wasn't taken here: there is no room for it, or there was too
+    /// much at once. It does so every 50 ms at most, so that those who have no room either may rest.
     fn call_others(&mut self, now: u64)
         ensures { self.new ≡ self.old }
     {

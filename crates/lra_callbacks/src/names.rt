@@ -54,7 +54,8 @@ impl Names {
         found
     }
 
-    /// Looks up what is asked for, and rings after each, until it is told that nothing more will be. A thread of its own is to call it, or several.
+    /// Looks up what is asked for, and rings after each, until it is told that nothing more will be. A thread of its
+    /// own is to call it, or several.
     pub fn run<R: Wait + Net + Clock>(&self, rt: &R, bells: &[Waker]) {
         for _ in rt.forever() {
             let book = self.book.lock(rt);

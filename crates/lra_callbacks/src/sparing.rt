@@ -14,14 +14,16 @@ use std::sync::atomic::{AtomicU64, Ordering};
 /// until the greatest moment.
 const LAST_PAUSE_MS: u64 = 10_000;
 
-/// Returns whether an office's clock at a moment is so near the greatest one that pauses end there: asks would follow each other at once.
+/// Returns whether an office's clock at a moment is so near the greatest one that pauses end there: asks would follow
+/// each other at once.
 fn is_near_end(moment: u64) -> bool
     ensures { result ≡ spec.is_near_end moment }
 {
     u64::MAX - moment <= LAST_PAUSE_MS
 }
 
-/// Returns how many milliseconds there are at least between two asks of a silent member, where the office's clock is at a moment, and so many are told.
+/// Returns how many milliseconds there are at least between two asks of a silent member, where the office's clock is at
+/// a moment, and so many are told.
 fn pause_at(told: u64, moment: u64) -> u64
     ensures { result ≡ spec.pause_at told moment }
 {
@@ -42,8 +44,9 @@ fn heard_at(outcome: Outcome, moment: u64) -> Outcome
     }
 }
 
-/// Which members were silent, and the callbacks that wait since theirs was: a journal that is nearly full doesn't ask so often, and none does near the end of its
-/// clock. All moments are in milliseconds, and but for the office's by one clock, a steady one.
+/// Which members were silent, and the callbacks that wait since theirs was: a journal that is nearly full doesn't ask
+/// so often, and none does near the end of its clock. All moments are in milliseconds, and but for the office's by one
+/// clock, a steady one.
 #[derive(Drop)]
 pub(crate) struct Sparing<'a> {
     /// Least time between two asks of a silent member. The owner of the journal may change that.
@@ -88,7 +91,8 @@ impl<'a> Sparing<'a> {
         self.waiting.len()
     }
 
-    /// Has a callback wait, where its errand's member is spared at a moment. Tells whether it does: where memory is refused it doesn't.
+    /// Has a callback wait, where its errand's member is spared at a moment. Tells whether it does: where memory is
+    /// refused it doesn't.
     pub(crate) fn holds(&mut self, key: usize, errand: &Errand, now: u64) -> bool {
         match self.silences.until(errand, self.pause()) {
             Some(until) if now < until => self.waiting.insert((until, key)).is_ok(),
@@ -118,8 +122,8 @@ impl<'a> Sparing<'a> {
         Some(key)
     }
 
-    /// Notes what came of an errand at a moment. A member that is at it is asked again as one that was silent is, so near the end of the office's clock it is spared
-    /// like that one.
+    /// Notes what came of an errand at a moment. A member that is at it is asked again as one that was silent is, so
+    /// near the end of the office's clock it is spared like that one.
     pub(crate) fn note(&mut self, errand: &Errand, outcome: Outcome, now: u64) {
         self.silences
             .note(errand, heard_at(outcome, self.office), now);
