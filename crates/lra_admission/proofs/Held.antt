@@ -1,5 +1,6 @@
 -- The keys of a file that was read whole.
-use Rattle.std.proofs.Common.{◌≡◌, ℕ, ◌≤◌, List, length, Option, Some, None, Result, Ok, Err, IfSome, IfOk, IfErr, subst}
+use Rattle.std.proofs.Common.{◌≡◌, ℕ, ◌≤◌, List, length, Option, Some, None, Result, Ok, Err, IfSome, IfOk, IfErr}
+use Rattle.std.proofs.Common.{subst}
 use Rattle.lra_files.specs.Small.{IsWhole}
 use Rattle.lra_admission.specs.declared.keys.Keys.{Keys}
 use Rattle.lra_admission.specs.declared.fault.KeysFault.{KeysFault}

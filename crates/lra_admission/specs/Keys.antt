@@ -1,5 +1,6 @@
 -- The keys of those who may call.
-use Rattle.std.specs.Prelude.{◌≡◌, ⊤, ℕ, ◌<◌, ◌≤◌, Bool, if◌then◌else◌, List, length, take, drop, codes, bytes_eq, Option, Some, None, Ok, Err}
+use Rattle.std.specs.Prelude.{◌≡◌, ⊤, ℕ, ◌<◌, ◌≤◌, Bool, if◌then◌else◌, List, length, take, drop, codes, bytes_eq}
+use Rattle.std.specs.Prelude.{Option, Some, None, Ok, Err}
 use Rattle.std.specs.List.{list_any}
 use Rattle.std.specs.Str.{str_eq_ignore_ascii_case}
 use Rattle.sha2.specs.Sha256.{sha256}

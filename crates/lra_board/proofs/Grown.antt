@@ -1,5 +1,6 @@
 -- After one more entry, and after it is taken back, the marks are right but for what its deed concerns.
-use Rattle.std.proofs.Common.{◌≡◌, ◌≢◌, ℕ, zero, suc, ◌+◌, ◌-◌, inl, inr, Bool, true, false, List, [], ◌∷◌, ◌++◌, length, Option, Some, None, refl, sym, ap, ◌∙◌, subst, arith, length-append, append-nil}
+use Rattle.std.proofs.Common.{◌≡◌, ◌≢◌, ℕ, zero, suc, ◌+◌, ◌-◌, inl, inr, Bool, true, false, List, [], ◌∷◌, ◌++◌}
+use Rattle.std.proofs.Common.{length, Option, Some, None, refl, sym, ap, ◌∙◌, subst, arith, length-append, append-nil}
 use Rattle.std.proofs.lemmas.Bool.{eqb-false, lt-ltb, cases_lt}
 use Rattle.std.proofs.lemmas.List.{length-map, length-take-le, get_or-take, get_or_past}
 use Rattle.std.specs.Prelude.{is_some, nat_lt, option_to_list}

@@ -1,5 +1,6 @@
 -- Queries: the commands that only ask, what a query is refused by, and what holds the end of an action.
-use Rattle.std.proofs.Common.{◌≡◌, ℕ, Bool, true, false, List, [], ◌∷◌, Some, Ok, Err, refl, sym, ap, ◌∙◌, subst, cond, inl, inr}
+use Rattle.std.proofs.Common.{◌≡◌, ℕ, Bool, true, false, List, [], ◌∷◌, Some, Ok, Err, refl, sym, ap, ◌∙◌, subst, cond}
+use Rattle.std.proofs.Common.{inl, inr}
 use Rattle.std.specs.Prelude.{◌&&◌, ◌||◌, not, filter, map}
 use Rattle.std.specs.Option.{option_map_or}
 use Rattle.std.specs.List.{list_all, list_any}
@@ -26,7 +27,8 @@ use Rattle.lra_commands.specs.Calls.{Command, Call}
 use Rattle.lra_commands.specs.Blocks.{block}
 use Rattle.lra_commands.specs.Refusals.{status_at, full_grounds, first_ground, refused}
 use Rattle.lra_commands.specs.Answers.{answer}
-use Rattle.lra_commands.specs.Queries.{rows_of, holds_end, known_where, is_listed, tell, asks, answer_as, CommandsAsk, QueriesMiss, RowsHoldEnds}
+use Rattle.lra_commands.specs.Queries.{rows_of, holds_end, known_where, is_listed, tell, asks, answer_as, CommandsAsk}
+use Rattle.lra_commands.specs.Queries.{QueriesMiss, RowsHoldEnds}
 
 -- ---- the commands that only ask
 

@@ -1,5 +1,7 @@
 -- Whatever calls are made, the history stays legal and within the limits.
-use Rattle.std.proofs.Common.{◌≡◌, ℕ, zero, suc, ◌≤◌, ◌<◌, ◌+◌, ◌^◌, Bool, true, false, List, [], ◌∷◌, ◌++◌, length, Option, Some, None, refl, sym, ap, ◌∙◌, subst, append_assoc, append-nil, cond, arith, length-append}
+use Rattle.std.proofs.Common.{◌≡◌, ℕ, zero, suc, ◌≤◌, ◌<◌, ◌+◌, ◌^◌, Bool, true, false, List, [], ◌∷◌, ◌++◌, length}
+use Rattle.std.proofs.Common.{Option, Some, None, refl, sym, ap, ◌∙◌, subst, append_assoc, append-nil, cond, arith}
+use Rattle.std.proofs.Common.{length-append}
 use Rattle.std.proofs.lemmas.Bool.{not-false, not-true, lt-ltb, ltb-true}
 use Rattle.std.proofs.lemmas.List.Elements.{All-head, All-tail, filter_map-append}
 use Rattle.std.specs.Prelude.{not, max, is_some, option_map}
@@ -12,7 +14,8 @@ use Rattle.lra_model.specs.declared.entry.Deed.{Deed}
 use Rattle.lra_model.specs.declared.entry.Deed.TheVariants as deed
 use Rattle.lra_model.specs.declared.entry.Entry.{Entry}
 use Rattle.lra_model.specs.Words.{when}
-use Rattle.lra_model.specs.History.{History, enrolled_by, started_by, joined_by, asked_by, clerks, actions, members, asks, is_among, last_moment}
+use Rattle.lra_model.specs.History.{History, enrolled_by, started_by, joined_by, asked_by, clerks, actions, members}
+use Rattle.lra_model.specs.History.{asks, is_among, last_moment}
 use Rattle.lra_model.specs.Rules.{is_number, is_legal}
 use Rattle.lra_model.specs.Settling.{next_settling}
 use Rattle.lra_model.specs.Wants.{wants}
@@ -28,7 +31,8 @@ use Rattle.lra_commands.specs.declared.limits.Terms.{Terms}
 use Rattle.lra_commands.specs.Terms.{AreKeepable}
 use Rattle.lra_commands.specs.Calls.{Command, Call, moment_of, IsCall}
 use Rattle.lra_commands.specs.Due.{due, late}
-use Rattle.lra_commands.specs.Deeds.{stored_addresses, is_open, outcome_told, is_decided, may_be_cancelled, own_deed, entry_of}
+use Rattle.lra_commands.specs.Deeds.{stored_addresses, is_open, outcome_told, is_decided, may_be_cancelled, own_deed}
+use Rattle.lra_commands.specs.Deeds.{entry_of}
 use Rattle.lra_model.specs.Joins.{already_member}
 use Rattle.lra_commands.specs.Blocks.{block}
 use Rattle.lra_model.specs.Settling.{settling_within, most_settling, settling, with_settling}
@@ -37,7 +41,9 @@ use Rattle.lra_commands.specs.Answers.{growth, after_call}
 use Rattle.lra_commands.specs.Runs.{IsWithin, IsShallow, IsLawful, CallsKeepHistories, CallsMakeHistories}
 use Rattle.lra_commands.proofs.KeepsGrounds.{IsUnrefused, unrefused, within_after}
 use Rattle.lra_commands.proofs.KeepsDepth.{settling_shallow, own_shallow}
-use Rattle.lra_commands.proofs.KeepsOwn.{Writes, IsAllowed, start_allowed, close_allowed, cancel_allowed, tick_allowed, renew_allowed, join_allowed, leave_allowed, report_allowed, ask_allowed, reply_allowed, restart_allowed}
+use Rattle.lra_commands.proofs.KeepsOwn.{Writes, IsAllowed, start_allowed, close_allowed, cancel_allowed, tick_allowed}
+use Rattle.lra_commands.proofs.KeepsOwn.{renew_allowed, join_allowed, leave_allowed, report_allowed, ask_allowed}
+use Rattle.lra_commands.proofs.KeepsOwn.{reply_allowed, restart_allowed}
 
 -- ---- counts only grow
 

@@ -1,5 +1,6 @@
 -- Whatever calls are made, no action is nested deeper than the limit.
-use Rattle.std.proofs.Common.{◌≡◌, ℕ, zero, suc, ◌+◌, ◌≤◌, Bool, true, false, List, [], ◌∷◌, ◌++◌, length, Option, Some, None, refl, sym, ap, ◌∙◌, subst, append_assoc, append-nil, cond, arith, eq-eqb, eqb-true}
+use Rattle.std.proofs.Common.{◌≡◌, ℕ, zero, suc, ◌+◌, ◌≤◌, Bool, true, false, List, [], ◌∷◌, ◌++◌, length, Option, Some}
+use Rattle.std.proofs.Common.{None, refl, sym, ap, ◌∙◌, subst, append_assoc, append-nil, cond, arith, eq-eqb, eqb-true}
 use Rattle.std.specs.Prelude.{◌==◌, ◌||◌, not, is_some, option_map, unwrap_or, IfSome}
 use Rattle.std.specs.Option.{option_map_or, option_or, option_and_then}
 use Rattle.std.specs.List.{filter_map, cons_option, find}
@@ -20,7 +21,8 @@ use Rattle.lra_model.specs.Rules.{is_legal}
 use Rattle.lra_model.specs.Settling.{may_be_skipped, by_parent, next_settling}
 use Rattle.lra_model.specs.Wants.{wants}
 use Rattle.lra_laws.proofs.Push.{actions_push}
-use Rattle.lra_laws.proofs.Legal.{among_push, numbered_among, numbered_fresh, actions_numbered, parent_stays, parent_of_new, parent_there}
+use Rattle.lra_laws.proofs.Legal.{among_push, numbered_among, numbered_fresh, actions_numbered, parent_stays}
+use Rattle.lra_laws.proofs.Legal.{parent_of_new, parent_there}
 use Rattle.lra_laws.proofs.Writes.{MayWrite, may_go_on}
 use Rattle.lra_laws.proofs.Settled.{settling_allowed}
 use Rattle.lra_ids.specs.Addresses.{is_address}

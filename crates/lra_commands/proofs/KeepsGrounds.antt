@@ -9,7 +9,8 @@ use Rattle.lra_commands.specs.declared.refusal.Resource.TheVariants as resource
 use Rattle.lra_commands.specs.declared.limits.Terms.{Terms}
 use Rattle.lra_commands.specs.Calls.{Call, moment_of}
 use Rattle.lra_commands.specs.Blocks.{block}
-use Rattle.lra_commands.specs.Refusals.{Ground, is_filled, passes, overfills, full_grounds, command_grounds, is_stranger, grounds, first_ground, refused}
+use Rattle.lra_commands.specs.Refusals.{Ground, is_filled, passes, overfills, full_grounds, command_grounds}
+use Rattle.lra_commands.specs.Refusals.{is_stranger, grounds, first_ground, refused}
 use Rattle.lra_commands.specs.Runs.{IsWithin}
 
 -- none of these grounds holds

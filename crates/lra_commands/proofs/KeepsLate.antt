@@ -1,5 +1,6 @@
 -- The action that is late is Active, and its limit has passed.
-use Rattle.std.proofs.Common.{◌≡◌, ℕ, ◌+◌, Bool, true, false, List, [], ◌∷◌, Option, Some, None, refl, sym, ap, ◌∙◌, subst, cond}
+use Rattle.std.proofs.Common.{◌≡◌, ℕ, ◌+◌, Bool, true, false, List, [], ◌∷◌, Option, Some, None, refl, sym, ap, ◌∙◌}
+use Rattle.std.proofs.Common.{subst, cond}
 use Rattle.std.specs.Prelude.{◌==◌, ◌&&◌, not, nat_le, option_map}
 use Rattle.std.specs.List.{filter_map, cons_option}
 use Rattle.lra_model.specs.Words.{when, is_active}

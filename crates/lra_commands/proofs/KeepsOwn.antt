@@ -1,5 +1,6 @@
 -- What a command writes of its own, where it isn't refused, is allowed.
-use Rattle.std.proofs.Common.{◌≡◌, ℕ, ◌<◌, ◌+◌, ◌-◌, ◌^◌, Bool, true, false, length, Option, Some, None, refl, ap, ◌∙◌, cond, arith, eqb-true, eq-eqb}
+use Rattle.std.proofs.Common.{◌≡◌, ℕ, ◌<◌, ◌+◌, ◌-◌, ◌^◌, Bool, true, false, length, Option, Some, None, refl, ap, ◌∙◌}
+use Rattle.std.proofs.Common.{cond, arith, eqb-true, eq-eqb}
 use Rattle.std.proofs.lemmas.Bool.{not-false, leb-true, lt-ltb, or_left, or_right}
 use Rattle.std.specs.Prelude.{◌==◌, ◌&&◌, ◌||◌, not, nat_le, option_map}
 use Rattle.std.specs.Option.{option_map_or}
@@ -14,11 +15,13 @@ use Rattle.lra_model.specs.declared.asks.Cause.TheVariants as cause
 use Rattle.lra_model.specs.declared.entry.Deed.{Deed}
 use Rattle.lra_model.specs.declared.entry.Deed.TheVariants as deed
 use Rattle.lra_model.specs.Addresses.{Addresses}
-use Rattle.lra_model.specs.Words.{is_active, same_kind, is_completing, is_compensating, is_decisive, has_gone, same_direction, outcome_suits}
+use Rattle.lra_model.specs.Words.{is_active, same_kind, is_completing, is_compensating, is_decisive, has_gone}
+use Rattle.lra_model.specs.Words.{same_direction, outcome_suits}
 use Rattle.lra_model.specs.History.{History, actions, members, asks, is_among}
 use Rattle.lra_model.specs.Members.{Asked, action_of, has_left, member_status, is_outstanding, ask_of}
 use Rattle.lra_model.specs.Facts.{ActionFacts, MemberFacts, action_facts, facts_of}
-use Rattle.lra_model.specs.Tests.{status_is, each_parent, is_moment, may_cancel_as_client, may_cancel_by_limit, addresses_fit, may_report, limit_has_passed}
+use Rattle.lra_model.specs.Tests.{status_is, each_parent, is_moment, may_cancel_as_client, may_cancel_by_limit}
+use Rattle.lra_model.specs.Tests.{addresses_fit, may_report, limit_has_passed}
 use Rattle.lra_model.specs.Rules.{is_action, is_member, is_here, is_number, has_deed}
 use Rattle.lra_model.specs.Wants.{wants}
 use Rattle.lra_laws.proofs.Tested.{both, and_intro}

@@ -1,5 +1,6 @@
 -- Settling comes to rest: after a call that writes, nothing is left to settle.
-use Rattle.std.proofs.Common.{◌≡◌, ℕ, zero, suc, ◌≤◌, Bool, true, List, [], ◌∷◌, ◌++◌, Option, Some, None, refl, sym, ap, ◌∙◌, append_assoc, append-nil, cond, arith}
+use Rattle.std.proofs.Common.{◌≡◌, ℕ, zero, suc, ◌≤◌, Bool, true, List, [], ◌∷◌, ◌++◌, Option, Some, None, refl, sym}
+use Rattle.std.proofs.Common.{ap, ◌∙◌, append_assoc, append-nil, cond, arith}
 use Rattle.std.specs.Prelude.{◌≢◌, is_some, option_map}
 use Rattle.std.specs.Option.{option_map_or}
 use Rattle.lra_model.specs.declared.version.Version.{Version}

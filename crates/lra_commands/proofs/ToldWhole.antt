@@ -1,5 +1,6 @@
 -- A listing that is asked for again and again, from place to place.
-use Rattle.std.proofs.Common.{◌≡◌, ℕ, zero, suc, ◌+◌, ◌≤◌, ◌<◌, Bool, true, false, List, [], ◌∷◌, length, take, drop, Option, Some, None, refl, sym, ap, ◌∙◌, cond, arith, drop-drop}
+use Rattle.std.proofs.Common.{◌≡◌, ℕ, zero, suc, ◌+◌, ◌≤◌, ◌<◌, Bool, true, false, List, [], ◌∷◌, length, take, drop}
+use Rattle.std.proofs.Common.{Option, Some, None, refl, sym, ap, ◌∙◌, cond, arith, drop-drop}
 use Rattle.std.proofs.lemmas.Bool.{ltb-false}
 use Rattle.std.proofs.lemmas.List.{drop_all}
 use Rattle.std.specs.Prelude.{filter, nat_lt, not}
@@ -11,7 +12,9 @@ use Rattle.lra_commands.specs.declared.limits.Limits.{Limits}
 use Rattle.lra_commands.specs.declared.query.Listing.{Listing}
 use Rattle.lra_commands.specs.declared.query.Row.{Row}
 use Rattle.lra_commands.specs.declared.query.Known.TheVariants as known
-use Rattle.lra_commands.specs.Queries.{most_rows, looked_at, none_told, belongs, rows_along, row_from, rows_after, told_on, next_of, count_from, counted_after, counted_on, ListingsAreToldWhole, ListingsAreCountedWhole}
+use Rattle.lra_commands.specs.Queries.{most_rows, looked_at, none_told, belongs, rows_along, row_from, rows_after}
+use Rattle.lra_commands.specs.Queries.{told_on, next_of, count_from, counted_after, counted_on, ListingsAreToldWhole}
+use Rattle.lra_commands.specs.Queries.{ListingsAreCountedWhole}
 
 -- ---- of the first so many of a list
 

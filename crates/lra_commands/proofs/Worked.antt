@@ -13,12 +13,14 @@ use Rattle.lra_model.specs.declared.asks.Outcome.TheVariants as outcome
 use Rattle.lra_model.specs.declared.asks.Cause.TheVariants as cause
 use Rattle.lra_model.specs.declared.version.Version.TheVariants as version
 use Rattle.lra_model.specs.declared.entry.Deed.{Deed}
-use Rattle.lra_model.specs.declared.entry.Deed.TheVariants.{Enrol, Start, Join, Leave, Close, Cancel, Skip, Ask, Reply, Report, End, Restart, Renew}
+use Rattle.lra_model.specs.declared.entry.Deed.TheVariants.{Enrol, Start, Join, Leave, Close, Cancel, Skip, Ask, Reply}
+use Rattle.lra_model.specs.declared.entry.Deed.TheVariants.{Report, End, Restart, Renew}
 use Rattle.lra_model.specs.declared.entry.Entry.{Entry}
 use Rattle.lra_model.specs.Addresses.{Addresses}
 use Rattle.lra_model.specs.History.{History, steps, clerks, actions, members, asks, last_moment}
 use Rattle.lra_model.specs.Actions.{parent, top, action_status, limit_in_force, children, members_of, depth}
-use Rattle.lra_model.specs.Members.{action_of, no_addresses, addresses_of, has_left, stays, was_asked, ask_of, replies, decided, member_status, last_reply, was_answered, is_outstanding, outstanding_ask}
+use Rattle.lra_model.specs.Members.{action_of, no_addresses, addresses_of, has_left, stays, was_asked, ask_of, replies}
+use Rattle.lra_model.specs.Members.{decided, member_status, last_reply, was_answered, is_outstanding, outstanding_ask}
 use Rattle.lra_model.specs.Ends.{staying, is_settled, right_end, top_has_ended}
 use Rattle.lra_model.specs.Facts.{facts_of}
 use Rattle.lra_model.specs.Settling.{next_settling}
@@ -26,10 +28,14 @@ use Rattle.lra_model.specs.Wants.{wants, repeats}
 use Rattle.lra_laws.proofs.Worked.{at, u, c, uris, nest, undone, failing, cancelled_below, taken_back}
 use Rattle.lra_commands.specs.declared.command.Command.TheVariants as command
 use Rattle.lra_commands.specs.declared.command.Told.{Told}
-use Rattle.lra_commands.specs.declared.command.Told.TheVariants.{Clerk, Action, Left, Now, Already, Fired, Idle, Asked, Recorded, MemberNow, MemberAlready, Restarted, Renewed, ActionIs, MemberIs}
+use Rattle.lra_commands.specs.declared.command.Told.TheVariants.{Clerk, Action, Left, Now, Already, Fired, Idle, Asked}
+use Rattle.lra_commands.specs.declared.command.Told.TheVariants.{Recorded, MemberNow, MemberAlready, Restarted, Renewed}
+use Rattle.lra_commands.specs.declared.command.Told.TheVariants.{ActionIs, MemberIs}
 use Rattle.lra_commands.specs.declared.refusal.Resource.TheVariants as resource
 use Rattle.lra_commands.specs.declared.refusal.Refusal.{Refusal}
-use Rattle.lra_commands.specs.declared.refusal.Refusal.TheVariants.{NoSuchClerk, OldJournal, NoSuchAction, NoSuchMember, WrongAction, HasLeft, NotActive, BadAddresses, LimitTooFar, TooDeep, Full, NotAsked}
+use Rattle.lra_commands.specs.declared.refusal.Refusal.TheVariants.{NoSuchClerk, OldJournal, NoSuchAction, NoSuchMember}
+use Rattle.lra_commands.specs.declared.refusal.Refusal.TheVariants.{WrongAction, HasLeft, NotActive, BadAddresses}
+use Rattle.lra_commands.specs.declared.refusal.Refusal.TheVariants.{LimitTooFar, TooDeep, Full, NotAsked}
 use Rattle.lra_commands.specs.declared.limits.Terms.{Terms}
 use Rattle.lra_commands.specs.Terms.{usual, AreKeepable}
 use Rattle.lra_timers.specs.Pauses.{pause}

@@ -7,10 +7,12 @@ use Rattle.lra_model.specs.declared.asks.AskKind.TheVariants as ask
 use Rattle.lra_model.specs.declared.asks.Outcome.TheVariants as outcome
 use Rattle.lra_model.specs.declared.asks.Cause.TheVariants as cause
 use Rattle.lra_model.specs.declared.entry.Entry.{Entry}
-use Rattle.lra_model.specs.declared.entry.Deed.TheVariants.{Enrol, Start, Join, Leave, Close, Cancel, Ask, Reply, Restart}
+use Rattle.lra_model.specs.declared.entry.Deed.TheVariants.{Enrol, Start, Join, Leave, Close, Cancel, Ask, Reply}
+use Rattle.lra_model.specs.declared.entry.Deed.TheVariants.{Restart}
 use Rattle.lra_model.specs.History.{History, steps, clerks, actions, members, asks, last_moment}
 use Rattle.lra_model.specs.Actions.{parent, top, action_status, limit_in_force, children, members_of, depth}
-use Rattle.lra_model.specs.Members.{action_of, addresses_of, has_left, stays, was_asked, ask_of, replies, decided, member_status, last_reply, was_answered, is_outstanding, outstanding_ask}
+use Rattle.lra_model.specs.Members.{action_of, addresses_of, has_left, stays, was_asked, ask_of, replies, decided}
+use Rattle.lra_model.specs.Members.{member_status, last_reply, was_answered, is_outstanding, outstanding_ask}
 use Rattle.lra_model.specs.Ends.{staying, is_settled, right_end, top_has_ended}
 use Rattle.lra_model.specs.Facts.{facts_of}
 use Rattle.lra_model.specs.Wants.{wants, repeats}
@@ -22,7 +24,8 @@ use Rattle.lra_commands.specs.declared.query.Listing.TheVariants.{Members, Neste
 use Rattle.lra_commands.specs.declared.query.Row.TheVariants as row
 use Rattle.lra_commands.specs.declared.query.Known.{Known}
 use Rattle.lra_commands.specs.declared.query.Known.TheVariants as known
-use Rattle.lra_commands.specs.declared.query.Known.TheVariants.{ActionIs, MemberIs, Awaits, AwaitsNothing, NoMore, Counted}
+use Rattle.lra_commands.specs.declared.query.Known.TheVariants.{ActionIs, MemberIs, Awaits, AwaitsNothing, NoMore}
+use Rattle.lra_commands.specs.declared.query.Known.TheVariants.{Counted}
 use Rattle.lra_commands.specs.declared.refusal.Refusal.{Refusal}
 use Rattle.lra_commands.specs.declared.refusal.Refusal.TheVariants.{NoSuchAction, NoSuchMember}
 use Rattle.lra_commands.specs.Terms.{usual}

@@ -1,5 +1,6 @@
 -- Under whose number a call writes, and that an order is written once.
-use Rattle.std.proofs.Common.{◌≡◌, ℕ, zero, suc, List, [], ◌∷◌, ◌++◌, Option, Some, None, Result, Ok, Err, refl, sym, ap, ◌∙◌, subst, append-nil, cond, eq-eqb}
+use Rattle.std.proofs.Common.{◌≡◌, ℕ, zero, suc, List, [], ◌∷◌, ◌++◌, Option, Some, None, Result, Ok, Err, refl, sym}
+use Rattle.std.proofs.Common.{ap, ◌∙◌, subst, append-nil, cond, eq-eqb}
 use Rattle.std.specs.Prelude.{is_some, option_map, ◌==◌}
 use Rattle.std.specs.Option.{option_map_or}
 use Rattle.std.specs.List.{AllByRecursion}
@@ -20,7 +21,8 @@ use Rattle.lra_commands.specs.Deeds.{own_deed, writer_of, entry_of}
 use Rattle.lra_commands.specs.Blocks.{block}
 use Rattle.lra_commands.specs.Refusals.{refused}
 use Rattle.lra_commands.specs.Answers.{growth}
-use Rattle.lra_commands.specs.Counters.{Sight, terms_of, call_of, entries_under, IsSeenAfter, IsGivenSince, KeepsHistory, WritesOnce}
+use Rattle.lra_commands.specs.Counters.{Sight, terms_of, call_of, entries_under, IsSeenAfter, IsGivenSince}
+use Rattle.lra_commands.specs.Counters.{KeepsHistory, WritesOnce}
 
 -- each entry is under the number
 abbrev pub AreBy : ℕ → List Entry → Type 0

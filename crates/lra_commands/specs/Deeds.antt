@@ -1,5 +1,6 @@
 -- What a command writes of its own.
-use Rattle.std.specs.Prelude.{ℕ, ◌+◌, Bool, false, not, List, length, Option, Some, None, option_map, is_some, unwrap_or, cond}
+use Rattle.std.specs.Prelude.{ℕ, ◌+◌, Bool, false, not, List, length, Option, Some, None, option_map, is_some}
+use Rattle.std.specs.Prelude.{unwrap_or, cond}
 use Rattle.std.specs.Option.{option_map_or, option_and_then}
 use Rattle.std.specs.Result.{result_ok}
 use Rattle.lra_model.specs.declared.status.Ending.{Ending}

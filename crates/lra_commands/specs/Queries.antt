@@ -1,11 +1,14 @@
 -- What a query is told.
-use Rattle.std.specs.Prelude.{◌≡◌, ◌⊎◌, ℕ, zero, suc, ◌+◌, ◌<◌, nat_lt, Bool, true, false, ◌&&◌, not, List, [], ◌∷◌, ◌++◌, length, take, drop, map, filter, Option, Some, None, option_map, Result, Ok, Err, cond}
+use Rattle.std.specs.Prelude.{◌≡◌, ◌⊎◌, ℕ, zero, suc, ◌+◌, ◌<◌, nat_lt, Bool, true, false, ◌&&◌, not, List, [], ◌∷◌}
+use Rattle.std.specs.Prelude.{◌++◌, length, take, drop, map, filter, Option, Some, None, option_map, Result, Ok, Err}
+use Rattle.std.specs.Prelude.{cond}
 use Rattle.std.specs.Option.{option_map_or}
 use Rattle.std.specs.List.{find, position_or_len, list_any}
 use Rattle.lra_model.specs.declared.status.ActionStatus.{ActionStatus}
 use Rattle.lra_model.specs.declared.status.ActionStatus.TheVariants as action
 use Rattle.lra_model.specs.declared.asks.AskKind.{AskKind}
-use Rattle.lra_model.specs.Words.{when, has_ended, has_finished_cancelling, is_done_completing, is_done_compensating, same_status}
+use Rattle.lra_model.specs.Words.{when, has_ended, has_finished_cancelling, is_done_completing, is_done_compensating}
+use Rattle.lra_model.specs.Words.{same_status}
 use Rattle.lra_model.specs.History.{History, clerks, actions, members, is_among}
 use Rattle.lra_model.specs.Actions.{parent, children, members_of}
 use Rattle.lra_model.specs.Members.{stays, member_status, outstanding_ask}

@@ -9,7 +9,8 @@ use Rattle.lra_commands.specs.declared.limits.Terms.{Terms}
 use Rattle.lra_commands.specs.Calls.{Command, Call, moment_of}
 use Rattle.lra_commands.specs.Deeds.{is_open}
 use Rattle.lra_commands.specs.Blocks.{block}
-use Rattle.lra_commands.specs.Refusals.{Ground, no_action, status_at, is_filled, overfills, command_grounds, is_stranger, first_ground}
+use Rattle.lra_commands.specs.Refusals.{Ground, no_action, status_at, is_filled, overfills, command_grounds}
+use Rattle.lra_commands.specs.Refusals.{is_stranger, first_ground}
 use Rattle.lra_commands.specs.Answers.{answer}
 
 -- the refusals that come before a growth that the checks of a call need: a join reads its addresses once its action is

@@ -1,5 +1,6 @@
 -- In a legal history each ask has at most one reply.
-use Rattle.std.proofs.Common.{◌≡◌, ℕ, ◌+◌, ◌≤◌, ◌<◌, Bool, true, false, List, [], ◌∷◌, ◌++◌, length, refl, sym, ap, ◌∙◌, cond, subst, arith, eqb-true, length-append}
+use Rattle.std.proofs.Common.{◌≡◌, ℕ, ◌+◌, ◌≤◌, ◌<◌, Bool, true, false, List, [], ◌∷◌, ◌++◌, length, refl, sym, ap, ◌∙◌}
+use Rattle.std.proofs.Common.{cond, subst, arith, eqb-true, length-append}
 use Rattle.std.specs.Prelude.{◌==◌, unwrap_or, count_by, option_to_list}
 use Rattle.std.proofs.lemmas.List.Sums.{sum_by-cons, sum_by-append}
 use Rattle.lra_model.specs.declared.entry.Deed.{Deed}
@@ -11,7 +12,8 @@ use Rattle.lra_model.specs.History.{History, asks, asked_by}
 use Rattle.lra_model.specs.Members.{is_outstanding}
 use Rattle.lra_model.specs.Words.{when}
 use Rattle.lra_laws.proofs.Push.{is_outstanding_push, asks_push}
-use Rattle.lra_laws.proofs.Legal.{Allowed, legal_induction, entry_kept, reply_kept, asked_number, numbered_among, asks_numbered}
+use Rattle.lra_laws.proofs.Legal.{Allowed, legal_induction, entry_kept, reply_kept, asked_number, numbered_among}
+use Rattle.lra_laws.proofs.Legal.{asks_numbered}
 use Rattle.lra_laws.proofs.LegalAsks.{reply_answers, outstanding_there}
 use Rattle.lra_model.specs.Rules.{is_legal}
 use Rattle.lra_ids.specs.Addresses.{is_address}

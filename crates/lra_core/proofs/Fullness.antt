@@ -1,5 +1,6 @@
 -- A call that isn't refused but for its entries: where it is refused, and where memory may be.
-use Rattle.std.proofs.Common.{◌≡◌, ℕ, Bool, true, false, List, [], ◌∷◌, ◌++◌, length, Option, Some, None, refl, sym, ap, ◌∙◌, ◌<◌, ◌≤◌, append_assoc}
+use Rattle.std.proofs.Common.{◌≡◌, ℕ, Bool, true, false, List, [], ◌∷◌, ◌++◌, length, Option, Some, None, refl, sym, ap}
+use Rattle.std.proofs.Common.{◌∙◌, ◌<◌, ◌≤◌, append_assoc}
 use Rattle.std.proofs.lemmas.Bool.{lt-ltb, le-ltb}
 use Rattle.std.specs.Prelude.{◌&&◌, ◌||◌, not, Ok, Err, nat_lt}
 use Rattle.std.specs.Option.{option_or, option_map_or}
@@ -16,7 +17,8 @@ use Rattle.lra_commands.specs.declared.refusal.Refusal.{Refusal}
 use Rattle.lra_commands.specs.declared.refusal.Refusal.TheVariants as refusal
 use Rattle.lra_commands.specs.Calls.{Command, Call, moment_of}
 use Rattle.lra_commands.specs.Blocks.{block}
-use Rattle.lra_commands.specs.Refusals.{Ground, is_filled, passes, overfills, command_grounds, is_stranger, first_ground, refused}
+use Rattle.lra_commands.specs.Refusals.{Ground, is_filled, passes, overfills, command_grounds, is_stranger}
+use Rattle.lra_commands.specs.Refusals.{first_ground, refused}
 use Rattle.lra_commands.specs.Answers.{told_of, answer}
 use Rattle.lra_commands.specs.Shortages.{grounds_before_growth, has_addresses, MayRunOut}
 use Rattle.lra_commands.proofs.Grounds.{names, other_first}

@@ -22,7 +22,8 @@ use Rattle.lra_commands.specs.declared.limits.Terms.{Terms}
 use Rattle.lra_commands.specs.Terms.{AreKeepable}
 use Rattle.lra_commands.specs.Calls.{Command, Call, moment_of}
 use Rattle.lra_commands.specs.Counters.{Setting}
-use Rattle.lra_commands.specs.Deeds.{stored_addresses, outcome_told, is_decided, is_open, may_be_cancelled, own_deed, entry_of, own_entry}
+use Rattle.lra_commands.specs.Deeds.{stored_addresses, outcome_told, is_decided, is_open, may_be_cancelled, own_deed}
+use Rattle.lra_commands.specs.Deeds.{entry_of, own_entry}
 use Rattle.lra_commands.specs.Due.{due, late}
 use Rattle.lra_commands.specs.Given.{errand_for}
 use Rattle.lra_commands.proofs.Keeps.{lawful_from_nothing}

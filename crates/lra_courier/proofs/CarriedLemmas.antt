@@ -1,5 +1,6 @@
 -- What stays true of a callback that is carried.
-use Rattle.std.proofs.Common.{◌≡◌, ℕ, ◌+◌, ◌<◌, ◌≤◌, Bool, true, false, List, [], ◌∷◌, ◌++◌, length, drop, refl, sym, ap, subst, ◌∙◌, arith, Option, Some, None, Result, Ok, Err}
+use Rattle.std.proofs.Common.{◌≡◌, ℕ, ◌+◌, ◌<◌, ◌≤◌, Bool, true, false, List, [], ◌∷◌, ◌++◌, length, drop, refl, sym}
+use Rattle.std.proofs.Common.{ap, subst, ◌∙◌, arith, Option, Some, None, Result, Ok, Err}
 use Rattle.std.specs.Prelude.{◌-◌, ◌||◌, if◌then◌else◌, is_some, IfSome, IsTrue}
 use Rattle.std.specs.Result.{result_unwrap_or}
 use Rattle.std.proofs.lemmas.List.{append-nil, length-append, length-drop}
@@ -19,7 +20,8 @@ use Rattle.lra_courier.specs.declared.fault.CallFault.TheVariants.{Unreached, Se
 use Rattle.lra_courier.specs.Callbacks.{Calling}
 use Rattle.lra_courier.specs.Exchanges.{IsAnswer}
 use Rattle.lra_courier.specs.Replies.{classify}
-use Rattle.lra_courier.specs.Carried.{Carried, IsReply, Replies, IsSent, Comes, IsCarried, room_of, went, took, finished, broken, tells}
+use Rattle.lra_courier.specs.Carried.{Carried, IsReply, Replies, IsSent, Comes, IsCarried, room_of, went, took}
+use Rattle.lra_courier.specs.Carried.{finished, broken, tells}
 use Rattle.lra_courier.specs.inner.Told.{TellsSoFar, TellsAtEnd, Looks}
 
 -- ---- what is found

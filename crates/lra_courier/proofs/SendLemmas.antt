@@ -1,5 +1,6 @@
 -- The request that is written is the callback's.
-use Rattle.std.proofs.Common.{◌≡◌, ◌≢◌, ℕ, Option, true, false, List, [], ◌∷◌, ◌++◌, map, codes, bytes_eq, Ok, Err, refl, sym, ap, ◌∙◌}
+use Rattle.std.proofs.Common.{◌≡◌, ◌≢◌, ℕ, Option, true, false, List, [], ◌∷◌, ◌++◌, map, codes, bytes_eq, Ok, Err}
+use Rattle.std.proofs.Common.{refl, sym, ap, ◌∙◌}
 use Rattle.std.specs.Borrow.{Bor}
 use Rattle.std.specs.List.{flat_map}
 use Rattle.std.proofs.KnownBytes.{Keeps-refl}

@@ -1,6 +1,7 @@
 -- What a member's reply comes to (MicroProfile LRA 2.0, participant methods; which class a reply is of is this
 -- project's choice).
-use Rattle.std.specs.Prelude.{ℕ, ◌-◌, Bool, ◌&&◌, ◌||◌, ◌==◌, nat_le, nat_lt, if◌then◌else◌, List, [], ◌∷◌, length, reverse, slice_index, slice_range, bytes_eq, Option}
+use Rattle.std.specs.Prelude.{ℕ, ◌-◌, Bool, ◌&&◌, ◌||◌, ◌==◌, nat_le, nat_lt, if◌then◌else◌, List, [], ◌∷◌, length}
+use Rattle.std.specs.Prelude.{reverse, slice_index, slice_range, bytes_eq, Option}
 use Rattle.std.specs.Option.{option_map_or}
 use Rattle.std.specs.List.{find}
 use Rattle.lra_model.specs.declared.status.MemberStatus.{MemberStatus}

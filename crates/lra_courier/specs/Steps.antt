@@ -1,5 +1,6 @@
 -- What a step says.
-use Rattle.std.specs.Prelude.{◌≡◌, ◌⊎◌, ◌<◌, ◌≤◌, Bool, true, false, List, ℕ, length, Some, None, Result, Ok, Err, IsFalse}
+use Rattle.std.specs.Prelude.{◌≡◌, ◌⊎◌, ◌<◌, ◌≤◌, Bool, true, false, List, ℕ, length, Some, None, Result, Ok, Err}
+use Rattle.std.specs.Prelude.{IsFalse}
 use Rattle.std.specs.declared.alloc.AllocError.{AllocError}
 use Rattle.lra_wire.specs.Response.{AwaitsResponse}
 use Rattle.lra_courier.specs.declared.carrying.Step.{Step}

@@ -1,14 +1,18 @@
 -- The place of the row that an ask stands in, by the index.
-use Rattle.std.proofs.Common.{◌≡◌, ℕ, zero, suc, ◌+◌, ◌<◌, ◌≤◌, Bool, true, false, ◌&&◌, not, cond, List, [], ◌∷◌, ◌++◌, Option, Some, None, refl, sym, ◌∙◌, ap, subst, ◌⊎◌, inl, inr, slice_get, slice_set, eqb, arith}
+use Rattle.std.proofs.Common.{◌≡◌, ℕ, zero, suc, ◌+◌, ◌<◌, ◌≤◌, Bool, true, false, ◌&&◌, not, cond, List, [], ◌∷◌, ◌++◌}
+use Rattle.std.proofs.Common.{Option, Some, None, refl, sym, ◌∙◌, ap, subst, ◌⊎◌, inl, inr, slice_get, slice_set, eqb}
+use Rattle.std.proofs.Common.{arith}
 use Rattle.std.specs.Option.{option_map_or}
 use Rattle.std.specs.List.{find}
 use Rattle.std.proofs.lemmas.Option.{same_Some, none-some}
 use Rattle.std.proofs.lemmas.Bool.{lt-ltb, cases_eq, eqb-true, eq-eqb, ne_eqb}
-use Rattle.lra_laws.specs.Rows.{ActionRow, MemberRow, recount, counts_as, is_left_to_complete, is_left_to_compensate, is_uncompleted, is_uncompensated}
+use Rattle.lra_laws.specs.Rows.{ActionRow, MemberRow, recount, counts_as, is_left_to_complete, is_left_to_compensate}
+use Rattle.lra_laws.specs.Rows.{is_uncompleted, is_uncompensated}
 use Rattle.lra_model.specs.Words.{has_gone}
 use Rattle.lra_model.specs.declared.status.MemberStatus.{MemberStatus}
 use Rattle.lra_laws.specs.Rows.{Standing}
-use Rattle.lra_laws.specs.Rows.{State, change_row, stands_as, place_of, change_member, with_member, with_reply, with_reply_to}
+use Rattle.lra_laws.specs.Rows.{State, change_row, stands_as, place_of, change_member, with_member, with_reply}
+use Rattle.lra_laws.specs.Rows.{with_reply_to}
 use Rattle.lra_laws.specs.inner.RowFacts.{member_asked}
 use Rattle.lra_laws.specs.Rows.{row_at}
 use Rattle.lra_model.specs.declared.asks.Outcome.{Outcome}

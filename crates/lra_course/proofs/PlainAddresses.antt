@@ -1,10 +1,13 @@
 -- A text in the plain form is an address.
-use Rattle.std.proofs.Common.{◌≡◌, ℕ, ◌<◌, ◌≤◌, ◌^◌, Bool, true, false, not, ◌&&◌, ◌||◌, ◌==◌, ◌⊎◌, inl, inr, List, [], ◌∷◌, ◌++◌, length, Option, Some, None, All, refl, sym, ap, ◌∙◌, subst, append-nil, append_assoc, arith, lit<}
+use Rattle.std.proofs.Common.{◌≡◌, ℕ, ◌<◌, ◌≤◌, ◌^◌, Bool, true, false, not, ◌&&◌, ◌||◌, ◌==◌, ◌⊎◌, inl, inr, List, []}
+use Rattle.std.proofs.Common.{◌∷◌, ◌++◌, length, Option, Some, None, All, refl, sym, ap, ◌∙◌, subst, append-nil}
+use Rattle.std.proofs.Common.{append_assoc, arith, lit<}
 use Rattle.std.specs.Prelude.{codes}
 use Rattle.std.specs.Fmt.{decimal}
 use Rattle.std.specs.List.{list_all}
 use Rattle.std.specs.Char.{is_ascii_digit, is_digit, is_ascii_graphic, to_ascii_lowercase}
-use Rattle.std.proofs.lemmas.Bool.{cond-true, cond-false, cases_Bool, eq-eqb, eqb-true, and_parts, and_left, and_right, and_from, or_from, both_ways, not-true, not-false, true≢false}
+use Rattle.std.proofs.lemmas.Bool.{cond-true, cond-false, cases_Bool, eq-eqb, eqb-true, and_parts, and_left, and_right}
+use Rattle.std.proofs.lemmas.Bool.{and_from, or_from, both_ways, not-true, not-false, true≢false}
 use Rattle.std.proofs.lemmas.Bool.Decides.{nat_tests}
 use Rattle.std.specs.Str.{all_ascii_digits}
 use Rattle.std.proofs.lemmas.Fmt.{digits_decimal}
@@ -28,7 +31,8 @@ use Rattle.lra_ids.proofs.ParsedValid.{http_kind}
 use Rattle.lra_ids.proofs.AddressFacts.{url_is_address}
 use Rattle.lra_entries.specs.Numbers as words
 use Rattle.lra_entries.proofs.Numbers.{own, number_is}
-use Rattle.lra_course.specs.inner.Plain.{is_letter, is_name_byte, is_path_byte, is_host, is_path, port_text, IsPort, IsAuthority}
+use Rattle.lra_course.specs.inner.Plain.{is_letter, is_name_byte, is_path_byte, is_host, is_path, port_text, IsPort}
+use Rattle.lra_course.specs.inner.Plain.{IsAuthority}
 
 -- ---- the path
 

@@ -6,15 +6,19 @@ use Rattle.lra_model.specs.declared.asks.AskKind.{AskKind}
 use Rattle.lra_model.specs.declared.asks.AskKind.TheVariants as ask
 use Rattle.lra_model.specs.declared.asks.Outcome.TheVariants as outcome
 use Rattle.lra_model.specs.declared.asks.Cause.TheVariants as cause
-use Rattle.lra_model.specs.declared.entry.Deed.TheVariants.{Enrol, Start, Join, Close, Cancel, Ask, Reply, Report, End, Restart}
+use Rattle.lra_model.specs.declared.entry.Deed.TheVariants.{Enrol, Start, Join, Close, Cancel, Ask, Reply, Report, End}
+use Rattle.lra_model.specs.declared.entry.Deed.TheVariants.{Restart}
 use Rattle.lra_model.specs.History.{History, steps, clerks, actions, members, asks, last_moment}
 use Rattle.lra_model.specs.Actions.{parent, top, action_status, limit_in_force, children, members_of}
-use Rattle.lra_model.specs.Members.{action_of, addresses_of, has_left, stays, was_asked, ask_of, replies, decided, member_status, last_reply, was_answered, is_outstanding, outstanding_ask}
+use Rattle.lra_model.specs.Members.{action_of, addresses_of, has_left, stays, was_asked, ask_of, replies, decided}
+use Rattle.lra_model.specs.Members.{member_status, last_reply, was_answered, is_outstanding, outstanding_ask}
 use Rattle.lra_model.specs.Ends.{staying, is_settled, right_end, top_has_ended}
 use Rattle.lra_model.specs.Rules.{broken, is_legal}
 use Rattle.lra_model.specs.declared.version.Version.TheVariants.{Two}
 use Rattle.lra_model.specs.Facts.{ActionFacts, MemberFacts, Facts, facts_of}
-use Rattle.lra_laws.proofs.Worked.{at, u, c, s, f, a, uris, closed_empty, reported, late_reply, left_alone, undone, cancelled_meanwhile, failing, cancelled_below, limited, skipped, restarted, renewed, taken_back}
+use Rattle.lra_laws.proofs.Worked.{at, u, c, s, f, a, uris, closed_empty, reported, late_reply, left_alone, undone}
+use Rattle.lra_laws.proofs.Worked.{cancelled_meanwhile, failing, cancelled_below, limited, skipped, restarted, renewed}
+use Rattle.lra_laws.proofs.Worked.{taken_back}
 use Rattle.lra_laws.specs.Rows.{State, state_of, standing, void_asks, count_staying, count_children}
 use Rattle.lra_laws.specs.inner.RowFacts.{facts_by}
 use Rattle.lra_course.specs.Start.{after_entry}

@@ -1,5 +1,6 @@
 -- The summary, by the rows.
-use Rattle.std.specs.Prelude.{ℕ, zero, suc, ◌==◌, ◌+◌, Bool, false, ◌&&◌, ◌||◌, not, cond, List, [], ◌∷◌, length, Option, Some, None, option_map, count_by}
+use Rattle.std.specs.Prelude.{ℕ, zero, suc, ◌==◌, ◌+◌, Bool, false, ◌&&◌, ◌||◌, not, cond, List, [], ◌∷◌, length}
+use Rattle.std.specs.Prelude.{Option, Some, None, option_map, count_by}
 use Rattle.std.specs.Option.{option_map_or}
 use Rattle.lra_model.specs.Words.{is_closed, has_failed, has_gone, member_has_failed}
 use Rattle.lra_laws.specs.Rows.{ActionRow}

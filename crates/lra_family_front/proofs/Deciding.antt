@@ -1,5 +1,6 @@
 -- Who answers a request at a family, and what.
-use Rattle.std.proofs.Common.{◌≡◌, ◌≢◌, ℕ, ◌<◌, ◌^◌, Bool, false, true≢false, is_some, is_ok, List, map, Option, Some, None, Result, Err, inl, refl, sym, ap, ◌∙◌, subst, arith}
+use Rattle.std.proofs.Common.{◌≡◌, ◌≢◌, ℕ, ◌<◌, ◌^◌, Bool, false, true≢false, is_some, is_ok, List, map, Option, Some}
+use Rattle.std.proofs.Common.{None, Result, Err, inl, refl, sym, ap, ◌∙◌, subst, arith}
 use Rattle.std.specs.Prelude.{MatchOption, IfSome, IsSomeAnd, unwrap_or}
 use Rattle.lra_wire.specs.Request.{Request}
 use Rattle.lra_commands.specs.declared.command.Told.{Told}

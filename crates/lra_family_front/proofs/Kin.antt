@@ -1,5 +1,6 @@
 -- Members that join and leave, and what their URIs begin with.
-use Rattle.std.proofs.Common.{◌≡◌, ◌==◌, ℕ, Bool, true, false, true≢false, List, [], ◌∷◌, ◌++◌, map, Option, Some, None, is_some, Result, inl, inr, refl, sym, ap, ◌∙◌, subst}
+use Rattle.std.proofs.Common.{◌≡◌, ◌==◌, ℕ, Bool, true, false, true≢false, List, [], ◌∷◌, ◌++◌, map, Option, Some, None}
+use Rattle.std.proofs.Common.{is_some, Result, inl, inr, refl, sym, ap, ◌∙◌, subst}
 use Rattle.std.specs.Prelude.{◌⊎◌, IfNone, IfSome, MatchOption, if◌then◌else◌}
 use Rattle.lra_commands.specs.declared.command.Told.{Told}
 use Rattle.lra_commands.specs.declared.counter.Order.{Order}
@@ -16,7 +17,8 @@ use Rattle.lra_steps.specs.History.{Turn as ConnectionTurn}
 use Rattle.lra_steps.specs.Pieces.{turns_in}
 use Rattle.lra_wire.specs.Request.{Request}
 use Rattle.lra_family_front.specs.Waiting.{IsPutOff, IsRefused}
-use Rattle.lra_family_front.specs.Households.{AreTurns, HaveBase, HouseholdsRest, HouseholdsRun, KeepsBase, Moved, Moves, Outcome, Responds, base_of, turns_of}
+use Rattle.lra_family_front.specs.Households.{AreTurns, HaveBase, HouseholdsRest, HouseholdsRun, KeepsBase, Moved}
+use Rattle.lra_family_front.specs.Households.{Moves, Outcome, Responds, base_of, turns_of}
 
 -- ---- joins and leaves
 

@@ -1,5 +1,6 @@
 -- What names another instance than that of the coordinator is denied by it.
-use Rattle.std.proofs.Common.{◌≡◌, ◌≢◌, ℕ, ◌<◌, ◌^◌, Bool, true, false, ◌&&◌, ◌++◌, List, [], Option, Some, None, option_and_then, Result, Ok, Err, inl, inr, refl, sym, ap, ◌∙◌, subst}
+use Rattle.std.proofs.Common.{◌≡◌, ◌≢◌, ℕ, ◌<◌, ◌^◌, Bool, true, false, ◌&&◌, ◌++◌, List, [], Option, Some, None}
+use Rattle.std.proofs.Common.{option_and_then, Result, Ok, Err, inl, inr, refl, sym, ap, ◌∙◌, subst}
 use Rattle.std.specs.Prelude.{codes, unwrap_or, MatchOption}
 use Rattle.std.specs.Result.{MatchResult}
 use Rattle.serde_json.specs.Data.{Members}

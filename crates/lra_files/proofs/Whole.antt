@@ -1,5 +1,6 @@
 -- What a reader has, of which one byte more was asked for than it may have.
-use Rattle.std.proofs.Common.{◌≡◌, ℕ, ◌≤◌, ◌+◌, List, [], ◌++◌, length, take, take_all, length-take, Option, Some, None, option_map, IfSome, subst, ◌∙◌, arith}
+use Rattle.std.proofs.Common.{◌≡◌, ℕ, ◌≤◌, ◌+◌, List, [], ◌++◌, length, take, take_all, length-take, Option, Some, None}
+use Rattle.std.proofs.Common.{option_map, IfSome, subst, ◌∙◌, arith}
 use Rattle.lra_files.specs.Small.{IsWhole}
 
 -- what has no more bytes than it may have was read whole

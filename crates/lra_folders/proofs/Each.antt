@@ -1,5 +1,7 @@
 -- One journal more.
-use Rattle.std.proofs.Common.{◌≡◌, ℕ, ◌+◌, ◌<◌, ◌≤◌, List, [], ◌∷◌, ◌++◌, length, take, drop, get_or, String, Global, Vec, Result, Ok, Err, string_bytes, codes, Option, Some, None, arith, zero, suc, refl, sym, ap, subst, ◌∙◌, append_assoc, append-nil}
+use Rattle.std.proofs.Common.{◌≡◌, ℕ, ◌+◌, ◌<◌, ◌≤◌, List, [], ◌∷◌, ◌++◌, length, take, drop, get_or, String, Global}
+use Rattle.std.proofs.Common.{Vec, Result, Ok, Err, string_bytes, codes, Option, Some, None, arith, zero, suc, refl}
+use Rattle.std.proofs.Common.{sym, ap, subst, ◌∙◌, append_assoc, append-nil}
 use Rattle.std.specs.Prelude.{IfSome, IfOk, vec_len}
 use Rattle.std.specs.declared.alloc.AllocError.{AllocError}
 use Rattle.std.proofs.lemmas.List.{take_more, take-append-drop, get_or_read, get_or-take, length-take, length_push}
@@ -13,7 +15,8 @@ use Rattle.lra_folders.specs.declared.deed.Deed.{Deed}
 use Rattle.lra_folders.specs.declared.deed.Deed.TheVariants.{Audit}
 use Rattle.lra_folders.specs.declared.deed.Line.{Line}
 use Rattle.lra_folders.specs.declared.journals.Tally.{Tally}
-use Rattle.lra_folders.specs.Folders.{path_of, counted, counted_as, behind, Progress, IsOpened, AuditsNext, AuditsEach, AuditsAll, TellsNext, TellsEach, TellsAll}
+use Rattle.lra_folders.specs.Folders.{path_of, counted, counted_as, behind, Progress, IsOpened, AuditsNext, AuditsEach}
+use Rattle.lra_folders.specs.Folders.{AuditsAll, TellsNext, TellsEach, TellsAll}
 use Rattle.lra_folders.specs.inner.Told.{IsTold, IsToldOf, AllTold}
 
 -- those of two lists of names

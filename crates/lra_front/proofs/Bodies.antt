@@ -1,5 +1,7 @@
 -- What a body says.
-use Rattle.std.proofs.Common.{◌≡◌, ℕ, ◌<◌, Bool, true, false, ◌&&◌, List, [], ◌∷◌, length, Option, Some, None, IfSome, IsSome, option_and_then, is_some, true≢false, inl, inr, Ok, Err, refl, sym, ap, ◌∙◌, subst, arith}
+use Rattle.std.proofs.Common.{◌≡◌, ℕ, ◌<◌, Bool, true, false, ◌&&◌, List, [], ◌∷◌, length, Option, Some, None, IfSome}
+use Rattle.std.proofs.Common.{IsSome, option_and_then, is_some, true≢false, inl, inr, Ok, Err, refl, sym, ap, ◌∙◌}
+use Rattle.std.proofs.Common.{subst, arith}
 use Rattle.std.specs.Str.{is_utf8, IsUtf8}
 use Rattle.std.proofs.lemmas.Str.{is_utf8-from_IsUtf8, IsUtf8-from_is_utf8}
 use Rattle.serde_json.specs.Data.{Data, Members, no_members, object}
@@ -15,7 +17,8 @@ use Rattle.lra_model.specs.declared.status.Ending.{Ending}
 use Rattle.lra_model.specs.declared.status.Ending.TheVariants as ending
 use Rattle.lra_model.specs.Names.{ending_name}
 use Rattle.lra_model.proofs.ByName.{found_by_name}
-use Rattle.lra_front.specs.Bodies.{endings, ending_named, object_in, reads_body, members_fit, has_needed, fitting, body_of}
+use Rattle.lra_front.specs.Bodies.{endings, ending_named, object_in, reads_body, members_fit, has_needed, fitting}
+use Rattle.lra_front.specs.Bodies.{body_of}
 
 itself : (e : Ending) → Some e ≡ ending_named (ending_name e)
 itself ending.Completed = refl

@@ -23,7 +23,8 @@ use Rattle.lra_front.specs.declared.wish.Wish.{Wish}
 use Rattle.lra_front.specs.declared.wish.Wish.TheVariants as wish
 use Rattle.lra_front.specs.Routes.{operation_of, id_in}
 use Rattle.lra_front.specs.Bodies.{body_of, text_under}
-use Rattle.lra_front.specs.Wishes.{no_action, no_member, limit_in, IsNamed, IsOfAction, IsOfMember, IsWish, MayAsk, IsOrder}
+use Rattle.lra_front.specs.Wishes.{no_action, no_member, limit_in, IsNamed, IsOfAction, IsOfMember, IsWish, MayAsk}
+use Rattle.lra_front.specs.Wishes.{IsOrder}
 use Rattle.lra_front.specs.inner.Tellable.{IsTellable, IsAnswerable}
 
 -- ---- the action of which the status is asked

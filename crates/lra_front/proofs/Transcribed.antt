@@ -1,5 +1,6 @@
 -- A stream's steps as lists.
-use Rattle.std.proofs.Common.{◌≡◌, ℕ, zero, suc, Bool, true, false, List, [], ◌∷◌, ◌++◌, Option, Some, None, IfSome, Result, Ok, Err, inl, inr, refl, sym, ap, ◌∙◌, subst, append_assoc, append-nil}
+use Rattle.std.proofs.Common.{◌≡◌, ℕ, zero, suc, Bool, true, false, List, [], ◌∷◌, ◌++◌, Option, Some, None, IfSome}
+use Rattle.std.proofs.Common.{Result, Ok, Err, inl, inr, refl, sym, ap, ◌∙◌, subst, append_assoc, append-nil}
 use Rattle.std.specs.Prelude.{unwrap_or}
 use Rattle.std.specs.Io.KnownBytes.{Appends, Keeps}
 use Rattle.lra_wire.specs.Request.{Request, IsRequest, RefusesRequest}
@@ -13,7 +14,8 @@ use Rattle.lra_front.specs.declared.stream.StreamEnd.{StreamEnd}
 use Rattle.lra_front.specs.declared.stream.StreamEnd.TheVariants.{Done, Refused, WriteFault}
 use Rattle.lra_front.specs.Serving.{Responds}
 use Rattle.lra_front.specs.Streams.{Standing, closes_after, reply_to, fault_text, Exchange, Replied, EndsAt, ServesUpTo}
-use Rattle.lra_front.specs.Transcripts.{Turn, turn_text, replies, fault_bytes, StaysOpenBefore, ClosesLast, Transcript, EndsAfter, AreTranscripts}
+use Rattle.lra_front.specs.Transcripts.{Turn, turn_text, replies, fault_bytes, StaysOpenBefore, ClosesLast, Transcript}
+use Rattle.lra_front.specs.Transcripts.{EndsAfter, AreTranscripts}
 
 -- ---- bytes that are known
 

@@ -1,5 +1,6 @@
 -- What is replied: the code, the fields and the body of each answer, and the text of a reply.
-use Rattle.std.specs.Prelude.{ℕ, ◌≤◌, ◌<◌, ◌^◌, ⊤, Bool, true, false, ◌||◌, if◌then◌else◌, List, [], ◌∷◌, ◌++◌, length, codes, decimal, unwrap_or}
+use Rattle.std.specs.Prelude.{ℕ, ◌≤◌, ◌<◌, ◌^◌, ⊤, Bool, true, false, ◌||◌, if◌then◌else◌, List, [], ◌∷◌, ◌++◌, length}
+use Rattle.std.specs.Prelude.{codes, decimal, unwrap_or}
 use Rattle.std.specs.List.{flat_map}
 use Rattle.http.specs.StatusCode.{reason_phrase}
 use Rattle.serde_json.specs.Data.{Data, string, object, member, no_members}

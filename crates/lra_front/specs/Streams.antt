@@ -1,5 +1,6 @@
 -- What a stream of requests does: one after another, until it is closed.
-use Rattle.std.specs.Prelude.{◌≡◌, ◌⊎◌, ℕ, zero, suc, Bool, true, false, ◌||◌, List, [], bytes_eq, codes, Option, Some, None, IfSome, Result}
+use Rattle.std.specs.Prelude.{◌≡◌, ◌⊎◌, ℕ, zero, suc, Bool, true, false, ◌||◌, List, [], bytes_eq, codes, Option, Some}
+use Rattle.std.specs.Prelude.{None, IfSome, Result}
 use Rattle.std.specs.Option.{option_map_or}
 use Rattle.std.specs.Io.KnownBytes.{Appends, Keeps}
 use Rattle.lra_wire.specs.declared.fault.WireFault.{WireFault}

@@ -1,6 +1,7 @@
 -- What a whole stream comes to, as lists: the requests that its bytes spell, the moments, the answers, and the bytes of
 -- the replies.
-use Rattle.std.specs.Prelude.{◌≡◌, ◌⊎◌, ℕ, zero, suc, ◌<◌, Bool, true, false, List, [], ◌∷◌, ◌++◌, length, Some, Result, Ok, Err, ⊤}
+use Rattle.std.specs.Prelude.{◌≡◌, ◌⊎◌, ℕ, zero, suc, ◌<◌, Bool, true, false, List, [], ◌∷◌, ◌++◌, length, Some, Result}
+use Rattle.std.specs.Prelude.{Ok, Err, ⊤}
 use mathlib.Core.List.{IsPrefix}
 use Rattle.lra_model.specs.History.{History}
 use Rattle.std.specs.Option.{option_map_or}

@@ -1,9 +1,11 @@
 -- What an address is known to be, and which URLs are addresses.
-use Rattle.std.proofs.Common.{◌≡◌, ◌≢◌, ◌⊎◌, inl, inr, ℕ, ◌≤◌, ◌<◌, true, false, not, List, All, ◌∷◌, ◌++◌, ◌+◌, drop, length-append, length, None, Ok, Err, sym, refl, ap, ◌∙◌, subst, arith}
+use Rattle.std.proofs.Common.{◌≡◌, ◌≢◌, ◌⊎◌, inl, inr, ℕ, ◌≤◌, ◌<◌, true, false, not, List, All, ◌∷◌, ◌++◌, ◌+◌, drop}
+use Rattle.std.proofs.Common.{length-append, length, None, Ok, Err, sym, refl, ap, ◌∙◌, subst, arith}
 use Rattle.std.specs.Prelude.{codes, bytes_eq, nat_lt, Result}
 use Rattle.std.specs.List.{list_all, concat}
 use Rattle.std.specs.Char.{is_ascii_graphic}
-use Rattle.std.proofs.lemmas.Bool.{cond_both, cond-true, cond-false, and_parts, not-false, ltb-false, not_from_true, not_from_false, false_from_ne_true}
+use Rattle.std.proofs.lemmas.Bool.{cond_both, cond-true, cond-false, and_parts, not-false, ltb-false, not_from_true}
+use Rattle.std.proofs.lemmas.Bool.{not_from_false, false_from_ne_true}
 use Rattle.std.proofs.lemmas.Bool.Decides.{nat_tests}
 use Rattle.std.specs.Str.{IsUtf8}
 use Rattle.std.proofs.lemmas.Str.{IsUtf8-from_ascii}
@@ -20,7 +22,8 @@ use Rattle.url.proofs.Theorems.{parse_url-serialize_special}
 use Rattle.lra_ids.proofs.ParsedValid.{http_kind, parse_url-valid}
 use Rattle.lra_ids.specs.declared.fault.UriFault.{UriFault}
 use Rattle.lra_ids.specs.declared.fault.UriFault.TheVariants.{NotUrl, NotHttp, TooLong, Memory}
-use Rattle.lra_ids.specs.Addresses.{fault_of, is_http, address_of_url, address_of_parsed, address_of, is_own, is_address}
+use Rattle.lra_ids.specs.Addresses.{fault_of, is_http, address_of_url, address_of_parsed, address_of, is_own}
+use Rattle.lra_ids.specs.Addresses.{is_address}
 use Rattle.lra_ids.specs.inner.Urls.{IsAddressUrl}
 
 -- what is known of an address text

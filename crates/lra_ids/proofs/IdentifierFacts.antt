@@ -1,5 +1,6 @@
 -- The text of an identifier reads back to its bytes, and the bytes to its number.
-use Rattle.std.proofs.Common.{◌≡◌, ℕ, ◌<◌, ◌^◌, ◌%◌, List, [], ◌∷◌, ◌/◌, ◌++◌, append_assoc, length, Some, None, Ok, IsOk, IfOk, Result, ◌↔◌, All, inl, refl, sym, ap, ◌∙◌, arith}
+use Rattle.std.proofs.Common.{◌≡◌, ℕ, ◌<◌, ◌^◌, ◌%◌, List, [], ◌∷◌, ◌/◌, ◌++◌, append_assoc, length, Some, None, Ok}
+use Rattle.std.proofs.Common.{IsOk, IfOk, Result, ◌↔◌, All, inl, refl, sym, ap, ◌∙◌, arith}
 use Rattle.std.proofs.lemmas.List.{append_cancel_left}
 use Rattle.std.specs.Int.{w128, from_be_bytes}
 use Rattle.std.specs.Result.{result_ok}

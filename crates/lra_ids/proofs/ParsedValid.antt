@@ -1,5 +1,7 @@
 -- An `http` URL that the parser gives is valid.
-use Rattle.std.proofs.Common.{◌≡◌, ℕ, zero, suc, ◌≤◌, ◌-◌, ◌*◌, ◌/◌, length-append, cond, lit<, ◌+◌, ◌<◌, ◌^◌, inl, inr, Bool, true, false, not, ◌&&◌, ◌||◌, ◌==◌, List, [], ◌∷◌, ◌++◌, length, take, drop, get_or, Option, Some, None, Ok, Err, All, IfSome, sym, refl, ap, ◌∙◌, subst, arith, ⊎_elim}
+use Rattle.std.proofs.Common.{◌≡◌, ℕ, zero, suc, ◌≤◌, ◌-◌, ◌*◌, ◌/◌, length-append, cond, lit<, ◌+◌, ◌<◌, ◌^◌, inl, inr}
+use Rattle.std.proofs.Common.{Bool, true, false, not, ◌&&◌, ◌||◌, ◌==◌, List, [], ◌∷◌, ◌++◌, length, take, drop, get_or}
+use Rattle.std.proofs.Common.{Option, Some, None, Ok, Err, All, IfSome, sym, refl, ap, ◌∙◌, subst, arith, ⊎_elim}
 use Rattle.std.specs.Prelude.{codes, nat_lt, unwrap_or, is_some, slice_index}
 use Rattle.std.specs.List.{list_any, prefix_len, suffix_len}
 use Rattle.std.specs.Int.{w32, to_be_bytes}
@@ -13,7 +15,8 @@ use Rattle.url.proofs.HostLemmas.{none_from_list_any, ascii_domain-lower}
 use Rattle.url.proofs.PiecesLemmas.{option_cases}
 use Rattle.std.proofs.lemmas.Bool.{cond_both, and_parts, both_ways, not-true}
 use Rattle.std.proofs.lemmas.Bool.Decides.{nat_tests}
-use Rattle.std.proofs.lemmas.List.Elements.{All-nil, All-cons, All-head, All-tail, All-append, All-take, All-drop, All-filter}
+use Rattle.std.proofs.lemmas.List.Elements.{All-nil, All-cons, All-head, All-tail, All-append, All-take, All-drop}
+use Rattle.std.proofs.lemmas.List.Elements.{All-filter}
 use Rattle.std.specs.Prelude.{replicate}
 use Rattle.std.specs.Net.Grammar.{IsGroup, IsGroupsAfter, IsColonHex}
 use Rattle.std.proofs.NetLemmas.Texts.{AllSegments}
@@ -23,10 +26,13 @@ use Rattle.url.specs.declared.host.Host.{Host}
 use Rattle.url.specs.declared.host.Host.TheVariants.{Domain, Ipv4, Ipv6}
 use Rattle.url.specs.declared.scheme.SchemeType.{SchemeType}
 use Rattle.url.specs.declared.scheme.SchemeType.TheVariants.{File, SpecialNotFile, NotSpecial}
-use Rattle.url.specs.Input.{is_empty, is_c0_control_or_space, is_tab_or_new_line, lowercase, trim_start, rsplit_once, split_once, trim_c0_control_and_space, strip_tabs_and_new_lines}
+use Rattle.url.specs.Input.{is_empty, is_c0_control_or_space, is_tab_or_new_line, lowercase, trim_start, rsplit_once}
+use Rattle.url.specs.Input.{split_once, trim_c0_control_and_space, strip_tabs_and_new_lines}
 use Rattle.url.specs.Scheme.{IsScheme, scheme_len, scheme_type, default_port, is_special, is_file, is_slash}
-use Rattle.url.specs.Host.{parse_host, parse_file_host, parse_special_host, parse_bracketed, parse_domain, ascii_domain, host_of_ascii, ipv4_host, ipv6_host, is_forbidden_in_domain, IsHostOf, is_empty_host}
-use Rattle.url.specs.Path.{segment_len, is_windows_drive_letter, push_segment, parse_segments, parse_path, parse_path_start, IsSegmentList}
+use Rattle.url.specs.Host.{parse_host, parse_file_host, parse_special_host, parse_bracketed, parse_domain, ascii_domain}
+use Rattle.url.specs.Host.{host_of_ascii, ipv4_host, ipv6_host, is_forbidden_in_domain, IsHostOf, is_empty_host}
+use Rattle.url.specs.Path.{segment_len, is_windows_drive_letter, push_segment, parse_segments, parse_path}
+use Rattle.url.specs.Path.{parse_path_start, IsSegmentList}
 use Rattle.url.specs.Parts.{Parts, kind_of, IsPortOf, IsValidHead, IsValidPath, IsValid}
 use Rattle.url.specs.Head.{with_authority, scheme_only}
 use Rattle.std.specs.Prelude.{nat_eq}
@@ -36,7 +42,10 @@ use Rattle.std.specs.Char.{is_ascii_digit}
 use Rattle.std.specs.Str.Parse.{digits_value}
 use Rattle.std.proofs.lemmas.Bool.{ltb-true}
 use Rattle.url.specs.Path.{escape_end}
-use Rattle.url.specs.Parser.{Parsed, skip_slashes, end_path, and_then, lacks_host, split_port, parse_port, parse_authority, with_path, after_double_slash, parse_non_special, leading_slashes, after_file_double_slash, parse_file, parse_body, with_tail, before_tail, parse_parts, split_scheme, parse_by_scheme, parse_url}
+use Rattle.url.specs.Parser.{Parsed, skip_slashes, end_path, and_then, lacks_host, split_port, parse_port}
+use Rattle.url.specs.Parser.{parse_authority, with_path, after_double_slash, parse_non_special, leading_slashes}
+use Rattle.url.specs.Parser.{after_file_double_slash, parse_file, parse_body, with_tail, before_tail, parse_parts}
+use Rattle.url.specs.Parser.{split_scheme, parse_by_scheme, parse_url}
 use Rattle.url.proofs.LayoutLemmas.{IsValidHead_same}
 use Rattle.url.proofs.PathLemmas.{IsNoSlash, no_segments, push_segment_valid, push_last_nonempty}
 use Rattle.url.proofs.ValidLemmas.{userinfo_encoded, IsValid-with_tail}

@@ -1,5 +1,6 @@
 -- The texts that are addresses, and the parts of one. A URL is read by the URL Standard (`parse_url` and `serialize`).
-use Rattle.std.specs.Prelude.{ℕ, ◌-◌, Bool, false, not, ◌&&◌, ◌||◌, ◌==◌, nat_lt, nat_le, List, [], length, slice_index, codes, bytes_eq, count_by, Option, None, option_and_then, Result, Ok, Err, if◌then◌else◌}
+use Rattle.std.specs.Prelude.{ℕ, ◌-◌, Bool, false, not, ◌&&◌, ◌||◌, ◌==◌, nat_lt, nat_le, List, [], length, slice_index}
+use Rattle.std.specs.Prelude.{codes, bytes_eq, count_by, Option, None, option_and_then, Result, Ok, Err, if◌then◌else◌}
 use Rattle.std.specs.Option.{option_map_or}
 use Rattle.std.specs.Result.{result_ok}
 use Rattle.std.specs.List.{list_all, list_any}

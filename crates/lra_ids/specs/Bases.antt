@@ -1,5 +1,6 @@
 -- What the URIs of a coordinator begin with. A URL is read by the URL Standard (`parse_url` and `serialize`).
-use Rattle.std.specs.Prelude.{ℕ, ◌-◌, Bool, not, ◌&&◌, ◌||◌, ◌==◌, nat_le, List, ◌++◌, length, slice_index, codes, bytes_eq, Option, Some, None, option_and_then, if◌then◌else◌}
+use Rattle.std.specs.Prelude.{ℕ, ◌-◌, Bool, not, ◌&&◌, ◌||◌, ◌==◌, nat_le, List, ◌++◌, length, slice_index, codes}
+use Rattle.std.specs.Prelude.{bytes_eq, Option, Some, None, option_and_then, if◌then◌else◌}
 use Rattle.std.specs.List.{list_all, list_any}
 use Rattle.std.specs.Char.{is_ascii_graphic}
 use Rattle.url.specs.Ascii.{slash, question_mark, number_sign}

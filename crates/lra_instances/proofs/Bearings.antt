@@ -1,5 +1,6 @@
 -- The instance of an identifier is read from its text, and from the end of a URI.
-use Rattle.std.proofs.Common.{◌≡◌, ℕ, ◌<◌, ◌+◌, ◌-◌, ◌^◌, ◌%◌, ◌*◌, ◌/◌, List, ◌++◌, length, drop, Option, Some, None, IsSome, IfSome, Result, Ok, Err, IsOk, IfOk, ◌↔◌, true≢false, refl, sym, ap, ◌∙◌, arith}
+use Rattle.std.proofs.Common.{◌≡◌, ℕ, ◌<◌, ◌+◌, ◌-◌, ◌^◌, ◌%◌, ◌*◌, ◌/◌, List, ◌++◌, length, drop, Option, Some, None}
+use Rattle.std.proofs.Common.{IsSome, IfSome, Result, Ok, Err, IsOk, IfOk, ◌↔◌, true≢false, refl, sym, ap, ◌∙◌, arith}
 use Rattle.std.specs.Prelude.{codes, option_map}
 use Rattle.std.specs.Result.{result_ok}
 use Rattle.std.specs.Int.{w128, from_be_bytes}

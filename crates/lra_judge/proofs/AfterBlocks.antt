@@ -1,5 +1,6 @@
 -- What is told after all that a command appends.
-use Rattle.std.proofs.Common.{◌≡◌, ℕ, ◌+◌, ◌<◌, Bool, true, false, List, [], ◌∷◌, ◌++◌, length, take, get_or, Option, Some, None, Ok, refl, sym, ap, ◌∙◌, subst, append_assoc, cond, max, length-append, eq-eqb}
+use Rattle.std.proofs.Common.{◌≡◌, ℕ, ◌+◌, ◌<◌, Bool, true, false, List, [], ◌∷◌, ◌++◌, length, take, get_or, Option}
+use Rattle.std.proofs.Common.{Some, None, Ok, refl, sym, ap, ◌∙◌, subst, append_assoc, cond, max, length-append, eq-eqb}
 use Rattle.std.specs.Prelude.{◌||◌, ◌&&◌, not, is_some, option_map, option_to_list, unwrap_or}
 use Rattle.std.specs.Option.{option_or, option_map_or, option_and_then}
 use Rattle.std.specs.List.{filter_map, cons_option, last_or}
@@ -19,7 +20,8 @@ use Rattle.lra_model.specs.declared.entry.Deed.{Deed}
 use Rattle.lra_model.specs.declared.entry.Deed.TheVariants as deed
 use Rattle.lra_model.specs.declared.entry.Entry.{Entry}
 use Rattle.lra_model.specs.Words.{when, is_completing, is_compensating}
-use Rattle.lra_model.specs.History.{History, last, enrolled_by, started_by, joined_by, asked_by, clerks, actions, members, asks, last_moment}
+use Rattle.lra_model.specs.History.{History, last, enrolled_by, started_by, joined_by, asked_by, clerks, actions}
+use Rattle.lra_model.specs.History.{members, asks, last_moment}
 use Rattle.lra_model.specs.Actions.{status_given, action_status}
 use Rattle.lra_model.specs.Members.{is_leave_of, is_ask_for, member_status}
 use Rattle.lra_model.specs.Joins.{already_member}

@@ -15,7 +15,8 @@ use Rattle.lra_commands.specs.Calls.{Command, Call}
 use Rattle.lra_commands.specs.Blocks.{block}
 use Rattle.lra_commands.specs.Refusals.{status_at}
 use Rattle.lra_commands.specs.Answers.{answer}
-use Rattle.lra_commands.specs.Queries.{known_where, awaited_from, is_listed, row_from, count_from, tell, asks, told_as, answer_as}
+use Rattle.lra_commands.specs.Queries.{known_where, awaited_from, is_listed, row_from, count_from, tell, asks, told_as}
+use Rattle.lra_commands.specs.Queries.{answer_as}
 use Rattle.lra_commands.proofs.Asks.{commands_ask}
 use Rattle.lra_judge.specs.Decisions.{IsDecided}
 use Rattle.lra_judge.specs.inner.Judged as judged

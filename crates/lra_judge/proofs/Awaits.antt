@@ -1,5 +1,6 @@
 -- What an action waits for, row by row, by what is found.
-use Rattle.std.proofs.Common.{◌≡◌, ℕ, Bool, true, false, List, [], ◌∷◌, ◌++◌, map, Option, Some, None, refl, sym, ap, ◌∙◌, cond}
+use Rattle.std.proofs.Common.{◌≡◌, ℕ, Bool, true, false, List, [], ◌∷◌, ◌++◌, map, Option, Some, None, refl, sym, ap}
+use Rattle.std.proofs.Common.{◌∙◌, cond}
 use Rattle.std.proofs.Math.Bool.{and-false}
 use Rattle.std.specs.Prelude.{◌&&◌, ◌==◌, not, is_some, unwrap_or}
 use Rattle.std.specs.Option.{option_map_or, option_and_then}
@@ -22,7 +23,8 @@ use Rattle.lra_rows.specs.declared.found.MemberRow.{MemberRow}
 use Rattle.lra_commands.specs.declared.query.Awaited.{Awaited}
 use Rattle.lra_commands.specs.declared.query.Awaited.TheVariants as awaited
 use Rattle.lra_commands.specs.Queries.{rows_of, holds_end}
-use Rattle.lra_judge.specs.inner.Awaited.{waits_for_member, waits_for_action, can_compensate, waits_for_row, waits_for_found, found_status, held, member_row, found_rows}
+use Rattle.lra_judge.specs.inner.Awaited.{waits_for_member, waits_for_action, can_compensate, waits_for_row}
+use Rattle.lra_judge.specs.inner.Awaited.{waits_for_found, found_status, held, member_row, found_rows}
 use Rattle.lra_judge.proofs.OnMembers.{gone_is}
 use Rattle.lra_judge.proofs.Passing.{row_of, member_of}
 

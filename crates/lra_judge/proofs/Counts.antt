@@ -1,5 +1,6 @@
 -- What settles a history adds no clerk, no action and no member.
-use Rattle.std.proofs.Common.{◌≡◌, ℕ, zero, suc, Bool, true, false, List, [], ◌∷◌, ◌++◌, Option, Some, None, refl, sym, ap, ◌∙◌, subst, append_assoc, append-nil, cond}
+use Rattle.std.proofs.Common.{◌≡◌, ℕ, zero, suc, Bool, true, false, List, [], ◌∷◌, ◌++◌, Option, Some, None, refl, sym}
+use Rattle.std.proofs.Common.{ap, ◌∙◌, subst, append_assoc, append-nil, cond}
 use Rattle.std.specs.Prelude.{option_map, option_to_list}
 use Rattle.std.specs.Option.{option_or, option_map_or}
 use Rattle.std.specs.List.{filter_map, cons_option, find}
@@ -7,7 +8,8 @@ use Rattle.lra_model.specs.declared.asks.Cause.TheVariants as cause
 use Rattle.lra_model.specs.declared.entry.Deed.{Deed}
 use Rattle.lra_model.specs.declared.entry.Deed.TheVariants.{Close, Cancel, Skip, End}
 use Rattle.lra_model.specs.declared.entry.Entry.{Entry}
-use Rattle.lra_model.specs.History.{History, first, last, enrolled_by, started_by, joined_by, asked_by, clerks, actions, members, asks}
+use Rattle.lra_model.specs.History.{History, first, last, enrolled_by, started_by, joined_by, asked_by, clerks, actions}
+use Rattle.lra_model.specs.History.{members, asks}
 use Rattle.lra_model.specs.Ends.{is_settled, right_end}
 use Rattle.lra_model.specs.Facts.{facts_of}
 use Rattle.lra_model.specs.Tests.{at_action, may_close_with_parent, may_cancel_with_parent}

@@ -1,5 +1,6 @@
 -- From the grounds that hold to what is decided, whichever the command.
-use Rattle.std.proofs.Common.{◌≡◌, ℕ, zero, suc, ◌≤◌, ◌<◌, Bool, true, false, List, [], ◌∷◌, ◌++◌, length, Option, Some, None, Ok, Err, refl, sym, ap, ◌∙◌, append_assoc, inl}
+use Rattle.std.proofs.Common.{◌≡◌, ℕ, zero, suc, ◌≤◌, ◌<◌, Bool, true, false, List, [], ◌∷◌, ◌++◌, length, Option, Some}
+use Rattle.std.proofs.Common.{None, Ok, Err, refl, sym, ap, ◌∙◌, append_assoc, inl}
 use Rattle.std.proofs.lemmas.Bool.{lt-ltb, le-ltb}
 use Rattle.std.specs.Prelude.{◌&&◌, nat_lt, option_map}
 use Rattle.std.specs.Option.{option_map_or}
@@ -19,7 +20,8 @@ use Rattle.lra_commands.specs.declared.refusal.Refusal.TheVariants as refusal
 use Rattle.lra_commands.specs.Calls.{Call, moment_of}
 use Rattle.lra_commands.specs.Deeds.{own_deed, entry_of}
 use Rattle.lra_commands.specs.Blocks.{block}
-use Rattle.lra_commands.specs.Refusals.{Ground, passes, is_filled, full_grounds, command_grounds, is_stranger, first_ground, refused}
+use Rattle.lra_commands.specs.Refusals.{Ground, passes, is_filled, full_grounds, command_grounds, is_stranger}
+use Rattle.lra_commands.specs.Refusals.{first_ground, refused}
 use Rattle.lra_commands.specs.Answers.{told_of, answer}
 use Rattle.lra_commands.specs.Runs.{IsWithin}
 use Rattle.lra_judge.specs.declared.decision.Decision.TheVariants as decision

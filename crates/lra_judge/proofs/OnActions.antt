@@ -1,5 +1,6 @@
 -- What is decided on commands on actions.
-use Rattle.std.proofs.Common.{◌≡◌, ℕ, ◌+◌, ◌<◌, ◌^◌, Bool, true, false, ◌++◌, Option, Some, None, Ok, Err, refl, sym, ap, ◌∙◌, max, cond}
+use Rattle.std.proofs.Common.{◌≡◌, ℕ, ◌+◌, ◌<◌, ◌^◌, Bool, true, false, ◌++◌, Option, Some, None, Ok, Err, refl, sym}
+use Rattle.std.proofs.Common.{ap, ◌∙◌, max, cond}
 use Rattle.std.proofs.Math.Bool.{and-false}
 use Rattle.std.specs.Prelude.{◌&&◌, ◌||◌, not, option_map}
 use Rattle.std.specs.Option.{option_map_or}
@@ -33,7 +34,8 @@ use Rattle.lra_judge.specs.inner.Judged as judged
 use Rattle.lra_judge.specs.inner.Judged.{◌>>=◌}
 use Rattle.lra_judge.proofs.Counts.{adds_none}
 use Rattle.lra_judge.proofs.Grounds.{first_decides, only_told, written_own, few_of_same}
-use Rattle.lra_judge.proofs.Passing.{call, row_of, past_clerk, past_action, past_open, past_required, free_from, may, opened}
+use Rattle.lra_judge.proofs.Passing.{call, row_of, past_clerk, past_action, past_open, past_required, free_from, may}
+use Rattle.lra_judge.proofs.Passing.{opened}
 
 -- ---- Close
 

@@ -1,5 +1,6 @@
 -- What is decided on commands on asks.
-use Rattle.std.proofs.Common.{◌≡◌, ℕ, suc, ◌+◌, ◌≤◌, ◌<◌, ◌^◌, Bool, true, false, List, [], ◌∷◌, ◌++◌, length, Option, Some, None, Ok, Bor, refl, sym, ap, ◌∙◌, subst, arith, max, cond}
+use Rattle.std.proofs.Common.{◌≡◌, ℕ, suc, ◌+◌, ◌≤◌, ◌<◌, ◌^◌, Bool, true, false, List, [], ◌∷◌, ◌++◌, length, Option}
+use Rattle.std.proofs.Common.{Some, None, Ok, Bor, refl, sym, ap, ◌∙◌, subst, arith, max, cond}
 use Rattle.std.proofs.Math.Bool.{and-false}
 use Rattle.std.specs.Prelude.{◌&&◌, not, nat_le, is_some, option_map}
 use Rattle.std.specs.Option.{option_map_or, option_and_then}

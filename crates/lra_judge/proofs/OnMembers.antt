@@ -1,5 +1,7 @@
 -- What is decided on commands on members.
-use Rattle.std.proofs.Common.{◌≡◌, ℕ, ◌+◌, ◌<◌, ◌^◌, Bool, true, false, List, [], ◌∷◌, ◌++◌, length, Option, Some, None, Ok, Err, Bor, Result, refl, sym, ap, ◌∙◌, subst, append-nil, arith, max, cond, inr, length-append}
+use Rattle.std.proofs.Common.{◌≡◌, ℕ, ◌+◌, ◌<◌, ◌^◌, Bool, true, false, List, [], ◌∷◌, ◌++◌, length, Option, Some, None}
+use Rattle.std.proofs.Common.{Ok, Err, Bor, Result, refl, sym, ap, ◌∙◌, subst, append-nil, arith, max, cond, inr}
+use Rattle.std.proofs.Common.{length-append}
 use Rattle.std.proofs.Math.Bool.{and-false}
 use Rattle.std.proofs.lemmas.Bool.{leb-true, leb-false, not-false, not-true}
 use Rattle.std.specs.Prelude.{◌&&◌, ◌==◌, not, is_some, nat_le}
@@ -43,7 +45,8 @@ use Rattle.lra_judge.specs.inner.Judged.{Judged, ◌>>=◌}
 use Rattle.lra_judge.specs.inner.Stored.{IsReading}
 use Rattle.lra_judge.proofs.Counts.{adds_none}
 use Rattle.lra_judge.proofs.Grounds.{first_decides, only_told, written_own, few_of_same, full_members, stranger}
-use Rattle.lra_judge.proofs.Passing.{call, row_of, member_of, past_clerk, past_action, past_member, past_required, free_from, may, opened}
+use Rattle.lra_judge.proofs.Passing.{call, row_of, member_of, past_clerk, past_action, past_member, past_required}
+use Rattle.lra_judge.proofs.Passing.{free_from, may, opened}
 
 -- ---- the status of a member, by what bears on it
 

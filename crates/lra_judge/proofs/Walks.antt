@@ -1,5 +1,6 @@
 -- What is told along rows, from a place on.
-use Rattle.std.proofs.Common.{◌≡◌, ℕ, zero, suc, ◌+◌, ◌-◌, ◌≤◌, ◌<◌, Bool, true, false, List, [], ◌∷◌, length, take, drop, Option, Some, None, refl, sym, ap, ◌∙◌, cond, min, arith}
+use Rattle.std.proofs.Common.{◌≡◌, ℕ, zero, suc, ◌+◌, ◌-◌, ◌≤◌, ◌<◌, Bool, true, false, List, [], ◌∷◌, length, take}
+use Rattle.std.proofs.Common.{drop, Option, Some, None, refl, sym, ap, ◌∙◌, cond, min, arith}
 use Rattle.std.proofs.lemmas.List.{drop_all}
 use Rattle.std.proofs.lemmas.Option.{slice_get_past}
 use Rattle.std.specs.Prelude.{not, is_some, unwrap_or, slice_get, filter}
@@ -17,7 +18,8 @@ use Rattle.lra_commands.specs.declared.query.Listing.{Listing}
 use Rattle.lra_commands.specs.declared.query.Row.{Row}
 use Rattle.lra_commands.specs.declared.query.Known.{Known}
 use Rattle.lra_commands.specs.declared.query.Known.TheVariants as known
-use Rattle.lra_commands.specs.Queries.{most_rows, first_from, holds_end, rows_of, awaited_from, belongs, rows_along, row_from}
+use Rattle.lra_commands.specs.Queries.{most_rows, first_from, holds_end, rows_of, awaited_from, belongs, rows_along}
+use Rattle.lra_commands.specs.Queries.{row_from}
 use Rattle.lra_judge.specs.declared.walk.Walk.{Walk}
 use Rattle.lra_judge.specs.declared.walk.Walk.TheVariants as walk
 use Rattle.lra_judge.specs.inner.Awaited.{held, found_rows}

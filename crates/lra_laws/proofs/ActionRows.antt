@@ -1,5 +1,6 @@
 -- The rows of the actions after one more entry.
-use Rattle.std.proofs.Common.{◌≡◌, ℕ, ◌+◌, Bool, true, false, List, length, map, Option, Some, None, refl, sym, ap, ◌∙◌, cond, arith}
+use Rattle.std.proofs.Common.{◌≡◌, ℕ, ◌+◌, Bool, true, false, List, length, map, Option, Some, None, refl, sym, ap, ◌∙◌}
+use Rattle.std.proofs.Common.{cond, arith}
 use Rattle.std.specs.Prelude.{◌==◌, ◌&&◌, is_some, unwrap_or, count_by}
 use Rattle.std.specs.Option.{option_map_or, option_or}
 use Rattle.lra_model.specs.declared.status.ActionStatus.{ActionStatus}
@@ -12,19 +13,26 @@ use Rattle.lra_model.specs.Addresses as texts
 use Rattle.lra_model.specs.Words.{when, has_failed}
 use Rattle.lra_model.specs.History.{History, actions, started_by, members, joined_by, is_among}
 use Rattle.lra_model.specs.Actions as words
-use Rattle.lra_model.specs.Actions.{Limit, parent_given, parent, top, status_given, action_status, limit_given, limit_in_force}
+use Rattle.lra_model.specs.Actions.{Limit, parent_given, parent, top, status_given, action_status, limit_given}
+use Rattle.lra_model.specs.Actions.{limit_in_force}
 use Rattle.lra_model.specs.Members.{action_of}
 use Rattle.lra_model.specs.Ends.{action_is}
 use Rattle.lra_model.specs.Rules.{is_legal}
 use Rattle.lra_laws.proofs.Push.{action_status_push, limit_push, members_push}
-use Rattle.lra_laws.proofs.Legal.{Allowed, legal_more, numbered_fresh, actions_numbered, members_numbered, status_is_there, parent_stays, parent_there, action_of_there}
-use Rattle.lra_laws.specs.Rows.{MemberRow, ActionRow, member_row, action_row, count_staying, count_children, counts_as, is_left_to_complete, is_left_to_compensate, is_uncompleted, is_uncompensated, is_unended, is_uncancelled, recount, one, with_member, with_new_member, with_child, change_row, new_member}
-use Rattle.lra_laws.proofs.RowLists.{eqb_self, among_apart, map_within, count_within, count_push, counted_anew, rows_changed}
+use Rattle.lra_laws.proofs.Legal.{Allowed, legal_more, numbered_fresh, actions_numbered, members_numbered}
+use Rattle.lra_laws.proofs.Legal.{status_is_there, parent_stays, parent_there, action_of_there}
+use Rattle.lra_laws.specs.Rows.{MemberRow, ActionRow, member_row, action_row, count_staying, count_children, counts_as}
+use Rattle.lra_laws.specs.Rows.{is_left_to_complete, is_left_to_compensate, is_uncompleted, is_uncompensated}
+use Rattle.lra_laws.specs.Rows.{is_unended, is_uncancelled, recount, one, with_member, with_new_member, with_child}
+use Rattle.lra_laws.specs.Rows.{change_row, new_member}
+use Rattle.lra_laws.proofs.RowLists.{eqb_self, among_apart, map_within, count_within, count_push, counted_anew}
+use Rattle.lra_laws.proofs.RowLists.{rows_changed}
 use Rattle.lra_laws.proofs.Told.{entry, more}
 use Rattle.lra_laws.proofs.MemberWords.{concerns, quiet_row}
 use Rattle.lra_laws.proofs.MemberRows.{members_stay, joined_row}
 use Rattle.lra_laws.proofs.Tops.{top_stays}
-use Rattle.lra_laws.proofs.ActionWords.{counts_in, staying_count, is_parent, children_count, status_kept, limit_kept, actions_stay}
+use Rattle.lra_laws.proofs.ActionWords.{counts_in, staying_count, is_parent, children_count, status_kept, limit_kept}
+use Rattle.lra_laws.proofs.ActionWords.{actions_stay}
 
 -- a row, by its parts
 pub row_is : (K : History) (a : ℕ) (r : ActionRow) → parent K a ≡ r.parent → top K a ≡ r.top

@@ -1,5 +1,6 @@
 -- The words of an action after one more entry, and its counts as counts over rows.
-use Rattle.std.proofs.Common.{◌≡◌, ℕ, ◌+◌, Bool, true, false, List, [], ◌∷◌, ◌++◌, length, Option, Some, None, refl, sym, ap, ◌∙◌, cond, append-nil}
+use Rattle.std.proofs.Common.{◌≡◌, ℕ, ◌+◌, Bool, true, false, List, [], ◌∷◌, ◌++◌, length, Option, Some, None, refl}
+use Rattle.std.proofs.Common.{sym, ap, ◌∙◌, cond, append-nil}
 use Rattle.std.specs.Prelude.{◌==◌, ◌&&◌, not, is_some, unwrap_or, option_to_list, filter, count_by}
 use Rattle.std.specs.Option.{option_map_or, option_or}
 use Rattle.std.proofs.lemmas.List.Elements.{filter-append}
@@ -11,13 +12,17 @@ use Rattle.lra_model.specs.declared.entry.Entry.{Entry}
 use Rattle.lra_model.specs.declared.version.Version.{Version}
 use Rattle.lra_model.specs.Words.{when, has_gone}
 use Rattle.lra_model.specs.History.{History, actions, started_by, members, joined_by, is_among}
-use Rattle.lra_model.specs.Actions.{Limit, parent_given, parent, status_given, action_status, limit_given, limit_in_force, child_given, children, member_given, members_of}
+use Rattle.lra_model.specs.Actions.{Limit, parent_given, parent, status_given, action_status, limit_given}
+use Rattle.lra_model.specs.Actions.{limit_in_force, child_given, children, member_given, members_of}
 use Rattle.lra_model.specs.Members.{action_given, action_of, addresses_of, has_left, stays, member_status}
 use Rattle.lra_model.specs.Ends.{staying, action_is}
 use Rattle.lra_model.specs.Rules.{is_legal}
-use Rattle.lra_laws.proofs.Push.{actions_push, action_status_push, limit_push, children_push, members_push, members_of_push}
+use Rattle.lra_laws.proofs.Push.{actions_push, action_status_push, limit_push, children_push, members_push}
+use Rattle.lra_laws.proofs.Push.{members_of_push}
 use Rattle.lra_laws.proofs.GoodLists.{filter_same}
-use Rattle.lra_laws.proofs.Legal.{legal_induction, Allowed, numbered_fresh, actions_numbered, members_numbered, started_number, joined_number, parent_stays, parent_of_new, action_of_stays, action_of_new}
+use Rattle.lra_laws.proofs.Legal.{legal_induction, Allowed, numbered_fresh, actions_numbered, members_numbered}
+use Rattle.lra_laws.proofs.Legal.{started_number, joined_number, parent_stays, parent_of_new, action_of_stays}
+use Rattle.lra_laws.proofs.Legal.{action_of_new}
 use Rattle.lra_laws.specs.Rows.{MemberRow, member_row, count_staying, count_children, counts_as}
 use Rattle.lra_laws.proofs.RowLists.{eqb_self, count_filter, count_within}
 use Rattle.lra_laws.proofs.Told.{entry, more}

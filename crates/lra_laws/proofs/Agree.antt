@@ -1,5 +1,6 @@
 -- What the rules read in the forward state is what the definitions say.
-use Rattle.std.proofs.Common.{◌≡◌, ℕ, Bool, true, false, List, [], ◌∷◌, length, map, Option, Some, None, refl, sym, ap, ◌∙◌, cond, eqb-true}
+use Rattle.std.proofs.Common.{◌≡◌, ℕ, Bool, true, false, List, [], ◌∷◌, length, map, Option, Some, None, refl, sym, ap}
+use Rattle.std.proofs.Common.{◌∙◌, cond, eqb-true}
 use Rattle.std.proofs.lemmas.Bool.{ltb-true, leb-true, lt-ltb, le-leb}
 use Rattle.std.proofs.lemmas.List.{length-map}
 use Rattle.std.proofs.lemmas.Option.{same_Some}
@@ -11,19 +12,25 @@ use Rattle.lra_model.specs.declared.status.ActionStatus.TheVariants as action
 use Rattle.lra_model.specs.declared.status.MemberStatus.{MemberStatus}
 use Rattle.lra_model.specs.declared.asks.AskKind.{AskKind}
 use Rattle.lra_model.specs.declared.version.Version.{Version}
-use Rattle.lra_model.specs.Words.{has_ended, has_failed, has_finished_cancelling, is_completed, is_compensated, is_done_completing, is_done_compensating}
+use Rattle.lra_model.specs.Words.{has_ended, has_failed, has_finished_cancelling, is_completed, is_compensated}
+use Rattle.lra_model.specs.Words.{is_done_completing, is_done_compensating}
 use Rattle.lra_model.specs.History.{History, clerks, actions, members, is_among}
 use Rattle.lra_model.specs.Actions.{parent, top, action_status, children}
 use Rattle.lra_model.specs.Members.{Asked, ask_of, member_status, is_outstanding, outstanding_ask}
-use Rattle.lra_model.specs.Ends.{staying, action_is, settles, is_settled, children_are_well, ends_as, right_end, top_has_ended}
+use Rattle.lra_model.specs.Ends.{staying, action_is, settles, is_settled, children_are_well, ends_as, right_end}
+use Rattle.lra_model.specs.Ends.{top_has_ended}
 use Rattle.lra_model.specs.Facts.{action_facts, member_facts, facts_of}
 use Rattle.lra_model.specs.Rules.{is_legal}
-use Rattle.lra_laws.proofs.Legal.{IsNumbered, numbered_among, numbered_there, actions_numbered, members_numbered, clerks_numbered, status_is_there, parent_there, children_lem}
-use Rattle.lra_laws.specs.Rows.{Standing, MemberRow, ActionRow, standing, void_asks, count_staying, count_children, is_uncompensated, action_row, member_row, state_of, row_at, stands_as}
+use Rattle.lra_laws.proofs.Legal.{IsNumbered, numbered_among, numbered_there, actions_numbered, members_numbered}
+use Rattle.lra_laws.proofs.Legal.{clerks_numbered, status_is_there, parent_there, children_lem}
+use Rattle.lra_laws.specs.Rows.{Standing, MemberRow, ActionRow, standing, void_asks, count_staying, count_children}
+use Rattle.lra_laws.specs.Rows.{is_uncompensated, action_row, member_row, state_of, row_at, stands_as}
 use Rattle.lra_laws.specs.Ends.{settled_by, right_end_by}
 use Rattle.lra_laws.specs.inner.RowFacts.{action_by, member_by, is_standing, member_asked, facts_by}
-use Rattle.lra_laws.proofs.RowLists.{eqb_self, eqb_flip, all_by_count, all_by_count_within, none_by_count, row_there, row_absent}
-use Rattle.lra_laws.proofs.AskWords.{AsksListed, AsksStand, asks_listed, asks_stand, stands_for, stands_yet, asked_of, is_asked_by}
+use Rattle.lra_laws.proofs.RowLists.{eqb_self, eqb_flip, all_by_count, all_by_count_within, none_by_count, row_there}
+use Rattle.lra_laws.proofs.RowLists.{row_absent}
+use Rattle.lra_laws.proofs.AskWords.{AsksListed, AsksStand, asks_listed, asks_stand, stands_for, stands_yet, asked_of}
+use Rattle.lra_laws.proofs.AskWords.{is_asked_by}
 use Rattle.lra_laws.proofs.Tops.{top_is_there}
 
 -- ---- an action

@@ -1,5 +1,7 @@
 -- The asks of a legal history: whom they were made of, and which of them stand.
-use Rattle.std.proofs.Common.{◌≡◌, ℕ, ◌+◌, ◌<◌, ◌≤◌, Bool, true, false, List, [], ◌∷◌, ◌++◌, length, Option, Some, None, refl, sym, ap, ◌∙◌, cond, arith, eqb-true, append-nil, length-append, subst, eq-eqb, inl, inr, ◌⊎◌}
+use Rattle.std.proofs.Common.{◌≡◌, ℕ, ◌+◌, ◌<◌, ◌≤◌, Bool, true, false, List, [], ◌∷◌, ◌++◌, length, Option, Some, None}
+use Rattle.std.proofs.Common.{refl, sym, ap, ◌∙◌, cond, arith, eqb-true, append-nil, length-append, subst, eq-eqb, inl}
+use Rattle.std.proofs.Common.{inr, ◌⊎◌}
 use Rattle.std.proofs.Math.Bool.{and-false, or-true}
 use Rattle.std.proofs.lemmas.Option.{same_Some}
 use Rattle.std.proofs.lemmas.Bool.{lt-ltb, le-ltb}
@@ -16,9 +18,11 @@ use Rattle.lra_model.specs.declared.entry.Entry.{Entry}
 use Rattle.lra_model.specs.declared.version.Version.{Version}
 use Rattle.lra_model.specs.Words.{when}
 use Rattle.lra_model.specs.History.{History, steps, asks, asked_by, members, is_among, read_deeds}
-use Rattle.lra_model.specs.Members.{is_ask_for, was_asked, ask_direction, Asked, asked_at, ask_of, standing_given, is_outstanding, ask_given, outstanding_ask}
+use Rattle.lra_model.specs.Members.{is_ask_for, was_asked, ask_direction, Asked, asked_at, ask_of, standing_given}
+use Rattle.lra_model.specs.Members.{is_outstanding, ask_given, outstanding_ask}
 use Rattle.lra_model.specs.Rules.{is_legal}
-use Rattle.lra_laws.proofs.Push.{or_none, step, ask_of_push, asks_push, asks_to_push, is_outstanding_push, was_asked_push}
+use Rattle.lra_laws.proofs.Push.{or_none, step, ask_of_push, asks_push, asks_to_push, is_outstanding_push}
+use Rattle.lra_laws.proofs.Push.{was_asked_push}
 use Rattle.lra_laws.proofs.Legal.{legal_induction, among_push, member_there_push}
 use Rattle.lra_laws.proofs.GoodLists.{among_here, among_there, find_nothing}
 use Rattle.lra_laws.proofs.Tested.{both, none_from_absent}

@@ -1,5 +1,6 @@
 -- An entry leaves the wants and the deadlines of all that aren't listed as they were.
-use Rattle.std.proofs.Common.{◌≡◌, ℕ, ◌+◌, ◌≤◌, arith, Bool, true, false, List, [], ◌∷◌, ◌++◌, length, Option, Some, None, ◌⊎◌, inl, inr, refl, sym, ap, ◌∙◌, cond, append-nil, eqb-true}
+use Rattle.std.proofs.Common.{◌≡◌, ℕ, ◌+◌, ◌≤◌, arith, Bool, true, false, List, [], ◌∷◌, ◌++◌, length, Option, Some}
+use Rattle.std.proofs.Common.{None, ◌⊎◌, inl, inr, refl, sym, ap, ◌∙◌, cond, append-nil, eqb-true}
 use Rattle.std.proofs.Math.Bool.{or-false}
 use Rattle.std.proofs.lemmas.Bool.{ltb-true, le-ltb}
 use Rattle.std.specs.Prelude.{◌==◌, ◌&&◌, ◌||◌, nat_lt, is_some, unwrap_or, option_map, option_to_list}
@@ -12,11 +13,13 @@ use Rattle.lra_model.specs.declared.asks.AskKind.{AskKind}
 use Rattle.lra_model.specs.declared.asks.Cause.{Cause}
 use Rattle.lra_model.specs.declared.asks.Direction.{Direction}
 use Rattle.lra_model.specs.declared.entry.Deed.{Deed}
-use Rattle.lra_model.specs.declared.entry.Deed.TheVariants.{Start, Join, Leave, Close, Cancel, Skip, Ask, Reply, Report, End, Restart, Renew}
+use Rattle.lra_model.specs.declared.entry.Deed.TheVariants.{Start, Join, Leave, Close, Cancel, Skip, Ask, Reply, Report}
+use Rattle.lra_model.specs.declared.entry.Deed.TheVariants.{End, Restart, Renew}
 use Rattle.lra_model.specs.Words.{when, same_kind, is_active, is_cancelling, has_ended, is_undecided}
 use Rattle.lra_model.specs.History.{History, actions, started_by, members, joined_by, asks, is_among}
 use Rattle.lra_model.specs.Actions.{parent, top, status_given, action_status, limit_given, limit_in_force, members_of}
-use Rattle.lra_model.specs.Members.{Asked, ask_of, replied_at, action_of, is_outstanding, outstanding_ask, ask_direction, members_under}
+use Rattle.lra_model.specs.Members.{Asked, ask_of, replied_at, action_of, is_outstanding, outstanding_ask}
+use Rattle.lra_model.specs.Members.{ask_direction, members_under}
 use Rattle.lra_model.specs.Ends.{action_is, top_has_ended}
 use Rattle.lra_model.specs.Facts.{ActionFacts, MemberFacts, Facts, action_facts, member_facts, facts_of}
 use Rattle.lra_model.specs.Tests.{status_is, parent_is, may_cancel}
@@ -28,12 +31,16 @@ use Rattle.lra_laws.proofs.Push.{step, action_status_push, actions_push, members
 use Rattle.lra_laws.proofs.Contacts.{repeat_of, repeats_push}
 use Rattle.lra_laws.proofs.GoodLists.{among_here, among_there, among_filter}
 use Rattle.lra_laws.proofs.GoodSpared.{close_active, cancel_case}
-use Rattle.lra_laws.proofs.Legal.{Allowed, AllKept, at_action_from, entry_kept, close_kept, cancel_kept, action_fact, among_push, state_is_lem, parent_stays, started_number, numbered_fresh, actions_numbered, asks_numbered, range_there, member_there_push, action_of_there, members_of_lem, legal_more}
+use Rattle.lra_laws.proofs.Legal.{Allowed, AllKept, at_action_from, entry_kept, close_kept, cancel_kept, action_fact}
+use Rattle.lra_laws.proofs.Legal.{among_push, state_is_lem, parent_stays, started_number, numbered_fresh}
+use Rattle.lra_laws.proofs.Legal.{actions_numbered, asks_numbered, range_there, member_there_push, action_of_there}
+use Rattle.lra_laws.proofs.Legal.{members_of_lem, legal_more}
 use Rattle.lra_laws.proofs.RowLists.{eqb_self, eqb_flip, among_apart}
 use Rattle.lra_laws.proofs.Told.{entry, more}
 use Rattle.lra_laws.proofs.Tops.{top_stays, top_is_there, top_is_outermost, top_of_outermost}
 use Rattle.lra_laws.proofs.MemberWords.{concerns, quiet_row, stand_quiet, void_push}
-use Rattle.lra_laws.proofs.AskWords.{AsksListed, AsksStand, asks_listed, asks_stand, asked_of, stands_for, stands_yet, is_asked_by, void_kept}
+use Rattle.lra_laws.proofs.AskWords.{AsksListed, AsksStand, asks_listed, asks_stand, asked_of, stands_for, stands_yet}
+use Rattle.lra_laws.proofs.AskWords.{is_asked_by, void_kept}
 use Rattle.lra_laws.proofs.ActionWords.{status_kept, limit_kept}
 use Rattle.lra_laws.proofs.WantedWay.{wanted_way}
 

@@ -1,6 +1,7 @@
 -- An entry and all that settles after it leave the wants and the deadlines of all that aren't listed by the history
 -- before them as they were.
-use Rattle.std.proofs.Common.{◌≡◌, ℕ, zero, suc, Bool, true, false, List, [], ◌∷◌, ◌++◌, Option, Some, None, refl, sym, ap, ◌∙◌, subst, cond, append-nil, append_assoc}
+use Rattle.std.proofs.Common.{◌≡◌, ℕ, zero, suc, Bool, true, false, List, [], ◌∷◌, ◌++◌, Option, Some, None, refl, sym}
+use Rattle.std.proofs.Common.{ap, ◌∙◌, subst, cond, append-nil, append_assoc}
 use Rattle.std.specs.Prelude.{◌==◌, ◌&&◌, ◌||◌, is_some}
 use Rattle.std.specs.Option.{option_map_or}
 use Rattle.std.proofs.lemmas.List.Folds.{list_any-append}
@@ -15,7 +16,8 @@ use Rattle.lra_model.specs.Settling.{is_settling, next_settling, settling_within
 use Rattle.lra_model.specs.Rules.{is_legal}
 use Rattle.lra_laws.specs.Changes.{members_changed, actions_changed, members_changed_by, actions_changed_by}
 use Rattle.lra_laws.proofs.Changes.{SameWants, SameLimit, wants_kept, limits_kept, under_lem}
-use Rattle.lra_laws.proofs.Legal.{Allowed, action_there_push, parent_stays, action_of_stays, action_of_there, members_of_lem}
+use Rattle.lra_laws.proofs.Legal.{Allowed, action_there_push, parent_stays, action_of_stays, action_of_there}
+use Rattle.lra_laws.proofs.Legal.{members_of_lem}
 use Rattle.lra_laws.proofs.Rests.{next_settles}
 use Rattle.lra_laws.proofs.RowLists.{eqb_flip, among_apart}
 use Rattle.lra_laws.proofs.Settled.{settling_allowed}

@@ -1,6 +1,7 @@
 -- The words read from an action's lineage, each as a climb by parents of at most so many steps: working words of the
 -- proofs.
-use Rattle.std.proofs.Common.{◌≡◌, ℕ, zero, suc, Bool, true, false, [], ◌∷◌, Option, Some, None, refl, ap, ◌∙◌, cond, arith}
+use Rattle.std.proofs.Common.{◌≡◌, ℕ, zero, suc, Bool, true, false, [], ◌∷◌, Option, Some, None, refl, ap, ◌∙◌, cond}
+use Rattle.std.proofs.Common.{arith}
 use Rattle.std.specs.Prelude.{◌+◌, ◌==◌, ◌||◌, not, unwrap_or, take}
 use Rattle.std.specs.Option.{option_map_or}
 use Rattle.std.specs.List.{list_any, last_or}

@@ -1,5 +1,6 @@
 -- How members are reached, and their repeats, after one more entry.
-use Rattle.std.proofs.Common.{◌≡◌, ℕ, ◌+◌, Bool, true, false, List, [], ◌∷◌, ◌++◌, length, map, Option, Some, None, refl, sym, ap, ◌∙◌, cond, append-nil, length-append}
+use Rattle.std.proofs.Common.{◌≡◌, ℕ, ◌+◌, Bool, true, false, List, [], ◌∷◌, ◌++◌, length, map, Option, Some, None}
+use Rattle.std.proofs.Common.{refl, sym, ap, ◌∙◌, cond, append-nil, length-append}
 use Rattle.std.specs.Prelude.{◌==◌, ◌&&◌, option_to_list, option_map, unwrap_or}
 use Rattle.std.specs.Option.{option_map_or}
 use Rattle.std.specs.List.{filter_map}
@@ -17,9 +18,11 @@ use Rattle.lra_model.specs.Members.{no_addresses, Asked, ask_of, Replied, replie
 use Rattle.lra_model.specs.Wants.{stage_of, repeats}
 use Rattle.lra_model.specs.Rules.{is_legal}
 use Rattle.lra_laws.specs.Rows.{change_row}
-use Rattle.lra_laws.specs.Sheets.{Repeats, Contact, repeats_in, contact_of, no_repeats, new_contact, again, with_repeat, with_answer}
+use Rattle.lra_laws.specs.Sheets.{Repeats, Contact, repeats_in, contact_of, no_repeats, new_contact, again, with_repeat}
+use Rattle.lra_laws.specs.Sheets.{with_answer}
 use Rattle.lra_laws.proofs.Push.{step, read_push, last_or_push, replies_push, members_push}
-use Rattle.lra_laws.proofs.Legal.{legal_induction, Allowed, numbered_fresh, members_numbered, addresses_stay, addresses_of_new}
+use Rattle.lra_laws.proofs.Legal.{legal_induction, Allowed, numbered_fresh, members_numbered, addresses_stay}
+use Rattle.lra_laws.proofs.Legal.{addresses_of_new}
 use Rattle.lra_laws.proofs.RowLists.{eqb_self, eqb_flip, among_apart, map_within, rows_changed, rows_more}
 use Rattle.lra_laws.proofs.Told.{entry, more, Told, told}
 use Rattle.lra_laws.proofs.MemberRows.{absent_before, members_stay}

@@ -1,5 +1,6 @@
 -- An action that has ended would end so again: no allowed entry touches what its end was read from.
-use Rattle.std.proofs.Common.{◌≡◌, ℕ, Bool, true, false, List, [], ◌∷◌, ◌++◌, Option, Some, None, refl, sym, ap, ap₂, ◌∙◌, subst, append-nil, cond}
+use Rattle.std.proofs.Common.{◌≡◌, ℕ, Bool, true, false, List, [], ◌∷◌, ◌++◌, Option, Some, None, refl, sym, ap, ap₂}
+use Rattle.std.proofs.Common.{◌∙◌, subst, append-nil, cond}
 use Rattle.std.specs.Prelude.{◌&&◌, ◌||◌, not, is_some, option_to_list, filter}
 use Rattle.std.specs.Option.{option_or, option_map_or}
 use Rattle.std.proofs.Math.Bool.{or-false}
@@ -13,7 +14,8 @@ use Rattle.lra_model.specs.declared.asks.AskKind.TheVariants as ask
 use Rattle.lra_model.specs.declared.entry.Deed.{Deed}
 use Rattle.lra_model.specs.declared.entry.Entry.{Entry}
 use Rattle.lra_model.specs.Addresses.{Addresses}
-use Rattle.lra_model.specs.Words.{has_ended, has_failed, has_finished_cancelling, is_completed, is_compensated, is_done_completing, is_done_compensating}
+use Rattle.lra_model.specs.Words.{has_ended, has_failed, has_finished_cancelling, is_completed, is_compensated}
+use Rattle.lra_model.specs.Words.{is_done_completing, is_done_compensating}
 use Rattle.lra_model.specs.History.{History, is_among}
 use Rattle.lra_model.specs.Actions.{status_given, action_status, child_given, children, member_given, members_of}
 use Rattle.lra_model.specs.Members.{addresses_of, is_leave_of, has_left, stays, is_ask_for, member_status}

@@ -1,6 +1,7 @@
 -- Every legal history has good ends: up from a member to an action that closed or was cancelled, and down from one that
 -- failed to a member that did.
-use Rattle.std.proofs.Common.{◌≡◌, ℕ, zero, suc, ◌+◌, ◌<◌, ◌≤◌, Bool, true, false, List, length, Option, Some, None, ◌⊎◌, inl, inr, refl, sym, ap, ◌∙◌, cond, arith, le_refl, true≢false, eqb-true, eq-eqb}
+use Rattle.std.proofs.Common.{◌≡◌, ℕ, zero, suc, ◌+◌, ◌<◌, ◌≤◌, Bool, true, false, List, length, Option, Some, None}
+use Rattle.std.proofs.Common.{◌⊎◌, inl, inr, refl, sym, ap, ◌∙◌, cond, arith, le_refl, true≢false, eqb-true, eq-eqb}
 use Rattle.std.specs.Prelude.{◌==◌, ◌&&◌, ◌||◌, not, is_some}
 use Rattle.std.specs.Option.{option_or, option_map_or}
 use Rattle.std.proofs.Math.Bool.{or-false, or-true}
@@ -14,9 +15,11 @@ use Rattle.lra_model.specs.declared.status.MemberStatus.TheVariants as member
 use Rattle.lra_model.specs.declared.asks.Cause.{Cause}
 use Rattle.lra_model.specs.declared.entry.Deed.{Deed}
 use Rattle.lra_model.specs.declared.entry.Deed.TheVariants.{Start, Close, Cancel, End}
-use Rattle.lra_model.specs.Words.{when, is_active, has_ended, has_failed, has_finished_cancelling, member_has_failed, same_status, is_completed, is_compensated, is_done_completing, is_done_compensating}
+use Rattle.lra_model.specs.Words.{when, is_active, has_ended, has_failed, has_finished_cancelling, member_has_failed}
+use Rattle.lra_model.specs.Words.{same_status, is_completed, is_compensated, is_done_completing, is_done_compensating}
 use Rattle.lra_model.specs.History.{History, actions, members, is_among}
-use Rattle.lra_model.specs.Actions.{parent, status_given, action_status, children, members_of, is_cancel_of, was_cancelled, was_cancelled_below}
+use Rattle.lra_model.specs.Actions.{parent, status_given, action_status, children, members_of, is_cancel_of}
+use Rattle.lra_model.specs.Actions.{was_cancelled, was_cancelled_below}
 use Rattle.lra_model.specs.Members.{action_of, stays, member_status}
 use Rattle.lra_model.specs.Ends.{staying, action_is, settles, is_settled, children_are_well, ends_as, right_end}
 use Rattle.lra_model.specs.Facts.{ActionFacts, facts_of}
@@ -25,7 +28,9 @@ use Rattle.lra_laws.proofs.Climbs.{is_within, under_climbs, cancelled_within, be
 use Rattle.lra_model.specs.GoodEnds.{StaysUnder, IsCompletedForGood, HasGoodEnd, LegalHistoriesHaveGoodEnds}
 use Rattle.lra_laws.proofs.Push.{action_status_push, was_cancelled_push}
 use Rattle.lra_laws.proofs.Tested.{both}
-use Rattle.lra_laws.proofs.Legal.{Allowed, entry_kept, close_kept, end_kept, action_fact, started_number, actions_numbered, numbered_among, numbered_fresh, state_is_lem, status_is_there, parent_there, child_of, child_from, member_action, member_from, legal_induction}
+use Rattle.lra_laws.proofs.Legal.{Allowed, entry_kept, close_kept, end_kept, action_fact, started_number}
+use Rattle.lra_laws.proofs.Legal.{actions_numbered, numbered_among, numbered_fresh, state_is_lem, status_is_there}
+use Rattle.lra_laws.proofs.Legal.{parent_there, child_of, child_from, member_action, member_from, legal_induction}
 use Rattle.lra_laws.proofs.GoodLists.{passes_at, fails_at, found_at, none_at}
 use Rattle.lra_laws.proofs.GoodStatus.{completed_never_asked}
 use Rattle.lra_laws.proofs.GoodKept.{staying_member, staying_from, EndsAgain, EndsStand}

@@ -1,5 +1,6 @@
 -- No allowed entry touches what the end of an action was read from, so each action that has ended would end so again.
-use Rattle.std.proofs.Common.{◌≡◌, ℕ, ◌+◌, Bool, true, false, List, [], ◌∷◌, ◌++◌, length, Option, Some, None, ◌⊎◌, inl, inr, refl, sym, ap, ◌∙◌, subst, arith, true≢false, eqb-true, ne_eqb}
+use Rattle.std.proofs.Common.{◌≡◌, ℕ, ◌+◌, Bool, true, false, List, [], ◌∷◌, ◌++◌, length, Option, Some, None, ◌⊎◌, inl}
+use Rattle.std.proofs.Common.{inr, refl, sym, ap, ◌∙◌, subst, arith, true≢false, eqb-true, ne_eqb}
 use Rattle.std.specs.Prelude.{◌==◌, ◌&&◌, ◌||◌, not}
 use Rattle.std.specs.Option.{option_or, option_map_or}
 use Rattle.std.proofs.lemmas.Bool.{false_from_ne_true}
@@ -14,18 +15,25 @@ use Rattle.lra_model.specs.declared.asks.Cause.TheVariants as cause
 use Rattle.lra_model.specs.declared.entry.Deed.{Deed}
 use Rattle.lra_model.specs.declared.entry.Deed.TheVariants.{Start, Join, Leave, Close, Cancel, Ask, End}
 use Rattle.lra_model.specs.declared.entry.Entry.{Entry}
-use Rattle.lra_model.specs.Words.{when, is_active, is_closing, is_cancelling, is_closed, has_ended, is_cancellable, same_status, is_untouched, is_completed, is_compensating}
+use Rattle.lra_model.specs.Words.{when, is_active, is_closing, is_cancelling, is_closed, has_ended, is_cancellable}
+use Rattle.lra_model.specs.Words.{same_status, is_untouched, is_completed, is_compensating}
 use Rattle.lra_model.specs.History.{History, started_by, actions, is_among}
-use Rattle.lra_model.specs.Actions.{parent, status_given, action_status, child_given, children, member_given, members_of}
+use Rattle.lra_model.specs.Actions.{parent, status_given, action_status, child_given, children, member_given}
+use Rattle.lra_model.specs.Actions.{members_of}
 use Rattle.lra_model.specs.Members.{action_of, is_leave_of, is_ask_for}
 use Rattle.lra_model.specs.Ends.{action_is, settles, is_settled, right_end}
 use Rattle.lra_model.specs.Facts.{ActionFacts, MemberFacts, Facts, action_facts, member_facts, facts_of}
-use Rattle.lra_model.specs.Tests.{at_action, status_is, parent_is, may_close, may_cancel, may_take_back, limit_has_passed, has_address, is_time_for, may_ask}
+use Rattle.lra_model.specs.Tests.{at_action, status_is, parent_is, may_close, may_cancel, may_take_back}
+use Rattle.lra_model.specs.Tests.{limit_has_passed, has_address, is_time_for, may_ask}
 use Rattle.lra_model.specs.Rules.{deed_rules, is_legal}
 use Rattle.lra_laws.proofs.Push.{action_status_push}
 use Rattle.lra_laws.proofs.Tested.{both}
-use Rattle.lra_laws.proofs.Legal.{Allowed, AllKept, entry_kept, start_kept, join_kept, leave_kept, close_kept, cancel_kept, ask_kept, end_kept, action_fact, member_fact, at_action_from, started_number, actions_numbered, numbered_among, state_is_lem, parent_there, child_of, member_action, legal_induction}
-use Rattle.lra_laws.proofs.GoodKept.{Spares, untouched, before_end, EndsAgain, EndsStand, ends_again_after, ends_again_now, settles_decided, settles_ended}
+use Rattle.lra_laws.proofs.Legal.{Allowed, AllKept, entry_kept, start_kept, join_kept, leave_kept, close_kept}
+use Rattle.lra_laws.proofs.Legal.{cancel_kept, ask_kept, end_kept, action_fact, member_fact, at_action_from}
+use Rattle.lra_laws.proofs.Legal.{started_number, actions_numbered, numbered_among, state_is_lem, parent_there}
+use Rattle.lra_laws.proofs.Legal.{child_of, member_action, legal_induction}
+use Rattle.lra_laws.proofs.GoodKept.{Spares, untouched, before_end, EndsAgain, EndsStand, ends_again_after}
+use Rattle.lra_laws.proofs.GoodKept.{ends_again_now, settles_decided, settles_ended}
 
 -- ---- statuses
 

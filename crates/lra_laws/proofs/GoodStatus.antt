@@ -1,5 +1,6 @@
 -- A member that completed, compensated or failed stays so under every entry but its Leave and a compensate ask of it.
-use Rattle.std.proofs.Common.{◌≡◌, ℕ, Bool, true, false, [], ◌∷◌, ◌++◌, Option, Some, None, refl, sym, ap, ◌∙◌, cond, eqb-true, eq-eqb}
+use Rattle.std.proofs.Common.{◌≡◌, ℕ, Bool, true, false, [], ◌∷◌, ◌++◌, Option, Some, None, refl, sym, ap, ◌∙◌, cond}
+use Rattle.std.proofs.Common.{eqb-true, eq-eqb}
 use Rattle.std.specs.Prelude.{◌==◌, ◌&&◌, ◌||◌, option_map}
 use Rattle.std.specs.Option.{option_or, option_map_or}
 use Rattle.std.proofs.Math.Bool.{or-false, or-true}
@@ -16,7 +17,9 @@ use Rattle.lra_model.specs.declared.entry.Deed.TheVariants.{Skip, Ask, Reply, Re
 use Rattle.lra_model.specs.declared.entry.Entry.{Entry}
 use Rattle.lra_model.specs.Words.{when, is_decisive, same_kind, same_direction}
 use Rattle.lra_model.specs.History.{History, steps}
-use Rattle.lra_model.specs.Members.{has_left, is_leave_of, is_ask_for, was_asked, status_direction, ask_direction, Asked, asked_at, ask_of, Heard, heard_at, decides, decided, by_decision, member_status}
+use Rattle.lra_model.specs.Members.{has_left, is_leave_of, is_ask_for, was_asked, status_direction, ask_direction}
+use Rattle.lra_model.specs.Members.{Asked, asked_at, ask_of, Heard, heard_at, decides, decided, by_decision}
+use Rattle.lra_model.specs.Members.{member_status}
 use Rattle.lra_laws.proofs.Push.{step, has_left_push, was_asked_push, ask_of_push, decided_push}
 use Rattle.lra_laws.proofs.Legal.{snoc_induction}
 

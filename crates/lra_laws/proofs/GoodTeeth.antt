@@ -1,5 +1,6 @@
 -- What good ends rule out, and what they say of legal histories: small histories, computed.
-use Rattle.std.proofs.Common.{◌≡◌, ℕ, Bool, true, false, [], ◌∷◌, ◌++◌, Option, Some, None, refl, sym, ap, ◌∙◌, map, eqb-true}
+use Rattle.std.proofs.Common.{◌≡◌, ℕ, Bool, true, false, [], ◌∷◌, ◌++◌, Option, Some, None, refl, sym, ap, ◌∙◌, map}
+use Rattle.std.proofs.Common.{eqb-true}
 use Rattle.std.specs.Prelude.{◌==◌, ◌||◌}
 use Rattle.std.proofs.Math.Bool.{or-false}
 use Rattle.lra_model.specs.declared.status.ActionStatus.{ActionStatus}
@@ -13,8 +14,10 @@ use Rattle.lra_model.specs.declared.version.Version.TheVariants.{One, Two}
 use Rattle.lra_model.specs.declared.entry.Deed.TheVariants.{Enrol, Start, Join, Close, Cancel, Ask, Reply, End}
 use Rattle.lra_model.specs.Words.{member_has_failed}
 use Rattle.lra_model.specs.History.{History, steps, clerks, actions, members, asks, is_among, last_moment}
-use Rattle.lra_model.specs.Actions.{parent, top, is_under, action_status, limit_in_force, children, members_of, was_cancelled, was_cancelled_below}
-use Rattle.lra_model.specs.Members.{action_of, addresses_of, has_left, stays, was_asked, ask_of, replies, decided, member_status, last_reply, was_answered, is_outstanding, outstanding_ask}
+use Rattle.lra_model.specs.Actions.{parent, top, is_under, action_status, limit_in_force, children, members_of}
+use Rattle.lra_model.specs.Actions.{was_cancelled, was_cancelled_below}
+use Rattle.lra_model.specs.Members.{action_of, addresses_of, has_left, stays, was_asked, ask_of, replies, decided}
+use Rattle.lra_model.specs.Members.{member_status, last_reply, was_answered, is_outstanding, outstanding_ask}
 use Rattle.lra_model.specs.Ends.{staying, is_settled, right_end, top_has_ended}
 use Rattle.lra_model.specs.Facts.{facts_of}
 use Rattle.lra_model.specs.Rules.{broken, is_legal}

@@ -1,6 +1,7 @@
 -- The walks up by parents are plain recursions in a legal history: a parent's number is less, so the count of steps
 -- that each is given is enough.
-use Rattle.std.proofs.Common.{◌≡◌, ℕ, zero, suc, ◌<◌, ◌≤◌, Bool, true, false, List, [], ◌∷◌, Option, Some, None, refl, sym, ap, ◌∙◌, cond, arith}
+use Rattle.std.proofs.Common.{◌≡◌, ℕ, zero, suc, ◌<◌, ◌≤◌, Bool, true, false, List, [], ◌∷◌, Option, Some, None, refl}
+use Rattle.std.proofs.Common.{sym, ap, ◌∙◌, cond, arith}
 use Rattle.std.specs.Prelude.{◌==◌, ◌||◌, unwrap_or, option_map}
 use Rattle.std.specs.Option.{option_map_or}
 use Rattle.std.proofs.Math.Bool.{or-false}
@@ -8,7 +9,8 @@ use Rattle.lra_model.specs.declared.version.Version.{Version}
 use Rattle.lra_model.specs.declared.status.ActionStatus.{ActionStatus}
 use Rattle.lra_model.specs.declared.status.ActionStatus.TheVariants as action
 use Rattle.lra_model.specs.History.{History}
-use Rattle.lra_model.specs.Actions.{parent, lineage_within, lineage, top, is_under, action_status, was_cancelled, was_cancelled_below}
+use Rattle.lra_model.specs.Actions.{parent, lineage_within, lineage, top, is_under, action_status, was_cancelled}
+use Rattle.lra_model.specs.Actions.{was_cancelled_below}
 use Rattle.lra_model.specs.Rules.{is_legal}
 use Rattle.lra_laws.proofs.Climbs.{top_within, top_climbs, is_within, under_climbs, cancelled_within, below_climbs}
 use Rattle.lra_laws.proofs.Legal.{parent_there}

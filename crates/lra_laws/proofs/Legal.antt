@@ -1,6 +1,8 @@
 -- Legal histories: induction along them, what the rules say that an entry keeps, and that what a history names is
 -- there.
-use Rattle.std.proofs.Common.{◌≡◌, ℕ, zero, suc, ◌+◌, ◌<◌, ◌≤◌, Bool, true, false, List, [], ◌∷◌, ◌++◌, length, Option, Some, None, refl, sym, ap, ◌∙◌, subst, append_assoc, append-nil, cond, arith, eqb-true, eq-eqb, ne_eqb, leb-true, length-append}
+use Rattle.std.proofs.Common.{◌≡◌, ℕ, zero, suc, ◌+◌, ◌<◌, ◌≤◌, Bool, true, false, List, [], ◌∷◌, ◌++◌, length, Option}
+use Rattle.std.proofs.Common.{Some, None, refl, sym, ap, ◌∙◌, subst, append_assoc, append-nil, cond, arith, eqb-true}
+use Rattle.std.proofs.Common.{eq-eqb, ne_eqb, leb-true, length-append}
 use Rattle.std.proofs.lemmas.Bool.{eqb-false}
 use Rattle.std.proofs.Math.Bool.{and-true, or-false, or-true}
 use Rattle.std.specs.Prelude.{◌==◌, ◌&&◌, ◌||◌, is_some, is_none, unwrap_or, option_to_list}
@@ -14,18 +16,26 @@ use Rattle.lra_model.specs.declared.asks.AskKind.{AskKind}
 use Rattle.lra_model.specs.declared.asks.Outcome.{Outcome}
 use Rattle.lra_model.specs.declared.asks.Cause.{Cause}
 use Rattle.lra_model.specs.declared.entry.Deed.{Deed}
-use Rattle.lra_model.specs.declared.entry.Deed.TheVariants.{Enrol, Start, Join, Leave, Close, Cancel, Skip, Ask, Reply, Report, End, Renew}
+use Rattle.lra_model.specs.declared.entry.Deed.TheVariants.{Enrol, Start, Join, Leave, Close, Cancel, Skip, Ask, Reply}
+use Rattle.lra_model.specs.declared.entry.Deed.TheVariants.{Report, End, Renew}
 use Rattle.lra_model.specs.declared.entry.Entry.{Entry}
 use Rattle.lra_model.specs.Addresses.{Addresses}
 use Rattle.lra_model.specs.Words.{when, is_active, same_status, same_kind}
-use Rattle.lra_model.specs.History.{History, Step, steps, first, read_deeds, enrolled_by, started_by, joined_by, asked_by, clerks, actions, members, asks, is_among}
-use Rattle.lra_model.specs.Actions.{parent_given, parent, status_given, action_status, child_given, children, member_given, members_of}
-use Rattle.lra_model.specs.Members.{action_given, action_of, no_addresses, addresses_given, addresses_of, is_leave_of, has_left, is_ask_for, was_asked}
+use Rattle.lra_model.specs.History.{History, Step, steps, first, read_deeds, enrolled_by, started_by, joined_by}
+use Rattle.lra_model.specs.History.{asked_by, clerks, actions, members, asks, is_among}
+use Rattle.lra_model.specs.Actions.{parent_given, parent, status_given, action_status, child_given, children}
+use Rattle.lra_model.specs.Actions.{member_given, members_of}
+use Rattle.lra_model.specs.Members.{action_given, action_of, no_addresses, addresses_given, addresses_of, is_leave_of}
+use Rattle.lra_model.specs.Members.{has_left, is_ask_for, was_asked}
 use Rattle.lra_model.specs.Ends.{action_is}
 use Rattle.lra_model.specs.Facts.{ActionFacts, MemberFacts, Facts, action_facts, member_facts, facts_of}
-use Rattle.lra_model.specs.Tests.{at_action, at_member, status_is, each_parent, is_moment, may_close, may_cancel, addresses_fit, may_skip, may_ask, may_reply, may_report}
-use Rattle.lra_model.specs.Rules.{Ruling, has_deed, clerk_fits, is_action, is_member, is_here, deed_rules, rules_on, first_broken, broken, in_range, allows, is_legal}
-use Rattle.lra_laws.proofs.Push.{any_push, step, steps_push, clerks_push, actions_push, members_push, asks_push, action_status_push, parent_push, children_push, members_of_push, action_of_push, addresses_of_push}
+use Rattle.lra_model.specs.Tests.{at_action, at_member, status_is, each_parent, is_moment, may_close, may_cancel}
+use Rattle.lra_model.specs.Tests.{addresses_fit, may_skip, may_ask, may_reply, may_report}
+use Rattle.lra_model.specs.Rules.{Ruling, has_deed, clerk_fits, is_action, is_member, is_here, deed_rules, rules_on}
+use Rattle.lra_model.specs.Rules.{first_broken, broken, in_range, allows, is_legal}
+use Rattle.lra_laws.proofs.Push.{any_push, step, steps_push, clerks_push, actions_push, members_push, asks_push}
+use Rattle.lra_laws.proofs.Push.{action_status_push, parent_push, children_push, members_of_push, action_of_push}
+use Rattle.lra_laws.proofs.Push.{addresses_of_push}
 use Rattle.lra_laws.proofs.Tested.{both, and_intro, none_from_test}
 
 -- ---- induction from the end

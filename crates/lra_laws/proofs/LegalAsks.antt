@@ -1,5 +1,6 @@
 -- Asks of a legal history: which are there, and what a reply that is allowed answers.
-use Rattle.std.proofs.Common.{◌≡◌, ℕ, Bool, true, false, List, [], ◌∷◌, ◌++◌, Option, Some, None, refl, sym, ap, ◌∙◌, cond, eqb-true, eq-eqb}
+use Rattle.std.proofs.Common.{◌≡◌, ℕ, Bool, true, false, List, [], ◌∷◌, ◌++◌, Option, Some, None, refl, sym, ap, ◌∙◌}
+use Rattle.std.proofs.Common.{cond, eqb-true, eq-eqb}
 use Rattle.std.specs.Prelude.{◌==◌, ◌||◌, is_some, unwrap_or, option_map}
 use Rattle.std.specs.Option.{option_or, option_map_or}
 use Rattle.std.proofs.Math.Bool.{or-false, or-true}
@@ -16,7 +17,8 @@ use Rattle.lra_model.specs.Facts.{facts_of}
 use Rattle.lra_model.specs.Tests.{may_reply}
 use Rattle.lra_model.specs.Rules.{is_legal}
 use Rattle.lra_laws.proofs.Push.{step, asks_push, ask_of_push, is_outstanding_push}
-use Rattle.lra_laws.proofs.Legal.{Allowed, snoc_induction, legal_induction, among_push, member_there_push, members_named, members_named_there}
+use Rattle.lra_laws.proofs.Legal.{Allowed, snoc_induction, legal_induction, among_push, member_there_push}
+use Rattle.lra_laws.proofs.Legal.{members_named, members_named_there}
 
 -- an ask that is outstanding is there
 pub outstanding_there : (J : History) (n : ℕ) → is_outstanding J n ≡ true → is_among (asks J) n ≡ true

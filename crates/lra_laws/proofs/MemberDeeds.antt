@@ -14,16 +14,23 @@ use Rattle.lra_model.specs.declared.asks.Outcome.TheVariants as outcome
 use Rattle.lra_model.specs.declared.entry.Deed.{Deed}
 use Rattle.lra_model.specs.declared.entry.Deed.TheVariants.{Leave, Skip, Ask, Reply, Report}
 use Rattle.lra_model.specs.Addresses.{presence_of}
-use Rattle.lra_model.specs.Words.{when, same_kind, same_direction, is_untouched, is_completing, is_compensating, is_done, is_decisive}
+use Rattle.lra_model.specs.Words.{when, same_kind, same_direction, is_untouched, is_completing, is_compensating}
+use Rattle.lra_model.specs.Words.{is_done, is_decisive}
 use Rattle.lra_model.specs.History.{History}
-use Rattle.lra_model.specs.Members.{action_given, addresses_given, is_leave_of, has_left, is_ask_for, was_asked, status_direction, ask_direction, Asked, ask_of, replied_at, Heard, heard_at, decides, decided, member_status, last_reply}
+use Rattle.lra_model.specs.Members.{action_given, addresses_given, is_leave_of, has_left, is_ask_for, was_asked}
+use Rattle.lra_model.specs.Members.{status_direction, ask_direction, Asked, ask_of, replied_at, Heard, heard_at}
+use Rattle.lra_model.specs.Members.{decides, decided, member_status, last_reply}
 use Rattle.lra_laws.proofs.GoodStatus.{status_by}
 use Rattle.lra_laws.proofs.Push.{step, has_left_push, was_asked_push, decided_push}
 use Rattle.lra_laws.proofs.Rests.{decided_is_decisive}
-use Rattle.lra_laws.specs.Rows.{Standing, MemberRow, standing_at, standing, member_row, decided_as, way_of, way_asked, asked_as, with_ask, word_of, decided_by, with_reply, with_reply_to, with_report, with_skip}
+use Rattle.lra_laws.specs.Rows.{Standing, MemberRow, standing_at, standing, member_row, decided_as, way_of, way_asked}
+use Rattle.lra_laws.specs.Rows.{asked_as, with_ask, word_of, decided_by, with_reply, with_reply_to, with_report}
+use Rattle.lra_laws.specs.Rows.{with_skip}
 use Rattle.lra_laws.proofs.RowLists.{eqb_self}
 use Rattle.lra_laws.proofs.Told.{entry, more, ask_fits}
-use Rattle.lra_laws.proofs.MemberWords.{status_is, action_kept, addresses_kept, left_quiet, asked_quiet, decided_quiet, reply_after, answer_after, answer_kept, stand_after, heard_of, replied_of, answered_of}
+use Rattle.lra_laws.proofs.MemberWords.{status_is, action_kept, addresses_kept, left_quiet, asked_quiet, decided_quiet}
+use Rattle.lra_laws.proofs.MemberWords.{reply_after, answer_after, answer_kept, stand_after, heard_of, replied_of}
+use Rattle.lra_laws.proofs.MemberWords.{answered_of}
 use Rattle.lra_laws.proofs.StatusCases.{asked_to_complete, asked_to_compensate, skipped, goes_on, decided_anew}
 
 -- a member's status after an entry, by what bears on it

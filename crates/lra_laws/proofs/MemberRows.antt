@@ -1,5 +1,6 @@
 -- The rows of the members after one more entry.
-use Rattle.std.proofs.Common.{◌≡◌, ℕ, zero, suc, ◌+◌, ◌<◌, Bool, true, false, List, [], ◌∷◌, ◌++◌, length, map, Option, Some, None, refl, sym, ap, ◌∙◌, arith, eqb-true, append-nil}
+use Rattle.std.proofs.Common.{◌≡◌, ℕ, zero, suc, ◌+◌, ◌<◌, Bool, true, false, List, [], ◌∷◌, ◌++◌, length, map, Option}
+use Rattle.std.proofs.Common.{Some, None, refl, sym, ap, ◌∙◌, arith, eqb-true, append-nil}
 use Rattle.std.proofs.lemmas.Bool.{ne_eqb}
 use Rattle.std.proofs.lemmas.Option.{same_Some}
 use Rattle.std.specs.Prelude.{◌==◌, nat_lt, unwrap_or, option_to_list}
@@ -17,15 +18,19 @@ use Rattle.lra_model.specs.Addresses as texts
 use Rattle.lra_model.specs.Addresses.{presence_of}
 use Rattle.lra_model.specs.Words.{when}
 use Rattle.lra_model.specs.History.{History, steps, members, joined_by, is_among}
-use Rattle.lra_model.specs.Members.{no_addresses, action_of, addresses_of, has_left, was_asked, Asked, ask_of, replies, decided, member_status, last_reply, was_answered}
+use Rattle.lra_model.specs.Members.{no_addresses, action_of, addresses_of, has_left, was_asked, Asked, ask_of, replies}
+use Rattle.lra_model.specs.Members.{decided, member_status, last_reply, was_answered}
 use Rattle.lra_model.specs.Rules.{is_legal}
 use Rattle.lra_laws.proofs.Push.{members_push}
-use Rattle.lra_laws.proofs.Legal.{legal_induction, Allowed, IsNumbered, numbered_among, members_numbered, numbered_fresh, member_there_push, joined_there, action_of_new, addresses_of_new}
+use Rattle.lra_laws.proofs.Legal.{legal_induction, Allowed, IsNumbered, numbered_among, members_numbered}
+use Rattle.lra_laws.proofs.Legal.{numbered_fresh, member_there_push, joined_there, action_of_new, addresses_of_new}
 use Rattle.lra_laws.proofs.Tested.{both}
-use Rattle.lra_laws.specs.Rows.{Standing, MemberRow, standing, void_asks, member_row, change_row, new_member, place_of, stands_as}
+use Rattle.lra_laws.specs.Rows.{Standing, MemberRow, standing, void_asks, member_row, change_row, new_member, place_of}
+use Rattle.lra_laws.specs.Rows.{stands_as}
 use Rattle.lra_laws.proofs.RowLists.{among_apart, eqb_self, eqb_flip, map_within, rows_changed, rows_more}
 use Rattle.lra_laws.proofs.Told.{entry, more, ReplyTold, Told, told}
-use Rattle.lra_laws.proofs.MemberWords.{concerns, status_same, quiet_row, left_quiet, asked_quiet, decided_quiet, reply_after, answer_kept, stand_after}
+use Rattle.lra_laws.proofs.MemberWords.{concerns, status_same, quiet_row, left_quiet, asked_quiet, decided_quiet}
+use Rattle.lra_laws.proofs.MemberWords.{reply_after, answer_kept, stand_after}
 use Rattle.lra_laws.proofs.AskWords.{AsksListed, AsksStand, asks_listed, stands_for, stands_yet, asked_of}
 
 -- ---- a member that isn't there

@@ -1,5 +1,6 @@
 -- Where the actions stand after one more entry.
-use Rattle.std.proofs.Common.{◌≡◌, ℕ, suc, Bool, true, false, List, [], ◌∷◌, ◌++◌, map, Option, Some, None, refl, sym, ap, ◌∙◌, append-nil}
+use Rattle.std.proofs.Common.{◌≡◌, ℕ, suc, Bool, true, false, List, [], ◌∷◌, ◌++◌, map, Option, Some, None, refl, sym}
+use Rattle.std.proofs.Common.{ap, ◌∙◌, append-nil}
 use Rattle.std.specs.Prelude.{◌==◌, cond, filter, option_to_list, unwrap_or}
 use Rattle.std.specs.Option.{option_map_or}
 use Rattle.std.proofs.lemmas.List.Elements.{filter-append}
@@ -14,10 +15,12 @@ use Rattle.lra_model.specs.Actions.{parent, top, child_given, children, member_g
 use Rattle.lra_model.specs.Members.{action_given, action_of, members_under}
 use Rattle.lra_model.specs.Rules.{is_legal}
 use Rattle.lra_laws.specs.Rows.{ActionRow, action_row, state_of, change_row}
-use Rattle.lra_laws.specs.Sheets.{Nest, nest_of, with_child_number, with_member_number, with_number_under, top_at, new_depth, new_nest, nests_after}
+use Rattle.lra_laws.specs.Sheets.{Nest, nest_of, with_child_number, with_member_number, with_number_under, top_at}
+use Rattle.lra_laws.specs.Sheets.{new_depth, new_nest, nests_after}
 use Rattle.lra_laws.proofs.Push.{actions_push, children_push, members_push, members_of_push}
 use Rattle.lra_laws.proofs.GoodLists.{filter_same}
-use Rattle.lra_laws.proofs.Legal.{Allowed, legal_more, IsNumbered, numbered_fresh, actions_numbered, members_numbered, parent_of_new, parent_there, action_of_stays, action_of_new, action_of_there}
+use Rattle.lra_laws.proofs.Legal.{Allowed, legal_more, IsNumbered, numbered_fresh, actions_numbered, members_numbered}
+use Rattle.lra_laws.proofs.Legal.{parent_of_new, parent_there, action_of_stays, action_of_new, action_of_there}
 use Rattle.lra_laws.proofs.RowLists.{eqb_self, eqb_flip, among_apart, map_within, row_there, rows_changed, rows_more}
 use Rattle.lra_laws.proofs.Told.{entry, more, StartTold, JoinTold, Told}
 use Rattle.lra_laws.proofs.ActionWords.{members_by, children_by, is_parent, actions_stay}

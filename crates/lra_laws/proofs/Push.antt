@@ -1,5 +1,6 @@
 -- What each word of a history is after one more entry.
-use Rattle.std.proofs.Common.{◌≡◌, ℕ, Bool, true, false, List, [], ◌∷◌, ◌++◌, Option, Some, None, refl, sym, ap, ◌∙◌, append_assoc, cond, map}
+use Rattle.std.proofs.Common.{◌≡◌, ℕ, Bool, true, false, List, [], ◌∷◌, ◌++◌, Option, Some, None, refl, sym, ap, ◌∙◌}
+use Rattle.std.proofs.Common.{append_assoc, cond, map}
 use Rattle.std.specs.Prelude.{◌==◌, ◌&&◌, ◌||◌, unwrap_or, option_map, option_to_list}
 use Rattle.std.specs.Option.{option_or, option_map_or}
 use Rattle.std.specs.List.{filter_map, cons_option, last_or, find, list_any}
@@ -13,9 +14,15 @@ use Rattle.lra_model.specs.declared.asks.Outcome.{Outcome}
 use Rattle.lra_model.specs.declared.entry.Entry.{Entry}
 use Rattle.lra_model.specs.Addresses.{Addresses}
 use Rattle.lra_model.specs.Words.{when, same_kind, same_direction, is_done}
-use Rattle.lra_model.specs.History.{History, Step, steps_after, steps, first, last, read_deeds, enrolled_by, started_by, joined_by, asked_by, clerks, actions, members, asks, last_moment}
-use Rattle.lra_model.specs.Actions.{parent_given, parent, status_given, action_status, Limit, limit_given, limit_in_force, child_given, children, member_given, members_of, is_cancel_of, was_cancelled}
-use Rattle.lra_model.specs.Members.{action_given, action_of, no_addresses, addresses_given, addresses_of, is_leave_of, has_left, is_ask_for, was_asked, Asked, asked_at, ask_of, Replied, replied_at, replies, Heard, heard_at, decides, decided, last_reply, was_answered, standing_given, is_outstanding, ask_given}
+use Rattle.lra_model.specs.History.{History, Step, steps_after, steps, first, last, read_deeds, enrolled_by, started_by}
+use Rattle.lra_model.specs.History.{joined_by, asked_by, clerks, actions, members, asks, last_moment}
+use Rattle.lra_model.specs.Actions.{parent_given, parent, status_given, action_status, Limit, limit_given}
+use Rattle.lra_model.specs.Actions.{limit_in_force, child_given, children, member_given, members_of, is_cancel_of}
+use Rattle.lra_model.specs.Actions.{was_cancelled}
+use Rattle.lra_model.specs.Members.{action_given, action_of, no_addresses, addresses_given, addresses_of, is_leave_of}
+use Rattle.lra_model.specs.Members.{has_left, is_ask_for, was_asked, Asked, asked_at, ask_of, Replied, replied_at}
+use Rattle.lra_model.specs.Members.{replies, Heard, heard_at, decides, decided, last_reply, was_answered}
+use Rattle.lra_model.specs.Members.{standing_given, is_outstanding, ask_given}
 
 -- ---- lists with one more at the end
 

@@ -1,5 +1,6 @@
 -- Where nothing comes next, nothing is left to settle.
-use Rattle.std.proofs.Common.{◌≡◌, ℕ, Bool, true, false, List, [], ◌∷◌, Option, Some, None, refl, sym, ap, ◌∙◌, cond, eqb-true}
+use Rattle.std.proofs.Common.{◌≡◌, ℕ, Bool, true, false, List, [], ◌∷◌, Option, Some, None, refl, sym, ap, ◌∙◌, cond}
+use Rattle.std.proofs.Common.{eqb-true}
 use Rattle.std.proofs.lemmas.Bool.{false_from_ne_true}
 use Rattle.std.specs.Prelude.{◌==◌, ◌||◌, option_map}
 use Rattle.std.specs.Option.{option_or}
@@ -15,7 +16,8 @@ use Rattle.lra_model.specs.Tests.{at_action, may_close_with_parent, may_cancel_w
 use Rattle.lra_model.specs.Rules.{deed_rules, allows}
 use Rattle.lra_model.specs.Settling.{is_settling, IsQuiet, may_be_skipped, by_parent, next_settling}
 use Rattle.lra_laws.proofs.GoodLists.{find_nothing}
-use Rattle.lra_laws.proofs.Legal.{AllKept, allowed, entry_kept, close_kept, cancel_kept, skip_kept, end_kept, action_fact, member_fact}
+use Rattle.lra_laws.proofs.Legal.{AllKept, allowed, entry_kept, close_kept, cancel_kept, skip_kept, end_kept}
+use Rattle.lra_laws.proofs.Legal.{action_fact, member_fact}
 
 -- ---- lists that give nothing
 

@@ -1,5 +1,6 @@
 -- Each entry that settles a history leaves less to settle.
-use Rattle.std.proofs.Common.{◌≡◌, ℕ, ◌+◌, ◌*◌, ◌≤◌, ◌<◌, Bool, true, false, List, [], ◌∷◌, ◌++◌, length, Option, Some, None, refl, sym, ap, ◌∙◌, subst, cond, arith, eqb-true, eq-eqb}
+use Rattle.std.proofs.Common.{◌≡◌, ℕ, ◌+◌, ◌*◌, ◌≤◌, ◌<◌, Bool, true, false, List, [], ◌∷◌, ◌++◌, length, Option, Some}
+use Rattle.std.proofs.Common.{None, refl, sym, ap, ◌∙◌, subst, cond, arith, eqb-true, eq-eqb}
 use Rattle.std.proofs.lemmas.List.{append-nil}
 use Rattle.std.proofs.lemmas.List.Elements.{All-from_get_or}
 use Rattle.std.proofs.lemmas.List.Sums.{sum_by-cons, sum_by-le, sum_by-le-sum_by}
@@ -19,18 +20,21 @@ use Rattle.lra_model.specs.declared.asks.Outcome.TheVariants as outcome
 use Rattle.lra_model.specs.declared.entry.Deed.{Deed}
 use Rattle.lra_model.specs.declared.entry.Deed.TheVariants.{Close, Cancel, Skip, End}
 use Rattle.lra_model.specs.declared.entry.Entry.{Entry}
-use Rattle.lra_model.specs.Words.{when, is_active, is_closing, is_cancellable, is_cancelling, same_status, is_untouched, is_decisive, same_direction}
+use Rattle.lra_model.specs.Words.{when, is_active, is_closing, is_cancellable, is_cancelling, same_status, is_untouched}
+use Rattle.lra_model.specs.Words.{is_decisive, same_direction}
 use Rattle.lra_model.specs.History.{History, steps, first, last, started_by, joined_by, actions, members, is_among}
 use Rattle.lra_model.specs.Actions.{status_given, action_status}
 use Rattle.lra_model.specs.Members.{has_left, was_asked, Heard, heard_at, decides, decided, by_decision, member_status}
 use Rattle.lra_model.specs.Ends.{settles, is_settled, ends_as, right_end}
 use Rattle.lra_model.specs.Facts.{ActionFacts, MemberFacts, action_facts, member_facts, facts_of}
-use Rattle.lra_model.specs.Tests.{at_action, status_is, parent_is, may_close_with_parent, may_cancel_with_parent, may_skip}
+use Rattle.lra_model.specs.Tests.{at_action, status_is, parent_is, may_close_with_parent, may_cancel_with_parent}
+use Rattle.lra_model.specs.Tests.{may_skip}
 use Rattle.lra_model.specs.Rules.{deed_rules}
 use Rattle.lra_model.specs.Settling.{is_settling, may_be_skipped, by_parent, next_settling}
 use Rattle.lra_laws.proofs.Push.{step, actions_push, members_push, action_status_push, decided_push}
 use Rattle.lra_laws.proofs.Tested.{both}
-use Rattle.lra_laws.proofs.Legal.{Allowed, AllKept, entry_kept, close_kept, cancel_kept, skip_kept, end_kept, action_fact, member_fact}
+use Rattle.lra_laws.proofs.Legal.{Allowed, AllKept, entry_kept, close_kept, cancel_kept, skip_kept, end_kept}
+use Rattle.lra_laws.proofs.Legal.{action_fact, member_fact}
 use Rattle.lra_laws.proofs.Writes.{MayWrite}
 use Rattle.lra_laws.proofs.Settled.{settling_allowed}
 

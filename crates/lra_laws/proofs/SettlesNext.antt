@@ -1,6 +1,7 @@
 -- What settles next is found by the least member that may be skipped, the least action that is turned, and the greatest
 -- that may end.
-use Rattle.std.proofs.Common.{◌≡◌, ℕ, zero, suc, ◌+◌, ◌≤◌, ◌<◌, Bool, true, false, List, [], ◌∷◌, length, Option, Some, None, inl, inr, refl, sym, ap, ◌∙◌, cond, arith}
+use Rattle.std.proofs.Common.{◌≡◌, ℕ, zero, suc, ◌+◌, ◌≤◌, ◌<◌, Bool, true, false, List, [], ◌∷◌, length, Option, Some}
+use Rattle.std.proofs.Common.{None, inl, inr, refl, sym, ap, ◌∙◌, cond, arith}
 use Rattle.std.proofs.lemmas.Bool.{cases_eq}
 use Rattle.std.specs.Prelude.{is_some, option_map}
 use Rattle.std.specs.Option.{option_or, option_and_then}
@@ -17,7 +18,8 @@ use Rattle.lra_model.specs.Settling.{may_be_skipped, by_parent, next_settling}
 use Rattle.lra_model.specs.Rules.{is_legal}
 use Rattle.lra_laws.specs.Rows.{state_of}
 use Rattle.lra_laws.specs.Settles.{may_skip_by, turn_by, end_by}
-use Rattle.lra_laws.proofs.Legal.{IsNumbered, numbered_among, actions_numbered, members_numbered, action_fact, member_fact}
+use Rattle.lra_laws.proofs.Legal.{IsNumbered, numbered_among, actions_numbered, members_numbered, action_fact}
+use Rattle.lra_laws.proofs.Legal.{member_fact}
 use Rattle.lra_laws.proofs.Agree.{agree}
 use Rattle.lra_laws.proofs.GoodLists.{among_here, among_there}
 

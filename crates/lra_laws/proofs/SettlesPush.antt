@@ -1,5 +1,6 @@
 -- What may settle next after one more entry: the same but for the members and actions that its deed concerns.
-use Rattle.std.proofs.Common.{◌≡◌, ◌≢◌, ℕ, suc, ◌+◌, Bool, true, false, List, [], ◌∷◌, ◌++◌, length, map, Option, Some, None, refl, sym, ap, ◌∙◌, subst, arith, append-nil, eq-eqb}
+use Rattle.std.proofs.Common.{◌≡◌, ◌≢◌, ℕ, suc, ◌+◌, Bool, true, false, List, [], ◌∷◌, ◌++◌, length, map, Option, Some}
+use Rattle.std.proofs.Common.{None, refl, sym, ap, ◌∙◌, subst, arith, append-nil, eq-eqb}
 use Rattle.std.proofs.lemmas.Bool.{eqb-false}
 use Rattle.std.proofs.lemmas.List.{length-map}
 use Rattle.std.specs.Prelude.{◌==◌, ◌&&◌, ◌||◌, option_to_list}
@@ -9,7 +10,8 @@ use Rattle.lra_model.specs.declared.status.ActionStatus.{ActionStatus}
 use Rattle.lra_model.specs.declared.status.ActionStatus.TheVariants as action
 use Rattle.lra_model.specs.declared.status.MemberStatus.TheVariants as member
 use Rattle.lra_model.specs.declared.entry.Deed.{Deed}
-use Rattle.lra_model.specs.declared.entry.Deed.TheVariants.{Enrol, Start, Join, Leave, Close, Cancel, Skip, Ask, Reply, Report, End, Restart, Renew}
+use Rattle.lra_model.specs.declared.entry.Deed.TheVariants.{Enrol, Start, Join, Leave, Close, Cancel, Skip, Ask, Reply}
+use Rattle.lra_model.specs.declared.entry.Deed.TheVariants.{Report, End, Restart, Renew}
 use Rattle.lra_model.specs.declared.entry.Entry.{Entry}
 use Rattle.lra_model.specs.declared.asks.Outcome.{Outcome}
 use Rattle.lra_model.specs.Addresses.{Addresses}
@@ -18,19 +20,23 @@ use Rattle.lra_model.specs.History.{History, actions, members, asks, is_among}
 use Rattle.lra_model.specs.Actions.{parent, children, members_of, child_given, member_given}
 use Rattle.lra_model.specs.Members.{Asked, asked_at, ask_of, action_of}
 use Rattle.lra_model.specs.Rules.{is_legal, allows}
-use Rattle.lra_laws.specs.Rows.{State, MemberRow, ActionRow, state_of, action_row, member_row, row_at, change_member, change_status, with_ask, with_reply, with_report, with_skip, new_member, new_action, new_top, after_deed}
+use Rattle.lra_laws.specs.Rows.{State, MemberRow, ActionRow, state_of, action_row, member_row, row_at, change_member}
+use Rattle.lra_laws.specs.Rows.{change_status, with_ask, with_reply, with_report, with_skip, new_member, new_action}
+use Rattle.lra_laws.specs.Rows.{new_top, after_deed}
 use Rattle.lra_laws.specs.Sheets.{Sheet, asks_made, state_after}
 use Rattle.lra_laws.specs.inner.Concerned.{members_concerned, actions_concerned, around}
 use Rattle.lra_laws.proofs.GoodLists.{among_filter}
 use Rattle.lra_laws.proofs.Push.{step, children_push, members_of_push, ask_of_push}
-use Rattle.lra_laws.proofs.Legal.{allowed, actions_numbered, members_numbered, numbered_fresh, parent_stays, parent_there, action_of_stays, action_of_there, children_lem}
+use Rattle.lra_laws.proofs.Legal.{allowed, actions_numbered, members_numbered, numbered_fresh, parent_stays}
+use Rattle.lra_laws.proofs.Legal.{parent_there, action_of_stays, action_of_there, children_lem}
 use Rattle.lra_laws.proofs.RowLists.{row_there, row_absent}
 use Rattle.lra_laws.proofs.ActionWords.{members_by}
 use Rattle.lra_laws.proofs.Told.{entry, more, StartTold, JoinTold, Told, told}
 use Rattle.lra_laws.proofs.AskWords.{asks_listed}
 use Rattle.lra_laws.proofs.AskList.{ask_at}
 use Rattle.lra_laws.proofs.SheetPush.{sheet_push}
-use Rattle.lra_laws.proofs.SettlesStay.{Stays, Stays-trans, rows_stay, member_stays, limit_stays, join_stays, status_stays, start_stays}
+use Rattle.lra_laws.proofs.SettlesStay.{Stays, Stays-trans, rows_stay, member_stays, limit_stays, join_stays}
+use Rattle.lra_laws.proofs.SettlesStay.{status_stays, start_stays}
 
 -- ---- what is not among numbers
 

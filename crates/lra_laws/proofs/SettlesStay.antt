@@ -1,5 +1,6 @@
 -- What may settle next stays the same for every member and action that a deed does not concern.
-use Rattle.std.proofs.Common.{◌≡◌, ◌≢◌, ℕ, suc, Bool, true, false, List, [], ◌∷◌, ◌++◌, length, Option, Some, None, refl, sym, ap, ◌∙◌, cond}
+use Rattle.std.proofs.Common.{◌≡◌, ◌≢◌, ℕ, suc, Bool, true, false, List, [], ◌∷◌, ◌++◌, length, Option, Some, None}
+use Rattle.std.proofs.Common.{refl, sym, ap, ◌∙◌, cond}
 use Rattle.std.specs.Prelude.{◌&&◌, ◌||◌, not, is_some, option_map}
 use Rattle.std.specs.Option.{option_map_or, option_and_then}
 use Rattle.lra_model.specs.declared.status.ActionStatus.{ActionStatus}
@@ -9,8 +10,10 @@ use Rattle.lra_model.specs.declared.entry.Deed.TheVariants.{Close, Cancel, End}
 use Rattle.lra_model.specs.Words.{is_active, is_closing, is_cancelling, is_cancellable, is_untouched}
 use Rattle.lra_model.specs.History.{is_among}
 use Rattle.lra_model.specs.Facts.{ActionFacts}
-use Rattle.lra_model.specs.Tests.{at_action, status_is, parent_is, may_close_with_parent, may_cancel_with_parent, may_skip}
-use Rattle.lra_laws.specs.Rows.{MemberRow, ActionRow, State, row_at, change_row, change_member, change_status, with_member, with_new_member, with_child, with_new_child}
+use Rattle.lra_model.specs.Tests.{at_action, status_is, parent_is, may_close_with_parent, may_cancel_with_parent}
+use Rattle.lra_model.specs.Tests.{may_skip}
+use Rattle.lra_laws.specs.Rows.{MemberRow, ActionRow, State, row_at, change_row, change_member, change_status}
+use Rattle.lra_laws.specs.Rows.{with_member, with_new_member, with_child, with_new_child}
 use Rattle.lra_laws.specs.Ends.{settled_by}
 use Rattle.lra_laws.specs.inner.RowFacts.{action_by, member_by, facts_by}
 use Rattle.lra_laws.specs.Settles.{may_skip_by, turn_by, end_by}

@@ -9,7 +9,8 @@ use Rattle.lra_model.specs.History.{History, members}
 use Rattle.lra_model.specs.Members.{Asked}
 use Rattle.lra_model.specs.Rules.{is_legal, allows}
 use Rattle.lra_laws.specs.Rows.{state_of, row_at, change_row, change_member, with_reply}
-use Rattle.lra_laws.specs.Sheets.{Sheet, StandsFor, contact_of, asks_made, with_answer, contacts_after, state_after, sheet_of, sheet_after}
+use Rattle.lra_laws.specs.Sheets.{Sheet, StandsFor, contact_of, asks_made, with_answer, contacts_after, state_after}
+use Rattle.lra_laws.specs.Sheets.{sheet_of, sheet_after}
 use Rattle.lra_laws.proofs.Legal.{Allowed, allowed, legal_more}
 use Rattle.lra_laws.proofs.Told.{entry, more, Told, told, ReplyTold}
 use Rattle.lra_laws.proofs.AskWords.{asks_listed, asks_stand}

@@ -1,5 +1,6 @@
 -- The rows of the actions after one more starts.
-use Rattle.std.proofs.Common.{◌≡◌, ℕ, ◌+◌, Bool, true, false, List, [], ◌∷◌, ◌++◌, length, map, Option, Some, None, refl, sym, ap, ◌∙◌, cond, arith}
+use Rattle.std.proofs.Common.{◌≡◌, ℕ, ◌+◌, Bool, true, false, List, [], ◌∷◌, ◌++◌, length, map, Option, Some, None}
+use Rattle.std.proofs.Common.{refl, sym, ap, ◌∙◌, cond, arith}
 use Rattle.std.specs.Prelude.{◌==◌, ◌&&◌, unwrap_or, count_by}
 use Rattle.std.specs.Option.{option_map_or, option_or}
 use Rattle.lra_model.specs.declared.status.ActionStatus.{ActionStatus}
@@ -16,9 +17,13 @@ use Rattle.lra_model.specs.Ends.{action_is}
 use Rattle.lra_model.specs.Rules.{is_legal}
 use Rattle.lra_laws.proofs.GoodWalks.{top_lem}
 use Rattle.lra_laws.proofs.Push.{actions_push, action_status_push, limit_push}
-use Rattle.lra_laws.proofs.Legal.{Allowed, legal_more, numbered_fresh, actions_numbered, parent_stays, parent_of_new, parent_there, action_of_there}
-use Rattle.lra_laws.specs.Rows.{ActionRow, member_row, action_row, state_of, count_staying, count_children, counts_as, is_left_to_complete, is_left_to_compensate, is_uncompleted, is_uncompensated, is_unended, is_uncancelled, one, with_new_child, change_row, new_action, new_top}
-use Rattle.lra_laws.proofs.RowLists.{eqb_self, eqb_flip, among_apart, map_within, count_within, count_none, count_push, rows_changed, rows_more, row_there}
+use Rattle.lra_laws.proofs.Legal.{Allowed, legal_more, numbered_fresh, actions_numbered, parent_stays, parent_of_new}
+use Rattle.lra_laws.proofs.Legal.{parent_there, action_of_there}
+use Rattle.lra_laws.specs.Rows.{ActionRow, member_row, action_row, state_of, count_staying, count_children, counts_as}
+use Rattle.lra_laws.specs.Rows.{is_left_to_complete, is_left_to_compensate, is_uncompleted, is_uncompensated}
+use Rattle.lra_laws.specs.Rows.{is_unended, is_uncancelled, one, with_new_child, change_row, new_action, new_top}
+use Rattle.lra_laws.proofs.RowLists.{eqb_self, eqb_flip, among_apart, map_within, count_within, count_none, count_push}
+use Rattle.lra_laws.proofs.RowLists.{rows_changed, rows_more, row_there}
 use Rattle.lra_laws.proofs.Told.{entry, more, StartTold}
 use Rattle.lra_laws.proofs.Tops.{top_stays}
 use Rattle.lra_laws.proofs.ActionWords.{counts_in, staying_count, is_parent, children_count, status_kept, limit_kept}

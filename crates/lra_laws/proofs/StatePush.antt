@@ -1,5 +1,6 @@
 -- The forward state after one more entry.
-use Rattle.std.proofs.Common.{◌≡◌, ℕ, ◌+◌, Bool, true, false, List, [], ◌∷◌, ◌++◌, length, map, Option, Some, None, refl, sym, ap, ◌∙◌, append-nil, length-append}
+use Rattle.std.proofs.Common.{◌≡◌, ℕ, ◌+◌, Bool, true, false, List, [], ◌∷◌, ◌++◌, length, map, Option, Some, None}
+use Rattle.std.proofs.Common.{refl, sym, ap, ◌∙◌, append-nil, length-append}
 use Rattle.std.specs.Prelude.{◌==◌, unwrap_or, option_to_list}
 use Rattle.std.specs.Option.{option_map_or}
 use Rattle.lra_model.specs.declared.status.ActionStatus.{ActionStatus}
@@ -7,22 +8,27 @@ use Rattle.lra_model.specs.declared.status.ActionStatus.TheVariants as action
 use Rattle.lra_model.specs.declared.status.MemberStatus.TheVariants as member
 use Rattle.lra_model.specs.declared.asks.Outcome.{Outcome}
 use Rattle.lra_model.specs.declared.entry.Deed.{Deed}
-use Rattle.lra_model.specs.declared.entry.Deed.TheVariants.{Enrol, Start, Join, Leave, Close, Cancel, Skip, Ask, Reply, Report, End, Restart, Renew}
+use Rattle.lra_model.specs.declared.entry.Deed.TheVariants.{Enrol, Start, Join, Leave, Close, Cancel, Skip, Ask, Reply}
+use Rattle.lra_model.specs.declared.entry.Deed.TheVariants.{Report, End, Restart, Renew}
 use Rattle.lra_model.specs.declared.version.Version.{Version}
-use Rattle.lra_model.specs.History.{History, enrolled_by, clerks, asks, asked_by, actions, started_by, members, joined_by, is_among, last_moment}
+use Rattle.lra_model.specs.History.{History, enrolled_by, clerks, asks, asked_by, actions, started_by, members}
+use Rattle.lra_model.specs.History.{joined_by, is_among, last_moment}
 use Rattle.lra_model.specs.Actions.{parent, status_given, action_status, limit_given}
 use Rattle.lra_model.specs.Members.{Asked, action_of}
 use Rattle.lra_model.specs.Rules.{is_legal}
 use Rattle.lra_laws.proofs.Push.{step, last_moment_push, clerks_push, asks_push}
 use Rattle.lra_laws.proofs.Legal.{Allowed, actions_numbered, members_numbered}
-use Rattle.lra_laws.specs.Rows.{Standing, MemberRow, ActionRow, State, standing, with_reply_to, void_at, void_asks, member_row, action_row, state_of, with_member, with_child, change_row, row_at, change_member, change_status, with_ask, with_reply, with_report, with_skip, after_deed}
+use Rattle.lra_laws.specs.Rows.{Standing, MemberRow, ActionRow, State, standing, with_reply_to, void_at, void_asks}
+use Rattle.lra_laws.specs.Rows.{member_row, action_row, state_of, with_member, with_child, change_row, row_at}
+use Rattle.lra_laws.specs.Rows.{change_member, change_status, with_ask, with_reply, with_report, with_skip, after_deed}
 use Rattle.lra_laws.proofs.RowLists.{eqb_self, row_there}
 use Rattle.lra_laws.proofs.Told.{entry, more, ReplyTold, Told, told}
 use Rattle.lra_laws.proofs.MemberWords.{concerns, void_push}
 use Rattle.lra_laws.proofs.MemberDeeds.{leave_row, skip_row, ask_row, reply_row, report_row}
 use Rattle.lra_laws.proofs.AskWords.{AsksListed, AsksStand, asks_listed, asks_stand, void_kept, asks_kept, stands_for}
 use Rattle.lra_laws.proofs.MemberRows.{rows_still, rows_of_one, rows_joined, replied_stands, stands_alone, place_is}
-use Rattle.lra_laws.proofs.ActionRows.{actions_still, actions_renewed, actions_of_one, actions_joined, Turns, actions_turned}
+use Rattle.lra_laws.proofs.ActionRows.{actions_still, actions_renewed, actions_of_one, actions_joined, Turns}
+use Rattle.lra_laws.proofs.ActionRows.{actions_turned}
 use Rattle.lra_laws.proofs.StartRows.{actions_started}
 
 -- the state at a moment

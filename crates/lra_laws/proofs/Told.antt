@@ -1,5 +1,6 @@
 -- What the rules say of an allowed deed, in the words of the history before it.
-use Rattle.std.proofs.Common.{◌≡◌, ℕ, ◌+◌, Bool, true, false, List, ◌∷◌, [], ◌++◌, length, Option, Some, None, refl, cond, eqb-true}
+use Rattle.std.proofs.Common.{◌≡◌, ℕ, ◌+◌, Bool, true, false, List, ◌∷◌, [], ◌++◌, length, Option, Some, None, refl}
+use Rattle.std.proofs.Common.{cond, eqb-true}
 use Rattle.std.specs.Prelude.{◌&&◌, ◌||◌, not, is_some, option_map}
 use Rattle.std.specs.Option.{option_map_or}
 use Rattle.lra_model.specs.declared.version.Version.{Version}
@@ -8,16 +9,21 @@ use Rattle.lra_model.specs.declared.asks.AskKind.{AskKind}
 use Rattle.lra_model.specs.declared.asks.AskKind.TheVariants as ask
 use Rattle.lra_model.specs.declared.asks.Outcome.{Outcome}
 use Rattle.lra_model.specs.declared.entry.Deed.{Deed}
-use Rattle.lra_model.specs.declared.entry.Deed.TheVariants.{Enrol, Start, Join, Leave, Close, Cancel, Skip, Ask, Reply, Report, End, Restart, Renew}
+use Rattle.lra_model.specs.declared.entry.Deed.TheVariants.{Enrol, Start, Join, Leave, Close, Cancel, Skip, Ask, Reply}
+use Rattle.lra_model.specs.declared.entry.Deed.TheVariants.{Report, End, Restart, Renew}
 use Rattle.lra_model.specs.declared.entry.Entry.{Entry}
-use Rattle.lra_model.specs.Words.{is_untouched, is_completing, is_completed, is_compensating, is_decisive, outcome_suits}
+use Rattle.lra_model.specs.Words.{is_untouched, is_completing, is_completed, is_compensating, is_decisive}
+use Rattle.lra_model.specs.Words.{outcome_suits}
 use Rattle.lra_model.specs.History.{History, clerks, actions, members, asks, is_among}
 use Rattle.lra_model.specs.Members.{Asked, ask_of, member_status, is_outstanding, outstanding_ask}
 use Rattle.lra_model.specs.Facts.{ActionFacts, MemberFacts, Facts, member_facts, facts_of}
-use Rattle.lra_model.specs.Tests.{is_time_for, has_address, status_is, was_accepted, may_skip, may_ask, may_report, may_reply, may_close, may_cancel}
+use Rattle.lra_model.specs.Tests.{is_time_for, has_address, status_is, was_accepted, may_skip, may_ask, may_report}
+use Rattle.lra_model.specs.Tests.{may_reply, may_close, may_cancel}
 use Rattle.lra_model.specs.Words.{is_closing, is_cancelling}
 use Rattle.lra_model.specs.Rules.{is_action}
-use Rattle.lra_laws.proofs.Legal.{Allowed, entry_kept, start_kept, join_kept, leave_kept, close_kept, cancel_kept, skip_kept, ask_kept, reply_kept, report_kept, end_kept, renew_kept, action_fact, member_fact}
+use Rattle.lra_laws.proofs.Legal.{Allowed, entry_kept, start_kept, join_kept, leave_kept, close_kept, cancel_kept}
+use Rattle.lra_laws.proofs.Legal.{skip_kept, ask_kept, reply_kept, report_kept, end_kept, renew_kept, action_fact}
+use Rattle.lra_laws.proofs.Legal.{member_fact}
 use Rattle.lra_laws.proofs.Tested.{both}
 
 -- an entry

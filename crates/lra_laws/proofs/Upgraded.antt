@@ -8,13 +8,15 @@ use Rattle.lra_model.specs.declared.asks.Cause.TheVariants as cause
 use Rattle.lra_model.specs.declared.version.Version.TheVariants.{One, Two}
 use Rattle.lra_model.specs.declared.rule.Rule.TheVariants as rule
 use Rattle.lra_model.specs.declared.entry.Deed.{Deed}
-use Rattle.lra_model.specs.declared.entry.Deed.TheVariants.{Enrol, Start, Join, Leave, Close, Cancel, Skip, Ask, Reply, Report, End, Restart, Renew}
+use Rattle.lra_model.specs.declared.entry.Deed.TheVariants.{Enrol, Start, Join, Leave, Close, Cancel, Skip, Ask, Reply}
+use Rattle.lra_model.specs.declared.entry.Deed.TheVariants.{Report, End, Restart, Renew}
 use Rattle.lra_model.specs.declared.entry.Entry.{Entry}
 use Rattle.lra_model.specs.Words.{is_active}
 use Rattle.lra_model.specs.History.{History, Step, steps}
 use Rattle.lra_model.specs.Facts.{ActionFacts, Facts, facts_of}
 use Rattle.lra_model.specs.Tests.{at_action, may_cancel, may_take_back}
-use Rattle.lra_model.specs.Rules.{Ruling, is_action, clerk_fits, deed_rules, rules_on, first_broken, broken, in_range, allows, is_legal}
+use Rattle.lra_model.specs.Rules.{Ruling, is_action, clerk_fits, deed_rules, rules_on, first_broken, broken, in_range}
+use Rattle.lra_model.specs.Rules.{allows, is_legal}
 use Rattle.lra_model.specs.Upgrade.{VersionTwoKeepsLegal}
 use Rattle.lra_laws.proofs.Tested.{both, and_intro, or_left, none_from_test, list_all-weaker, kept, passed}
 

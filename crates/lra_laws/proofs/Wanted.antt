@@ -1,5 +1,6 @@
 -- What a member of a legal history wants to be asked may be asked.
-use Rattle.std.proofs.Common.{◌≡◌, ℕ, Bool, true, false, List, [], ◌∷◌, ◌++◌, Option, Some, None, refl, sym, ap, ◌∙◌, cond, eqb-true, eq-eqb}
+use Rattle.std.proofs.Common.{◌≡◌, ℕ, Bool, true, false, List, [], ◌∷◌, ◌++◌, Option, Some, None, refl, sym, ap, ◌∙◌}
+use Rattle.std.proofs.Common.{cond, eqb-true, eq-eqb}
 use Rattle.std.specs.Prelude.{◌==◌, ◌&&◌, ◌||◌, not, is_some, option_map}
 use Rattle.std.specs.Option.{option_or, option_map_or}
 use Rattle.std.proofs.Math.Bool.{or-true}
@@ -14,9 +15,11 @@ use Rattle.lra_model.specs.declared.asks.Outcome.TheVariants as outcome
 use Rattle.lra_model.specs.declared.entry.Deed.{Deed}
 use Rattle.lra_model.specs.declared.entry.Deed.TheVariants.{Ask, Reply}
 use Rattle.lra_model.specs.declared.entry.Entry.{Entry}
-use Rattle.lra_model.specs.Words.{when, same_kind, same_direction, is_closing, is_untouched, is_completing, is_compensating, has_gone}
+use Rattle.lra_model.specs.Words.{when, same_kind, same_direction, is_closing, is_untouched, is_completing}
+use Rattle.lra_model.specs.Words.{is_compensating, has_gone}
 use Rattle.lra_model.specs.History.{History, steps, members, is_among}
-use Rattle.lra_model.specs.Members.{Asked, asked_at, ask_of, ask_direction, was_asked, Replied, replied_at, replies, last_reply, has_left, decided, by_decision, member_status, is_ask_for}
+use Rattle.lra_model.specs.Members.{Asked, asked_at, ask_of, ask_direction, was_asked, Replied, replied_at, replies}
+use Rattle.lra_model.specs.Members.{last_reply, has_left, decided, by_decision, member_status, is_ask_for}
 use Rattle.lra_model.specs.Facts.{MemberFacts, Facts, member_facts, facts_of}
 use Rattle.lra_model.specs.Tests.{at_member, has_address, is_time_for, was_accepted, may_ask, status_is}
 use Rattle.lra_model.specs.Rules.{is_member, is_here, is_legal}

@@ -6,7 +6,8 @@ use Rattle.lra_model.specs.declared.status.MemberStatus.{MemberStatus}
 use Rattle.lra_model.specs.declared.asks.AskKind.{AskKind}
 use Rattle.lra_model.specs.declared.asks.AskKind.TheVariants as ask
 use Rattle.lra_model.specs.declared.asks.Direction.TheVariants as direction
-use Rattle.lra_model.specs.Words.{when, is_closing, is_cancelling, is_untouched, is_completing, is_completed, is_compensating, has_gone}
+use Rattle.lra_model.specs.Words.{when, is_closing, is_cancelling, is_untouched, is_completing, is_completed}
+use Rattle.lra_model.specs.Words.{is_compensating, has_gone}
 use Rattle.lra_model.specs.History.{History, members, is_among}
 use Rattle.lra_model.specs.Members.{was_asked, ask_direction, decided, has_left, member_status}
 use Rattle.lra_model.specs.Facts.{MemberFacts, Facts, member_facts, facts_of}

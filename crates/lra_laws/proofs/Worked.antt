@@ -12,13 +12,15 @@ use Rattle.lra_model.specs.declared.version.Version.TheVariants.{One, Two}
 use Rattle.lra_model.specs.declared.rule.Rule.{Rule}
 use Rattle.lra_model.specs.declared.rule.Rule.TheVariants as rule
 use Rattle.lra_model.specs.declared.entry.Deed.{Deed}
-use Rattle.lra_model.specs.declared.entry.Deed.TheVariants.{Enrol, Start, Join, Leave, Close, Cancel, Skip, Ask, Reply, Report, End, Restart, Renew}
+use Rattle.lra_model.specs.declared.entry.Deed.TheVariants.{Enrol, Start, Join, Leave, Close, Cancel, Skip, Ask, Reply}
+use Rattle.lra_model.specs.declared.entry.Deed.TheVariants.{Report, End, Restart, Renew}
 use Rattle.lra_model.specs.declared.entry.Entry.{Entry}
 use Rattle.lra_model.specs.Addresses.{Addresses}
 use Rattle.lra_model.specs.Words.{has_ended, has_failed, is_closed, has_finished_cancelling}
 use Rattle.lra_model.specs.History.{History, steps, clerks, actions, members, asks, last_moment}
 use Rattle.lra_model.specs.Actions.{parent, top, is_under, action_status, limit_in_force, children, members_of}
-use Rattle.lra_model.specs.Members.{action_of, addresses_of, has_left, stays, was_asked, ask_of, replies, decided, member_status, last_reply, was_answered, is_outstanding, outstanding_ask}
+use Rattle.lra_model.specs.Members.{action_of, addresses_of, has_left, stays, was_asked, ask_of, replies, decided}
+use Rattle.lra_model.specs.Members.{member_status, last_reply, was_answered, is_outstanding, outstanding_ask}
 use Rattle.lra_model.specs.Ends.{staying, is_settled, right_end, top_has_ended}
 use Rattle.lra_model.specs.Facts.{facts_of}
 use Rattle.lra_model.specs.Rules.{Fault, broken, is_legal, first_fault}

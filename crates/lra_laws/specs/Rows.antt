@@ -1,5 +1,6 @@
 -- The forward state of a history: what stands for it in rows, and how one more entry changes it.
-use Rattle.std.specs.Prelude.{ℕ, zero, suc, ◌+◌, ◌-◌, ◌==◌, Bool, false, ◌&&◌, ◌||◌, not, cond, List, [], ◌∷◌, ◌++◌, length, map, Option, Some, None, unwrap_or, count_by, slice_get, slice_set}
+use Rattle.std.specs.Prelude.{ℕ, zero, suc, ◌+◌, ◌-◌, ◌==◌, Bool, false, ◌&&◌, ◌||◌, not, cond, List, [], ◌∷◌, ◌++◌}
+use Rattle.std.specs.Prelude.{length, map, Option, Some, None, unwrap_or, count_by, slice_get, slice_set}
 use Rattle.std.specs.Option.{option_map_or, option_or, option_and_then}
 use Rattle.std.specs.List.{filter_map}
 use Rattle.lra_model.specs.declared.status.ActionStatus.{ActionStatus}
@@ -13,12 +14,16 @@ use Rattle.lra_model.specs.declared.asks.Direction.TheVariants as direction
 use Rattle.lra_model.specs.declared.asks.Outcome.{Outcome}
 use Rattle.lra_model.specs.declared.asks.Outcome.TheVariants as outcome
 use Rattle.lra_model.specs.declared.entry.Deed.{Deed}
-use Rattle.lra_model.specs.declared.entry.Deed.TheVariants.{Enrol, Start, Join, Leave, Close, Cancel, Skip, Ask, Reply, Report, End, Restart, Renew}
+use Rattle.lra_model.specs.declared.entry.Deed.TheVariants.{Enrol, Start, Join, Leave, Close, Cancel, Skip, Ask, Reply}
+use Rattle.lra_model.specs.declared.entry.Deed.TheVariants.{Report, End, Restart, Renew}
 use Rattle.lra_model.specs.Addresses.{Addresses, Presence, presence_of}
-use Rattle.lra_model.specs.Words.{when, has_ended, has_failed, has_finished_cancelling, is_completing, is_compensating, is_completed, is_compensated, is_done_completing, is_done_compensating, has_gone, is_decisive, is_done, same_kind, same_direction}
+use Rattle.lra_model.specs.Words.{when, has_ended, has_failed, has_finished_cancelling, is_completing, is_compensating}
+use Rattle.lra_model.specs.Words.{is_completed, is_compensated, is_done_completing, is_done_compensating, has_gone}
+use Rattle.lra_model.specs.Words.{is_decisive, is_done, same_kind, same_direction}
 use Rattle.lra_model.specs.History.{History, Step, steps, last, clerks, actions, members, asks, last_moment}
 use Rattle.lra_model.specs.Actions.{Limit, parent, top, action_status, limit_in_force, children}
-use Rattle.lra_model.specs.Members.{Asked, ask_of, action_of, addresses_of, decided, member_status, last_reply, was_answered, ask_direction}
+use Rattle.lra_model.specs.Members.{Asked, ask_of, action_of, addresses_of, decided, member_status, last_reply}
+use Rattle.lra_model.specs.Members.{was_answered, ask_direction}
 use Rattle.lra_model.specs.Ends.{staying, action_is}
 
 -- an ask that its member hasn't answered; a restart may have made it void

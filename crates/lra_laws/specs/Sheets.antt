@@ -17,7 +17,8 @@ use Rattle.lra_model.specs.Actions.{children, members_of, depth}
 use Rattle.lra_model.specs.Members.{Asked, asked_at, members_under, addresses_of}
 use Rattle.lra_model.specs.Wants.{stage_of, repeat_count, last_repeat}
 use Rattle.lra_model.specs.Rules.{is_legal, allows}
-use Rattle.lra_laws.specs.Rows.{State, ActionRow, MemberRow, state_of, row_at, change_row, change_member, way_asked, with_reply, after_deed}
+use Rattle.lra_laws.specs.Rows.{State, ActionRow, MemberRow, state_of, row_at, change_row, change_member, way_asked}
+use Rattle.lra_laws.specs.Rows.{with_reply, after_deed}
 
 -- where an action stands among others: how deep it is nested, the actions nested in it, its members, and, where it is
 -- an outermost one, the members of all that stand in it

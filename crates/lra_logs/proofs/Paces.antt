@@ -1,11 +1,13 @@
 -- What follows of the pace of lines.
-use Rattle.std.proofs.Common.{◌≡◌, ℕ, ◌+◌, ◌/◌, ◌^◌, ◌<◌, ◌≤◌, ◌==◌, Bool, true, false, nat_lt, if◌then◌else◌, List, [], ◌∷◌, length, sum_by, inl, inr, refl, sym, subst, ◌∙◌, arith}
+use Rattle.std.proofs.Common.{◌≡◌, ℕ, ◌+◌, ◌/◌, ◌^◌, ◌<◌, ◌≤◌, ◌==◌, Bool, true, false, nat_lt, if◌then◌else◌, List, []}
+use Rattle.std.proofs.Common.{◌∷◌, length, sum_by, inl, inr, refl, sym, subst, ◌∙◌, arith}
 use Rattle.std.proofs.lemmas.Bool.{cases_eq}
 use Rattle.std.proofs.lemmas.Bool.Decides.{nat_tests}
 use Rattle.std.proofs.lemmas.List.Sums.{sum_by-cons}
 use Rattle.lra_logs.specs.declared.meter.Verdict.{Verdict}
 use Rattle.lra_logs.specs.declared.meter.Verdict.TheVariants.{Write, WriteAfter, Suppress}
-use Rattle.lra_logs.specs.Meters.{Pace, Coming, at_rest, turned, share, unless_urgent, verdict_at, after, run, ran, lines, told, AreFew, AreCounted, AreHeard}
+use Rattle.lra_logs.specs.Meters.{Pace, Coming, at_rest, turned, share, unless_urgent, verdict_at, after, run, ran}
+use Rattle.lra_logs.specs.Meters.{lines, told, AreFew, AreCounted, AreHeard}
 
 -- so many lines may still come in a second: none in one that is over
 record MayCome (p : Pace) (second n : ℕ) : Type 0 where

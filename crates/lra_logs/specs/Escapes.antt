@@ -1,5 +1,6 @@
 -- A text of which a line is made.
-use Rattle.std.specs.Prelude.{ℕ, ◌/◌, ◌%◌, ◌==◌, List, [], ◌∷◌, ◌++◌, codes, if◌then◌else◌, chars, flat_map, encode_utf8_all}
+use Rattle.std.specs.Prelude.{ℕ, ◌/◌, ◌%◌, ◌==◌, List, [], ◌∷◌, ◌++◌, codes, if◌then◌else◌, chars, flat_map}
+use Rattle.std.specs.Prelude.{encode_utf8_all}
 use Rattle.std.specs.Char.{is_control, digit_char}
 
 -- a character: a control character stands as its code in two hexadecimal digits, and a reversed solidus doubled

@@ -1,5 +1,6 @@
 -- How many lines are written in a second.
-use Rattle.std.specs.Prelude.{◌≡◌, ◌≢◌, Bool, true, ℕ, ◌+◌, ◌-◌, ◌/◌, ◌^◌, ◌<◌, ◌≤◌, ◌==◌, nat_lt, min, if◌then◌else◌, List, [], ◌∷◌, length, sum_by}
+use Rattle.std.specs.Prelude.{◌≡◌, ◌≢◌, Bool, true, ℕ, ◌+◌, ◌-◌, ◌/◌, ◌^◌, ◌<◌, ◌≤◌, ◌==◌, nat_lt, min, if◌then◌else◌}
+use Rattle.std.specs.Prelude.{List, [], ◌∷◌, length, sum_by}
 use Rattle.lra_logs.specs.declared.meter.Verdict.{Verdict}
 use Rattle.lra_logs.specs.declared.meter.Verdict.TheVariants.{Write, WriteAfter, Suppress}
 

@@ -1,5 +1,6 @@
 -- What is found by its name.
-use Rattle.std.proofs.Common.{◌≡◌, ℕ, Bool, true, false, cond, List, [], ◌∷◌, Option, Some, IfSome, find, bytes_eq, refl}
+use Rattle.std.proofs.Common.{◌≡◌, ℕ, Bool, true, false, cond, List, [], ◌∷◌, Option, Some, IfSome, find, bytes_eq}
+use Rattle.std.proofs.Common.{refl}
 use Rattle.std.proofs.lemmas.Slice.Eq.{bytes_eq-Decides}
 
 first_found : {A : Type 0} (name : A → List ℕ) (a : A) (rest : Option A) (text : List ℕ) (same : Bool)

@@ -4,7 +4,8 @@ use Rattle.std.specs.Option.{option_map_or}
 use Rattle.std.specs.List.{list_all, list_any}
 use Rattle.lra_model.specs.declared.status.ActionStatus.{ActionStatus}
 use Rattle.lra_model.specs.declared.status.ActionStatus.TheVariants as action
-use Rattle.lra_model.specs.Words.{has_ended, has_failed, has_finished_cancelling, is_done_completing, is_done_compensating, is_completed, is_compensated}
+use Rattle.lra_model.specs.Words.{has_ended, has_failed, has_finished_cancelling, is_done_completing}
+use Rattle.lra_model.specs.Words.{is_done_compensating, is_completed, is_compensated}
 use Rattle.lra_model.specs.History.{History}
 use Rattle.lra_model.specs.Actions.{action_status, children, members_of, top}
 use Rattle.lra_model.specs.Members.{stays, member_status}

@@ -10,7 +10,8 @@ use Rattle.lra_model.specs.declared.asks.Outcome.{Outcome}
 use Rattle.lra_model.specs.Addresses.{Presence, presence_of}
 use Rattle.lra_model.specs.History.{History, clerks, actions, members, asks, is_among, last_moment}
 use Rattle.lra_model.specs.Actions.{Limit, parent, action_status, limit_in_force}
-use Rattle.lra_model.specs.Members.{Asked, action_of, addresses_of, member_status, last_reply, was_answered, is_outstanding, outstanding_ask, ask_of}
+use Rattle.lra_model.specs.Members.{Asked, action_of, addresses_of, member_status, last_reply, was_answered}
+use Rattle.lra_model.specs.Members.{is_outstanding, outstanding_ask, ask_of}
 use Rattle.lra_model.specs.Ends.{is_settled, right_end, top_has_ended}
 
 -- what the rules ask of an action (this project's choice)

@@ -1,5 +1,6 @@
 -- What a history says of a member: its action, its addresses, what it was asked, what it answered, and its status.
-use Rattle.std.specs.Prelude.{ℕ, ◌==◌, Bool, true, false, ◌&&◌, not, List, filter, Option, Some, None, unwrap_or, option_map, is_some, cond}
+use Rattle.std.specs.Prelude.{ℕ, ◌==◌, Bool, true, false, ◌&&◌, not, List, filter, Option, Some, None, unwrap_or}
+use Rattle.std.specs.Prelude.{option_map, is_some, cond}
 use Rattle.std.specs.List.{filter_map, find, list_any}
 use Rattle.lra_model.specs.declared.status.MemberStatus.{MemberStatus}
 use Rattle.lra_model.specs.declared.status.MemberStatus.TheVariants as member

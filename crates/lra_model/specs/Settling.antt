@@ -1,5 +1,6 @@
 -- What follows by itself: the entries that settle a history, and the one that comes next.
-use Rattle.std.specs.Prelude.{◌≡◌, ℕ, zero, suc, ◌+◌, ◌*◌, Bool, true, false, List, [], ◌∷◌, ◌++◌, length, Option, Some, None, option_map, cond}
+use Rattle.std.specs.Prelude.{◌≡◌, ℕ, zero, suc, ◌+◌, ◌*◌, Bool, true, false, List, [], ◌∷◌, ◌++◌, length, Option, Some}
+use Rattle.std.specs.Prelude.{None, option_map, cond}
 use Rattle.std.specs.Option.{option_map_or, option_or}
 use Rattle.std.specs.List.{filter_map, find}
 use Rattle.lra_model.specs.declared.asks.Cause.TheVariants as cause

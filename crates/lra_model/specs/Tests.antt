@@ -1,5 +1,6 @@
 -- When a deed is allowed, by the facts of the history before it.
-use Rattle.std.specs.Prelude.{ℕ, ◌+◌, ◌-◌, ◌^◌, ◌==◌, nat_le, Bool, true, false, ◌&&◌, ◌||◌, not, List, Option, is_some, is_none}
+use Rattle.std.specs.Prelude.{ℕ, ◌+◌, ◌-◌, ◌^◌, ◌==◌, nat_le, Bool, true, false, ◌&&◌, ◌||◌, not, List, Option, is_some}
+use Rattle.std.specs.Prelude.{is_none}
 use Rattle.std.specs.Option.{option_map_or}
 use Rattle.lra_model.specs.declared.status.ActionStatus.{ActionStatus}
 use Rattle.lra_model.specs.declared.asks.AskKind.{AskKind}
@@ -10,7 +11,9 @@ use Rattle.lra_model.specs.declared.asks.Cause.TheVariants as cause
 use Rattle.lra_model.specs.declared.version.Version.{Version}
 use Rattle.lra_model.specs.declared.version.Version.TheVariants as version
 use Rattle.lra_model.specs.Addresses.{Addresses, Presence}
-use Rattle.lra_model.specs.Words.{is_active, is_closing, is_cancelling, is_closed, is_cancellable, is_untouched, is_completing, is_completed, is_compensating, member_has_failed, is_decisive, is_accepted, outcome_suits}
+use Rattle.lra_model.specs.Words.{is_active, is_closing, is_cancelling, is_closed, is_cancellable, is_untouched}
+use Rattle.lra_model.specs.Words.{is_completing, is_completed, is_compensating, member_has_failed, is_decisive}
+use Rattle.lra_model.specs.Words.{is_accepted, outcome_suits}
 use Rattle.lra_model.specs.Facts.{ActionFacts, MemberFacts, Facts}
 
 -- whether there is such an action and it passes a test (this project's choice of words)

@@ -14,7 +14,8 @@ use Rattle.lra_commands.specs.declared.refusal.Refusal.{Refusal}
 use Rattle.lra_commands.specs.declared.refusal.Refusal.TheVariants.{Stopped}
 use Rattle.lra_commands.specs.declared.limits.Terms.{Terms}
 use Rattle.lra_commands.specs.Calls.{Call}
-use Rattle.lra_commands.specs.Counters.{Setting, Sight, terms_of, call_of, IsRefusedAt, IsGivenAt, IsGivenSince, IsSeenAfter, KeepsHistory}
+use Rattle.lra_commands.specs.Counters.{Setting, Sight, terms_of, call_of, IsRefusedAt, IsGivenAt, IsGivenSince}
+use Rattle.lra_commands.specs.Counters.{IsSeenAfter, KeepsHistory}
 use Rattle.lra_commands.proofs.Stopping.{refused_at}
 use Rattle.lra_office.specs.declared.fault.OfficeRefusal.{OfficeRefusal}
 use Rattle.lra_office.specs.declared.fault.OfficeRefusal.TheVariants as office

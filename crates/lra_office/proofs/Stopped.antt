@@ -1,5 +1,6 @@
 -- What a call comes to where nothing is appended.
-use Rattle.std.proofs.Common.{◌≡◌, List, [], ◌∷◌, ◌++◌, length, Ok, Err, IsOk, inl, inr, refl, ap, ◌∙◌, sym, subst, arith, length-append}
+use Rattle.std.proofs.Common.{◌≡◌, List, [], ◌∷◌, ◌++◌, length, Ok, Err, IsOk, inl, inr, refl, ap, ◌∙◌, sym, subst}
+use Rattle.std.proofs.Common.{arith, length-append}
 use Rattle.lra_office.specs.Stops.{CallsAreStopped}
 use Rattle.lra_office.proofs.AtDesk.{grows_by_block}
 

@@ -1,5 +1,6 @@
 -- Texts that are compared byte by byte, all to the end.
-use Rattle.std.proofs.Common.{◌≡◌, ℕ, ◌+◌, ◌<◌, ◌≤◌, ◌==◌, Bool, true, false, List, length, drop, get_or, inl, inr, refl, sym, ap, eqb-true, ◌∙◌, subst, arith, add-one, drop-cons}
+use Rattle.std.proofs.Common.{◌≡◌, ℕ, ◌+◌, ◌<◌, ◌≤◌, ◌==◌, Bool, true, false, List, length, drop, get_or, inl, inr}
+use Rattle.std.proofs.Common.{refl, sym, ap, eqb-true, ◌∙◌, subst, arith, add-one, drop-cons}
 use Rattle.std.specs.Prelude.{◌&&◌, bytes_eq}
 use Rattle.std.proofs.Math.Seq.{drop-length}
 use Rattle.std.proofs.lemmas.Bool.Decides.{eqb_tells}

@@ -1,5 +1,6 @@
 -- Whether a request may be made.
-use Rattle.std.specs.Prelude.{ℕ, ◌==◌, Bool, true, false, not, ◌&&◌, ◌||◌, if◌then◌else◌, List, [], length, take, codes, bytes_eq, Option, Some, is_some, option_map, Result, Ok, Err}
+use Rattle.std.specs.Prelude.{ℕ, ◌==◌, Bool, true, false, not, ◌&&◌, ◌||◌, if◌then◌else◌, List, [], length, take, codes}
+use Rattle.std.specs.Prelude.{bytes_eq, Option, Some, is_some, option_map, Result, Ok, Err}
 use Rattle.std.specs.List.{before_first, after_first, list_all}
 use Rattle.std.specs.Option.{option_map_or}
 use Rattle.std.specs.Str.{str_eq_ignore_ascii_case, is_utf8}

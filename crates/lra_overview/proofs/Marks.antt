@@ -13,7 +13,9 @@ use Rattle.lra_overview.specs.declared.gather.MemberRow.{MemberRow}
 use Rattle.lra_overview.specs.declared.gather.Waiting.{Waiting}
 use Rattle.lra_overview.specs.declared.attempts.Line.{Line}
 use Rattle.lra_overview.specs.declared.html.Home.{Home}
-use Rattle.lra_overview.specs.Pages.{begin, fields, cancel_form, cancel_at, give_up_form, give_up_at, told_form, wants_telling, give_up, waiting, full_table, home, line, action, reply, plain, no_rows}
+use Rattle.lra_overview.specs.Pages.{begin, fields, cancel_form, cancel_at, give_up_form, give_up_at, told_form}
+use Rattle.lra_overview.specs.Pages.{wants_telling, give_up, waiting, full_table, home, line, action, reply, plain}
+use Rattle.lra_overview.specs.Pages.{no_rows}
 use Rattle.lra_overview.specs.Marks.{marks, HomeKeepsMarks, ActionKeepsMarks, ReplyKeepsMarks, PlainKeepsMarks}
 
 -- no mark stands in what is spelled for a byte

@@ -1,5 +1,6 @@
 -- That each `&` of each page begins a reference.
-use Rattle.std.proofs.Common.{◌≡◌, ℕ, ◌==◌, Bool, true, false, List, [], ◌∷◌, ◌++◌, Option, Some, None, refl, append_assoc}
+use Rattle.std.proofs.Common.{◌≡◌, ℕ, ◌==◌, Bool, true, false, List, [], ◌∷◌, ◌++◌, Option, Some, None, refl}
+use Rattle.std.proofs.Common.{append_assoc}
 use Rattle.std.specs.Prelude.{cond, length, codes}
 use Rattle.std.specs.List.{flat_map}
 use Rattle.lra_model.specs.declared.status.ActionStatus.{ActionStatus}
@@ -23,11 +24,17 @@ use Rattle.lra_overview.specs.declared.tree.NodeOf.TheVariants as node_of
 use Rattle.lra_escape.specs.Escapes.{escaped}
 use Rattle.lra_overview.specs.declared.html.TheConstants.{HEAD, LOOKS, TABLES, NIGHT}
 use Rattle.lra_overview.specs.Laying.{joined, id_of}
-use Rattle.lra_overview.specs.Pages.{begin, fields, cancel_form, cancel_at, cancel, give_up_at, told_form, wants_telling, give_up, share, awaited, awaited_member, age, want_now, want_in, next_ask, ask_in, waits_at, waiting, full_table, no_rows, table, next, overdue, title, counts, home, tried, line, members, open_end, wait_at, heading, parent, action, plain}
+use Rattle.lra_overview.specs.Pages.{begin, fields, cancel_form, cancel_at, cancel, give_up_at, told_form}
+use Rattle.lra_overview.specs.Pages.{wants_telling, give_up, share, awaited, awaited_member, age, want_now, want_in}
+use Rattle.lra_overview.specs.Pages.{next_ask, ask_in, waits_at, waiting, full_table, no_rows, table, next, overdue}
+use Rattle.lra_overview.specs.Pages.{title, counts, home, tried, line, members, open_end, wait_at, heading, parent}
+use Rattle.lra_overview.specs.Pages.{action, plain}
 use Rattle.lra_overview.specs.Pictures as pictures
 use Rattle.lra_overview.specs.Pictures.{picture}
 use Rattle.lra_overview.specs.Marks.{refers, HomeRefers, ActionRefers, PlainRefers}
-use Rattle.lra_overview.proofs.Refers.{skip_escaped, skip_id, skip_decimal, skip_span, skip_action, skip_member, skip_kind, skip_key, refers_flat, skip_by, refers_head, refers_looks, refers_tables, refers_night, refers_escaped, refers_joined}
+use Rattle.lra_overview.proofs.Refers.{skip_escaped, skip_id, skip_decimal, skip_span, skip_action, skip_member}
+use Rattle.lra_overview.proofs.Refers.{skip_kind, skip_key, refers_flat, skip_by, refers_head, refers_looks}
+use Rattle.lra_overview.proofs.Refers.{refers_tables, refers_night, refers_escaped, refers_joined}
 
 r_fields : (token : List ℕ) (k : Bool) → refers (fields token k) ≡ true
 r_fields token true = simp (append_assoc, skip_escaped, skip_key)

@@ -1,5 +1,6 @@
 -- When a service is well.
-use Rattle.std.specs.Prelude.{ℕ, ◌-◌, nat_lt, nat_le, nat_eq, Bool, true, false, ◌&&◌, not, cond, List, [], ◌∷◌, ◌++◌, length, replicate, codes, Option, Some, None, is_some}
+use Rattle.std.specs.Prelude.{ℕ, ◌-◌, nat_lt, nat_le, nat_eq, Bool, true, false, ◌&&◌, not, cond, List, [], ◌∷◌, ◌++◌}
+use Rattle.std.specs.Prelude.{length, replicate, codes, Option, Some, None, is_some}
 use Rattle.std.specs.Fmt.{decimal, digits}
 use Rattle.std.specs.Option.{option_map_or}
 use Rattle.lra_overview.specs.declared.overview.Facts.{Facts}

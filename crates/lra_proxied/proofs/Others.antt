@@ -1,5 +1,7 @@
 -- What bodies and requests mean.
-use Rattle.std.proofs.Common.{◌≡◌, ℕ, Bool, true, false, true≢false, List, [], ◌∷◌, length, Option, Some, None, IfSome, MatchOption, is_some, option_map, option_and_then, if◌then◌else◌, String, Global, string_bytes, Result, Ok, Err, refl, sym, ap, subst, inl, inr, arith}
+use Rattle.std.proofs.Common.{◌≡◌, ℕ, Bool, true, false, true≢false, List, [], ◌∷◌, length, Option, Some, None, IfSome}
+use Rattle.std.proofs.Common.{MatchOption, is_some, option_map, option_and_then, if◌then◌else◌, String, Global}
+use Rattle.std.proofs.Common.{string_bytes, Result, Ok, Err, refl, sym, ap, subst, inl, inr, arith}
 use Rattle.std.specs.Prelude.{◌⊎◌, IsSome, OnSome, is_none, unwrap_or}
 use Rattle.serde_json.specs.Data.{Data, null, boolean, number, string, array, object, Members, put}
 use Rattle.serde_json.specs.Find.{get, as_str, as_object}

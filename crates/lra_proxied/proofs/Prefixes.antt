@@ -1,5 +1,6 @@
 -- What a text has behind its front.
-use Rattle.std.proofs.Common.{◌≡◌, ◌++◌, ℕ, true, false, nat_eq, List, length, drop, Option, Some, None, option_map, MatchOption, Bor, refl, ap, ◌∙◌}
+use Rattle.std.proofs.Common.{◌≡◌, ◌++◌, ℕ, true, false, nat_eq, List, length, drop, Option, Some, None, option_map}
+use Rattle.std.proofs.Common.{MatchOption, Bor, refl, ap, ◌∙◌}
 use Rattle.std.specs.List.{starts_with}
 use Rattle.std.specs.Str.Pattern.{FindsTextPrefix, StripsPrefix}
 use Rattle.std.proofs.lemmas.Bool.Decides.{Decides-eqb}

@@ -1,5 +1,6 @@
 -- Targets that have the path of a base before them.
-use Rattle.std.specs.Prelude.{ℕ, Bool, ◌||◌, if◌then◌else◌, nat_eq, List, [], ◌∷◌, ◌++◌, length, drop, codes, Option, Some, None, is_none, option_map, option_and_then}
+use Rattle.std.specs.Prelude.{ℕ, Bool, ◌||◌, if◌then◌else◌, nat_eq, List, [], ◌∷◌, ◌++◌, length, drop, codes, Option}
+use Rattle.std.specs.Prelude.{Some, None, is_none, option_map, option_and_then}
 use Rattle.std.specs.List.{after_first, starts_with}
 use Rattle.lra_front.specs.Routes.{is_slash}
 

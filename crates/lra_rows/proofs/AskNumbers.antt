@@ -1,5 +1,6 @@
 -- Asks by their numbers.
-use Rattle.std.proofs.Common.{◌≡◌, ℕ, zero, suc, ◌+◌, ◌-◌, List, [], ◌∷◌, ◌++◌, length, take, Option, Some, refl, sym, ap, ◌∙◌, arith, slice_get}
+use Rattle.std.proofs.Common.{◌≡◌, ℕ, zero, suc, ◌+◌, ◌-◌, List, [], ◌∷◌, ◌++◌, length, take, Option, Some, refl, sym}
+use Rattle.std.proofs.Common.{ap, ◌∙◌, arith, slice_get}
 use Rattle.std.specs.Prelude.{nat_lt, option_map}
 use Rattle.lra_model.specs.Members.{Asked}
 use Rattle.lra_laws.specs.Rows.{row_at}

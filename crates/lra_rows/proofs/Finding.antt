@@ -1,5 +1,6 @@
 -- What a sheet has of a number is what is found of the history.
-use Rattle.std.proofs.Common.{◌≡◌, ℕ, Bool, true, false, List, [], map, Option, Some, None, refl, sym, ap, ◌∙◌, cond, ◌∷◌, length, ne_eqb, arith}
+use Rattle.std.proofs.Common.{◌≡◌, ℕ, Bool, true, false, List, [], map, Option, Some, None, refl, sym, ap, ◌∙◌, cond}
+use Rattle.std.proofs.Common.{◌∷◌, length, ne_eqb, arith}
 use Rattle.std.specs.Prelude.{◌&&◌, nat_lt, is_some, option_map, unwrap_or}
 use Rattle.std.specs.Option.{option_map_or, option_and_then}
 use Rattle.std.specs.List.{last_or}
@@ -12,7 +13,8 @@ use Rattle.lra_model.specs.declared.asks.Direction.TheVariants as direction
 use Rattle.lra_model.specs.declared.version.Version.{Version}
 use Rattle.lra_model.specs.History.{History, actions, members, is_among, last}
 use Rattle.lra_model.specs.Actions.{action_status, children, members_of}
-use Rattle.lra_model.specs.Members.{Asked, ask_of, is_outstanding, outstanding_ask, ask_direction, member_status, members_under}
+use Rattle.lra_model.specs.Members.{Asked, ask_of, is_outstanding, outstanding_ask, ask_direction, member_status}
+use Rattle.lra_model.specs.Members.{members_under}
 use Rattle.lra_model.specs.declared.asks.AskKind.{AskKind}
 use Rattle.lra_model.specs.Words.{when, is_compensating}
 use Rattle.lra_model.specs.Facts.{Facts}
@@ -36,7 +38,8 @@ use Rattle.lra_rows.specs.declared.found.ActionRow.{ActionRow}
 use Rattle.lra_rows.specs.declared.found.MemberRow.{MemberRow}
 use Rattle.lra_rows.specs.declared.found.AskRow.{AskRow}
 use Rattle.lra_rows.specs.Found.{found_action, found_member, found_addresses, found_ask, found_end}
-use Rattle.lra_rows.specs.inner.Held.{repeats_at, held_repeats, last_of, held_action, held_member, held_addresses, held_standing, held_ask, held_children, held_members, held_under}
+use Rattle.lra_rows.specs.inner.Held.{repeats_at, held_repeats, last_of, held_action, held_member, held_addresses}
+use Rattle.lra_rows.specs.inner.Held.{held_standing, held_ask, held_children, held_members, held_under}
 
 pub action_held : (v : Version) (t : List ℕ → Bool) (J : History) → is_legal v t J ≡ true → (a : ℕ)
     → held_action (sheet_of J) a ≡ found_action J a

@@ -1,5 +1,6 @@
 -- Rows by their numbers.
-use Rattle.std.proofs.Common.{◌≡◌, ℕ, zero, suc, ◌<◌, List, [], ◌∷◌, length, Option, Some, None, refl, sym, ap, subst, arith, slice_get, slice_set, slice_index_or, IfSome}
+use Rattle.std.proofs.Common.{◌≡◌, ℕ, zero, suc, ◌<◌, List, [], ◌∷◌, length, Option, Some, None, refl, sym, ap, subst}
+use Rattle.std.proofs.Common.{arith, slice_get, slice_set, slice_index_or, IfSome}
 use Rattle.std.specs.Option.{option_map_or}
 use Rattle.lra_laws.specs.Rows.{row_at, change_row}
 use Rattle.lra_states.proofs.Replacing.{slice_get-set_same}

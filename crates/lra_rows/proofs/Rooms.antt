@@ -1,5 +1,6 @@
 -- Where the actions stand, with what their lists hold, and the room that there is for one more entry.
-use Rattle.std.proofs.Common.{◌≡◌, inl, inr, ℕ, zero, suc, ◌≤◌, ◌-◌, ◌^◌, Bool, true, false, List, [], ◌∷◌, ◌++◌, length, take, map, Option, Some, None, refl, sym, ap, ◌∙◌, IfSome, slice_get, slice_set}
+use Rattle.std.proofs.Common.{◌≡◌, inl, inr, ℕ, zero, suc, ◌≤◌, ◌-◌, ◌^◌, Bool, true, false, List, [], ◌∷◌, ◌++◌}
+use Rattle.std.proofs.Common.{length, take, map, Option, Some, None, refl, sym, ap, ◌∙◌, IfSome, slice_get, slice_set}
 use Rattle.std.specs.Prelude.{nat_lt, cond, option_map}
 use Rattle.std.specs.Option.{option_map_or}
 use Rattle.std.proofs.lemmas.Bool.{cases_eq}
@@ -13,11 +14,13 @@ use Rattle.lra_model.specs.Members.{Asked}
 use Rattle.lra_laws.specs.Rows.{row_at, change_row}
 use Rattle.lra_laws.specs.Sheets.{Nest, with_child_number, with_member_number, with_number_under, new_nest, top_at}
 use Rattle.lra_laws.proofs.Tested.{both, and_intro}
-use Rattle.lra_rows.specs.Rowed.{NestCapacity, no_capacity, Rowed, takes_one, takes_child, takes_under, is_ready_at, deed_has_room, has_room}
+use Rattle.lra_rows.specs.Rowed.{NestCapacity, no_capacity, Rowed, takes_one, takes_child, takes_under, is_ready_at}
+use Rattle.lra_rows.specs.Rowed.{deed_has_room, has_room}
 use Rattle.lra_rows.specs.Steps.{without_last}
 use Rattle.lra_rows.specs.declared.nest.Listed.{Listed}
 use Rattle.lra_rows.specs.declared.nest.Listed.TheVariants as listed
-use Rattle.lra_rows.specs.inner.Nested.{Nested, nests_in, capacities_in, has_place, has_place_at, nest_with, with_number, nest_without, without_number}
+use Rattle.lra_rows.specs.inner.Nested.{Nested, nests_in, capacities_in, has_place, has_place_at, nest_with}
+use Rattle.lra_rows.specs.inner.Nested.{with_number, nest_without, without_number}
 use Rattle.lra_rows.specs.inner.Room.{Keeps}
 use Rattle.lra_rows.specs.inner.Counts.{DeepTo}
 use Rattle.lra_states.proofs.Replacing.{slice_get-set_same, slice_get-set_other}

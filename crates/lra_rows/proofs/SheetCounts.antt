@@ -1,5 +1,6 @@
 -- The sheet of no entries; and no count of a sheet is more than its entries, so that there is room for one more.
-use Rattle.std.proofs.Common.{◌≡◌, ℕ, zero, suc, ◌+◌, ◌<◌, ◌≤◌, ◌^◌, ◌==◌, Bool, true, false, List, [], ◌∷◌, ◌++◌, length, map, Option, Some, None, refl, sym, ap, arith, subst, IfSome, count_by}
+use Rattle.std.proofs.Common.{◌≡◌, ℕ, zero, suc, ◌+◌, ◌<◌, ◌≤◌, ◌^◌, ◌==◌, Bool, true, false, List, [], ◌∷◌, ◌++◌}
+use Rattle.std.proofs.Common.{length, map, Option, Some, None, refl, sym, ap, arith, subst, IfSome, count_by}
 use Rattle.std.specs.Prelude.{◌&&◌}
 use Rattle.std.specs.Option.{option_map_or}
 use Rattle.std.specs.List.{filter_map, cons_option}
@@ -12,14 +13,17 @@ use Rattle.lra_model.specs.declared.asks.AskKind.TheVariants as ask
 use Rattle.lra_model.specs.declared.entry.Deed.{Deed}
 use Rattle.lra_model.specs.declared.entry.Deed.TheVariants.{Enrol, Ask}
 use Rattle.lra_model.specs.Words.{when, has_failed, same_kind, is_undecided}
-use Rattle.lra_model.specs.History.{History, steps_after, steps, clerks, actions, started_by, members, joined_by, asks, is_among, last_moment}
+use Rattle.lra_model.specs.History.{History, steps_after, steps, clerks, actions, started_by, members, joined_by, asks}
+use Rattle.lra_model.specs.History.{is_among, last_moment}
 use Rattle.lra_model.specs.Members.{Replied, replied_at, replies}
 use Rattle.lra_model.specs.Wants.{stage_of, repeats, repeat_count}
 use Rattle.lra_model.specs.Actions.{parent, lineage_within, depth}
 use Rattle.lra_model.specs.Ends.{action_is}
 use Rattle.lra_model.specs.Rules.{is_legal}
 use Rattle.lra_laws.specs.Sheets.{Sheet, nest_of, contact_of, asks_made, sheet_of, StandsFor, Follows}
-use Rattle.lra_laws.specs.Rows.{state_of, void_asks, one, row_at, action_row, member_row, count_staying, count_children, is_left_to_complete, is_left_to_compensate, is_uncompleted, is_uncompensated, is_unended, is_uncancelled}
+use Rattle.lra_laws.specs.Rows.{state_of, void_asks, one, row_at, action_row, member_row, count_staying, count_children}
+use Rattle.lra_laws.specs.Rows.{is_left_to_complete, is_left_to_compensate, is_uncompleted, is_uncompensated}
+use Rattle.lra_laws.specs.Rows.{is_unended, is_uncancelled}
 use Rattle.lra_states.specs.Counts.{CountsTo}
 use Rattle.lra_states.specs.inner.Changes.{TakesNextNumber}
 use Rattle.lra_states.proofs.Counting.{CountsTo-more}

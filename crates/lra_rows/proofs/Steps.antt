@@ -1,5 +1,6 @@
 -- What takes an entry back.
-use Rattle.std.proofs.Common.{◌≡◌, ℕ, Bool, true, false, List, [], ◌∷◌, ◌++◌, take, Option, Some, None, length, suc, refl, ap, ◌∙◌, arith, subst, length-append}
+use Rattle.std.proofs.Common.{◌≡◌, ℕ, Bool, true, false, List, [], ◌∷◌, ◌++◌, take, Option, Some, None, length, suc}
+use Rattle.std.proofs.Common.{refl, ap, ◌∙◌, arith, subst, length-append}
 use Rattle.std.proofs.Math.Seq.{take-append_seam}
 use Rattle.std.specs.Prelude.{cond, slice_get}
 use Rattle.std.specs.Option.{option_map_or}
@@ -10,11 +11,13 @@ use Rattle.lra_model.specs.Words.{is_undecided}
 use Rattle.lra_model.specs.Members.{Asked}
 use Rattle.lra_model.specs.Wants.{stage_of}
 use Rattle.lra_laws.specs.Rows.{MemberRow, ActionRow, row_at, change_row}
-use Rattle.lra_laws.specs.Sheets.{Nest, Contact, with_child_number, with_member_number, with_number_under, with_repeat, with_answer}
+use Rattle.lra_laws.specs.Sheets.{Nest, Contact, with_child_number, with_member_number, with_number_under, with_repeat}
+use Rattle.lra_laws.specs.Sheets.{with_answer}
 use Rattle.lra_rows.specs.declared.step.Added.{Added}
 use Rattle.lra_rows.specs.declared.step.Added.TheVariants as added
 use Rattle.lra_rows.specs.Rowed.{NestCapacity, Rowed}
-use Rattle.lra_rows.specs.Steps.{Repeated, Writes, with_counts, without_last, without_child, without_member, without_under, without_added, with_repeats, repeats_back, put_back, rewritten}
+use Rattle.lra_rows.specs.Steps.{Repeated, Writes, with_counts, without_last, without_child, without_member}
+use Rattle.lra_rows.specs.Steps.{without_under, without_added, with_repeats, repeats_back, put_back, rewritten}
 use Rattle.lra_rows.specs.inner.Changes.{counts_of, Undoes, IsOfMember}
 use Rattle.lra_rows.specs.inner.Held.{repeats_at}
 use Rattle.lra_rows.proofs.Numbered.{changed_back}

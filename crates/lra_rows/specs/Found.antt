@@ -9,7 +9,8 @@ use Rattle.lra_model.specs.declared.entry.Deed.TheVariants.{End}
 use Rattle.lra_model.specs.Addresses.{Addresses}
 use Rattle.lra_model.specs.History.{History, actions, members, is_among}
 use Rattle.lra_model.specs.Actions.{parent, action_status, limit_in_force, depth}
-use Rattle.lra_model.specs.Members.{Asked, ask_of, action_of, addresses_of, decided, member_status, ask_direction, is_outstanding, outstanding_ask}
+use Rattle.lra_model.specs.Members.{Asked, ask_of, action_of, addresses_of, decided, member_status, ask_direction}
+use Rattle.lra_model.specs.Members.{is_outstanding, outstanding_ask}
 use Rattle.lra_model.specs.Ends.{is_settled, right_end}
 use Rattle.lra_model.specs.Wants.{wants, stage_of, repeat_count, last_repeat}
 use Rattle.lra_rows.specs.declared.found.ActionRow.{ActionRow}

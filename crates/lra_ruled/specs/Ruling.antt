@@ -1,5 +1,6 @@
 -- Which joins are outside the rules.
-use Rattle.std.specs.Prelude.{◌≡◌, ◌≢◌, ℕ, Bool, true, false, not, ◌&&◌, ◌==◌, List, [], ◌++◌, length, codes, Option, unwrap_or, Result, Ok}
+use Rattle.std.specs.Prelude.{◌≡◌, ◌≢◌, ℕ, Bool, true, false, not, ◌&&◌, ◌==◌, List, [], ◌++◌, length, codes, Option}
+use Rattle.std.specs.Prelude.{unwrap_or, Result, Ok}
 use Rattle.std.specs.Option.{option_map_or}
 use Rattle.std.specs.Result.{result_ok}
 use Rattle.lra_ids.specs.Addresses.{address_of, authority_of, port_of}

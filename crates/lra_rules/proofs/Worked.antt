@@ -6,7 +6,8 @@ use Rattle.std.specs.Net.Reader.{read_number, read_octet, read_ipv4, read_segmen
 use Rattle.lra_rules.specs.declared.fault.RuleFault.{RuleFault}
 use Rattle.lra_rules.specs.declared.fault.RuleFault.TheVariants.{NotHosts, NotPort}
 use Rattle.lra_rules.specs.Texts.{at_last, number, is_name}
-use Rattle.lra_rules.specs.Networks.{ipv4, ipv6, bare_ip_of, ip_of, octets_of, width_of, inside, holds, network_of, is_special}
+use Rattle.lra_rules.specs.Networks.{ipv4, ipv6, bare_ip_of, ip_of, octets_of, width_of, inside, holds, network_of}
+use Rattle.lra_rules.specs.Networks.{is_special}
 use Rattle.lra_rules.specs.Rules.{hosts_of, reading_of, lets, names, let_address, let_host}
 
 -- what unfolds to compute these definitions

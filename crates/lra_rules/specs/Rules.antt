@@ -1,5 +1,6 @@
 -- What rules let. A rule is a text, and rules are a list of texts.
-use Rattle.std.specs.Prelude.{ℕ, Bool, true, false, not, ◌&&◌, ◌||◌, ◌==◌, nat_eq, if◌then◌else◌, List, map, length, slice_index, codes, bytes_eq, is_ok, Option, Some, None, Result, Ok, Err}
+use Rattle.std.specs.Prelude.{ℕ, Bool, true, false, not, ◌&&◌, ◌||◌, ◌==◌, nat_eq, if◌then◌else◌, List, map, length}
+use Rattle.std.specs.Prelude.{slice_index, codes, bytes_eq, is_ok, Option, Some, None, Result, Ok, Err}
 use Rattle.std.specs.Option.{option_map_or}
 use Rattle.std.specs.Result.{result_ok, result_map_both}
 use Rattle.std.specs.List.{list_any, ends_with}

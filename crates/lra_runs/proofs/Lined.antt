@@ -17,7 +17,8 @@ use Rattle.lra_runs.specs.declared.player.Player.{Player}
 use Rattle.lra_runs.specs.declared.requests.Request.{Request}
 use Rattle.lra_runs.specs.declared.requests.Request.TheVariants as request
 use Rattle.lra_runs.specs.declared.requests.RequestLine.{RequestLine}
-use Rattle.lra_runs.specs.Script.{player, Holding, Stage, command_of, call_of, is_playable, given_by, line_answer, line_errand, left, with_given, after_line}
+use Rattle.lra_runs.specs.Script.{player, Holding, Stage, command_of, call_of, is_playable, given_by, line_answer}
+use Rattle.lra_runs.specs.Script.{line_errand, left, with_given, after_line}
 use Rattle.lra_runs.specs.Play.{answer_line, errand_line, marked_entries, call_text, played_line}
 use Rattle.lra_runs.specs.inner.Players.{holding, stage_of, placed, IsPerformed, IsPlayedLine}
 use Rattle.lra_runs.proofs.Placed.{called, answer_placed, growth_placed, errand_placed, suited_placed}

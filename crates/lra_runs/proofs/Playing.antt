@@ -1,5 +1,6 @@
 -- A script that is played line by line.
-use Rattle.std.proofs.Common.{◌≡◌, ◌≢◌, ℕ, ◌+◌, ◌<◌, Bool, true, false, cond, ◌||◌, List, [], ◌∷◌, ◌++◌, length, take, drop, eqb, Option, Some, None, refl, sym, ap, subst, ◌∙◌, append_assoc, arith}
+use Rattle.std.proofs.Common.{◌≡◌, ◌≢◌, ℕ, ◌+◌, ◌<◌, Bool, true, false, cond, ◌||◌, List, [], ◌∷◌, ◌++◌, length, take}
+use Rattle.std.proofs.Common.{drop, eqb, Option, Some, None, refl, sym, ap, subst, ◌∙◌, append_assoc, arith}
 use Rattle.std.specs.Prelude.{All, IsTrue, Result, Ok, Err, IfErr}
 use Rattle.std.specs.Result.{IsErrAnd, is_err}
 use Rattle.std.specs.List.{flat_map, join_with_byte}
@@ -19,7 +20,8 @@ use Rattle.lra_audits.specs.declared.fault.RunFault.TheVariants as fault
 use Rattle.lra_runs.specs.declared.player.Player.{Player}
 use Rattle.lra_runs.specs.declared.requests.RequestLine.{RequestLine}
 use Rattle.lra_runs.specs.Requests.{words_of_request_line, request_line, IsRequestLine}
-use Rattle.lra_runs.specs.Script.{player, Stage, first_stage, is_playable, line_answer, after_line, after_lines, ArePlayable, BeginsWithNone}
+use Rattle.lra_runs.specs.Script.{player, Stage, first_stage, is_playable, line_answer, after_line, after_lines}
+use Rattle.lra_runs.specs.Script.{ArePlayable, BeginsWithNone}
 use Rattle.lra_runs.specs.Play.{marked, played_line, played_lines, played, some_refused, Plays, PlaysUpToLine}
 use Rattle.lra_audits.specs.Faults.{IsOfOutput}
 use Rattle.lra_runs.specs.inner.Causes.{IsOfPlay}

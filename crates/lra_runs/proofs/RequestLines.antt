@@ -1,5 +1,6 @@
 -- The lines of a script's requests, whole: what is spelled so is read, and what is read is spelled so.
-use Rattle.std.proofs.Common.{◌≡◌, ℕ, ◌<◌, ◌≤◌, ◌^◌, Bool, true, false, eqb, cond, List, [], ◌∷◌, ◌++◌, Option, Some, None, refl, sym, ap, subst, ◌∙◌, inl, inr, ◌⊎◌, arith}
+use Rattle.std.proofs.Common.{◌≡◌, ℕ, ◌<◌, ◌≤◌, ◌^◌, Bool, true, false, eqb, cond, List, [], ◌∷◌, ◌++◌, Option, Some}
+use Rattle.std.proofs.Common.{None, refl, sym, ap, subst, ◌∙◌, inl, inr, ◌⊎◌, arith}
 use Rattle.std.specs.Prelude.{◌==◌, ◌&&◌, not, nat_le, codes, option_map, IfSome}
 use Rattle.std.specs.Fmt.{decimal}
 use Rattle.std.specs.List.{join_with_byte, list_all}
@@ -33,8 +34,12 @@ use Rattle.lra_runs.specs.declared.requests.Request.TheVariants as request
 use Rattle.lra_runs.specs.declared.requests.RequestName.{RequestName}
 use Rattle.lra_runs.specs.declared.requests.RequestName.TheVariants as name
 use Rattle.lra_runs.specs.declared.requests.RequestLine.{RequestLine}
-use Rattle.lra_runs.specs.Requests.{request_words, words_of_request_line, request_line, is_script_address, HasScriptWord, HaveScriptWords, HasFields, IsRequestLine}
-use Rattle.lra_runs.specs.inner.RequestReading.{request_name, request_names, outcomes, endings, address_field, address_at, addresses_at, start_at, join_at, pair_at, reply_at, report_at, fields_at, request_at, request_line_at, text_of, request_line_of}
+use Rattle.lra_runs.specs.Requests.{request_words, words_of_request_line, request_line, is_script_address}
+use Rattle.lra_runs.specs.Requests.{HasScriptWord, HaveScriptWords, HasFields, IsRequestLine}
+use Rattle.lra_runs.specs.inner.RequestReading.{request_name, request_names, outcomes, endings, address_field}
+use Rattle.lra_runs.specs.inner.RequestReading.{address_at, addresses_at, start_at, join_at, pair_at, reply_at}
+use Rattle.lra_runs.specs.inner.RequestReading.{report_at, fields_at, request_at, request_line_at, text_of}
+use Rattle.lra_runs.specs.inner.RequestReading.{request_line_of}
 
 -- ---- no word has a space or a line feed
 

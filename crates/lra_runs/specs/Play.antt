@@ -1,5 +1,6 @@
 -- What the program prints of a script that it plays.
-use Rattle.std.specs.Prelude.{◌≡◌, ℕ, ◌+◌, ◌<◌, Bool, false, ◌||◌, List, [], ◌∷◌, ◌++◌, length, codes, Option, Result, Ok, Err, cond}
+use Rattle.std.specs.Prelude.{◌≡◌, ℕ, ◌+◌, ◌<◌, Bool, false, ◌||◌, List, [], ◌∷◌, ◌++◌, length, codes, Option, Result}
+use Rattle.std.specs.Prelude.{Ok, Err, cond}
 use Rattle.std.specs.Fmt.{decimal}
 use Rattle.std.specs.List.{flat_map}
 use Rattle.std.specs.Option.{option_map_or}
@@ -21,7 +22,8 @@ use Rattle.lra_commands.specs.Answers.{answer, growth}
 use Rattle.lra_commands.specs.Counters.{terms_of}
 use Rattle.lra_runs.specs.declared.requests.RequestLine.{RequestLine}
 use Rattle.lra_audits.specs.Report.{joined, line_feed}
-use Rattle.lra_runs.specs.Script.{player, Stage, first_stage, call_of, line_answer, given_by, after_line, after_lines, Begins, BeginsWithNone}
+use Rattle.lra_runs.specs.Script.{player, Stage, first_stage, call_of, line_answer, given_by, after_line, after_lines}
+use Rattle.lra_runs.specs.Script.{Begins, BeginsWithNone}
 
 -- the words of what a command is told; of an ask its number alone, since its errand says the rest
 abbrev pub told_text : Told → List ℕ

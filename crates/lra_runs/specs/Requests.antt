@@ -1,5 +1,6 @@
 -- The lines of a script, whatever they ask for (this project's own format).
-use Rattle.std.specs.Prelude.{◌≡◌, ℕ, ◌<◌, ◌^◌, ◌==◌, Bool, true, ◌&&◌, not, IsTrue, List, [], ◌∷◌, Option, IfSome, codes, option_map}
+use Rattle.std.specs.Prelude.{◌≡◌, ℕ, ◌<◌, ◌^◌, ◌==◌, Bool, true, ◌&&◌, not, IsTrue, List, [], ◌∷◌, Option, IfSome}
+use Rattle.std.specs.Prelude.{codes, option_map}
 use Rattle.std.specs.Fmt.{decimal}
 use Rattle.std.specs.List.{join_with_byte, list_all}
 use Rattle.std.specs.Str.{bytes_eq, is_utf8}

@@ -1,5 +1,6 @@
 -- What the lines of a script ask of a coordinator, one after another (this project's own format).
-use Rattle.std.specs.Prelude.{◌≡◌, ℕ, ◌==◌, Bool, true, false, IsTrue, List, [], ◌∷◌, ◌++◌, All, codes, Option, Some, None, if◌then◌else◌, option_map, Result, Err}
+use Rattle.std.specs.Prelude.{◌≡◌, ℕ, ◌==◌, Bool, true, false, IsTrue, List, [], ◌∷◌, ◌++◌, All, codes, Option, Some}
+use Rattle.std.specs.Prelude.{None, if◌then◌else◌, option_map, Result, Err}
 use Rattle.std.specs.Borrow.{Bor}
 use Rattle.std.specs.List.{flat_map}
 use Rattle.std.specs.Option.{option_map_or, option_and_then}

@@ -1,5 +1,6 @@
 -- The first of some moments is what the history's words choose.
-use Rattle.std.proofs.Common.{◌≡◌, ℕ, zero, suc, ◌+◌, ◌≤◌, ◌<◌, Bool, true, false, List, [], ◌∷◌, length, Option, Some, None, refl, sym, ap, ◌∙◌, cond, arith, subst, inl, inr}
+use Rattle.std.proofs.Common.{◌≡◌, ℕ, zero, suc, ◌+◌, ◌≤◌, ◌<◌, Bool, true, false, List, [], ◌∷◌, length, Option, Some}
+use Rattle.std.proofs.Common.{None, refl, sym, ap, ◌∙◌, cond, arith, subst, inl, inr}
 use Rattle.std.proofs.lemmas.Bool.{lt-leb, le-leb, cases_eq}
 use Rattle.std.specs.Prelude.{nat_le, ◌==◌, ◌&&◌, not, option_map, ◌↔◌, IsNone, IfSome}
 use Rattle.std.specs.List.{filter_map, cons_option, range_with_len}
@@ -14,7 +15,8 @@ use Rattle.lra_laws.proofs.Legal.{IsNumbered, numbered_among, actions_numbered, 
 use Rattle.lra_timers.specs.Moments.{Moments, IsFirstDue, NoneDue}
 use Rattle.lra_timers.specs.Planned.{Planned}
 use Rattle.lra_commands.specs.declared.limits.Limits.{Limits}
-use Rattle.lra_commands.specs.Due.{Timed, due_after, stage_wanted, earlier, earliest, first_due, want_of, deadline_of, due, late}
+use Rattle.lra_commands.specs.Due.{Timed, due_after, stage_wanted, earlier, earliest, first_due, want_of, deadline_of}
+use Rattle.lra_commands.specs.Due.{due, late}
 use Rattle.lra_schedule.specs.Schedules.{moment_of, IsScheduleOf}
 use Rattle.lra_schedule.proofs.Found.{wants_there, limit_there}
 

@@ -1,5 +1,6 @@
 -- The moments of a history are what its rows say.
-use Rattle.std.proofs.Common.{◌≡◌, ℕ, ◌+◌, ◌-◌, ◌≤◌, ◌<◌, ◌^◌, Bool, true, false, List, [], Option, Some, None, refl, sym, ap, ◌∙◌, cond, arith}
+use Rattle.std.proofs.Common.{◌≡◌, ℕ, ◌+◌, ◌-◌, ◌≤◌, ◌<◌, ◌^◌, Bool, true, false, List, [], Option, Some, None, refl}
+use Rattle.std.proofs.Common.{sym, ap, ◌∙◌, cond, arith}
 use Rattle.std.proofs.lemmas.Bool.{leb-true}
 use Rattle.std.specs.Prelude.{◌==◌, ◌&&◌, not, is_some, option_map, unwrap_or}
 use Rattle.std.specs.Option.{option_map_or, option_and_then}

@@ -1,7 +1,10 @@
 -- The numbers among the settings.
 use Rattle.std.specs.Prelude.{ℕ, Bool, List, ◌&&◌, codes, nat_le}
 use Rattle.lra_settings.specs.declared.parameter.Parameter.{Parameter}
-use Rattle.lra_settings.specs.declared.parameter.Parameter.TheVariants.{Connections, Callbacks, HostShare, IdleTimeout, RequestTimeout, ReplyTimeout, ConnectTimeout, CallbackTimeout, SyncSeconds, RetryFirst, RetryLast, RollAfter, Remember, Site}
+use Rattle.lra_settings.specs.declared.parameter.Parameter.TheVariants.{Connections, Callbacks, HostShare, IdleTimeout}
+use Rattle.lra_settings.specs.declared.parameter.Parameter.TheVariants.{RequestTimeout, ReplyTimeout, ConnectTimeout}
+use Rattle.lra_settings.specs.declared.parameter.Parameter.TheVariants.{CallbackTimeout, SyncSeconds, RetryFirst}
+use Rattle.lra_settings.specs.declared.parameter.Parameter.TheVariants.{RetryLast, RollAfter, Remember, Site}
 
 -- the word of a parameter, on a command line and in a file (this project's choice)
 abbrev pub name_of : Parameter → List ℕ

@@ -1,7 +1,10 @@
 -- All settings of a service.
 use Rattle.std.specs.Prelude.{ℕ, Bool, false, ◌&&◌, nat_le}
 use Rattle.lra_settings.specs.declared.parameter.Parameter.{Parameter}
-use Rattle.lra_settings.specs.declared.parameter.Parameter.TheVariants.{Connections, Callbacks, HostShare, IdleTimeout, RequestTimeout, ReplyTimeout, ConnectTimeout, CallbackTimeout, SyncSeconds, RetryFirst, RetryLast, RollAfter, Remember, Site}
+use Rattle.lra_settings.specs.declared.parameter.Parameter.TheVariants.{Connections, Callbacks, HostShare, IdleTimeout}
+use Rattle.lra_settings.specs.declared.parameter.Parameter.TheVariants.{RequestTimeout, ReplyTimeout, ConnectTimeout}
+use Rattle.lra_settings.specs.declared.parameter.Parameter.TheVariants.{CallbackTimeout, SyncSeconds, RetryFirst}
+use Rattle.lra_settings.specs.declared.parameter.Parameter.TheVariants.{RetryLast, RollAfter, Remember, Site}
 use Rattle.lra_settings.specs.declared.settings.Settings.{Settings}
 use Rattle.lra_settings.specs.Parameters.{fits}
 

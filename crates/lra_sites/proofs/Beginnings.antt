@@ -1,5 +1,6 @@
 -- The first four characters of an identifier are the digits of its site.
-use Rattle.std.proofs.Common.{◌≡◌, ℕ, ◌<◌, ◌^◌, ◌%◌, ◌/◌, List, [], ◌∷◌, ◌++◌, append_assoc, take, drop, get_or, Some, inl, inr, refl, sym, ap, ◌∙◌, arith}
+use Rattle.std.proofs.Common.{◌≡◌, ℕ, ◌<◌, ◌^◌, ◌%◌, ◌/◌, List, [], ◌∷◌, ◌++◌, append_assoc, take, drop, get_or, Some}
+use Rattle.std.proofs.Common.{inl, inr, refl, sym, ap, ◌∙◌, arith}
 use Rattle.std.specs.Prelude.{codes}
 use mathlib.Core.List.{IsPrefix}
 use Rattle.std.proofs.lemmas.List.{take-append-drop}
@@ -10,7 +11,8 @@ use Rattle.lra_ids.specs.Identifiers.{id_number, id_bytes, id_text}
 use Rattle.lra_instances.specs.Bearing.{instance_at_end}
 use Rattle.lra_instances.proofs.Bearings.{read_ends}
 use Rattle.lra_sites.specs.Sites.{site_of, site_text, IsUriOf}
-use Rattle.lra_sites.specs.Laws.{BeginWithTheirSite, ActionsBeginWithTheirSite, RecoveriesBeginWithTheirSite, TellSitesApart, NeverMeet, AreRanges, FitSixteenBits}
+use Rattle.lra_sites.specs.Laws.{BeginWithTheirSite, ActionsBeginWithTheirSite, RecoveriesBeginWithTheirSite}
+use Rattle.lra_sites.specs.Laws.{TellSitesApart, NeverMeet, AreRanges, FitSixteenBits}
 
 -- ---- digits
 

@@ -1,5 +1,7 @@
 -- What keeps a history served.
-use Rattle.std.proofs.Common.{◌≡◌, ℕ, ◌+◌, ◌-◌, ◌<◌, ◌≤◌, Bool, true, false, cond, ◌||◌, ◌==◌, List, [], ◌∷◌, ◌++◌, map, length, take, drop, flat_map, refl, ap, sym, ◌∙◌, subst, arith, append_assoc, append-nil, length-append, length-drop, Option, Some, None, inl, inr}
+use Rattle.std.proofs.Common.{◌≡◌, ℕ, ◌+◌, ◌-◌, ◌<◌, ◌≤◌, Bool, true, false, cond, ◌||◌, ◌==◌, List, [], ◌∷◌, ◌++◌, map}
+use Rattle.std.proofs.Common.{length, take, drop, flat_map, refl, ap, sym, ◌∙◌, subst, arith, append_assoc, append-nil}
+use Rattle.std.proofs.Common.{length-append, length-drop, Option, Some, None, inl, inr}
 use Rattle.std.specs.declared.alloc.AllocError.{AllocError}
 use Rattle.std.specs.Prelude.{Result, Ok, Err, is_ok, OnOk, OnErr, ◌⊎◌, nat_le, is_some, IsTrue}
 use Rattle.std.proofs.lemmas.Bool.Decides.{nat_tests}
@@ -15,10 +17,13 @@ use Rattle.lra_front.specs.declared.stream.StreamEnd.TheVariants.{Done, Refused,
 use Rattle.lra_front.specs.Replies.{reply_bytes}
 use Rattle.lra_front.specs.Streams.{is_head, closes_after}
 use Rattle.lra_front.specs.Transcripts.{Spells, IsFront}
-use Rattle.lra_steps.specs.History.{History, IsServed, IsLasting, IsOpenSo, Replies, StandsAt, Turn, plain, replies, room_of, is_last, turn_reply, fault_reply, end_reply, took, finished, ordered, answered, lost, ended_by, went}
+use Rattle.lra_steps.specs.History.{History, IsServed, IsLasting, IsOpenSo, Replies, StandsAt, Turn, plain, replies}
+use Rattle.lra_steps.specs.History.{room_of, is_last, turn_reply, fault_reply, end_reply, took, finished, ordered}
+use Rattle.lra_steps.specs.History.{answered, lost, ended_by, went}
 use Rattle.lra_steps.specs.Steps.{IsFree, Ends}
 use Rattle.lra_steps.specs.inner.Ends.{EndsWithout}
-use Rattle.lra_steps.proofs.TurnLemmas.{Spells-more, StandsAt-more, Spells-next, replies-push, stays-push, closes-push, before-push, reply_some}
+use Rattle.lra_steps.proofs.TurnLemmas.{Spells-more, StandsAt-more, Spells-next, replies-push, stays-push, closes-push}
+use Rattle.lra_steps.proofs.TurnLemmas.{before-push, reply_some}
 
 -- ---- bytes come
 

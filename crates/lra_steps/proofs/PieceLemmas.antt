@@ -1,5 +1,7 @@
 -- Requests answered one after another, of bytes that come in pieces.
-use Rattle.std.proofs.Common.{◌≡◌, ℕ, ◌+◌, ◌-◌, ◌<◌, List, [], ◌∷◌, ◌++◌, map, length, take, drop, get_or, flat_map, Option, Some, None, Result, Ok, Err, inl, inr, refl, sym, ap, ◌∙◌, subst, arith, append_assoc}
+use Rattle.std.proofs.Common.{◌≡◌, ℕ, ◌+◌, ◌-◌, ◌<◌, List, [], ◌∷◌, ◌++◌, map, length, take, drop, get_or, flat_map}
+use Rattle.std.proofs.Common.{Option, Some, None, Result, Ok, Err, inl, inr, refl, sym, ap, ◌∙◌, subst, arith}
+use Rattle.std.proofs.Common.{append_assoc}
 use Rattle.std.specs.declared.alloc.AllocError.{AllocError}
 use Rattle.std.specs.Prelude.{◌⊎◌, Bool, IfOk, IfSome, IsTrue, IsFalse}
 use Rattle.std.proofs.lemmas.Bool.{both_ways}
@@ -16,7 +18,8 @@ use Rattle.lra_front.specs.declared.stream.StreamEnd.TheVariants.{Done, Refused,
 use Rattle.lra_front.specs.Transcripts.{Chain as FrontChain, EndsAfter as FrontEnds, Spells, IsFront}
 use Rattle.lra_steps.specs.declared.connection.Step.TheVariants.{Stands, Ended}
 use Rattle.lra_steps.specs.declared.responder.Answered.{Answered}
-use Rattle.lra_steps.specs.History.{History, IsServed, IsLasting, IsOpenSo, Replies, EndsAfter, Turn, plain, fault_reply, ordered, took, finished, went}
+use Rattle.lra_steps.specs.History.{History, IsServed, IsLasting, IsOpenSo, Replies, EndsAfter, Turn, plain}
+use Rattle.lra_steps.specs.History.{fault_reply, ordered, took, finished, went}
 use Rattle.lra_steps.specs.Steps.{StepsTo, Tells}
 use Rattle.lra_steps.specs.Pieces.{Answers, AnswersAlone, Chain, Serves, ServesBytes}
 use Rattle.lra_steps.specs.inner.Alone.{responds_of, setting_stays}

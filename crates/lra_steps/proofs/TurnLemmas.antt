@@ -1,5 +1,6 @@
 -- The requests that bytes spell and the replies to them, as more bytes come and one more request is answered.
-use Rattle.std.proofs.Common.{◌≡◌, ◌<◌, ℕ, zero, suc, Bool, true, false, ◌||◌, List, [], ◌∷◌, ◌++◌, map, length, refl, ap, sym, ◌∙◌, subst, arith, append_assoc, append-nil, Option, Some, None}
+use Rattle.std.proofs.Common.{◌≡◌, ◌<◌, ℕ, zero, suc, Bool, true, false, ◌||◌, List, [], ◌∷◌, ◌++◌, map, length, refl}
+use Rattle.std.proofs.Common.{ap, sym, ◌∙◌, subst, arith, append_assoc, append-nil, Option, Some, None}
 use Rattle.std.specs.Prelude.{nat_le, ⊤}
 use Rattle.std.proofs.lemmas.Bool.Decides.{nat_tests}
 use Rattle.std.proofs.lemmas.List.{map-append}
@@ -9,7 +10,8 @@ use Rattle.lra_commands.specs.Counters.{Setting}
 use Rattle.lra_front.specs.declared.answer.Answer.{Answer}
 use Rattle.lra_front.specs.Replies.{reply_bytes}
 use Rattle.lra_front.specs.Streams.{closes_after, is_head}
-use Rattle.lra_front.specs.Transcripts.{Turn as FrontTurn, Spells, StaysOpen, StaysOpenBefore, ClosesLast, replies as front_replies, turn_text}
+use Rattle.lra_front.specs.Transcripts.{Turn as FrontTurn, Spells, StaysOpen, StaysOpenBefore, ClosesLast}
+use Rattle.lra_front.specs.Transcripts.{replies as front_replies, turn_text}
 use Rattle.lra_front.proofs.Transcribed.{closes_more, before_more}
 use Rattle.lra_steps.specs.History.{StandsAt, Turn, plain, turn_reply, replies}
 

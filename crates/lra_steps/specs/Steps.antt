@@ -1,5 +1,6 @@
 -- What a step says.
-use Rattle.std.specs.Prelude.{◌≡◌, ◌≢◌, ◌⊎◌, ◌<◌, ◌≤◌, Bool, true, false, List, [], ℕ, length, Some, None, Result, Ok, Err, IsTrue, IsFalse, IsSome}
+use Rattle.std.specs.Prelude.{◌≡◌, ◌≢◌, ◌⊎◌, ◌<◌, ◌≤◌, Bool, true, false, List, [], ℕ, length, Some, None, Result, Ok}
+use Rattle.std.specs.Prelude.{Err, IsTrue, IsFalse, IsSome}
 use Rattle.std.specs.declared.alloc.AllocError.{AllocError}
 use Rattle.lra_wire.specs.declared.fault.WireFault.TheVariants.{Cut, Memory}
 use Rattle.lra_wire.specs.Fronts.{RefusesFront}

@@ -1,11 +1,15 @@
 -- The lines of a journal's actions.
-use Rattle.std.proofs.Common.{◌≡◌, ℕ, ◌+◌, ◌-◌, ◌<◌, ◌≤◌, zero, suc, ◌==◌, Bool, true, false, ◌&&◌, cond, List, [], ◌∷◌, ◌++◌, length, take, drop, get_or, set, map, Option, Some, None, Global, refl, sym, ap, subst, ◌∙◌, inl, inr, arith}
-use Rattle.std.specs.Prelude.{codes, option_map, option_to_list, unwrap_or, eqb, slice_get, IfOk, IfSome, Result, Ok, Err, String, string_bytes}
+use Rattle.std.proofs.Common.{◌≡◌, ℕ, ◌+◌, ◌-◌, ◌<◌, ◌≤◌, zero, suc, ◌==◌, Bool, true, false, ◌&&◌, cond, List, [], ◌∷◌}
+use Rattle.std.proofs.Common.{◌++◌, length, take, drop, get_or, set, map, Option, Some, None, Global, refl, sym, ap}
+use Rattle.std.proofs.Common.{subst, ◌∙◌, inl, inr, arith}
+use Rattle.std.specs.Prelude.{codes, option_map, option_to_list, unwrap_or, eqb, slice_get, IfOk, IfSome, Result, Ok}
+use Rattle.std.specs.Prelude.{Err, String, string_bytes}
 use Rattle.std.specs.Fmt.{decimal}
 use Rattle.std.specs.List.{filter_map, flat_map, cons_option, join_by}
 use Rattle.std.proofs.lemmas.Bool.{false≢true}
 use Rattle.std.proofs.lemmas.Bool.Decides.{eqb_tells}
-use Rattle.std.proofs.lemmas.List.{length-append, get_or-set_same, get_or-set_other, length-set, map-append, take_more, take_all, length-map}
+use Rattle.std.proofs.lemmas.List.{length-append, get_or-set_same, get_or-set_other, length-set, map-append, take_more}
+use Rattle.std.proofs.lemmas.List.{take_all, length-map}
 use Rattle.std.proofs.lemmas.List.Filters.{length-filter_more}
 use Rattle.std.proofs.lemmas.Result.{IfOk-weaker}
 use Rattle.std.proofs.Math.Seq.{drop-append_seam}

@@ -1,5 +1,6 @@
 -- What is written of a story.
-use Rattle.std.proofs.Common.{◌≡◌, ℕ, ◌+◌, ◌<◌, List, [], ◌∷◌, ◌++◌, length, map, take, get_or, Global, Option, Some, None, refl, sym, ap, inl, inr, ◌∙◌}
+use Rattle.std.proofs.Common.{◌≡◌, ℕ, ◌+◌, ◌<◌, List, [], ◌∷◌, ◌++◌, length, map, take, get_or, Global, Option, Some}
+use Rattle.std.proofs.Common.{None, refl, sym, ap, inl, inr, ◌∙◌}
 use Rattle.std.specs.Prelude.{IfOk, OnOk, Result, Ok, Err, String, string_bytes}
 use Rattle.std.specs.Option.{option_map_or}
 use Rattle.std.specs.List.{flat_map}

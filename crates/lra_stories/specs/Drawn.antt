@@ -11,7 +11,9 @@ use Rattle.lra_model.specs.History.{History}
 use Rattle.lra_escape.specs.Escapes.{escaped}
 use Rattle.lra_audits.specs.Report.{joined}
 use Rattle.lra_stories.specs.declared.facts.Fact.{Fact}
-use Rattle.lra_stories.specs.declared.facts.Fact.TheVariants.{Started, Joined, Left, Closes, Cancels, Skipped, Asked, Answered, Reported, Ended, Restarted, Renewed, NestedStarted, NestedCloses, NestedCancels, NestedEnded}
+use Rattle.lra_stories.specs.declared.facts.Fact.TheVariants.{Started, Joined, Left, Closes, Cancels, Skipped, Asked}
+use Rattle.lra_stories.specs.declared.facts.Fact.TheVariants.{Answered, Reported, Ended, Restarted, Renewed}
+use Rattle.lra_stories.specs.declared.facts.Fact.TheVariants.{NestedStarted, NestedCloses, NestedCancels, NestedEnded}
 use Rattle.lra_stories.specs.declared.facts.Told.{Told}
 use Rattle.lra_stories.specs.declared.drawing.TheConstants.{LOOKS}
 use Rattle.lra_stories.specs.Times.{moment_text}

@@ -1,6 +1,7 @@
 -- What is noted at the end of an action's story: what it waits for, or which of those below it failed, and what its
 -- members are asked.
-use Rattle.std.specs.Prelude.{ℕ, ◌-◌, ◌==◌, Bool, false, ◌&&◌, not, List, [], ◌∷◌, ◌++◌, map, filter, length, slice_get, codes, Option, Some, None, option_map, is_some, cond}
+use Rattle.std.specs.Prelude.{ℕ, ◌-◌, ◌==◌, Bool, false, ◌&&◌, not, List, [], ◌∷◌, ◌++◌, map, filter, length, slice_get}
+use Rattle.std.specs.Prelude.{codes, Option, Some, None, option_map, is_some, cond}
 use Rattle.std.specs.Option.{option_map_or, option_and_then}
 use Rattle.std.specs.List.{find, flat_map}
 use Rattle.std.specs.Fmt.{decimal}
@@ -10,7 +11,8 @@ use Rattle.lra_model.specs.declared.status.MemberStatus.{MemberStatus}
 use Rattle.lra_model.specs.declared.asks.AskKind.{AskKind}
 use Rattle.lra_model.specs.declared.asks.AskKind.TheVariants as ask
 use Rattle.lra_model.specs.Addresses.{Addresses}
-use Rattle.lra_model.specs.Words.{is_active, has_ended, has_failed, has_finished_cancelling, is_done_completing, is_done_compensating, member_has_failed, has_gone, same_kind, is_undecided, is_silent}
+use Rattle.lra_model.specs.Words.{is_active, has_ended, has_failed, has_finished_cancelling, is_done_completing}
+use Rattle.lra_model.specs.Words.{is_done_compensating, member_has_failed, has_gone, same_kind, is_undecided, is_silent}
 use Rattle.lra_model.specs.Names.{action_status_name, member_status_name}
 use Rattle.lra_model.specs.History.{History}
 use Rattle.lra_model.specs.Actions.{members_of, children}

@@ -1,5 +1,7 @@
 -- The members that haven't left by the digests of their actions and addresses, and what an entry makes of them.
-use Rattle.std.proofs.Common.{◌≡◌, ◌≢◌, ℕ, zero, suc, ◌+◌, ◌<◌, ◌≤◌, ◌^◌, Bool, true, false, cond, List, [], ◌∷◌, ◌++◌, length, map, filter, None, inl, inr, refl, sym, ap, ◌∙◌, arith, ne_eqb, eq-eqb, append-nil}
+use Rattle.std.proofs.Common.{◌≡◌, ◌≢◌, ℕ, zero, suc, ◌+◌, ◌<◌, ◌≤◌, ◌^◌, Bool, true, false, cond, List, [], ◌∷◌, ◌++◌}
+use Rattle.std.proofs.Common.{length, map, filter, None, inl, inr, refl, sym, ap, ◌∙◌, arith, ne_eqb, eq-eqb}
+use Rattle.std.proofs.Common.{append-nil}
 use Rattle.std.specs.Prelude.{◌==◌, ◌&&◌, ◌||◌, not, unwrap_or}
 use Rattle.std.specs.List.{range_with_len}
 use Rattle.std.proofs.Math.Bool.{and-false, or-true}
@@ -18,7 +20,8 @@ use Rattle.lra_model.specs.Rules.{is_legal}
 use Rattle.lra_laws.specs.Rows.{MemberRow, member_row, row_at}
 use Rattle.lra_laws.specs.Sheets.{Contact, contact_of, Sheet, StandsFor}
 use Rattle.lra_laws.proofs.GoodLists.{filter_same}
-use Rattle.lra_laws.proofs.Legal.{Allowed, IsNumbered, range_among, numbered_there, numbered_fresh, members_numbered, action_of_stays, action_of_new, addresses_stay, addresses_of_new, has_left_there}
+use Rattle.lra_laws.proofs.Legal.{Allowed, IsNumbered, range_among, numbered_there, numbered_fresh, members_numbered}
+use Rattle.lra_laws.proofs.Legal.{action_of_stays, action_of_new, addresses_stay, addresses_of_new, has_left_there}
 use Rattle.lra_laws.proofs.MemberRows.{members_stay}
 use Rattle.lra_laws.proofs.MemberWords.{status_is, left_quiet, action_kept, addresses_kept}
 use Rattle.lra_laws.proofs.Push.{members_push, has_left_push}

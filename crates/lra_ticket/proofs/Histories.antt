@@ -1,5 +1,6 @@
 -- Lemmas on the entries of a number, and on what comes after a front.
-use Rattle.std.proofs.Common.{◌≡◌, ◌≢◌, ◌⊎◌, ℕ, ◌<◌, ◌≤◌, Bool, cond, eqb, eq-eqb, ne_eqb, List, [], ◌∷◌, ◌++◌, drop, length, inl, inr, ⊎_elim, le-ltb, lt-ltb, sym, refl, ap, subst, ◌∙◌, arith, append_assoc}
+use Rattle.std.proofs.Common.{◌≡◌, ◌≢◌, ◌⊎◌, ℕ, ◌<◌, ◌≤◌, Bool, cond, eqb, eq-eqb, ne_eqb, List, [], ◌∷◌, ◌++◌, drop}
+use Rattle.std.proofs.Common.{length, inl, inr, ⊎_elim, le-ltb, lt-ltb, sym, refl, ap, subst, ◌∙◌, arith, append_assoc}
 use Rattle.std.specs.List.{All, AllByRecursion}
 use Rattle.std.proofs.lemmas.List.Elements.{filter-append, recursion_from_All, All-nil, All-head}
 use Rattle.std.proofs.lemmas.List.{append-nil}

@@ -1,5 +1,7 @@
 -- Each step keeps the rule of the lock.
-use Rattle.std.proofs.Common.{◌≡◌, ◌≢◌, ◌⊎◌, ℕ, zero, suc, ◌+◌, ◌^◌, ◌<◌, ◌≤◌, Bool, true, cond, eqb, List, [], ◌∷◌, ◌++◌, get_or, set, sym, refl, ap, ◌∙◌, subst, ⊎_elim, inl, inr, arith, Option, Some, eq-eqb, ne_eqb}
+use Rattle.std.proofs.Common.{◌≡◌, ◌≢◌, ◌⊎◌, ℕ, zero, suc, ◌+◌, ◌^◌, ◌<◌, ◌≤◌, Bool, true, cond, eqb, List, [], ◌∷◌}
+use Rattle.std.proofs.Common.{◌++◌, get_or, set, sym, refl, ap, ◌∙◌, subst, ⊎_elim, inl, inr, arith, Option, Some}
+use Rattle.std.proofs.Common.{eq-eqb, ne_eqb}
 use Rattle.std.specs.List.{AllByRecursion, slice_get, sum_by}
 use Rattle.std.proofs.lemmas.List.{append-nil}
 use Rattle.std.proofs.lemmas.List.Sums.{sum_by_push}
@@ -10,20 +12,26 @@ use mathlib.Core.Option as maybe
 use native.Mathlib.Decide.{ℕ_discrete}
 use lib.ListN.{get_elem?}
 use prog.Atomic.{either}
-use Rattle.atomic_table.specs.Table.{State, step, rest, Act, keeps, takes, gives, Valid, carried_after, stepped, Allows, Splits, Joins}
+use Rattle.atomic_table.specs.Table.{State, step, rest, Act, keeps, takes, gives, Valid, carried_after, stepped, Allows}
+use Rattle.atomic_table.specs.Table.{Splits, Joins}
 use Rattle.atomic_table.proofs.Lists.{at_set, set_else, set_again, at_snoc, exchanged}
 use Rattle.lra_model.specs.declared.entry.Entry.{Entry}
 use Rattle.lra_ticket.specs.declared.view.Place.{Place}
-use Rattle.lra_ticket.specs.declared.view.Place.TheVariants.{Idle, Looked, Waiting, Holding, Peeked, Missed, Paired, Spent}
+use Rattle.lra_ticket.specs.declared.view.Place.TheVariants.{Idle, Looked, Waiting, Holding, Peeked, Missed, Paired}
+use Rattle.lra_ticket.specs.declared.view.Place.TheVariants.{Spent}
 use Rattle.lra_ticket.specs.declared.lock.Parts.{Parts}
 use Rattle.lra_ticket.specs.declared.view.View.{View}
 use Rattle.lra_ticket.specs.History.{entries_by, block_after, longer, number_after, MayAdd}
-use Rattle.lra_ticket.specs.Views.{is_resting, has_ticket, holds_lock, Sight, sight, sights_at, sights, bearers, view, moved, newcomer, taking, given}
-use Rattle.lra_ticket.specs.inner.Steps.{spent_view, peeking, paired, second, second_at, joined, Hand, Takes, watched, grabbed, gave, looked, drew, peeked, met}
+use Rattle.lra_ticket.specs.Views.{is_resting, has_ticket, holds_lock, Sight, sight, sights_at, sights, bearers, view}
+use Rattle.lra_ticket.specs.Views.{moved, newcomer, taking, given}
+use Rattle.lra_ticket.specs.inner.Steps.{spent_view, peeking, paired, second, second_at, joined, Hand, Takes, watched}
+use Rattle.lra_ticket.specs.inner.Steps.{grabbed, gave, looked, drew, peeked, met}
 use Rattle.lra_ticket.specs.Locks.{last_ticket, HasEnded, Suits}
 use Rattle.lra_ticket.specs.Rule.{IsPlaced, Fits, Stands, IsHome, IsOut, IsOrderly, IsInLine}
 use Rattle.lra_ticket.proofs.Counts.{sum_by-at, term_le, terms_le, some_term, no_terms, set-swap}
-use Rattle.lra_ticket.proofs.Histories.{whole, prefix_refl, prefix_trans, in_line, entries_by-between, entries_by-none, number_after-kept, number_after-none, entries_by-given, entries_by-others, nil_cases, nil_left, nil_right, longer_cases}
+use Rattle.lra_ticket.proofs.Histories.{whole, prefix_refl, prefix_trans, in_line, entries_by-between, entries_by-none}
+use Rattle.lra_ticket.proofs.Histories.{number_after-kept, number_after-none, entries_by-given, entries_by-others}
+use Rattle.lra_ticket.proofs.Histories.{nil_cases, nil_left, nil_right, longer_cases}
 
 abbrev one_if : Bool → ℕ
 one_if b = cond b 1 0

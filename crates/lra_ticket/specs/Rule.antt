@@ -9,7 +9,8 @@ use lib.ListN.{get_elem?}
 use Rattle.atomic_table.specs.Table.{State}
 use Rattle.lra_model.specs.declared.entry.Entry.{Entry}
 use Rattle.lra_ticket.specs.declared.view.Place.{Place}
-use Rattle.lra_ticket.specs.declared.view.Place.TheVariants.{Idle, Looked, Waiting, Holding, Peeked, Missed, Paired, Spent}
+use Rattle.lra_ticket.specs.declared.view.Place.TheVariants.{Idle, Looked, Waiting, Holding, Peeked, Missed, Paired}
+use Rattle.lra_ticket.specs.declared.view.Place.TheVariants.{Spent}
 use Rattle.lra_ticket.specs.declared.view.View.{View}
 use Rattle.lra_ticket.specs.History.{entries_by, Comparable}
 use Rattle.lra_ticket.specs.Views.{Sight, sights, bearers, has_ticket, holds_lock}

@@ -2,7 +2,8 @@
 use Rattle.std.specs.Prelude.{◌≡◌, ◌==◌, ℕ, ◌+◌, Bool, true, false, List, [], ◌∷◌, ◌++◌, if◌then◌else◌}
 use Rattle.lra_model.specs.declared.entry.Entry.{Entry}
 use Rattle.lra_ticket.specs.declared.view.Place.{Place}
-use Rattle.lra_ticket.specs.declared.view.Place.TheVariants.{Idle, Looked, Waiting, Holding, Peeked, Missed, Paired, Spent}
+use Rattle.lra_ticket.specs.declared.view.Place.TheVariants.{Idle, Looked, Waiting, Holding, Peeked, Missed, Paired}
+use Rattle.lra_ticket.specs.declared.view.Place.TheVariants.{Spent}
 use Rattle.lra_ticket.specs.declared.view.View.{View}
 use Rattle.lra_ticket.specs.History.{entries_by, block_after, number_after}
 

@@ -1,7 +1,8 @@
 -- What is told where there is no port for operators.
 use Rattle.std.specs.Prelude.{ℕ, List, ◌++◌, codes}
 use Rattle.lra_watchpost.specs.declared.fault.PortFault.{PortFault}
-use Rattle.lra_watchpost.specs.declared.fault.PortFault.TheVariants.{Address, NoKey, KeyFile, SharedKey, BadKey, NoToken, Memory}
+use Rattle.lra_watchpost.specs.declared.fault.PortFault.TheVariants.{Address, NoKey, KeyFile, SharedKey, BadKey}
+use Rattle.lra_watchpost.specs.declared.fault.PortFault.TheVariants.{NoToken, Memory}
 
 -- why there is none
 abbrev pub why : PortFault → List ℕ

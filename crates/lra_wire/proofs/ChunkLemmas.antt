@@ -1,13 +1,16 @@
 -- Chunk lines, contents and trailers in the bytes that came, whatever follows them.
-use Rattle.std.proofs.Common.{◌≡◌, ◌≢◌, get_or, ℕ, ◌+◌, ◌-◌, ◌<◌, ◌≤◌, ◌&&◌, ◌==◌, true, false, Bool, List, [], ◌∷◌, ◌++◌, length, drop, refl, sym, ap, subst, ◌∙◌, arith, append_assoc, inl, inr}
+use Rattle.std.proofs.Common.{◌≡◌, ◌≢◌, get_or, ℕ, ◌+◌, ◌-◌, ◌<◌, ◌≤◌, ◌&&◌, ◌==◌, true, false, Bool, List, [], ◌∷◌}
+use Rattle.std.proofs.Common.{◌++◌, length, drop, refl, sym, ap, subst, ◌∙◌, arith, append_assoc, inl, inr}
 use Rattle.std.specs.Prelude.{◌⊎◌, slice_range}
 use Rattle.std.specs.List.{flat_map}
 use Rattle.std.proofs.lemmas.Bool.Decides.{nat_tests}
 use Rattle.std.proofs.lemmas.Grind.{flat_map-append}
-use Rattle.std.proofs.lemmas.List.{append-nil, length-append, length-drop, length-take, drop-drop, drop_more, take-append-drop}
+use Rattle.std.proofs.lemmas.List.{append-nil, length-append, length-drop, length-take, drop-drop, drop_more}
+use Rattle.std.proofs.lemmas.List.{take-append-drop}
 use Rattle.std.proofs.lemmas.List.Elements.{All-push}
 use Rattle.httparse.specs.Ascii.{crlf_bytes}
-use Rattle.httparse.specs.Grammar.{print_chunk_line, print_extension, ReadsChunkLine, NeverHasChunkLine, ReadsSection, HasNoSection}
+use Rattle.httparse.specs.Grammar.{print_chunk_line, print_extension, ReadsChunkLine, NeverHasChunkLine, ReadsSection}
+use Rattle.httparse.specs.Grammar.{HasNoSection}
 use Rattle.httparse.specs.Spans.{SectionOverflows}
 use Rattle.httparse.proofs.GrammarLemmas.{ReadsSection-append}
 use Rattle.httparse.proofs.ChunkLemmas.{ReadsChunkLine-append}

@@ -1,11 +1,13 @@
 -- The parts of a chunked body in the bytes that came so far, whatever follows them.
-use Rattle.std.proofs.Common.{◌≡◌, ◌≢◌, get_or, ℕ, ◌+◌, ◌-◌, ◌<◌, ◌≤◌, List, [], ◌∷◌, ◌++◌, length, take, drop, refl, sym, ap, subst, ◌∙◌, arith, append_assoc, Result, Ok, Err, inl, inr}
+use Rattle.std.proofs.Common.{◌≡◌, ◌≢◌, get_or, ℕ, ◌+◌, ◌-◌, ◌<◌, ◌≤◌, List, [], ◌∷◌, ◌++◌, length, take, drop, refl}
+use Rattle.std.proofs.Common.{sym, ap, subst, ◌∙◌, arith, append_assoc, Result, Ok, Err, inl, inr}
 use Rattle.std.specs.Prelude.{◌⊎◌, slice_range}
 use Rattle.std.specs.List.{flat_map}
 use Rattle.std.proofs.lemmas.List.{take-append-drop, drop-drop, length-drop, length-append, length-take}
 use Rattle.std.proofs.lemmas.List.Elements.{All-nil}
 use Rattle.httparse.specs.Ascii.{crlf_bytes}
-use Rattle.httparse.specs.Grammar.{print_chunk_line, chunk_size, ReadsChunkLine, HasNoChunkLine, NeverHasChunkLine, MayBecomeChunkLine, HasNoSection, MayBecomeSection}
+use Rattle.httparse.specs.Grammar.{print_chunk_line, chunk_size, ReadsChunkLine, HasNoChunkLine, NeverHasChunkLine}
+use Rattle.httparse.specs.Grammar.{MayBecomeChunkLine, HasNoSection, MayBecomeSection}
 use Rattle.httparse.specs.Spans.{SectionOverflows}
 use Rattle.lra_wire.specs.declared.chunks.ChunksRead.{ChunksRead}
 use Rattle.lra_wire.specs.declared.chunks.Part.{Part}
@@ -15,13 +17,16 @@ use Rattle.lra_wire.specs.declared.wanted.Wanted.TheVariants.{Feed, Bytes}
 use Rattle.lra_wire.specs.declared.fault.WireFault.{WireFault}
 use Rattle.lra_wire.specs.declared.fault.WireFault.TheVariants.{BadLength, TooLarge, Cut}
 use Rattle.lra_wire.specs.declared.framing.Framing.TheVariants.{Chunks}
-use Rattle.lra_wire.specs.Chunks.{IsChunk, print_chunk, content_of, HasLast, RefusesTrailer, RefusesContent, RefusesChunk, RefusesChunks, AwaitsChunk}
+use Rattle.lra_wire.specs.Chunks.{IsChunk, print_chunk, content_of, HasLast, RefusesTrailer, RefusesContent}
+use Rattle.lra_wire.specs.Chunks.{RefusesChunk, RefusesChunks, AwaitsChunk}
 use Rattle.lra_wire.specs.Response.{RefusesFramed, AwaitsBody}
 use Rattle.lra_wire.specs.inner.Wanted.{IsOpenAt, LastsAt}
 use Rattle.lra_wire.specs.inner.Parts.{IsBodyTo}
-use Rattle.lra_wire.specs.inner.Chunked.{IsTrailerTo, FindsEnd, FindsContent, FindsPart, Joined, ChunksTo, HasRead, IsLineOf, IsTrailerOf, IsPieceAt}
+use Rattle.lra_wire.specs.inner.Chunked.{IsTrailerTo, FindsEnd, FindsContent, FindsPart, Joined, ChunksTo, HasRead}
+use Rattle.lra_wire.specs.inner.Chunked.{IsLineOf, IsTrailerOf, IsPieceAt}
 use Rattle.lra_wire.proofs.StreamLemmas.{drop_more_bytes}
-use Rattle.lra_wire.proofs.ChunkLemmas.{NeverHasChunkLine-append, SectionOverflows-append, passes, line_there, trailer_there, two_at, IsOpenBehind, content_there, line_some, joined_more}
+use Rattle.lra_wire.proofs.ChunkLemmas.{NeverHasChunkLine-append, SectionOverflows-append, passes, line_there}
+use Rattle.lra_wire.proofs.ChunkLemmas.{trailer_there, two_at, IsOpenBehind, content_there, line_some, joined_more}
 use Rattle.lra_wire.proofs.OpenLemmas.{line_stays, section_stays, open_now, lasts_map}
 
 -- ---- the end of a chunked body

@@ -1,9 +1,11 @@
 -- The parts of a response in the bytes that came so far, whatever follows them.
-use Rattle.std.proofs.Common.{◌≡◌, ℕ, ◌+◌, ◌-◌, ◌<◌, ◌≤◌, Bool, true, false, cond, List, [], ◌∷◌, ◌++◌, length, drop, refl, sym, ap, subst, ◌∙◌, arith, append_assoc, Option, Some, None, Ok, Err, inl, inr}
+use Rattle.std.proofs.Common.{◌≡◌, ℕ, ◌+◌, ◌-◌, ◌<◌, ◌≤◌, Bool, true, false, cond, List, [], ◌∷◌, ◌++◌, length, drop}
+use Rattle.std.proofs.Common.{refl, sym, ap, subst, ◌∙◌, arith, append_assoc, Option, Some, None, Ok, Err, inl, inr}
 use Rattle.std.specs.Prelude.{◌||◌, ◌==◌, nat_le, codes, slice_range}
 use Rattle.std.specs.List.{flat_map, list_any}
 use Rattle.std.proofs.lemmas.Grind.{flat_map-append}
-use Rattle.std.proofs.lemmas.List.{take-append-drop, drop-drop, drop_all, length-drop, length-append, length-take, append-nil}
+use Rattle.std.proofs.lemmas.List.{take-append-drop, drop-drop, drop_all, length-drop, length-append, length-take}
+use Rattle.std.proofs.lemmas.List.{append-nil}
 use Rattle.std.proofs.lemmas.List.Folds.{list_any-append}
 use Rattle.std.proofs.lemmas.List.Elements.{All-push, All-nil}
 use Rattle.httparse.specs.Grammar.{print_response, HasNoResponse, MayBecomeResponse, status_code}
@@ -20,15 +22,19 @@ use Rattle.lra_wire.specs.declared.framing.Framing.TheVariants.{Sized, Chunks, T
 use Rattle.lra_wire.specs.declared.response.Head.{Head}
 use Rattle.lra_wire.specs.Coming.{Lasts, IsWhole, IsOpen}
 use Rattle.lra_wire.specs.Fields.{is_alike, values_of, stated_of}
-use Rattle.lra_wire.specs.Response.{NeverShort, is_interim, IsInterim, HasFinal, fields_in, stated_framing, coded_framing, framing_of, IsBody, RefusesFramed, IsResponse, EndsInResponse, RefusesResponse, IsOpenResponse, AwaitsBody, AwaitsResponse}
+use Rattle.lra_wire.specs.Response.{NeverShort, is_interim, IsInterim, HasFinal, fields_in, stated_framing}
+use Rattle.lra_wire.specs.Response.{coded_framing, framing_of, IsBody, RefusesFramed, IsResponse, EndsInResponse}
+use Rattle.lra_wire.specs.Response.{RefusesResponse, IsOpenResponse, AwaitsBody, AwaitsResponse}
 use Rattle.lra_wire.specs.Seen.{SeesResponse}
 use Rattle.lra_wire.specs.inner.Wanted.{IsMissing, count_wanted, HasLooked, IsOpenAt, Seeks, LastsAt}
-use Rattle.lra_wire.specs.inner.Parts.{SkipsTo, Heads, IsFinalOf, FindsHead, SeesBody, IsBodyTo, EndsBody, EndsOpen, IsHeadOf, IsSmall}
+use Rattle.lra_wire.specs.inner.Parts.{SkipsTo, Heads, IsFinalOf, FindsHead, SeesBody, IsBodyTo, EndsBody, EndsOpen}
+use Rattle.lra_wire.specs.inner.Parts.{IsHeadOf, IsSmall}
 use Rattle.lra_wire.specs.inner.Chunked.{HasRead}
 use Rattle.lra_wire.proofs.HeadLemmas.{up_to_all}
 use Rattle.lra_wire.proofs.SearchLemmas.{no_feed}
 use Rattle.lra_wire.proofs.StreamLemmas.{drop_more_bytes, behind_in}
-use Rattle.lra_wire.proofs.ResponseLemmas.{NeverShort-append, response_there, rest_says, framing_small, framing_other, framed_other}
+use Rattle.lra_wire.proofs.ResponseLemmas.{NeverShort-append, response_there, rest_says, framing_small, framing_other}
+use Rattle.lra_wire.proofs.ResponseLemmas.{framed_other}
 use Rattle.lra_wire.proofs.OpenLemmas.{none_more, feed_none, response_stays, open_now, lasts_map}
 use Rattle.lra_wire.proofs.ChunksLemmas.{chunks_on}
 

@@ -1,5 +1,7 @@
 -- The request at the front of bytes that came.
-use Rattle.std.proofs.Common.{◌≡◌, ◌≢◌, ℕ, ◌+◌, ◌<◌, ◌≤◌, Bool, true, false, cond, ◌==◌, List, [], ◌∷◌, ◌++◌, length, map, take, drop, refl, sym, ap, subst, ◌∙◌, arith, append_assoc, Result, Ok, Err, inl, inr, ◌⊎◌}
+use Rattle.std.proofs.Common.{◌≡◌, ◌≢◌, ℕ, ◌+◌, ◌<◌, ◌≤◌, Bool, true, false, cond, ◌==◌, List, [], ◌∷◌, ◌++◌, length}
+use Rattle.std.proofs.Common.{map, take, drop, refl, sym, ap, subst, ◌∙◌, arith, append_assoc, Result, Ok, Err, inl}
+use Rattle.std.proofs.Common.{inr, ◌⊎◌}
 use Rattle.std.specs.Prelude.{nat_le, slice_range}
 use Rattle.std.specs.List.{list_any}
 use Rattle.std.proofs.lemmas.Bool.{leb-true}
@@ -18,7 +20,8 @@ use Rattle.lra_wire.specs.declared.front.Seen.{Seen}
 use Rattle.lra_wire.specs.Fronts.{RefusesFront, IsUnfinished, Sees}
 use Rattle.lra_wire.specs.inner.Sought.{LacksBody, StaysOpen}
 use Rattle.lra_wire.specs.inner.Heads.{IsHeadAt, request_at}
-use Rattle.lra_wire.specs.Request.{IsRequest, HasHead, Request, NeverLawful, RefusesBody, EndsInBody, IsOpenRequest, AwaitsRequest, fields_of}
+use Rattle.lra_wire.specs.Request.{IsRequest, HasHead, Request, NeverLawful, RefusesBody, EndsInBody, IsOpenRequest}
+use Rattle.lra_wire.specs.Request.{AwaitsRequest, fields_of}
 use Rattle.lra_wire.proofs.HeadLemmas.{up_to_all, no_request, no_request_yet}
 use Rattle.lra_wire.proofs.ReadingLemmas.{request_there, lacks_body, length_fault}
 use Rattle.lra_wire.proofs.RequestsLemmas.{exclusive, some_bytes}

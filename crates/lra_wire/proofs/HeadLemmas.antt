@@ -1,11 +1,13 @@
 -- A search for a head in what comes, which looks only where a line feed came.
-use Rattle.std.proofs.Common.{◌≡◌, ℕ, ◌≤◌, false, ◌||◌, ◌==◌, List, [], ◌∷◌, ◌++◌, length, take, drop, refl, sym, ap, ◌∙◌, append_assoc, inl}
+use Rattle.std.proofs.Common.{◌≡◌, ℕ, ◌≤◌, false, ◌||◌, ◌==◌, List, [], ◌∷◌, ◌++◌, length, take, drop, refl, sym, ap}
+use Rattle.std.proofs.Common.{◌∙◌, append_assoc, inl}
 use Rattle.std.specs.Prelude.{slice_range}
 use Rattle.std.specs.List.{list_any}
 use Rattle.std.proofs.lemmas.List.{take-append-drop, append-nil}
 use Rattle.std.proofs.lemmas.List.Folds.{list_any-append}
 use Rattle.httparse.specs.Ascii.{space}
-use Rattle.httparse.specs.Grammar.{RequestHead, ResponseHead, print_blank, print_version, print_end, print_reason, print_section, print_request, print_response, MayBecomeRequest, MayBecomeResponse}
+use Rattle.httparse.specs.Grammar.{RequestHead, ResponseHead, print_blank, print_version, print_end, print_reason}
+use Rattle.httparse.specs.Grammar.{print_section, print_request, print_response, MayBecomeRequest, MayBecomeResponse}
 use Rattle.lra_wire.specs.Request.{IsOpenRequest}
 use Rattle.lra_wire.specs.Response.{IsOpenResponse}
 use Rattle.lra_wire.specs.Streams.{UpToLine}

@@ -1,5 +1,6 @@
 -- A stream of bytes is one list of requests, and ends in one way.
-use Rattle.std.proofs.Common.{◌≡◌, ◌≢◌, ℕ, ◌<◌, List, [], ◌∷◌, ◌++◌, length, take, drop, refl, sym, ap, subst, ◌∙◌, arith, Option, Some, None, Result, Ok, Err, inl, inr}
+use Rattle.std.proofs.Common.{◌≡◌, ◌≢◌, ℕ, ◌<◌, List, [], ◌∷◌, ◌++◌, length, take, drop, refl, sym, ap, subst, ◌∙◌}
+use Rattle.std.proofs.Common.{arith, Option, Some, None, Result, Ok, Err, inl, inr}
 use Rattle.std.specs.Prelude.{◌⊎◌, IsTrue}
 use Rattle.std.proofs.lemmas.List.{append-nil, length-append, take_at, drop_at}
 use Rattle.std.proofs.lemmas.List.Elements.{All-cons, All-nil}
@@ -12,7 +13,8 @@ use Rattle.lra_wire.specs.declared.fault.WireFault.{WireFault}
 use Rattle.lra_wire.specs.declared.fault.WireFault.TheVariants.{BadHead, Chunked, BadLength, TooLarge, Cut, Io, Memory}
 use Rattle.lra_wire.specs.Fields.{body_length_of}
 use Rattle.lra_wire.specs.Inbox.{IsOutside}
-use Rattle.lra_wire.specs.Request.{Request, IsLawful, HasHead, IsRequest, RefusesRequest, AwaitsRequest, fields_of, told_by, closes}
+use Rattle.lra_wire.specs.Request.{Request, IsLawful, HasHead, IsRequest, RefusesRequest, AwaitsRequest, fields_of}
+use Rattle.lra_wire.specs.Request.{told_by, closes}
 use Rattle.lra_wire.specs.Requests.{Requests, IsHeadFault, EndsAlike}
 
 -- what is refused behind a lawful head

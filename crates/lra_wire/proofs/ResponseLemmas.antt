@@ -1,9 +1,11 @@
 -- Why no continuation makes a head of a response within the limits, and which faults a response has.
-use Rattle.std.proofs.Common.{◌≡◌, ◌≢◌, ℕ, ◌+◌, ◌-◌, ◌<◌, ◌≤◌, Bool, true, false, cond, List, [], ◌∷◌, ◌++◌, length, take, drop, refl, sym, ap, subst, ◌∙◌, arith, append_assoc, Result, Ok, Err, inl, inr}
+use Rattle.std.proofs.Common.{◌≡◌, ◌≢◌, ℕ, ◌+◌, ◌-◌, ◌<◌, ◌≤◌, Bool, true, false, cond, List, [], ◌∷◌, ◌++◌, length}
+use Rattle.std.proofs.Common.{take, drop, refl, sym, ap, subst, ◌∙◌, arith, append_assoc, Result, Ok, Err, inl, inr}
 use Rattle.std.specs.Prelude.{◌⊎◌, ◌||◌, ◌==◌, nat_le, codes}
 use Rattle.std.proofs.lemmas.Bool.{leb-true}
 use Rattle.std.proofs.lemmas.List.{take-append-drop, take-append-le, take_at, drop-drop, length-drop}
-use Rattle.httparse.specs.Grammar.{ResponseHead, print_response, ReadsResponse, HasNoResponse, print_chunk_line, chunk_size}
+use Rattle.httparse.specs.Grammar.{ResponseHead, print_response, ReadsResponse, HasNoResponse, print_chunk_line}
+use Rattle.httparse.specs.Grammar.{chunk_size}
 use Rattle.httparse.proofs.GrammarLemmas.{response_prefix_free, ReadsResponse-append}
 use Rattle.lra_wire.specs.declared.fault.WireFault.{WireFault}
 use Rattle.lra_wire.specs.declared.fault.WireFault.TheVariants.{BadHead, Chunked, BadLength, TooLarge, Cut, Io, Memory}
@@ -14,7 +16,8 @@ use Rattle.lra_wire.specs.declared.framing.Framing.TheVariants.{Sized, Chunks, T
 use Rattle.lra_wire.specs.declared.response.Head.{Head}
 use Rattle.lra_wire.specs.Chunks.{content_of, RefusesLine, RefusesTrailer, RefusesContent, RefusesBehind, RefusesChunk}
 use Rattle.lra_wire.specs.Fields.{is_alike, values_of, stated_of}
-use Rattle.lra_wire.specs.Response.{IsShort, HasResponse, NeverShort, stated_framing, coded_framing, framing_of, RefusesFramed, RefusesRest, RefusesResponse}
+use Rattle.lra_wire.specs.Response.{IsShort, HasResponse, NeverShort, stated_framing, coded_framing, framing_of}
+use Rattle.lra_wire.specs.Response.{RefusesFramed, RefusesRest, RefusesResponse}
 use Rattle.lra_wire.specs.inner.Parts.{IsHeadOf, IsSmall}
 use Rattle.lra_wire.proofs.StreamLemmas.{drop_more_bytes}
 

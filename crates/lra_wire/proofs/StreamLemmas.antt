@@ -1,5 +1,6 @@
 -- From the bytes that an inbox kept to the stream that it stands for.
-use Rattle.std.proofs.Common.{◌≡◌, ℕ, ◌-◌, ◌≤◌, List, [], ◌++◌, length, drop, refl, sym, ap, subst, ◌∙◌, arith, Option, Some, None}
+use Rattle.std.proofs.Common.{◌≡◌, ℕ, ◌-◌, ◌≤◌, List, [], ◌++◌, length, drop, refl, sym, ap, subst, ◌∙◌, arith, Option}
+use Rattle.std.proofs.Common.{Some, None}
 use Rattle.std.specs.Prelude.{IfSome, slice_range}
 use Rattle.std.specs.Io.KnownBytes.{Keeps, prepend_known, IsAtEnd}
 use Rattle.std.proofs.lemmas.List.{drop-append-le, length-drop, append-nil, take_all}

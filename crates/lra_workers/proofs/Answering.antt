@@ -1,5 +1,6 @@
 -- What answering connections keeps: the counter, and what its clerk has seen.
-use Rattle.std.proofs.Common.{◌≡◌, ℕ, zero, suc, ◌++◌, Result, Ok, Err, Bool, true, false, inl, inr, refl, sym, ◌∙◌, subst, append_assoc}
+use Rattle.std.proofs.Common.{◌≡◌, ℕ, zero, suc, ◌++◌, Result, Ok, Err, Bool, true, false, inl, inr, refl, sym, ◌∙◌}
+use Rattle.std.proofs.Common.{subst, append_assoc}
 use mathlib.Core.List.{IsPrefix}
 use Rattle.lra_model.specs.History.{History}
 use Rattle.lra_ticket.proofs.Histories.{prefix_refl, prefix_trans}
@@ -9,7 +10,8 @@ use Rattle.lra_commands.specs.declared.counter.CounterFault.{CounterFault}
 use Rattle.lra_commands.specs.declared.counter.CounterFault.TheVariants.{Refused, Worn}
 use Rattle.lra_commands.specs.Answers.{growth}
 use Rattle.lra_commands.specs.Calls.{Call}
-use Rattle.lra_commands.specs.Counters.{Setting, Sight, terms_of, call_of, IsGivenSince, IsSeenAfter, IsSameCounter, KeepsHistory}
+use Rattle.lra_commands.specs.Counters.{Setting, Sight, terms_of, call_of, IsGivenSince, IsSeenAfter, IsSameCounter}
+use Rattle.lra_commands.specs.Counters.{KeepsHistory}
 use Rattle.lra_front.specs.declared.answer.Answer.{Answer}
 use Rattle.lra_front.specs.declared.stream.StreamEnd.{StreamEnd}
 use Rattle.lra_front.specs.declared.stream.StreamEnd.TheVariants.{Done, Refused as StreamRefused, WriteFault}

@@ -1,5 +1,6 @@
 -- Why a worker's calls are refused.
-use Rattle.std.proofs.Common.{◌≡◌, ◌≢◌, ℕ, zero, suc, ◌≤◌, Bool, true, false, List, [], ◌∷◌, ◌++◌, length, Option, Some, None, inl, inr, refl, sym, ap, ◌∙◌, subst, append-nil}
+use Rattle.std.proofs.Common.{◌≡◌, ◌≢◌, ℕ, zero, suc, ◌≤◌, Bool, true, false, List, [], ◌∷◌, ◌++◌, length, Option, Some}
+use Rattle.std.proofs.Common.{None, inl, inr, refl, sym, ap, ◌∙◌, subst, append-nil}
 use Rattle.std.specs.Prelude.{◌⊎◌, ◌&&◌, ◌+◌, not, option_map, IfSome, Ok, Err}
 use Rattle.std.specs.Option.{option_map_or, option_and_then}
 use Rattle.std.specs.List.{filter_map}
@@ -11,7 +12,8 @@ use Rattle.lra_model.specs.declared.asks.Outcome.{Outcome}
 use Rattle.lra_model.specs.declared.entry.Deed.{Deed}
 use Rattle.lra_model.specs.declared.entry.Deed.TheVariants as deed
 use Rattle.lra_model.specs.declared.entry.Entry.{Entry}
-use Rattle.lra_model.specs.History.{History, clerks, actions, members, asks, is_among, enrolled_by, started_by, joined_by}
+use Rattle.lra_model.specs.History.{History, clerks, actions, members, asks, is_among, enrolled_by, started_by}
+use Rattle.lra_model.specs.History.{joined_by}
 use Rattle.lra_model.specs.Settling.{is_settling, next_settling, settling_within, most_settling, with_settling}
 use Rattle.lra_model.specs.Wants.{wants}
 use Rattle.lra_laws.proofs.Clerks.{none_by}

@@ -21,7 +21,8 @@ use Rattle.lra_office.specs.Orders.{IsGrown, IsNotGiven, IsErrand}
 use Rattle.lra_workers.specs.declared.worker.WorkerEnd.{WorkerEnd}
 use Rattle.lra_workers.specs.declared.worker.WorkerEnd.TheVariants as worker
 use Rattle.lra_workers.proofs.Refusing.{unasked, ends, never_late}
-use Rattle.lra_workers.specs.Work.{Post, post, IsWorkersCommand, Fails, Does, WorksIn, Works, WorksUpTo, TellsWhy, EndsWork}
+use Rattle.lra_workers.specs.Work.{Post, post, IsWorkersCommand, Fails, Does, WorksIn, Works, WorksUpTo, TellsWhy}
+use Rattle.lra_workers.specs.Work.{EndsWork}
 
 -- an errand that was given is of an ask in what is seen then
 pub given_of_ask : {O : Type 0} → ErrandsAreOfAsks → (g : Setting) (v w : View O) (c : Call) (t : Told)

@@ -1,5 +1,6 @@
 -- What moving bytes keeps of a callback.
-use Rattle.std.specs.Prelude.{◌≡◌, ◌⊎◌, ℕ, ◌+◌, List, ◌++◌, take, drop, Option, option_map, unwrap_or, String, string_bytes}
+use Rattle.std.specs.Prelude.{◌≡◌, ◌⊎◌, ℕ, ◌+◌, List, ◌++◌, take, drop, Option, option_map, unwrap_or, String}
+use Rattle.std.specs.Prelude.{string_bytes}
 use Rattle.std.specs.Result.{result_unwrap_or}
 use Rattle.std.specs.Global.{Global}
 use Rattle.std.specs.Io.KnownBytes.{Appends, Consumes}

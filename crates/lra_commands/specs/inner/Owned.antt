@@ -7,7 +7,8 @@ use Rattle.lra_commands.specs.declared.counter.Order.{Order}
 use Rattle.lra_commands.specs.declared.counter.CounterFault.{CounterFault}
 use Rattle.lra_commands.specs.declared.counter.CounterFault.TheVariants.{Refused, Worn}
 use Rattle.lra_commands.specs.Calls.{Call}
-use Rattle.lra_commands.specs.Counters.{Setting, Sight, call_of, IsGivenAt, IsGivenSince, IsSeenAfter, OwnsHistory, KeepsHistory}
+use Rattle.lra_commands.specs.Counters.{Setting, Sight, call_of, IsGivenAt, IsGivenSince, IsSeenAfter, OwnsHistory}
+use Rattle.lra_commands.specs.Counters.{KeepsHistory}
 
 pub given_since : (s : Setting) (J : History) (c : Call) (reply : Result Told CounterFault) (K : History)
     → IsGivenAt s J c reply K → IsGivenSince s J c reply K

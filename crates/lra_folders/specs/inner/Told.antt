@@ -1,5 +1,6 @@
 -- What is told of journals by the threads that go through them.
-use Rattle.std.specs.Prelude.{◌≡◌, ℕ, ◌<◌, List, ◌++◌, get_or, slice_index_or, String, string_bytes, Option, Some, Result, IfOk, IfSome}
+use Rattle.std.specs.Prelude.{◌≡◌, ℕ, ◌<◌, List, ◌++◌, get_or, slice_index_or, String, string_bytes, Option, Some}
+use Rattle.std.specs.Prelude.{Result, IfOk, IfSome}
 use Rattle.std.specs.Global.{Global}
 use Rattle.lra_audits.specs.declared.fault.RunFault.{RunFault}
 use Rattle.lra_folders.specs.declared.deed.Deed.{Deed}

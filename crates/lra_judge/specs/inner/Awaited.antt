@@ -5,7 +5,8 @@ use Rattle.lra_model.specs.declared.status.ActionStatus.{ActionStatus}
 use Rattle.lra_model.specs.declared.status.ActionStatus.TheVariants as action
 use Rattle.lra_model.specs.declared.status.MemberStatus.{MemberStatus}
 use Rattle.lra_model.specs.Addresses.{Addresses}
-use Rattle.lra_model.specs.Words.{has_ended, has_finished_cancelling, is_done_completing, is_done_compensating, has_gone}
+use Rattle.lra_model.specs.Words.{has_ended, has_finished_cancelling, is_done_completing, is_done_compensating}
+use Rattle.lra_model.specs.Words.{has_gone}
 use Rattle.lra_model.specs.History.{History}
 use Rattle.lra_model.specs.Actions.{children, members_of}
 use Rattle.lra_rows.specs.declared.found.ActionRow.{ActionRow}

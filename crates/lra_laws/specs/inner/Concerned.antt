@@ -2,7 +2,8 @@
 use Rattle.std.specs.Prelude.{ℕ, List, [], ◌∷◌, ◌++◌, option_to_list}
 use Rattle.std.specs.Option.{option_map_or}
 use Rattle.lra_model.specs.declared.entry.Deed.{Deed}
-use Rattle.lra_model.specs.declared.entry.Deed.TheVariants.{Start, Join, Leave, Close, Cancel, Skip, Ask, Reply, Report, End}
+use Rattle.lra_model.specs.declared.entry.Deed.TheVariants.{Start, Join, Leave, Close, Cancel, Skip, Ask, Reply, Report}
+use Rattle.lra_model.specs.declared.entry.Deed.TheVariants.{End}
 use Rattle.lra_model.specs.History.{History}
 use Rattle.lra_model.specs.Actions.{parent, children, members_of}
 use Rattle.lra_model.specs.Members.{Asked, ask_of, action_of}

@@ -1,5 +1,6 @@
 -- What stands for a block of numbers in the tree of winners.
-use Rattle.std.specs.Prelude.{◌≡◌, ℕ, ◌+◌, ◌*◌, ◌-◌, ◌^◌, ◌≤◌, ◌<◌, nat_lt, Bool, true, false, List, length, min, slice_index_or}
+use Rattle.std.specs.Prelude.{◌≡◌, ℕ, ◌+◌, ◌*◌, ◌-◌, ◌^◌, ◌≤◌, ◌<◌, nat_lt, Bool, true, false, List, length, min}
+use Rattle.std.specs.Prelude.{slice_index_or}
 use Rattle.lra_timers.specs.declared.deadline.Deadline.{Deadline}
 use Rattle.lra_timers.specs.Order.{last, node}
 use Rattle.lra_marks.specs.declared.marks.Order.{Order}

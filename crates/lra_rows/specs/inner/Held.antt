@@ -1,5 +1,6 @@
 -- What a sheet has of a number.
-use Rattle.std.specs.Prelude.{ℕ, ◌==◌, cond, ◌&&◌, nat_le, nat_lt, Bool, false, List, [], Option, Some, None, option_map}
+use Rattle.std.specs.Prelude.{ℕ, ◌==◌, cond, ◌&&◌, nat_le, nat_lt, Bool, false, List, [], Option, Some, None}
+use Rattle.std.specs.Prelude.{option_map}
 use Rattle.std.specs.Option.{option_map_or, option_and_then}
 use Rattle.lra_model.specs.declared.asks.AskKind.{AskKind}
 use Rattle.lra_model.specs.declared.asks.AskKind.TheVariants as ask

@@ -17,7 +17,8 @@ use Rattle.lra_runs.specs.declared.player.Player.{Player}
 use Rattle.lra_runs.specs.declared.requests.Request.{Request}
 use Rattle.lra_runs.specs.declared.requests.Request.TheVariants as request
 use Rattle.lra_runs.specs.declared.requests.RequestLine.{RequestLine}
-use Rattle.lra_runs.specs.Script.{player, Holding, Stage, lent, given_by, line_answer, is_playable, first_stage, after_line, after_lines, Begins}
+use Rattle.lra_runs.specs.Script.{player, Holding, Stage, lent, given_by, line_answer, is_playable, first_stage}
+use Rattle.lra_runs.specs.Script.{after_line, after_lines, Begins}
 use Rattle.lra_runs.specs.Play.{call_text, played_line, played, some_refused}
 
 -- a map of errands by the numbers of their asks

@@ -1,10 +1,13 @@
 -- What is found of a chunked body in the bytes that came so far.
-use Rattle.std.specs.Prelude.{◌≡◌, ℕ, ◌+◌, ◌<◌, ◌≤◌, Bool, ◌&&◌, ◌==◌, List, ◌++◌, length, drop, slice_index, slice_range, Option, Some, None, Result, Ok, Err}
-use Rattle.httparse.specs.Grammar.{ChunkLine, print_chunk_line, chunk_size, ReadsChunkLine, HasNoChunkLine, NeverHasChunkLine, MayBecomeChunkLine, HasNoSection, MayBecomeSection}
+use Rattle.std.specs.Prelude.{◌≡◌, ℕ, ◌+◌, ◌<◌, ◌≤◌, Bool, ◌&&◌, ◌==◌, List, ◌++◌, length, drop, slice_index}
+use Rattle.std.specs.Prelude.{slice_range, Option, Some, None, Result, Ok, Err}
+use Rattle.httparse.specs.Grammar.{ChunkLine, print_chunk_line, chunk_size, ReadsChunkLine, HasNoChunkLine}
+use Rattle.httparse.specs.Grammar.{NeverHasChunkLine, MayBecomeChunkLine, HasNoSection, MayBecomeSection}
 use Rattle.httparse.specs.Spans.{SectionOverflows}
 use Rattle.lra_wire.specs.declared.fault.WireFault.{WireFault}
 use Rattle.lra_wire.specs.declared.fault.WireFault.TheVariants.{BadLength, TooLarge, Cut}
-use Rattle.lra_wire.specs.Chunks.{Chunk, IsChunk, print_chunk, HasTrailer, content_of, HasChunks, HasLast, RefusesTrailer, RefusesContent, RefusesChunk, AwaitsChunk}
+use Rattle.lra_wire.specs.Chunks.{Chunk, IsChunk, print_chunk, HasTrailer, content_of, HasChunks, HasLast}
+use Rattle.lra_wire.specs.Chunks.{RefusesTrailer, RefusesContent, RefusesChunk, AwaitsChunk}
 use Rattle.httparse.specs.Ascii.{crlf_bytes}
 use Rattle.lra_wire.specs.declared.chunks.ChunksRead.{ChunksRead}
 use Rattle.lra_wire.specs.declared.wanted.Wanted.{Wanted}

@@ -1,5 +1,6 @@
 -- What a search for a request's head finds at the front of the bytes that came so far.
-use Rattle.std.specs.Prelude.{◌≡◌, ℕ, ◌<◌, Bool, ◌==◌, List, length, Option, Some, None, Result, Ok, Err, [], ◌||◌, take, map, codes}
+use Rattle.std.specs.Prelude.{◌≡◌, ℕ, ◌<◌, Bool, ◌==◌, List, length, Option, Some, None, Result, Ok, Err, [], ◌||◌}
+use Rattle.std.specs.Prelude.{take, map, codes}
 use Rattle.httparse.specs.Grammar.{RequestHead, HasNoRequest, MayBecomeRequest}
 use Rattle.httparse.specs.Spans.{span_bytes, header_bytes, IsRequestWithin, IsRequestAt}
 use Rattle.lra_wire.specs.declared.fault.WireFault.{WireFault}

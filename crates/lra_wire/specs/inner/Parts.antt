@@ -1,12 +1,14 @@
 -- What is found of the parts of a response in the bytes that came so far.
-use Rattle.std.specs.Prelude.{◌≡◌, ℕ, ◌+◌, ◌<◌, ◌≤◌, List, ◌++◌, length, drop, Option, Some, None, Result, Ok, Err, ⊤, ◌*◌, []}
+use Rattle.std.specs.Prelude.{◌≡◌, ℕ, ◌+◌, ◌<◌, ◌≤◌, List, ◌++◌, length, drop, Option, Some, None, Result, Ok, Err, ⊤}
+use Rattle.std.specs.Prelude.{◌*◌, []}
 use Rattle.httparse.specs.Grammar.{ResponseHead, print_response, HasNoResponse, MayBecomeResponse, status_code}
 use Rattle.lra_wire.specs.declared.fault.WireFault.{WireFault}
 use Rattle.lra_wire.specs.declared.fault.WireFault.TheVariants.{BadHead, Cut}
 use Rattle.lra_wire.specs.declared.framing.Framing.{Framing}
 use Rattle.lra_wire.specs.declared.framing.Framing.TheVariants.{Sized, Chunks, ToTheEnd}
 use Rattle.lra_wire.specs.declared.response.Head.{Head}
-use Rattle.lra_wire.specs.Response.{HasResponse, NeverShort, fields_in, framing_of, RefusesResponse, Skips, HasFinal, IsBody, RefusesFramed, EndsInResponse, AwaitsBody, AwaitsResponse}
+use Rattle.lra_wire.specs.Response.{HasResponse, NeverShort, fields_in, framing_of, RefusesResponse, Skips, HasFinal}
+use Rattle.lra_wire.specs.Response.{IsBody, RefusesFramed, EndsInResponse, AwaitsBody, AwaitsResponse}
 use Rattle.lra_wire.specs.declared.wanted.BodyFront.{BodyFront}
 use Rattle.lra_wire.specs.declared.coming.Coming.{Coming}
 use Rattle.lra_wire.specs.declared.chunks.ChunksRead.{ChunksRead}

@@ -1,7 +1,8 @@
 use Rattle.std.proofs.Common.{◌≡◌, ℕ, ◌+◌, None, option_map, subst, sym, ◌∙◌, ap, length, arith, replicate, rules}
 use Rattle.lra_laws.specs.Rows.{State, MemberRow, row_at}
 use Rattle.lra_course.specs.Totals.{has_failed_here, is_within_by}
-use Rattle.lra_course.proofs.Marks.{IsToFill-start, IsToFill-marked, IsToFill-passed, IsToFill-end, IsClosed-start, marked}
+use Rattle.lra_course.proofs.Marks.{IsToFill-start, IsToFill-marked, IsToFill-passed, IsToFill-end, IsClosed-start}
+use Rattle.lra_course.proofs.Marks.{marked}
 use Rattle.lra_course.proofs.summary.least_failed.Goals as goal
 use Rattle.lra_course.proofs.summary.least_failed.Goals.{then-has_failed_here, else-has_failed_here}
 

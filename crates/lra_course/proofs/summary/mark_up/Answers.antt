@@ -1,7 +1,8 @@
 use Rattle.std.proofs.Common.{◌≡◌, ℕ, List, Option, None, sym, ◌∙◌, ap, arith}
 use Rattle.std.specs.Prelude.{is_some, unwrap_or}
 use Rattle.lra_laws.specs.Rows.{row_at}
-use Rattle.lra_course.proofs.Marks.{IsLeft-start, IsLeft-up, IsLeft-top, IsLeft-end, IsLeft-met, met_there, IsOpenAt-met, IsOpenAt-top, IsClimbing-start, IsClimbing-up, IsClimbing-end}
+use Rattle.lra_course.proofs.Marks.{IsLeft-start, IsLeft-up, IsLeft-top, IsLeft-end, IsLeft-met, met_there}
+use Rattle.lra_course.proofs.Marks.{IsOpenAt-met, IsOpenAt-top, IsClimbing-start, IsClimbing-up, IsClimbing-end}
 use Rattle.lra_course.proofs.summary.mark_up.Goals as goal
 
 pub loop-step-init : goal.loop-step-init

@@ -1,6 +1,7 @@
 use Rattle.std.proofs.Common.{◌∙◌, Ok, sym, ap}
 use Rattle.std.proofs.lemmas.Result.{err_from_is_err_and}
-use Rattle.lra_ids.proofs.AddressFacts.{address_of-long, address_of-url, address_of_url-other, address_of_url-long, address_of_url-own, address_of-refused, url_is_address}
+use Rattle.lra_ids.proofs.AddressFacts.{address_of-long, address_of-url, address_of_url-other, address_of_url-long}
+use Rattle.lra_ids.proofs.AddressFacts.{address_of_url-own, address_of-refused, url_is_address}
 use Rattle.lra_ids.proofs.reading.address.Goals as goal
 
 pub returns-then-text-gt-LONGEST-clause-fault : goal.returns-then-text-gt-LONGEST-clause-fault

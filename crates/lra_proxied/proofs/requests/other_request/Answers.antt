@@ -4,7 +4,8 @@ use Rattle.lra_wire.specs.Request.{Request, request_of}
 use Rattle.lra_proxied.specs.Requests.{Means}
 use Rattle.lra_proxied.proofs.Others.{means, lacks}
 use Rattle.lra_proxied.proofs.requests.other_request.Goals as goal
-use Rattle.lra_proxied.proofs.requests.other_request.Goals.{else-is_none-via-then-is_none+else-is_none-2, else-is_none-via-else-is_none}
+use Rattle.lra_proxied.proofs.requests.other_request.Goals.{else-is_none-via-then-is_none+else-is_none-2}
+use Rattle.lra_proxied.proofs.requests.other_request.Goals.{else-is_none-via-else-is_none}
 
 pub returns-clause-ok : goal.returns-clause-ok
 returns-clause-ok c =

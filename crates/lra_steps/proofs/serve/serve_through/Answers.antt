@@ -1,9 +1,11 @@
-use Rattle.std.proofs.Common.{◌≡◌, ℕ, zero, suc, refl, ◌+◌, [], ◌++◌, take, drop, length, flat_map, Vec, Global, Option, ap, sym, ◌∙◌, subst, arith, inl, inr, append-nil}
+use Rattle.std.proofs.Common.{◌≡◌, ℕ, zero, suc, refl, ◌+◌, [], ◌++◌, take, drop, length, flat_map, Vec, Global, Option}
+use Rattle.std.proofs.Common.{ap, sym, ◌∙◌, subst, arith, inl, inr, append-nil}
 use Rattle.std.proofs.lemmas.List.{take_all}
 use Rattle.lra_front.specs.declared.stream.StreamEnd.{StreamEnd}
 use Rattle.lra_steps.specs.History.{History}
 use Rattle.lra_steps.specs.inner.Feeding.{Fed}
-use Rattle.lra_steps.proofs.PieceLemmas.{follows_fresh, follows_went, follows_finished, handed_all, none_left, taken_rest, up_to, serves}
+use Rattle.lra_steps.proofs.PieceLemmas.{follows_fresh, follows_went, follows_finished, handed_all, none_left}
+use Rattle.lra_steps.proofs.PieceLemmas.{taken_rest, up_to, serves}
 use Rattle.lra_steps.proofs.serve.serve_through.Goals as goal
 
 none_taken : (n : ℕ) → take {A = ℕ} n [] ≡ []

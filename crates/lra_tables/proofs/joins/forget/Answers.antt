@@ -1,7 +1,8 @@
 use Rattle.std.proofs.Common.{◌≡◌, ◌∙◌}
 use Rattle.lra_model.specs.Members.{action_of, addresses_of}
 use Rattle.lra_joined.specs.Digests.{digest_of}
-use Rattle.lra_tables.proofs.Keeping.{now, stands_now, counted, kept_left, leaves_there, row_action, row_addresses, not_missing}
+use Rattle.lra_tables.proofs.Keeping.{now, stands_now, counted, kept_left, leaves_there, row_action, row_addresses}
+use Rattle.lra_tables.proofs.Keeping.{not_missing}
 use Rattle.lra_tables.proofs.joins.forget.Goals as goal
 
 pub returns-in-None-clause-kept : goal.returns-in-None-clause-kept

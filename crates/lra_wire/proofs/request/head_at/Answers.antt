@@ -3,7 +3,8 @@ use Rattle.httparse.specs.Spans.{IsRequestOf}
 use Rattle.httparse.proofs.HeadLemmas.{at_complete, on_partial}
 use Rattle.lra_wire.proofs.RequestLemmas.{never_after_head, never_after_front, no_host_at}
 use Rattle.lra_wire.proofs.request.head_at.Goals as goal
-use Rattle.lra_wire.proofs.request.head_at.Goals.{then-head-gt-MAX_HEAD-via-then-head-gt-MAX_HEAD, then-head-gt-MAX_HEAD-via-else-head-gt-MAX_HEAD+then-not-has_host}
+use Rattle.lra_wire.proofs.request.head_at.Goals.{then-head-gt-MAX_HEAD-via-then-head-gt-MAX_HEAD}
+use Rattle.lra_wire.proofs.request.head_at.Goals.{then-head-gt-MAX_HEAD-via-else-head-gt-MAX_HEAD+then-not-has_host}
 
 pub returns-then-head-gt-MAX_HEAD : goal.returns-then-head-gt-MAX_HEAD
 returns-then-head-gt-MAX_HEAD c =

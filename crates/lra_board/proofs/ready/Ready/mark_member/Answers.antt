@@ -1,7 +1,8 @@
 use Rattle.std.proofs.Common.{◌<◌, length, arith}
 use Rattle.lra_board.proofs.Marked.{member_absent}
 use Rattle.lra_board.proofs.ready.Ready.mark_member.Goals as goal
-use Rattle.lra_board.proofs.ready.Ready.mark_member.Goals.{else-member-gt0-via-then-member-gt0+else-member-len, else-member-gt0-via-else-member-gt0}
+use Rattle.lra_board.proofs.ready.Ready.mark_member.Goals.{else-member-gt0-via-then-member-gt0+else-member-len}
+use Rattle.lra_board.proofs.ready.Ready.mark_member.Goals.{else-member-gt0-via-else-member-gt0}
 
 pub returns-else-member-gt0-clause-marked : goal.returns-else-member-gt0-clause-marked
 returns-else-member-gt0-clause-marked c =

@@ -2,7 +2,8 @@ use Rattle.std.proofs.Common.{sym, ◌∙◌, ap}
 use Rattle.lra_course.specs.contracts.state.Rows.{the_view}
 use Rattle.lra_laws.specs.Rows.{MemberRow}
 use Rattle.lra_laws.specs.Rows.{with_reply}
-use Rattle.lra_course.proofs.Index.{IsIndex-answered, place_of-free, place_of-held, change_member-absent, change_member-held, with_reply-asked}
+use Rattle.lra_course.proofs.Index.{IsIndex-answered, place_of-free, place_of-held, change_member-absent}
+use Rattle.lra_course.proofs.Index.{change_member-held, with_reply-asked}
 use Rattle.lra_course.proofs.state.Rows.reply.Goals as goal
 
 pub returns-in_default : goal.returns-in_default

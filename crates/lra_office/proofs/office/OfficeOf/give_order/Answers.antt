@@ -2,7 +2,8 @@ use Rattle.std.proofs.Common.{subst}
 use Rattle.lra_commands.specs.Calls.{Command}
 use Rattle.lra_office.specs.Clerks.{clerk_view}
 use Rattle.lra_office.specs.Orders.{IsGrown, IsNotGiven}
-use Rattle.lra_office.proofs.AtWindow.{told_origin, refused_origin, window_told, window_refused, keeps_done, keeps_refused}
+use Rattle.lra_office.proofs.AtWindow.{told_origin, refused_origin, window_told, window_refused, keeps_done}
+use Rattle.lra_office.proofs.AtWindow.{keeps_refused}
 use Rattle.lra_office.proofs.office.OfficeOf.give_order.Goals as goal
 
 pub returns-in-Ok-clause-given : goal.returns-in-Ok-clause-given

@@ -1,6 +1,7 @@
 use Rattle.lra_roster.proofs.Grows.{keeps_on, moved_on}
 use Rattle.lra_roster.proofs.kin.Kin.join_all.Goals as goal
-use Rattle.lra_roster.proofs.kin.Kin.join_all.Goals.{else-number-via-then-number+else-not-join, else-number-via-else-number}
+use Rattle.lra_roster.proofs.kin.Kin.join_all.Goals.{else-number-via-then-number+else-not-join}
+use Rattle.lra_roster.proofs.kin.Kin.join_all.Goals.{else-number-via-else-number}
 
 pub returns-then-not-join-clause-moved : goal.returns-then-not-join-clause-moved
 returns-then-not-join-clause-moved g c = moved_on _ _ _ c.loop-journal.invariant.0 c.join.ensures.moved

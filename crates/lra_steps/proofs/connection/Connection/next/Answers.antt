@@ -6,7 +6,8 @@ use Rattle.lra_steps.specs.History.{History, IsServed, ordered, fault_reply}
 use Rattle.lra_steps.specs.Steps.{IsFree}
 use Rattle.lra_steps.specs.inner.Ends.{EndsWithout}
 use Rattle.lra_steps.specs.inner.Fields.{history_of}
-use Rattle.lra_steps.proofs.HistoryLemmas.{served_ordered, ordered_is, served_ended, ended_is, ends_without, quiet_end, none_stands}
+use Rattle.lra_steps.proofs.HistoryLemmas.{served_ordered, ordered_is, served_ended, ended_is, ends_without, quiet_end}
+use Rattle.lra_steps.proofs.HistoryLemmas.{none_stands}
 use Rattle.lra_steps.proofs.connection.Connection.next.Goals as goal
 
 pub invariant_of-self : goal.invariant_of-self

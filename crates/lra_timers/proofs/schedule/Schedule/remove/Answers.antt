@@ -1,6 +1,7 @@
 use Rattle.std.proofs.Common.{None, Some, sym}
 use Rattle.lra_timers.proofs.Lookups.{Changes-from_updates, Changes-of}
-use Rattle.lra_timers.proofs.Index.{within_kept, IsIndex-pop, moments_at-pop, IsIndex-move, moments_at-move, moments_at-absent}
+use Rattle.lra_timers.proofs.Index.{within_kept, IsIndex-pop, moments_at-pop, IsIndex-move, moments_at-move}
+use Rattle.lra_timers.proofs.Index.{moments_at-absent}
 use Rattle.lra_timers.proofs.schedule.Schedule.remove.Goals as goal
 
 pub returns-in_default-clause-moments : goal.returns-in_default-clause-moments
