@@ -29,7 +29,7 @@ struct Twice {
     end: End,
 }
 
-/// Has an errand carried, and tells how long it takes until something has come of it, if that is no more than three
+/// Carries an errand, and returns how long it takes until something has come of it, if that is no more than three
 /// seconds.
 fn passed<R: Clock, C: Carriage>(
     rt: &R,

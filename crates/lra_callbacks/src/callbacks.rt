@@ -300,7 +300,7 @@ impl<'a, R: Wait + Net + time::Clock, G: SyncGroup> Callbacks<'a, R, G> {
         self.connect(key);
     }
 
-    /// Has one connect to the first of its host's addresses that wasn't tried and may take it.
+    /// Connects one to the first of its host's addresses that wasn't tried and may take it.
     fn connect(&mut self, key: usize)
         ensures { self.new ≡ self.old }
     {
@@ -311,7 +311,7 @@ impl<'a, R: Wait + Net + time::Clock, G: SyncGroup> Callbacks<'a, R, G> {
         }
     }
 
-    /// Has one connect to the next of its host's addresses. Where there is none it has ended. Tells whether there is
+    /// Connects one to the next of its host's addresses. Where there is none it has ended. Returns whether there is
     /// nothing more to try.
     fn is_connecting(&mut self, key: usize) -> bool
         ensures { self.new ≡ self.old }

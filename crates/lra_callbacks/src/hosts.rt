@@ -76,7 +76,7 @@ impl Hosts {
         }
     }
 
-    /// Has a callback wait for its host, and tells whether it does: not where memory is refused.
+    /// Queues a callback for its host, and returns whether it did: not where memory is refused.
     pub(crate) fn enlist(&mut self, key: usize, socket: String) -> bool {
         let Some(number) = self.number_of(socket) else {
             return false;

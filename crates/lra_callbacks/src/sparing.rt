@@ -91,7 +91,7 @@ impl<'a> Sparing<'a> {
         self.waiting.len()
     }
 
-    /// Has a callback wait, where its errand's member is spared at a moment. Tells whether it does: where memory is
+    /// Holds a callback back, where its errand's member is spared at a moment. Returns whether it does: where memory is
     /// refused it doesn't.
     pub(crate) fn holds(&mut self, key: usize, errand: &Errand, now: u64) -> bool {
         match self.silences.until(errand, self.pause()) {
@@ -100,7 +100,7 @@ impl<'a> Sparing<'a> {
         }
     }
 
-    /// Has a callback wait as long as the service runs. Returns whether it does: where memory is refused it doesn't.
+    /// Holds a callback back as long as the service runs. Returns whether it does: where memory is refused it doesn't.
     pub(crate) fn holds_for_good(&mut self, key: usize) -> bool {
         self.waiting.insert((u64::MAX, key)).is_ok()
     }

@@ -73,7 +73,7 @@ fn place_of<B: Drop>(desks: &[Desk<B>], instance: Instance) -> Option<usize> {
         .position(|desk| desk.journal.instance == instance)
 }
 
-/// Has a clerk of a journal join, at a moment. Tells whether one has.
+/// Adds a clerk of a journal, at a moment. Returns whether it did.
 fn join<R: Wait, B: Clerkship + Drop>(
     rt: &R,
     desks: &mut Vec<Desk<B>>,
@@ -95,7 +95,7 @@ fn join<R: Wait, B: Clerkship + Drop>(
         .is_ok()
 }
 
-/// Has those join that have no clerk, at a moment. Tells whether all have one.
+/// Adds a clerk of each journal that has none, at a moment. Returns whether all have one.
 fn join_all<R: Wait, B: Clerkship + Drop>(
     rt: &R,
     desks: &mut Vec<Desk<B>>,

@@ -73,7 +73,7 @@ impl<R: Wait + time::Clock, B: Clerkship + Drop> Kin<'_, '_, R, B> {
         Family::new(alloc, branch).ok()
     }
 
-    /// Has one join that is newer than all. Tells whether it has.
+    /// Adds one that is newer than all. Returns whether it did.
     #[tactic(auto, using(crate::proofs::Grows::moved_none, crate::proofs::Grows::moved_on, crate::proofs::Grows::keeps_none, crate::proofs::Grows::keeps_on))]
     fn join(&mut self, family: &mut Family<B>, journal: &Journal<B>) -> bool
         ensures moved { Moved family.old family.new }
@@ -92,7 +92,7 @@ impl<R: Wait + time::Clock, B: Clerkship + Drop> Kin<'_, '_, R, B> {
         }
     }
 
-    /// Has those join that are newer than all. Tells whether all have.
+    /// Adds those that are newer than all. Returns whether all are there.
     #[tactic(auto, using(crate::proofs::Grows::moved_none, crate::proofs::Grows::moved_on, crate::proofs::Grows::keeps_none, crate::proofs::Grows::keeps_on))]
     fn join_all(&mut self, family: &mut Family<B>, journals: &[Arc<Journal<B>>]) -> bool
         ensures moved { Moved family.old family.new }

@@ -486,7 +486,7 @@ impl<
         self.latch.decide(self.rt, true);
     }
 
-    /// Has those who stand end at once, since another couldn't be started. Returns why the service doesn't serve.
+    /// Ends the threads that wait, since another couldn't be started. Returns why the service doesn't serve.
     pub(crate) fn give_up(&self) -> ServeFault
         ensures { result ≡ ServeFault.Address }
     {
