@@ -1,8 +1,8 @@
 //! Callbacks to members that answer, and to members that don't.
 
 use crate::members::{listen, serve, serve_all, socket_at};
-use crate::setting::{Held, Ready, errands};
-use lra_callbacks::{Callbacks, Names, Patience, Share, bell};
+use crate::setting::{Held, Ready, errands, no_bells};
+use lra_callbacks::{Callbacks, Names, Patience, Quota, Share, bell};
 use lra_clocks::{SystemClock, milliseconds};
 use lra_courier::Carriage;
 use lra_model::Outcome;
@@ -144,9 +144,12 @@ fn carry<R: Wait + Net + Clock>(
     };
     let (under_way, least_pause) = (AtomicU64::new(0), AtomicU64::new(0));
     let outcomes = Outcomes::new(alloc);
-    let share = Share::of(1, 1_024, 64, patience);
+    let share = Share::of(1, patience);
     let clock = SystemClock::new(rt, 0);
-    let bells: [Waker; 0] = [];
+    let quota = Quota::new(alloc, 1_024, 64);
+    let Some(bells) = no_bells(alloc) else {
+        return count;
+    };
     let made = Callbacks::new(
         rt,
         alloc,
@@ -155,18 +158,20 @@ fn carry<R: Wait + Net + Clock>(
         names,
         rules,
         poll,
+        &quota,
         share,
         &under_way,
         &least_pause,
         clock,
         &bells,
+        0,
         &outcomes,
     );
     match made {
         Ok(mut callbacks) => {
             take_all(&mut callbacks, held);
             count = carry_within(rt, &mut callbacks, wanted, Duration::from_secs(20));
-            drop(callbacks);
+            callbacks.end();
         }
         Err(poll) => {
             drop(poll);
@@ -383,8 +388,9 @@ fn rested<R: Wait + Net + Clock>(rt: &R, alloc: Global, millis: Option<u64>) -> 
     let names = Names::new(alloc);
     let rules = Rules::none(alloc);
     let (under_way, least_pause) = (AtomicU64::new(0), AtomicU64::new(0));
-    let bells: [Waker; 0] = [];
-    let share = Share::of(1, 1_024, 64, PATIENCE);
+    let quota = Quota::new(alloc, 1_024, 64);
+    let bells = no_bells(alloc)?;
+    let share = Share::of(1, PATIENCE);
     let clock = SystemClock::new(rt, 0);
     let outcomes = Outcomes::new(alloc);
     let made = Callbacks::new(
@@ -395,18 +401,20 @@ fn rested<R: Wait + Net + Clock>(rt: &R, alloc: Global, millis: Option<u64>) -> 
         &names,
         &rules,
         poll,
+        &quota,
         share,
         &under_way,
         &least_pause,
         clock,
         &bells,
+        0,
         &outcomes,
     );
     let Ok(mut callbacks) = made else {
         return None;
     };
     let passed = rest_of(rt, &mut callbacks, millis);
-    drop(callbacks);
+    callbacks.end();
     passed
 }
 

@@ -10,6 +10,8 @@ mod ruled;
 #[cfg(test)]
 mod setting;
 #[cfg(test)]
+mod shared;
+#[cfg(test)]
 mod spared;
 #[cfg(test)]
 mod waiting;

@@ -7,9 +7,10 @@ use lra_core::{Coordinator, Errand, Instance, Limits, Refusal};
 use lra_durable::{SyncGroup, Unkept};
 use lra_ids::{Address, address};
 use lra_model::Uris;
+use mio::Waker;
 use std::alloc::{AllocError, Global};
-use std::sync::Wait;
 use std::sync::atomic::{AtomicU64, Ordering};
+use std::sync::{Arc, Wait};
 
 /// Sync group of which one journal is durable so far, and no other is.
 #[derive(Drop)]
@@ -66,6 +67,11 @@ impl SyncGroup for Ready {
     fn appended<R: Wait>(&self, _rt: &R) -> u64 {
         self.length.load(Ordering::SeqCst)
     }
+}
+
+/// Returns no bells.
+pub fn no_bells(alloc: Global) -> Option<Arc<Vec<Waker>>> {
+    Arc::new(alloc, Vec::new(alloc)).ok()
 }
 
 /// Returns what URIs begin with.

@@ -2,13 +2,12 @@
 
 use crate::callbacks::{DONE, PATIENCE, carry_within, take_all};
 use crate::members::{listen, serve_all, socket_at};
-use crate::setting::{End, Held, Ready, errand};
-use lra_callbacks::{Callbacks, Names, Share, bell};
+use crate::setting::{End, Held, Ready, errand, no_bells};
+use lra_callbacks::{Callbacks, Names, Quota, Share, bell};
 use lra_clocks::SystemClock;
 use lra_courier::Carriage;
 use lra_outcomes::Outcomes;
 use lra_rules::Rules;
-use mio::Waker;
 use std::alloc::Global;
 use std::net::{Net, TcpListener, TcpStream};
 use std::sync::Wait;
@@ -71,8 +70,9 @@ fn asked_twice<R: Wait + Net + Clock>(rt: &R, alloc: Global, twice: Twice) -> Op
     let names = Names::new(alloc);
     let rules = Rules::none(alloc);
     let (under_way, least_pause) = (AtomicU64::new(0), AtomicU64::new(twice.least_pause));
-    let bells: [Waker; 0] = [];
-    let share = Share::of(1, 1_024, 64, PATIENCE);
+    let quota = Quota::new(alloc, 1_024, 64);
+    let bells = no_bells(alloc)?;
+    let share = Share::of(1, PATIENCE);
     let clock = SystemClock::new(rt, twice.office);
     let outcomes = Outcomes::new(alloc);
     let made = Callbacks::new(
@@ -83,18 +83,20 @@ fn asked_twice<R: Wait + Net + Clock>(rt: &R, alloc: Global, twice: Twice) -> Op
         &names,
         &rules,
         poll,
+        &quota,
         share,
         &under_way,
         &least_pause,
         clock,
         &bells,
+        0,
         &outcomes,
     );
     let Ok(mut callbacks) = made else {
         return None;
     };
     let passed = passed_again(rt, alloc, &mut callbacks, twice);
-    drop(callbacks);
+    callbacks.end();
     passed
 }
 

@@ -2,14 +2,13 @@
 
 use crate::callbacks::{PATIENCE, carry_within};
 use crate::members::{listen, socket_at};
-use crate::setting::{End, Ready, errand};
-use lra_callbacks::{Callbacks, Names, Share, bell};
+use crate::setting::{End, Ready, errand, no_bells};
+use lra_callbacks::{Callbacks, Names, Quota, Share, bell};
 use lra_clocks::SystemClock;
 use lra_courier::Carriage;
 use lra_ids::Instance;
 use lra_outcomes::Outcomes;
 use lra_rules::Rules;
-use mio::Waker;
 use std::alloc::Global;
 use std::net::{Net, TcpListener, TcpStream};
 use std::sync::Wait;
@@ -53,7 +52,8 @@ where
     let names = Names::new(alloc);
     let rules = Rules::none(alloc);
     let (under_way, least_pause) = (AtomicU64::new(0), AtomicU64::new(0));
-    let bells: [Waker; 0] = [];
+    let quota = Quota::new(alloc, 1_024, 64);
+    let bells = no_bells(alloc)?;
     let outcomes = Outcomes::new(alloc);
     let made = Callbacks::new(
         rt,
@@ -63,11 +63,13 @@ where
         &names,
         &rules,
         poll,
-        Share::of(1, 1_024, 64, PATIENCE),
+        &quota,
+        Share::of(1, PATIENCE),
         &under_way,
         &least_pause,
         SystemClock::new(rt, 0),
         &bells,
+        0,
         &outcomes,
     );
     let Ok(mut callbacks) = made else {
@@ -77,7 +79,7 @@ where
         Some(()) => Some(come_of(rt, &mut callbacks, &group.length)),
         None => None,
     };
-    drop(callbacks);
+    callbacks.end();
     came
 }
 

@@ -9,6 +9,7 @@ use crate::attempt::Leave;
 use crate::call::{Call, Seen};
 use crate::hosts::Next;
 use crate::names::Names;
+use crate::quota::Quota;
 use crate::resting::{SHORT_REST_MS, rest_before, rest_for};
 use crate::share::Share;
 use crate::sparing::Sparing;
@@ -25,8 +26,8 @@ use slab::Slab;
 use std::alloc::Global;
 use std::marker::Model;
 use std::net::Net;
-use std::sync::Wait;
 use std::sync::atomic::{AtomicU64, Ordering};
+use std::sync::{Arc, Wait};
 use std::time;
 
 /// Number of milliseconds that the office is left alone in any case.
@@ -34,8 +35,8 @@ const PAUSE_MS: u64 = 2;
 
 /// Callbacks to members, many at once, of one journal. The request of each is made once that journal is durable up to
 /// the position that was given with the errand; it waits while as many go to its host, or in all, as may, and while its
-/// member is spared, since it was silent. A contract sees which errand is under way at each place.
-#[derive(Drop)]
+/// member is spared, since it was silent. A contract sees which errand is under way at each place. It has to be ended,
+/// as permits of the quota have to go back.
 pub struct Callbacks<'a, R, G: SyncGroup> {
     rt: &'a R,
     alloc: Global,
@@ -45,6 +46,8 @@ pub struct Callbacks<'a, R, G: SyncGroup> {
     names: &'a Names,
     /// Where members may be.
     rules: &'a Rules,
+    /// The bound on callbacks that go out at once, of all callback workers.
+    quota: &'a Quota,
     share: Share,
     /// Number of callbacks under way, for others to see.
     under_way: &'a AtomicU64,
@@ -56,7 +59,7 @@ pub struct Callbacks<'a, R, G: SyncGroup> {
     /// The office's clock.
     clock: SystemClock<'a, R>,
     /// Bells that wake the callback workers.
-    bells: &'a [Waker],
+    bells: &'a Arc<Vec<Waker>>,
     /// When it woke them last, by the office's clock.
     rang: u64,
     /// Outcomes of the members' last callbacks, for others to see.
@@ -119,7 +122,8 @@ impl<'a, R, G: SyncGroup> Model for Callbacks<'a, R, G> {
 
 impl<'a, R: Wait + Net + time::Clock, G: SyncGroup> Callbacks<'a, R, G> {
     /// None is under way. What the rules don't let is not connected to, and silent. The poll is one that
-    /// [`bell`](crate::bell) gave, as the bells of all who carry. How many are is told there whenever one is taken or
+    /// [`bell`](crate::bell) gave, as the bells of all who carry, where its own has that place. A callback goes out
+    /// once the quota, which all have, gives a permit. How many are under way is told there whenever one is taken or
     /// done. A member that was silent isn't asked again in the same stage until the least pause has passed, in
     /// milliseconds: 0 spares none, and `u64::MAX` never ends. Others may change it at any time; what came before it
     /// was told isn't known. Who waits so isn't counted as under way. The clock is the one by which its office's
@@ -134,18 +138,26 @@ impl<'a, R: Wait + Net + time::Clock, G: SyncGroup> Callbacks<'a, R, G> {
         names: &'a Names,
         rules: &'a Rules,
         poll: Poll,
+        quota: &'a Quota,
         share: Share,
         under_way: &'a AtomicU64,
         least_pause: &'a AtomicU64,
         clock: SystemClock<'a, R>,
-        bells: &'a [Waker],
+        bells: &'a Arc<Vec<Waker>>,
+        place: usize,
         outcomes: &'a Outcomes,
     ) -> Result<Callbacks<'a, R, G>, Poll>
         ensures { IfOk result (λ made. made ≡ []) }
     {
-        let traffic = match Traffic::new(alloc, poll, share) {
+        let Some(worker) = quota.join(rt, alloc, bells, place) else {
+            return Err(poll);
+        };
+        let traffic = match Traffic::new(alloc, poll, worker) {
             Ok(traffic) => traffic,
-            Err(poll) => return Err(poll),
+            Err(poll) => {
+                quota.part(rt, worker);
+                return Err(poll);
+            }
         };
         Ok(Callbacks {
             rt,
@@ -154,6 +166,7 @@ impl<'a, R: Wait + Net + time::Clock, G: SyncGroup> Callbacks<'a, R, G> {
             instance,
             names,
             rules,
+            quota,
             share,
             under_way,
             calls: Slab::new(alloc),
@@ -165,6 +178,33 @@ impl<'a, R: Wait + Net + time::Clock, G: SyncGroup> Callbacks<'a, R, G> {
             rang: 0,
             outcomes,
         })
+    }
+
+    /// Ends it: those that are under way are discarded, and then all permits go back.
+    pub fn end(self) {
+        let Callbacks {
+            rt,
+            alloc: _,
+            group: _,
+            instance: _,
+            names: _,
+            rules: _,
+            quota,
+            share: _,
+            under_way: _,
+            calls,
+            mut traffic,
+            sparing,
+            looked: _,
+            clock: _,
+            bells: _,
+            rang: _,
+            outcomes: _,
+        } = self;
+        drop(calls);
+        drop(sparing);
+        traffic.hosts.part(rt, quota);
+        drop(traffic);
     }
 
     /// Those go on whose members are spared no longer.
@@ -260,7 +300,12 @@ impl<'a, R: Wait + Net + time::Clock, G: SyncGroup> Callbacks<'a, R, G> {
         ensures { self.new ≡ self.old }
     {
         for _ in 0..u64::MAX {
-            match self.traffic.hosts.next(self.rt, self.names, now) {
+            self.traffic.hosts.take_calls(self.rt, self.quota);
+            match self
+                .traffic
+                .hosts
+                .next(self.rt, self.names, self.quota, now)
+            {
                 Next::Goes(key, host) => self.start(key, host, now),
                 Next::Fails(key) => self.miss(key),
                 Next::Nothing => return,
@@ -285,7 +330,7 @@ impl<'a, R: Wait + Net + time::Clock, G: SyncGroup> Callbacks<'a, R, G> {
         ensures { self.new ≡ self.old }
     {
         let Some(call) = self.calls.get_mut(key) else {
-            self.traffic.hosts.leave(host);
+            self.traffic.hosts.leave(self.rt, self.quota, host);
             return;
         };
         call.set_out(host, now);
@@ -293,7 +338,7 @@ impl<'a, R: Wait + Net + time::Clock, G: SyncGroup> Callbacks<'a, R, G> {
             .traffic
             .allow(key, now.saturating_add(self.share.patience.connect))
         {
-            self.traffic.close(key, host);
+            self.traffic.close(self.rt, self.quota, key, host);
             self.traffic.end(key);
             return;
         }
@@ -323,7 +368,7 @@ impl<'a, R: Wait + Net + time::Clock, G: SyncGroup> Callbacks<'a, R, G> {
             Some(to) => call.connect(self.rt, self.traffic.poll.registry(), self.rules, key, to),
             None => {
                 call.hang_up();
-                self.traffic.close(key, call.host());
+                self.traffic.close(self.rt, self.quota, key, call.host());
                 self.traffic.end(key);
                 true
             }
@@ -360,7 +405,7 @@ impl<'a, R: Wait + Net + time::Clock, G: SyncGroup> Callbacks<'a, R, G> {
             return;
         };
         if call.hang_up() {
-            self.traffic.close(key, call.host());
+            self.traffic.close(self.rt, self.quota, key, call.host());
             self.traffic.end(key);
         }
     }
@@ -373,7 +418,7 @@ impl<'a, R: Wait + Net + time::Clock, G: SyncGroup> Callbacks<'a, R, G> {
             return;
         };
         if call.give_up(self.share.patience) {
-            self.traffic.close(key, call.host());
+            self.traffic.close(self.rt, self.quota, key, call.host());
             self.traffic.end(key);
         }
     }
@@ -462,11 +507,9 @@ impl<'a, R: Wait + Net + time::Clock, G: SyncGroup> Callbacks<'a, R, G> {
         }
     }
 
-    /// Tells whether one more is taken. None is while all sockets are taken, or will be once the disk keeps what is
-    /// waited for.
+    /// Tells whether one more is taken.
     fn is_roomy(&self) -> bool {
         self.count() < self.share.held as usize
-            && self.traffic.moving() < self.share.sockets as usize
     }
 
     /// Wakes those who carry, since something is due that wasn't taken here: there is no room for it, or there was too
@@ -476,7 +519,7 @@ impl<'a, R: Wait + Net + time::Clock, G: SyncGroup> Callbacks<'a, R, G> {
     {
         if now >= self.rang.saturating_add(SHORT_REST_MS) {
             self.rang = now;
-            ring(self.bells);
+            ring(self.bells.as_slice());
         }
     }
 

@@ -1,9 +1,8 @@
 //! The hosts that callbacks go to, and what waits for each.
 
 use crate::book::Found;
-use crate::bounds::Bounds;
 use crate::names::Names;
-use crate::share::Share;
+use crate::quota::{Asked, Quota};
 use slab::Slab;
 use std::alloc::Global;
 use std::collections::{BTreeMap, VecDeque};
@@ -23,6 +22,8 @@ struct Host {
     until: u64,
     /// Until when they are waited for.
     patience: u64,
+    /// Number of permits that it has, for its open sockets among them.
+    permits: u32,
     /// Number of open sockets to it.
     open: u32,
     /// The callbacks that wait for it.
@@ -31,6 +32,8 @@ struct Host {
     is_lined: bool,
     /// A flag, set while its name is waited for.
     is_unknown: bool,
+    /// A flag, set while a permit is waited for.
+    is_pending: bool,
 }
 
 /// A host and port, and an address that they came to.
@@ -51,28 +54,34 @@ pub(crate) enum Next {
     Nothing,
 }
 
-/// The hosts that callbacks go to. Those that may have one more stand in line, so that each has its turn.
+/// The hosts that callbacks go to. Those that may have one more stand in line, so that each has its turn. Each socket
+/// needs a permit of the quota.
 #[derive(Drop)]
 pub(crate) struct Hosts {
     alloc: Global,
-    bounds: Bounds,
+    /// The worker's number at the quota.
+    worker: usize,
     hosts: Slab<Host>,
     by_socket: BTreeMap<String, usize>,
     /// The hosts that may have one more, by number.
     line: VecDeque<usize>,
     /// Those whose names are waited for.
     unknown: VecDeque<usize>,
+    /// A flag, set where memory was refused for a permit: then it is to be asked for again.
+    is_refused: bool,
 }
 
 impl Hosts {
-    pub(crate) fn new(alloc: Global, share: Share) -> Hosts {
+    /// None, for a worker that has that number at the quota.
+    pub(crate) fn new(alloc: Global, worker: usize) -> Hosts {
         Hosts {
             alloc,
-            bounds: Bounds::new(share.sockets, share.each),
+            worker,
             hosts: Slab::new(alloc),
             by_socket: BTreeMap::new(alloc),
             line: VecDeque::new(alloc),
             unknown: VecDeque::new(alloc),
+            is_refused: false,
         }
     }
 
@@ -119,17 +128,43 @@ impl Hosts {
         }
     }
 
-    /// A callback to a host has ended.
-    pub(crate) fn leave(&mut self, number: usize) {
+    /// A callback to a host has ended: its permit goes back.
+    pub(crate) fn leave<R: Wait>(&mut self, rt: &R, quota: &Quota, number: usize) {
         if let Some(host) = self.hosts.get_mut(number) {
-            self.bounds.leave(&mut host.open);
+            host.leave(rt, quota, self.worker);
         }
         self.line_up(number);
     }
 
-    /// Returns how many sockets are open.
-    pub(crate) fn open(&self) -> u32 {
-        self.bounds.open()
+    /// The worker takes part in the quota no longer: all its permits go back.
+    pub(crate) fn part<R: Wait>(&mut self, rt: &R, quota: &Quota) {
+        for (_, host) in self.hosts.iter() {
+            if host.is_pending {
+                quota.withdraw(rt, self.worker, host.socket.as_str());
+            }
+        }
+        self.take_calls(rt, quota);
+        for number in self.by_socket.values() {
+            if let Some(host) = self.hosts.get_mut(*number) {
+                host.open = 0;
+                host.spare(rt, quota, self.worker);
+            }
+        }
+        quota.part(rt, self.worker);
+    }
+
+    /// Those stand in line to which the worker was called.
+    pub(crate) fn take_calls<R: Wait>(&mut self, rt: &R, quota: &Quota) {
+        self.is_refused = false;
+        for _ in 0..u64::MAX {
+            let Some(called) = quota.take_call(rt, self.worker) else {
+                return;
+            };
+            if let Some(host) = self.hosts.get_mut(called.host) {
+                host.answer(called.has_permit);
+            }
+            self.line_up(called.host);
+        }
     }
 
     /// A host and port, with one of its addresses.
@@ -142,9 +177,9 @@ impl Hosts {
         })
     }
 
-    /// Tells whether any host's name is waited for.
-    pub(crate) fn wait_for_names(&self) -> bool {
-        !self.unknown.is_empty()
+    /// Tells whether a host is to be looked at again soon: its name is waited for, or memory was refused for a permit.
+    pub(crate) fn are_open(&self) -> bool {
+        self.is_refused || !self.unknown.is_empty()
     }
 
     /// Those whose names may be known by now stand in line again.
@@ -161,15 +196,12 @@ impl Hosts {
     }
 
     /// The callback that is next, of those whose hosts stand in line.
-    pub(crate) fn next<R: Wait>(&mut self, rt: &R, names: &Names, now: u64) -> Next {
+    pub(crate) fn next<R: Wait>(&mut self, rt: &R, names: &Names, quota: &Quota, now: u64) -> Next {
         for _ in 0..self.line.len() {
-            if self.bounds.are_met() {
-                return Next::Nothing;
-            }
             let Some(number) = self.line.pop_front() else {
                 return Next::Nothing;
             };
-            let next = self.next_of(rt, names, number, now);
+            let next = self.next_of(rt, names, quota, number, now);
             if next != Next::Nothing {
                 return next;
             }
@@ -178,26 +210,38 @@ impl Hosts {
     }
 
     /// The callback that is next to a host, which has stood in line. It does so again, where another can be.
-    fn next_of<R: Wait>(&mut self, rt: &R, names: &Names, number: usize, now: u64) -> Next {
+    fn next_of<R: Wait>(
+        &mut self,
+        rt: &R,
+        names: &Names,
+        quota: &Quota,
+        number: usize,
+        now: u64,
+    ) -> Next {
         let Some(host) = self.hosts.get_mut(number) else {
             return Next::Nothing;
         };
         host.is_lined = false;
         if host.waiting.is_empty() {
-            if host.open == 0 && !host.is_unknown {
+            host.spare(rt, quota, self.worker);
+            if host.is_idle() {
                 self.forget(number);
             }
             return Next::Nothing;
         }
         match host.look_up(rt, names, now) {
-            Known::Yes => {
-                if !self.bounds.enter(&mut host.open) {
-                    return Next::Nothing;
+            Known::Yes => match host.enter(rt, quota, self.worker, number) {
+                Asked::Given => self.first_of(number, true),
+                Asked::Pending => Next::Nothing,
+                Asked::Refused => {
+                    self.is_refused = true;
+                    self.line_up(number);
+                    Next::Nothing
                 }
-                self.first_of(number, true)
-            }
+            },
             Known::No => self.first_of(number, false),
             Known::NotYet => {
+                host.spare(rt, quota, self.worker);
                 if !host.is_unknown {
                     host.is_unknown = true;
                     let _ = self.unknown.push_back(number);
@@ -252,11 +296,61 @@ impl Host {
             addresses,
             until,
             patience: 0,
+            permits: 0,
             open: 0,
             waiting: VecDeque::new(alloc),
             is_lined: false,
             is_unknown: false,
+            is_pending: false,
         }
+    }
+
+    /// Nothing goes to it or waits for it, and neither its name nor a permit is waited for.
+    fn is_idle(&self) -> bool {
+        self.open == 0 && self.waiting.is_empty() && !self.is_unknown && !self.is_pending
+    }
+
+    /// Counts one more socket, where there is a permit for it. Asks for one where there is none, unless it is waited
+    /// for.
+    fn enter<R: Wait>(&mut self, rt: &R, quota: &Quota, worker: usize, number: usize) -> Asked {
+        if self.is_pending && self.permits <= self.open {
+            return Asked::Pending;
+        }
+        if self.permits <= self.open {
+            match quota.ask(rt, worker, number, self.socket.as_str()) {
+                Asked::Given => self.permits = self.permits.saturating_add(1),
+                Asked::Pending => {
+                    self.is_pending = true;
+                    return Asked::Pending;
+                }
+                Asked::Refused => return Asked::Refused,
+            }
+        }
+        self.open = self.open.saturating_add(1);
+        Asked::Given
+    }
+
+    /// The worker was called to it: it has a permit, or is to ask again.
+    fn answer(&mut self, has_permit: bool) {
+        self.is_pending = false;
+        if has_permit {
+            self.permits = self.permits.saturating_add(1);
+        }
+    }
+
+    /// Counts one socket less, whose permit goes back.
+    fn leave<R: Wait>(&mut self, rt: &R, quota: &Quota, worker: usize) {
+        self.open = self.open.saturating_sub(1);
+        self.permits = self.permits.saturating_sub(1);
+        quota.give_back(rt, worker, self.socket.as_str());
+    }
+
+    /// Gives permits back that no socket needs.
+    fn spare<R: Wait>(&mut self, rt: &R, quota: &Quota, worker: usize) {
+        for _ in self.open..self.permits {
+            quota.give_back(rt, worker, self.socket.as_str());
+        }
+        self.permits = self.permits.min(self.open);
     }
 
     /// Learns the host's addresses, where those that are known don't count any more.

@@ -3,12 +3,14 @@
 
 mod attempt;
 mod book;
-mod bounds;
 mod call;
 mod callbacks;
+mod counts;
 mod hosts;
 mod names;
+mod places;
 mod pumping;
+mod quota;
 mod replies;
 mod resting;
 mod share;
@@ -18,5 +20,6 @@ mod traffic;
 
 pub use callbacks::Callbacks;
 pub use names::Names;
+pub use quota::Quota;
 pub use share::{Patience, Share};
 pub use traffic::{bell, ring};

@@ -2,14 +2,15 @@
 
 use crate::hosts::Hosts;
 use crate::names::steady_now;
+use crate::quota::Quota;
 use crate::resting::REST_MS;
-use crate::share::Share;
 use lra_timers::Agenda;
 use mio::{Events, Poll, Token, Waker};
 use std::alloc::Global;
 use std::collections::VecDeque;
 use std::io;
 use std::net::Net;
+use std::sync::Wait;
 use std::time::{Clock, Duration};
 
 /// The token of what rings.
@@ -73,8 +74,8 @@ pub(crate) struct Traffic {
 }
 
 impl Traffic {
-    /// None is open. Where memory is refused the poll comes back.
-    pub(crate) fn new(alloc: Global, poll: Poll, share: Share) -> Result<Traffic, Poll> {
+    /// None is open, for a worker that has that number at the quota. Where memory is refused the poll comes back.
+    pub(crate) fn new(alloc: Global, poll: Poll, worker: usize) -> Result<Traffic, Poll> {
         let Some(buffers) = Buffers::new(alloc) else {
             return Err(poll);
         };
@@ -87,7 +88,7 @@ impl Traffic {
             poll,
             events,
             buffer: bytes,
-            hosts: Hosts::new(alloc, share),
+            hosts: Hosts::new(alloc, worker),
             agenda: Agenda::new(alloc),
             reported,
             unkept: VecDeque::new(alloc),
@@ -123,11 +124,6 @@ impl Traffic {
         let _ = self.unkept.push_front(key);
     }
 
-    /// Returns how many errands have a socket, or may have one as soon as the disk keeps what they wait for.
-    pub(crate) fn moving(&self) -> usize {
-        (self.hosts.open() as usize).saturating_add(self.unkept.len())
-    }
-
     /// One waits for its host. Where memory is refused, nothing comes of it.
     pub(crate) fn enlist(&mut self, key: usize, socket: String) {
         if !self.hosts.enlist(key, socket) {
@@ -151,10 +147,10 @@ impl Traffic {
     }
 
     /// Tells whether a callback worker has to look at the time while it rests: a socket's time is up then, or a host's
-    /// name is waited for.
+    /// name is waited for, or memory was refused for a permit.
     pub(crate) fn has_to_look(&self) -> bool {
         let end = self.now.saturating_add(REST_MS);
-        self.hosts.wait_for_names() || self.agenda.first_due(end).is_some()
+        self.hosts.are_open() || self.agenda.first_due(end).is_some()
     }
 
     /// A socket has time until then. Where memory is refused it has none.
@@ -170,9 +166,9 @@ impl Traffic {
     }
 
     /// A socket was closed.
-    pub(crate) fn close(&mut self, key: usize, host: usize) {
+    pub(crate) fn close<R: Wait>(&mut self, rt: &R, quota: &Quota, key: usize, host: usize) {
         self.agenda.drop_limit(key as u64);
-        self.hosts.leave(host);
+        self.hosts.leave(rt, quota, host);
     }
 
     /// Something has come of an errand, or nothing will.

@@ -6,7 +6,7 @@ use crate::crier::Crier;
 use crate::lookout::{Lookout, Tower};
 use lra_admission::KeyFiles;
 use lra_branch::Clerkship;
-use lra_callbacks::{Callbacks, Names, Share};
+use lra_callbacks::Callbacks;
 use lra_clocks::{Clock, SystemClock};
 use lra_durable::{Journals, SyncGroup};
 use lra_family_front::Household;
@@ -17,8 +17,8 @@ use lra_reserve::Reserved;
 use lra_roster::{Journal, Kin, Reservations, Roster};
 use lra_rounds::{Arrivals, Rounds, RoundsEnd, Times};
 use lra_service::{
-    CarrierGate, Doorman, Ending, Entrance, Latch, Line, ServeFault, Terms, Turnstile, dismiss,
-    lose_callback_worker, lose_worker, receive, share_of, times_of,
+    Calling, CarrierGate, Doorman, Ending, Entrance, Latch, Line, ServeFault, Terms, Turnstile,
+    dismiss, lose_callback_worker, lose_worker, receive, times_of,
 };
 use lra_settings::Settings;
 use lra_storage::{FileDisk, Storage};
@@ -30,9 +30,6 @@ use std::net::{Net, TcpListener, TcpStream};
 use std::sync::atomic::{AtomicBool, AtomicU64, Ordering};
 use std::sync::{Arc, Wait};
 use std::time;
-
-/// Between how many of the journals the callbacks that go out at once are shared: the newest, and one before it.
-const BUSY: usize = 2;
 
 /// The duty of a thread.
 #[derive(Clone, Copy, Debug, PartialEq, Eq)]
@@ -95,10 +92,8 @@ pub(crate) struct Shift<'s, 'a, R: Wait, H, B> {
     /// Number of connection workers at first.
     workers: u64,
     crier: Crier,
-    /// The addresses of members' hosts.
-    names: Names,
-    /// Bounds of what one callback worker has under way.
-    share: Share,
+    /// State that the callback workers of all journals share.
+    calling: Calling,
     /// Where operators come in, and what they are told.
     pub(crate) tower: &'s Tower<'a>,
 }
@@ -166,8 +161,7 @@ impl<'s, 'a: 's, R: Wait + time::Clock, H, B> Shift<'s, 'a, R, H, B> {
             answering: AtomicU64::new(workers as u64),
             workers: workers as u64,
             crier,
-            names: Names::new(alloc),
-            share: share_of(settings, BUSY),
+            calling: Calling::new(alloc, settings, 1),
             tower,
         }
     }
@@ -213,7 +207,7 @@ impl<
     /// Takes down that one who answered connections has ended: with the last one all end.
     fn leave(&self) {
         if self.answering.fetch_sub(1, Ordering::SeqCst) <= 1 {
-            self.names.close(self.rt);
+            self.calling.names.close(self.rt);
             self.ending.finish();
             lra_callbacks::ring(&self.crier.bells);
             self.roster.ring(self.rt);
@@ -279,7 +273,7 @@ impl<
 
     /// Looks up the names of members' hosts.
     fn look_up(&self) {
-        self.names.run(self.rt, &self.crier.bells);
+        self.calling.names.run(self.rt, &self.crier.bells);
     }
 
     /// Tries to make the callbacks of a journal's callback worker: none are under way. Where memory is refused the poll
@@ -296,14 +290,16 @@ impl<
             self.alloc,
             self.journals(),
             journal.instance,
-            &self.names,
+            &self.calling.names,
             self.terms.rules,
             poll,
-            self.share,
+            &self.calling.quota,
+            self.calling.share,
             &journal.stall.under_way,
             &journal.stall.least_pause,
             self.clock(),
             &journal.bells,
+            0,
             &journal.outcomes,
         )
     }
@@ -376,7 +372,7 @@ impl<
         let tallies = &self.tower.tallies;
         let mut counted = CountedCarriage::new(self.alloc, callbacks, self.rt, tallies);
         let end = branch.carry(&mut counted, &mut gate, &mut self.clock());
-        drop(counted);
+        counted.into_inner().end();
         self.tell_end(end, journal.instance);
     }
 

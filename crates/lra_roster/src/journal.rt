@@ -25,7 +25,7 @@ pub struct Journal<B> {
     /// The place of who carries.
     pub stall: Stall,
     /// Bells that wake its callback worker.
-    pub bells: Vec<Waker>,
+    pub bells: Arc<Vec<Waker>>,
     /// Outcomes of its members' last callbacks.
     pub outcomes: Outcomes,
     /// Number of bytes that it had when it was asked last whether it has news.
@@ -34,6 +34,13 @@ pub struct Journal<B> {
     pub(crate) is_reserved: AtomicBool,
     /// It is put away.
     is_over: AtomicBool,
+}
+
+/// Returns the bells of one worker, unless memory is refused.
+fn bells_of(alloc: Global, bell: Waker) -> Option<Arc<Vec<Waker>>> {
+    let mut bells = Vec::new(alloc);
+    bells.push(bell).ok()?;
+    Arc::new(alloc, bells).ok()
 }
 
 impl<B: Clerkship + Drop> Journal<B> {
@@ -51,13 +58,12 @@ impl<B: Clerkship + Drop> Journal<B> {
             drop(branch);
             return Err(Memory);
         };
-        let mut bells = Vec::new(alloc);
-        if bells.push(bell).is_err() {
+        let Some(bells) = bells_of(alloc, bell) else {
             drop(file);
             drop(branch);
             drop(stall);
             return Err(Memory);
-        }
+        };
         Ok(Journal {
             instance,
             file,
@@ -112,7 +118,7 @@ impl<B: Drop> Journal<B> {
 
     /// Wakes who carries.
     pub fn ring(&self) {
-        ring(&self.bells);
+        ring(self.bells.as_slice());
     }
 
     /// Tells whether it has grown since this was asked last, or something is under way.

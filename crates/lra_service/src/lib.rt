@@ -39,6 +39,6 @@ pub use lra_opening::{
 };
 pub use polls::Stall;
 pub use running::{Served, serve, serve_from, serve_with};
-pub use shares::{limits_of, share_of, times_of};
+pub use shares::{Calling, limits_of, times_of};
 pub use spot::{Entry, Spot, listener_at, spot_at};
 pub use terms::{Doorman, Received, Terms, dismiss, keys_trouble, receive};

@@ -3,14 +3,15 @@
 ghost use Rattle.std.specs.Prelude.{IfErr};
 ghost use Rattle.lra_opening.specs.Faults.{IsOfNoScript};
 
+use lra_audits::RunFault;
 use lra_callbacks::bell;
 use lra_opening::ServeFault;
 use lra_rounds::Arrivals;
 use mio::{Poll, Waker};
 use std::alloc::Global;
 use std::net::Net;
-use std::sync::Mutex;
 use std::sync::atomic::AtomicU64;
+use std::sync::{Arc, Mutex};
 
 /// Place of a callback worker.
 #[derive(Drop)]
@@ -45,13 +46,21 @@ pub(crate) struct Polls {
     /// Places of the callback workers.
     pub(crate) stalls: Vec<Stall>,
     /// Wakers of the callback workers.
-    pub(crate) bells: Vec<Waker>,
+    pub(crate) bells: Arc<Vec<Waker>>,
 }
 
-impl Polls {
+/// Polls that are gathered, one worker after another.
+#[derive(Drop)]
+struct Gathered {
+    arrivals: Vec<Arrivals>,
+    stalls: Vec<Stall>,
+    bells: Vec<Waker>,
+}
+
+impl Gathered {
     /// None yet.
-    fn new(alloc: Global) -> Polls {
-        Polls {
+    fn new(alloc: Global) -> Gathered {
+        Gathered {
             arrivals: Vec::new(alloc),
             stalls: Vec::new(alloc),
             bells: Vec::new(alloc),
@@ -66,18 +75,42 @@ impl Polls {
         self.stalls.push(stall).ok()?;
         self.bells.push(bell).ok()
     }
+
+    /// Returns all of them, unless memory is refused.
+    fn finish(self, alloc: Global) -> Result<Polls, ServeFault>
+        ensures { IfErr result IsOfNoScript }
+    {
+        let Gathered {
+            arrivals,
+            stalls,
+            bells,
+        } = self;
+        match Arc::new(alloc, bells) {
+            Ok(bells) => Ok(Polls {
+                arrivals,
+                stalls,
+                bells,
+            }),
+            Err(bells) => {
+                drop(bells);
+                drop(arrivals);
+                drop(stalls);
+                Err(ServeFault::Run(RunFault::Memory))
+            }
+        }
+    }
 }
 
 /// Returns the polls of so many connection workers, and of as many callback workers.
 pub(crate) fn polls_of<R: Net>(rt: &R, alloc: Global, workers: u32) -> Result<Polls, ServeFault>
     ensures { IfErr result IsOfNoScript }
 {
-    let mut all = Polls::new(alloc);
+    let mut all = Gathered::new(alloc);
     for _worker in 0..workers {
         if all.add(rt, alloc).is_none() {
             drop(all);
             return Err(ServeFault::Address);
         }
     }
-    Ok(all)
+    all.finish(alloc)
 }

@@ -4,10 +4,11 @@ ghost use Rattle.std.specs.Prelude.{◌≡◌};
 ghost use Rattle.lra_commands.specs.Terms.{AreKeepable};
 ghost use Rattle.lra_service.specs.Limited.{limits_of};
 
-use lra_callbacks::{Patience, Share};
+use lra_callbacks::{Names, Patience, Quota, Share};
 use lra_commands::Limits;
 use lra_rounds::Times;
 use lra_settings::Settings;
+use std::alloc::Global;
 
 /// So many seconds, in milliseconds.
 fn in_ms(seconds: u64) -> u64 {
@@ -23,18 +24,38 @@ pub fn times_of(settings: &Settings) -> Times {
     }
 }
 
-/// Returns what each of so many callback workers has under way at most, by some settings.
-pub fn share_of(settings: &Settings, workers: usize) -> Share {
-    let patience = Patience {
-        connect: in_ms(settings.connect_seconds),
-        reply: in_ms(settings.callback_seconds),
-    };
-    Share::of(
-        u32::try_from(workers).unwrap_or(u32::MAX),
-        u32::try_from(settings.callbacks).unwrap_or(u32::MAX),
-        u32::try_from(settings.host_share).unwrap_or(u32::MAX),
-        patience,
-    )
+/// State that all callback workers of a service share: the addresses of members' hosts, and how many callbacks go out
+/// at once.
+#[derive(Drop)]
+pub struct Calling {
+    pub names: Names,
+    pub quota: Quota,
+    /// The share of each of them, and how long a callback may take.
+    pub share: Share,
+}
+
+/// Returns a number, or the largest one that fits.
+fn fitted(number: u64) -> u32 {
+    u32::try_from(number).unwrap_or(u32::MAX)
+}
+
+impl Calling {
+    /// Returns that of so many callback workers, by some settings: nothing goes out yet.
+    pub fn new(alloc: Global, settings: &Settings, workers: usize) -> Calling {
+        let patience = Patience {
+            connect: in_ms(settings.connect_seconds),
+            reply: in_ms(settings.callback_seconds),
+        };
+        Calling {
+            names: Names::new(alloc),
+            quota: Quota::new(
+                alloc,
+                fitted(settings.callbacks),
+                fitted(settings.host_share),
+            ),
+            share: Share::of(fitted(workers as u64), patience),
+        }
+    }
 }
 
 /// Returns what a coordinator takes, and how it repeats its asks, by some settings.

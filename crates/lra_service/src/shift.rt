@@ -14,10 +14,10 @@ use crate::measure::{Measure, Now};
 use crate::polls::{Polls, Stall};
 use crate::post::Duty;
 use crate::running::FileEnd;
-use crate::shares::{share_of, times_of};
+use crate::shares::{Calling, times_of};
 use crate::terms::{Doorman, Terms, dismiss, receive};
 use lra_admission::KeyFiles;
-use lra_callbacks::{Callbacks, Names, Share, ring};
+use lra_callbacks::{Callbacks, ring};
 use lra_clocks::SystemClock;
 use lra_durable::{Journals, Progress, SyncGroup};
 use lra_ids::Instance;
@@ -72,11 +72,9 @@ pub(crate) struct Shift<'a, R, H> {
     /// The places of those who carry.
     stalls: Vec<Stall>,
     /// Bells that wake them, once something may be due.
-    bells: Vec<Waker>,
-    /// The addresses of members' hosts.
-    names: Names,
-    /// Bounds of what each callback worker has under way.
-    share: Share,
+    bells: Arc<Vec<Waker>>,
+    /// State that those who carry share.
+    calling: Calling,
     /// Where operators come in, if any do.
     watchpost: Option<&'a Watchpost>,
     /// Tallies, and how much the journal has.
@@ -130,10 +128,9 @@ impl<'a, R: Wait + Clock, H> Shift<'a, R, H> {
             answering: AtomicU64::new(workers as u64),
             working: AtomicU64::new(0),
             carrying: AtomicU64::new(workers as u64),
-            share: share_of(settings, workers),
+            calling: Calling::new(alloc, settings, workers),
             stalls,
             bells,
-            names: Names::new(alloc),
             watchpost,
             measure,
             end: Mutex::new(Some(end)),
@@ -167,7 +164,7 @@ impl<'a, R: Wait + Clock, H> Shift<'a, R, H> {
 
     /// Wakes the callback workers, and syncs all that was written. Returns whether it is durable.
     pub(crate) fn keep(&self) -> bool {
-        ring(&self.bells);
+        ring(self.bells.as_slice());
         matches!(self.journals.keep_all(self.rt), Ok(true))
     }
 }
@@ -243,7 +240,7 @@ impl<
     fn leave(&self) {
         if self.answering.fetch_sub(1, Ordering::SeqCst) <= 1 {
             self.ending.finish();
-            ring(&self.bells);
+            ring(self.bells.as_slice());
         }
     }
 
@@ -251,7 +248,7 @@ impl<
     /// to end.
     pub(crate) fn admit(&self) {
         self.door.open();
-        ring(&self.bells);
+        ring(self.bells.as_slice());
     }
 
     /// Answers the connections that come in, at an office with a lock that the type says.
@@ -280,7 +277,7 @@ impl<
             self.alloc,
             self.journals,
             arrivals,
-            &self.bells,
+            self.bells.as_slice(),
             self.most,
             self.times,
         );
@@ -313,6 +310,7 @@ impl<
     fn try_callbacks<'b>(
         &'b self,
         stall: &'b Stall,
+        place: u32,
         journal: Instance,
         poll: Poll,
     ) -> Result<Callbacks<'b, R, Journals<FileDisk>>, Poll>
@@ -323,14 +321,16 @@ impl<
             self.alloc,
             self.journals,
             journal,
-            &self.names,
+            &self.calling.names,
             self.terms.rules,
             poll,
-            self.share,
+            &self.calling.quota,
+            self.calling.share,
             &stall.under_way,
             &stall.least_pause,
             self.clock(),
             &self.bells,
+            place as usize,
             &self.outcomes,
         )
     }
@@ -339,6 +339,7 @@ impl<
     fn callbacks<'b>(
         &'b self,
         stall: &'b Stall,
+        place: u32,
         journal: Instance,
         poll: Poll,
         gate: &mut CarrierGate<'_, R, Journals<FileDisk>, H>,
@@ -347,7 +348,7 @@ impl<
     {
         let mut poll = poll;
         for _ in self.rt.forever() {
-            match self.try_callbacks(stall, journal, poll) {
+            match self.try_callbacks(stall, place, journal, poll) {
                 Ok(made) => return Some(made),
                 Err(back) => poll = back,
             }
@@ -406,12 +407,19 @@ impl<
     }
 
     /// Lets limits fire and carries errands, many at once, at a place whose poll was taken.
-    fn carry_at<V: Serving>(&self, stall: &Stall, poll: Poll, office: &OfficeOf<V>, clerk: Clerk<V>)
+    fn carry_at<V: Serving>(
+        &self,
+        stall: &Stall,
+        place: u32,
+        poll: Poll,
+        office: &OfficeOf<V>,
+        clerk: Clerk<V>,
+    )
         requires { IsAt V.setting V.covers office.now clerk }
     {
         let journal = office.instance();
         let mut gate = self.gate(stall, journal);
-        let Some(callbacks) = self.callbacks(stall, journal, poll, &mut gate) else {
+        let Some(callbacks) = self.callbacks(stall, place, journal, poll, &mut gate) else {
             drop(clerk);
             return;
         };
@@ -425,7 +433,7 @@ impl<
             &mut gate,
             &mut self.clock(),
         );
-        drop(counted);
+        counted.into_inner().end();
         drop(clerk);
         self.tell_end(end, journal);
     }
@@ -442,7 +450,7 @@ impl<
         requires { IsAt V.setting V.covers office.now clerk }
     {
         match self.take_poll(place) {
-            Some((stall, poll)) => self.carry_at(stall, poll, office, clerk),
+            Some((stall, poll)) => self.carry_at(stall, place, poll, office, clerk),
             None => {
                 drop(clerk);
                 self.door.close();
@@ -462,12 +470,12 @@ impl<
 
     /// Looks up the names of members' hosts.
     fn look_up(&self) {
-        self.names.run(self.rt, &self.bells);
+        self.calling.names.run(self.rt, self.bells.as_slice());
     }
 
     /// All that answered and carried have ended: so do those who look names up, and who waits for connections.
     fn end(&self) {
-        self.names.close(self.rt);
+        self.calling.names.close(self.rt);
         self.ending.finish();
     }
 

@@ -42,6 +42,20 @@ impl<'a, C, R> CountedCarriage<'a, C, R> {
             begun: Vec::new(alloc),
         }
     }
+
+    /// Returns the carriage that carries.
+    pub fn into_inner(self) -> C
+        ensures { result ≡ self.entry.inner }
+    {
+        let CountedCarriage {
+            inner,
+            rt: _,
+            tallies: _,
+            begun,
+        } = self;
+        drop(begun);
+        inner
+    }
 }
 
 impl<C, R: Clock> CountedCarriage<'_, C, R> {
