@@ -1,4 +1,4 @@
-//! Who waits for a permit, host by host.
+//! Workers that wait for permits, host by host.
 
 use crate::counts::Counts;
 use slab::Slab;

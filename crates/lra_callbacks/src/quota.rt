@@ -17,7 +17,7 @@ struct Worker {
     place: usize,
     /// Number of hosts at which it waits, or was called to.
     waits: usize,
-    /// What it was called to.
+    /// Hosts that it was called to.
     called: VecDeque<Called>,
 }
 
@@ -48,9 +48,9 @@ struct Permits {
     workers: Slab<Worker>,
 }
 
-/// Quota of callbacks that go out at once, in all and to each host and port. All callback workers of a service have one:
-/// a worker asks for a permit for each connection, and gives it back. A permit that comes back goes to the worker that
-/// has waited longest for that host; where as many go out as may, hosts take turns.
+/// Quota of callbacks that go out at once, in all and to each host and port. All callback workers of a service share
+/// it: a worker asks for a permit for each connection, and gives it back. A permit that comes back goes to the worker
+/// that has waited longest for that host; where as many go out as may, hosts take turns.
 #[derive(Drop)]
 pub struct Quota {
     permits: Mutex<Permits>,

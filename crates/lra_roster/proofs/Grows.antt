@@ -15,3 +15,6 @@ keeps_none ss = kin.keeps_none ss
 
 pub keeps_on : (ss us ts : List Sight) → KeepsBase ss us → KeepsBase us ts → KeepsBase ss ts
 keeps_on ss us ts h k = kin.keeps_on ss us ts h k
+
+-- for `auto`: a family stays or grows, and keeps its base, step by step
+pub ruleset steps = (moved_none, moved_on, keeps_none, keeps_on)

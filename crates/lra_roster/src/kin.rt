@@ -74,7 +74,7 @@ impl<R: Wait + time::Clock, B: Clerkship + Drop> Kin<'_, '_, R, B> {
     }
 
     /// Adds one that is newer than all. Returns whether it did.
-    #[tactic(auto, using(crate::proofs::Grows::moved_none, crate::proofs::Grows::moved_on, crate::proofs::Grows::keeps_none, crate::proofs::Grows::keeps_on))]
+    #[tactic(auto, using(crate::proofs::Grows::steps))]
     fn join(&mut self, family: &mut Family<B>, journal: &Journal<B>) -> bool
         ensures moved { Moved family.old family.new }
         ensures base { KeepsBase family.old family.new }
@@ -93,7 +93,7 @@ impl<R: Wait + time::Clock, B: Clerkship + Drop> Kin<'_, '_, R, B> {
     }
 
     /// Adds those that are newer than all. Returns whether all are there.
-    #[tactic(auto, using(crate::proofs::Grows::moved_none, crate::proofs::Grows::moved_on, crate::proofs::Grows::keeps_none, crate::proofs::Grows::keeps_on))]
+    #[tactic(auto, using(crate::proofs::Grows::steps))]
     fn join_all(&mut self, family: &mut Family<B>, journals: &[Arc<Journal<B>>]) -> bool
         ensures moved { Moved family.old family.new }
         ensures base { KeepsBase family.old family.new }
@@ -107,7 +107,7 @@ impl<R: Wait + time::Clock, B: Clerkship + Drop> Kin<'_, '_, R, B> {
     }
 
     /// Has those leave that are no more among the journals. The family's newest stays until another one is.
-    #[tactic(auto, using(crate::proofs::Grows::moved_none, crate::proofs::Grows::moved_on, crate::proofs::Grows::keeps_none, crate::proofs::Grows::keeps_on))]
+    #[tactic(auto, using(crate::proofs::Grows::steps))]
     fn leave_all(&mut self, family: &mut Family<B>, journals: &[Arc<Journal<B>>])
         ensures moved { Moved family.old family.new }
         ensures base { KeepsBase family.old family.new }
@@ -122,7 +122,7 @@ impl<R: Wait + time::Clock, B: Clerkship + Drop> Kin<'_, '_, R, B> {
     }
 
     /// Has journals join and leave. Tells whether the family is of the roster by now.
-    #[tactic(auto, using(crate::proofs::Grows::moved_none, crate::proofs::Grows::moved_on, crate::proofs::Grows::keeps_none, crate::proofs::Grows::keeps_on))]
+    #[tactic(auto, using(crate::proofs::Grows::steps))]
     fn catch_up(&mut self, family: &mut Family<B>) -> bool
         ensures moved { Moved family.old family.new }
         ensures base { KeepsBase family.old family.new }
@@ -155,7 +155,7 @@ impl<R: Wait + time::Clock, B: Clerkship + Drop> Kinship<B> for Kin<'_, '_, R, B
     // Journals come and go whenever they like: nothing is known of what is told.
     ghost tells = { λ named lacks. Unit {0} };
 
-    #[tactic(auto, using(crate::proofs::Grows::moved_none, crate::proofs::Grows::moved_on, crate::proofs::Grows::keeps_none, crate::proofs::Grows::keeps_on))]
+    #[tactic(auto, using(crate::proofs::Grows::steps))]
     fn look(&mut self, family: &mut Family<B>) {
         let version = self.roster.version();
         if version == self.seen {

@@ -40,7 +40,8 @@ impl Pace {
     pub(crate) fn rest(&mut self, begun: Instant, now: Instant) -> Duration
         ensures until { self.new.until ≡ now }
         ensures taken { as_nanos self.new.taken
-            ≡ min (as_nanos self.old.taken - (instant_nanos now - instant_nanos self.old.until) / 20 + (instant_nanos now - instant_nanos begun)) max_nanos }
+            ≡ min (as_nanos self.old.taken - (instant_nanos now - instant_nanos self.old.until) / 20
+            + (instant_nanos now - instant_nanos begun)) max_nanos }
         ensures rest { as_nanos result ≡ min (min ((as_nanos self.new.taken - 200_000_000) * 20) max_nanos)
             500_000_000 }
     {

@@ -19,7 +19,8 @@ pub record IsAt {X O : Type 0} {g : Ghosts X O} (setting : O → Setting) (cover
 
 -- an office goes on from the bytes that were found where a journal is kept, if they are known, with these limits; and
 -- its first clerk
-pub record IsOpenAt {X : Type 0} {g : Ghosts X Origin} (found : Option (List ℕ)) (base : List ℕ) (limits : Limits) (moment : ℕ) (office : OfficeOf X Origin) (clerk : Clerk X Origin g) : Type 0 where
+pub record IsOpenAt {X : Type 0} {g : Ghosts X Origin} (found : Option (List ℕ)) (base : List ℕ) (limits : Limits)
+    (moment : ℕ) (office : OfficeOf X Origin) (clerk : Clerk X Origin g) : Type 0 where
   pub journal : List ℕ
   pub read : IfSome found (λ (bytes : List ℕ). journal ≡ bytes)
   pub had : Option (List ℕ)

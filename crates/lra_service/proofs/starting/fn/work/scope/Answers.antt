@@ -25,4 +25,4 @@ loop-job-preserved-else-is_err g c =
 
 -- at first all are to come
 pub loop-job-init : goal.loop-job-init
-loop-job-init g c = let items = c.into_iter-job-iterator.ensures in (tt, tt, (rw (sym items.into_iter_gives.0) at c.requires.3))
+loop-job-init g c = (tt, tt, (rw (sym c.into_iter-job-iterator.ensures.into_iter_gives.0) at c.requires.3))
