@@ -155,23 +155,83 @@ fn latest(sounds: &[Sound]) -> u64 {
     latest
 }
 
-impl<
-    'a,
-    R: Files<File = File>
-        + KeyFiles
-        + AllocGlobal
-        + Clone
-        + Drop
-        + Threads
-        + Wait
-        + Clock
-        + Net<Stream = TcpStream, Listener = TcpListener>
-        + Sync,
-    V: Herald + Sync,
-    H: Herald + Journalist + Sync,
-> Service<'a, R, V, H> {
+impl<'a, R, V, H> Service<'a, R, V, H> {
+    /// Returns the rotation manager of the journals.
+    fn steward<O, B>(
+        &self,
+        maker: Maker<'a, R, O>,
+        watches: Vec<Watch<B>>,
+    ) -> Steward<'a, R, O, B> {
+        let limit = limit_of(&self.settings);
+        Steward {
+            maker,
+            address: self.address,
+            most: most_of(&self.settings, &limit),
+            limit,
+            remember: self.settings.remember_seconds.saturating_mul(1_000),
+            watches,
+            leaving: None,
+            falls: 0,
+            is_behind: false,
+            tails: Vec::new(self.alloc),
+            idle: Vec::new(self.alloc),
+            is_full: false,
+            next: None,
+            retry: 0,
+            has_told: false,
+        }
+    }
+}
+
+impl<R: Wait, V, H> Service<'_, R, V, H> {
+    /// The roster of journals.
+    fn roster<B: Drop>(&self, watches: &[Watch<B>]) -> Result<Roster<B>, RollingFault> {
+        let roster = Roster::new(self.alloc);
+        if self.conduct.drains {
+            roster.drain();
+        }
+        for watch in watches {
+            roster.publish(self.rt, Arc::try_clone(&watch.journal)?)?;
+        }
+        Ok(roster)
+    }
+}
+
+impl<R, V, H: Herald> Service<'_, R, V, H> {
+    /// Tells that identifiers begin otherwise than they did, if what they began with is a base.
+    fn tell_base(&self, before: &str) -> Result<(), AllocError> {
+        let Some(before) = Base::read(self.alloc, before)? else {
+            return Ok(());
+        };
+        let before = before.as_str();
+        let is_read = self
+            .terms
+            .olders
+            .iter()
+            .any(|older| older.as_str() == before);
+        let line = if self.terms.is_strict {
+            secret_line(self.alloc, is_read)?
+        } else {
+            base_line(self.alloc, before, self.site.base.as_str(), is_read)?
+        };
+        self.herald.tell(line.as_str());
+        Ok(())
+    }
+
+    /// Tells what is left alone in the folder.
+    fn tell_others(&self, contents: &Contents) {
+        let path = self.folder.path;
+        for name in &contents.others {
+            if let Ok(line) = stray_line(self.alloc, path, name.as_str()) {
+                self.herald.tell(line.as_str());
+            }
+        }
+    }
+}
+
+impl<'a, R: Files<File = File> + AllocGlobal + Clone + Drop, V, H> Service<'a, R, V, H> {
     /// Returns the factory that makes the next journals ready, or why there is no next instance.
-    fn maker<O: Opener + Drop>(
+    fn maker<O: Drop>(
         &self,
         storage: &'a Storage,
         opener: O,
@@ -194,7 +254,27 @@ impl<
         let _first = maker.instance(moment)?;
         Ok(maker)
     }
+}
 
+impl<R: Files<File = File> + AllocGlobal + Clone + Drop, V, H: Herald> Service<'_, R, V, H> {
+    /// Notes what identifiers begin with, and tells where that isn't what they began with when the folder was served
+    /// last.
+    fn note_base(&self) -> Result<(), RollingFault> {
+        let base = self.site.base.as_str();
+        if let Some(before) = self.folder.base()? {
+            if before.as_str() == base {
+                return Ok(());
+            }
+            self.tell_base(before.as_str())?;
+        }
+        match self.folder.note_base(base) {
+            Ok(()) => Ok(()),
+            Err(_) => Err(RollingFault::Here(ServeFault::File)),
+        }
+    }
+}
+
+impl<R: Files<File = File> + AllocGlobal + Clock, V: Herald, H> Service<'_, R, V, H> {
     /// A journal that was found sound, as one that is served.
     fn open_one<O: Opener>(
         &self,
@@ -224,7 +304,14 @@ impl<
         }
         Ok(watches)
     }
+}
 
+impl<'a, R: Files<File = File> + AllocGlobal + Clone + Drop + Wait + Clock, V: Herald, H> Service<
+    'a,
+    R,
+    V,
+    H,
+> {
     /// The journals of a folder, of which there is one at least, and the newest takes what is begun. In those before
     /// the first of these numbers nothing is.
     fn open<O: Opener>(
@@ -244,45 +331,23 @@ impl<
         }
         Ok(watches)
     }
+}
 
-    /// The roster of journals.
-    fn roster<B: Clerkship + Drop>(&self, watches: &[Watch<B>]) -> Result<Roster<B>, RollingFault> {
-        let roster = Roster::new(self.alloc);
-        if self.conduct.drains {
-            roster.drain();
-        }
-        for watch in watches {
-            roster.publish(self.rt, Arc::try_clone(&watch.journal)?)?;
-        }
-        Ok(roster)
-    }
-
-    /// Returns the rotation manager of the journals.
-    fn steward<O: Opener<Branch = B>, B: Clerkship + Drop>(
-        &self,
-        maker: Maker<'a, R, O>,
-        watches: Vec<Watch<B>>,
-    ) -> Steward<'a, R, O, B> {
-        let limit = limit_of(&self.settings);
-        Steward {
-            maker,
-            address: self.address,
-            most: most_of(&self.settings, &limit),
-            limit,
-            remember: self.settings.remember_seconds.saturating_mul(1_000),
-            watches,
-            leaving: None,
-            falls: 0,
-            is_behind: false,
-            tails: Vec::new(self.alloc),
-            idle: Vec::new(self.alloc),
-            is_full: false,
-            next: None,
-            retry: 0,
-            has_told: false,
-        }
-    }
-
+impl<
+    'a,
+    R: Files<File = File>
+        + KeyFiles
+        + AllocGlobal
+        + Clone
+        + Drop
+        + Threads
+        + Wait
+        + Clock
+        + Net<Stream = TcpStream, Listener = TcpListener>
+        + Sync,
+    V: Herald + Sync,
+    H: Herald + Journalist + Sync,
+> Service<'a, R, V, H> {
     /// Says that it serves, and serves until none can come any more.
     fn serve_roster<O: Opener<Branch = B> + Send + Drop, B: Clerkship + Send + Drop, W: Write>(
         &self,
@@ -369,52 +434,6 @@ impl<
         let door = make_doorway(self.rt, self.alloc, listener, input)?;
         let steward = self.steward(maker, watches);
         self.serve_roster(storage, steward, &roster, door, moment, writer)
-    }
-
-    /// Tells that identifiers begin otherwise than they did, if what they began with is a base.
-    fn tell_base(&self, before: &str) -> Result<(), AllocError> {
-        let Some(before) = Base::read(self.alloc, before)? else {
-            return Ok(());
-        };
-        let before = before.as_str();
-        let is_read = self
-            .terms
-            .olders
-            .iter()
-            .any(|older| older.as_str() == before);
-        let line = if self.terms.is_strict {
-            secret_line(self.alloc, is_read)?
-        } else {
-            base_line(self.alloc, before, self.site.base.as_str(), is_read)?
-        };
-        self.herald.tell(line.as_str());
-        Ok(())
-    }
-
-    /// Notes what identifiers begin with, and tells where that isn't what they began with when the folder was served
-    /// last.
-    fn note_base(&self) -> Result<(), RollingFault> {
-        let base = self.site.base.as_str();
-        if let Some(before) = self.folder.base()? {
-            if before.as_str() == base {
-                return Ok(());
-            }
-            self.tell_base(before.as_str())?;
-        }
-        match self.folder.note_base(base) {
-            Ok(()) => Ok(()),
-            Err(_) => Err(RollingFault::Here(ServeFault::File)),
-        }
-    }
-
-    /// Tells what is left alone in the folder.
-    fn tell_others(&self, contents: &Contents) {
-        let path = self.folder.path;
-        for name in &contents.others {
-            if let Ok(line) = stray_line(self.alloc, path, name.as_str()) {
-                self.herald.tell(line.as_str());
-            }
-        }
     }
 }
 

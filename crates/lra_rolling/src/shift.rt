@@ -105,7 +105,7 @@ struct JournalGate<'a, R: Wait, B, J> {
     journal: &'a Journal<B>,
 }
 
-impl<R: Wait + time::Clock + Net, B: Drop, J: Journalist> Gate for JournalGate<'_, R, B, J> {
+impl<R: Wait + time::Clock, B: Drop, J: Journalist> Gate for JournalGate<'_, R, B, J> {
     fn more(&mut self) -> bool {
         !self.journal.is_over() && self.gate.more()
     }
@@ -125,7 +125,7 @@ impl<R: Wait + time::Clock + Net, B: Drop, J: Journalist> Gate for JournalGate<'
     }
 }
 
-impl<'s, 'a: 's, R: Wait + time::Clock, H, B> Shift<'s, 'a, R, H, B> {
+impl<'s, 'a: 's, R: Wait, H, B> Shift<'s, 'a, R, H, B> {
     /// One that begins.
     pub(crate) fn new(
         rt: &'a R,
@@ -191,19 +191,76 @@ impl<'s, 'a: 's, R: Wait + time::Clock, H, B> Shift<'s, 'a, R, H, B> {
         self.storage.journals()
     }
 
+    /// Returns the gate of a callback worker for a journal.
+    fn gate<'b>(&'b self, journal: &'b Journal<B>) -> JournalGate<'b, R, B, H> {
+        JournalGate {
+            gate: CarrierGate::new(
+                self.rt,
+                self.ending,
+                self.journals(),
+                &journal.stall.under_way,
+                &self.tower.tallies,
+                self.herald,
+                journal.instance,
+            ),
+            journal,
+        }
+    }
+
+    /// No one answers any more.
+    pub(crate) fn close(&self) {
+        self.door.close();
+    }
+
+    /// Returns how many connection workers there are, if none has ended.
+    pub(crate) fn workers(&self) -> u64 {
+        self.workers
+    }
+
+    /// Lets those who stand work.
+    pub(crate) fn begin(&self) {
+        self.latch.decide(self.rt, true);
+    }
+
+    /// Ends the threads that wait, since another couldn't be started. Returns why the service doesn't serve.
+    pub(crate) fn give_up(&self) -> ServeFault {
+        self.latch.decide(self.rt, false);
+        ServeFault::Address
+    }
+}
+
+impl<'s, 'a: 's, R: Wait + time::Clock, H, B> Shift<'s, 'a, R, H, B> {
     /// The clock of one of the threads.
     pub(crate) fn clock(&self) -> SystemClock<'a, R> {
         SystemClock::new(self.rt, self.moment)
     }
 }
 
-impl<
-    's,
-    'a: 's,
-    R: KeyFiles + Wait + time::Clock + Net<Stream = TcpStream, Listener = TcpListener>,
-    H: Herald + Journalist,
-    B: Clerkship + Drop,
-> Shift<'s, 'a, R, H, B> {
+impl<'s, 'a: 's, R: Wait, H: Journalist, B> Shift<'s, 'a, R, H, B> {
+    /// Notes whether the thread that was wanted last was started. While none could be, that counts as one that is lost.
+    pub(crate) fn note_thread(&self, is_started: bool) {
+        let was_refused = self.is_refused.swap(!is_started, Ordering::SeqCst);
+        if is_started && was_refused {
+            self.tower.tallies.regain_callback_worker();
+        } else if !is_started && !was_refused {
+            self.tower.tallies.lose_callback_worker();
+            self.herald.note(&Event::ThreadRefused);
+        }
+    }
+}
+
+impl<'s, 'a: 's, R: Wait, H: Herald + Journalist, B> Shift<'s, 'a, R, H, B> {
+    /// Tells why the one who carried for a journal has ended, unless the disk has failed: then the program ends, and
+    /// says so.
+    fn tell_end(&self, end: WorkerEnd, journal: Instance) {
+        if !self.has_failed() {
+            let tallies = &self.tower.tallies;
+            lose_callback_worker(self.alloc, self.herald, tallies, end, Some(journal));
+        }
+    }
+}
+
+impl<'s, 'a: 's, R: Wait, H, B: Drop> Shift<'s, 'a, R, H, B> {
     /// Takes down that one who answered connections has ended: with the last one all end.
     fn leave(&self) {
         if self.answering.fetch_sub(1, Ordering::SeqCst) <= 1 {
@@ -220,7 +277,168 @@ impl<
         self.door.open();
         self.roster.ring(self.rt);
     }
+}
 
+impl<'s, 'a: 's, R: Wait + time::Clock, H, B: Drop> Shift<'s, 'a, R, H, B> {
+    /// Wakes those who carry.
+    fn cry(&self) {
+        self.crier
+            .run(self.rt, self.alloc, self.roster, self.ending);
+    }
+}
+
+impl<'s, 'a: 's, R: Wait + time::Clock + Net, H, B: Drop> Shift<'s, 'a, R, H, B> {
+    /// Looks up the names of members' hosts.
+    fn look_up(&self) {
+        self.calling.names.run(self.rt, &self.crier.bells);
+    }
+
+    /// Tries to make the callbacks of a journal's callback worker: none are under way. Where memory is refused the poll
+    /// is given back.
+    fn try_callbacks<'b>(
+        &'b self,
+        journal: &'b Journal<B>,
+        poll: Poll,
+    ) -> Result<Callbacks<'b, R, Journals<FileDisk>>, Poll>
+        ensures { IfOk result (λ made. made ≡ []) }
+    {
+        Callbacks::new(
+            self.rt,
+            self.alloc,
+            self.journals(),
+            journal.instance,
+            &self.calling.names,
+            self.terms.rules,
+            poll,
+            &self.calling.quota,
+            self.calling.share,
+            &journal.stall.under_way,
+            &journal.stall.least_pause,
+            self.clock(),
+            &journal.bells,
+            0,
+            &journal.outcomes,
+        )
+    }
+}
+
+impl<'s, 'a: 's, R: Wait + time::Clock, H: Journalist, B: Clerkship + Drop> Shift<'s, 'a, R, H, B> {
+    /// Answers operators, where any come in, until no one answers any more.
+    fn watch(&self) {
+        if let Some(post) = self.tower.post {
+            let mut lookout = Lookout::new(self.alloc, self, self.clock());
+            let turnstile = Turnstile {
+                journalist: self.herald,
+            };
+            attend(
+                self.rt,
+                self.alloc,
+                post,
+                &mut lookout,
+                &**self.ending,
+                &turnstile,
+            );
+            drop(lookout);
+        }
+    }
+
+    /// Enrols a clerk of a journal's coordinator, once that can be done, as long as the gate lets turns be made.
+    fn enrol(&self, journal: &Journal<B>, gate: &mut JournalGate<'_, R, B, H>) -> Option<B> {
+        for _ in self.rt.forever() {
+            if let Some(branch) = journal.fork(self.rt, self.clock().now()) {
+                return Some(branch);
+            }
+            gate.pause();
+            if !gate.more() {
+                return None;
+            }
+        }
+        unreachable!()
+    }
+}
+
+impl<'s, 'a: 's, R: Wait + time::Clock + Net, H: Journalist, B: Clerkship + Drop> Shift<
+    's,
+    'a,
+    R,
+    H,
+    B,
+> {
+    /// Makes them, once there is memory, as long as the gate lets turns be made.
+    fn callbacks<'b>(
+        &'b self,
+        journal: &'b Journal<B>,
+        poll: Poll,
+        gate: &mut JournalGate<'_, R, B, H>,
+    ) -> Option<Callbacks<'b, R, Journals<FileDisk>>>
+        ensures { IfSome result (λ made. made ≡ []) }
+    {
+        let mut poll = poll;
+        for _ in self.rt.forever() {
+            match self.try_callbacks(journal, poll) {
+                Ok(made) => return Some(made),
+                Err(back) => poll = back,
+            }
+            gate.pause();
+            if !gate.more() {
+                drop(poll);
+                return None;
+            }
+        }
+        unreachable!()
+    }
+}
+
+impl<'s, 'a: 's, R: Wait + time::Clock + Net, H: Herald + Journalist, B: Clerkship + Drop> Shift<
+    's,
+    'a,
+    R,
+    H,
+    B,
+> {
+    /// Lets limits fire and carries errands of a journal, many at once, with a poll of its own.
+    fn carry_with(&self, journal: &Journal<B>, poll: Poll) {
+        let mut gate = self.gate(journal);
+        let Some(branch) = self.enrol(journal, &mut gate) else {
+            drop(poll);
+            return;
+        };
+        let Some(callbacks) = self.callbacks(journal, poll, &mut gate) else {
+            drop(branch);
+            return;
+        };
+        let tallies = &self.tower.tallies;
+        let mut counted = CountedCarriage::new(self.alloc, callbacks, self.rt, tallies);
+        let end = branch.carry(&mut counted, &mut gate, &mut self.clock());
+        counted.into_inner().end();
+        self.tell_end(end, journal.instance);
+    }
+
+    /// Lets limits fire and carries errands of a journal, many at once. Where it has no place for that no one answers
+    /// any more.
+    pub(crate) fn carry(&self, journal: &Journal<B>) {
+        let poll = journal.stall.poll.lock(self.rt).take();
+        match poll {
+            Some(poll) => self.carry_with(journal, poll),
+            None => self.door.close(),
+        }
+    }
+
+    /// Waits until all threads stand, and carries the callbacks of a journal.
+    pub(crate) fn stand_and_carry(&self, journal: &Journal<B>) {
+        if self.latch.pass(self.rt) {
+            self.carry(journal);
+        }
+    }
+}
+
+impl<
+    's,
+    'a: 's,
+    R: KeyFiles + Wait + time::Clock + Net<Stream = TcpStream, Listener = TcpListener>,
+    H: Herald + Journalist,
+    B: Clerkship + Drop,
+> Shift<'s, 'a, R, H, B> {
     /// Answers the connections that come in there.
     fn answer_at(&self, arrivals: &Arrivals) {
         let mut kin = Kin::new(self.rt, self.alloc, self.roster, self.clock());
@@ -265,141 +483,6 @@ impl<
         self.leave();
     }
 
-    /// Wakes those who carry.
-    fn cry(&self) {
-        self.crier
-            .run(self.rt, self.alloc, self.roster, self.ending);
-    }
-
-    /// Looks up the names of members' hosts.
-    fn look_up(&self) {
-        self.calling.names.run(self.rt, &self.crier.bells);
-    }
-
-    /// Tries to make the callbacks of a journal's callback worker: none are under way. Where memory is refused the poll
-    /// is given back.
-    fn try_callbacks<'b>(
-        &'b self,
-        journal: &'b Journal<B>,
-        poll: Poll,
-    ) -> Result<Callbacks<'b, R, Journals<FileDisk>>, Poll>
-        ensures { IfOk result (λ made. made ≡ []) }
-    {
-        Callbacks::new(
-            self.rt,
-            self.alloc,
-            self.journals(),
-            journal.instance,
-            &self.calling.names,
-            self.terms.rules,
-            poll,
-            &self.calling.quota,
-            self.calling.share,
-            &journal.stall.under_way,
-            &journal.stall.least_pause,
-            self.clock(),
-            &journal.bells,
-            0,
-            &journal.outcomes,
-        )
-    }
-
-    /// Makes them, once there is memory, as long as the gate lets turns be made.
-    fn callbacks<'b>(
-        &'b self,
-        journal: &'b Journal<B>,
-        poll: Poll,
-        gate: &mut JournalGate<'_, R, B, H>,
-    ) -> Option<Callbacks<'b, R, Journals<FileDisk>>>
-        ensures { IfSome result (λ made. made ≡ []) }
-    {
-        let mut poll = poll;
-        for _ in self.rt.forever() {
-            match self.try_callbacks(journal, poll) {
-                Ok(made) => return Some(made),
-                Err(back) => poll = back,
-            }
-            gate.pause();
-            if !gate.more() {
-                drop(poll);
-                return None;
-            }
-        }
-        unreachable!()
-    }
-
-    /// Enrols a clerk of a journal's coordinator, once that can be done, as long as the gate lets turns be made.
-    fn enrol(&self, journal: &Journal<B>, gate: &mut JournalGate<'_, R, B, H>) -> Option<B> {
-        for _ in self.rt.forever() {
-            if let Some(branch) = journal.fork(self.rt, self.clock().now()) {
-                return Some(branch);
-            }
-            gate.pause();
-            if !gate.more() {
-                return None;
-            }
-        }
-        unreachable!()
-    }
-
-    /// Returns the gate of a callback worker for a journal.
-    fn gate<'b>(&'b self, journal: &'b Journal<B>) -> JournalGate<'b, R, B, H> {
-        JournalGate {
-            gate: CarrierGate::new(
-                self.rt,
-                self.ending,
-                self.journals(),
-                &journal.stall.under_way,
-                &self.tower.tallies,
-                self.herald,
-                journal.instance,
-            ),
-            journal,
-        }
-    }
-
-    /// Lets limits fire and carries errands of a journal, many at once, with a poll of its own.
-    fn carry_with(&self, journal: &Journal<B>, poll: Poll) {
-        let mut gate = self.gate(journal);
-        let Some(branch) = self.enrol(journal, &mut gate) else {
-            drop(poll);
-            return;
-        };
-        let Some(callbacks) = self.callbacks(journal, poll, &mut gate) else {
-            drop(branch);
-            return;
-        };
-        let tallies = &self.tower.tallies;
-        let mut counted = CountedCarriage::new(self.alloc, callbacks, self.rt, tallies);
-        let end = branch.carry(&mut counted, &mut gate, &mut self.clock());
-        counted.into_inner().end();
-        self.tell_end(end, journal.instance);
-    }
-
-    /// Lets limits fire and carries errands of a journal, many at once. Where it has no place for that no one answers
-    /// any more.
-    pub(crate) fn carry(&self, journal: &Journal<B>) {
-        let poll = journal.stall.poll.lock(self.rt).take();
-        match poll {
-            Some(poll) => self.carry_with(journal, poll),
-            None => self.door.close(),
-        }
-    }
-
-    /// No one answers any more.
-    pub(crate) fn close(&self) {
-        self.door.close();
-    }
-
-    /// Tells why the one who carried for a journal has ended, unless the disk has failed: then the program ends, and
-    /// says so.
-    fn tell_end(&self, end: WorkerEnd, journal: Instance) {
-        if !self.has_failed() {
-            let tallies = &self.tower.tallies;
-            lose_callback_worker(self.alloc, self.herald, tallies, end, Some(journal));
-        }
-    }
-
     /// Waits until all threads stand, and does a duty.
     pub(crate) fn stand(&self, duty: Duty) {
         if !self.latch.pass(self.rt) {
@@ -411,61 +494,6 @@ impl<
             Duty::Watch => self.watch(),
             Duty::Cry => self.cry(),
             Duty::LookUp => self.look_up(),
-        }
-    }
-
-    /// Waits until all threads stand, and carries the callbacks of a journal.
-    pub(crate) fn stand_and_carry(&self, journal: &Journal<B>) {
-        if self.latch.pass(self.rt) {
-            self.carry(journal);
-        }
-    }
-
-    /// Returns how many connection workers there are, if none has ended.
-    pub(crate) fn workers(&self) -> u64 {
-        self.workers
-    }
-
-    /// Lets those who stand work.
-    pub(crate) fn begin(&self) {
-        self.latch.decide(self.rt, true);
-    }
-
-    /// Ends the threads that wait, since another couldn't be started. Returns why the service doesn't serve.
-    pub(crate) fn give_up(&self) -> ServeFault {
-        self.latch.decide(self.rt, false);
-        ServeFault::Address
-    }
-
-    /// Notes whether the thread that was wanted last was started. While none could be, that counts as one that is lost.
-    pub(crate) fn note_thread(&self, is_started: bool) {
-        let was_refused = self.is_refused.swap(!is_started, Ordering::SeqCst);
-        if is_started && was_refused {
-            self.tower.tallies.regain_callback_worker();
-        } else if !is_started && !was_refused {
-            self.tower.tallies.lose_callback_worker();
-            self.herald.note(&Event::ThreadRefused);
-        }
-    }
-}
-
-impl<'s, 'a: 's, R: Wait + time::Clock, H: Journalist, B: Clerkship + Drop> Shift<'s, 'a, R, H, B> {
-    /// Answers operators, where any come in, until no one answers any more.
-    fn watch(&self) {
-        if let Some(post) = self.tower.post {
-            let mut lookout = Lookout::new(self.alloc, self, self.clock());
-            let turnstile = Turnstile {
-                journalist: self.herald,
-            };
-            attend(
-                self.rt,
-                self.alloc,
-                post,
-                &mut lookout,
-                &**self.ending,
-                &turnstile,
-            );
-            drop(lookout);
         }
     }
 }

@@ -87,7 +87,7 @@ pub(crate) struct Shift<'a, R, H> {
     pub(crate) outcomes: Outcomes,
 }
 
-impl<'a, R: Wait + Clock, H> Shift<'a, R, H> {
+impl<'a, R: Wait, H> Shift<'a, R, H> {
     /// One that begins, with those who answer and those who carry that wait with these.
     pub(crate) fn new(
         rt: &'a R,
@@ -138,7 +138,9 @@ impl<'a, R: Wait + Clock, H> Shift<'a, R, H> {
             outcomes: Outcomes::new(alloc),
         }
     }
+}
 
+impl<R, H> Shift<'_, R, H> {
     /// Tells whether operators come in.
     pub(crate) fn is_watched(&self) -> bool {
         self.watchpost.is_some()
@@ -153,6 +155,46 @@ impl<'a, R: Wait + Clock, H> Shift<'a, R, H> {
         all
     }
 
+    /// Returns what the system tells of the process, where operators come in.
+    fn vitals(&self) -> Vitals {
+        match self.watchpost {
+            Some(post) => post.vitals(),
+            None => Vitals::none(),
+        }
+    }
+
+    /// Returns the gate of a callback worker, for a journal.
+    fn gate<'b>(
+        &'b self,
+        stall: &'b Stall,
+        journal: Instance,
+    ) -> CarrierGate<'b, R, Journals<FileDisk>, H> {
+        CarrierGate::new(
+            self.rt,
+            self.ending,
+            self.journals,
+            &stall.under_way,
+            &self.measure.tallies,
+            self.herald,
+            journal,
+        )
+    }
+
+    /// Takes down that one who answered connections has ended: with the last one all end.
+    fn leave(&self) {
+        if self.answering.fetch_sub(1, Ordering::SeqCst) <= 1 {
+            self.ending.finish();
+            ring(self.bells.as_slice());
+        }
+    }
+
+    /// Notes that so many clerks are going to work.
+    pub(crate) fn expect(&self, clerks: usize) {
+        self.working.store(clerks as u64, Ordering::SeqCst);
+    }
+}
+
+impl<R: Wait, H> Shift<'_, R, H> {
     /// Has the group find the journal by its instance from now on.
     pub(crate) fn add(
         &self,
@@ -167,15 +209,40 @@ impl<'a, R: Wait + Clock, H> Shift<'a, R, H> {
         ring(self.bells.as_slice());
         matches!(self.journals.keep_all(self.rt), Ok(true))
     }
+
+    /// Hands on the connections that come, until there are to be no others. Then those who carry look whether they are
+    /// to end.
+    pub(crate) fn admit(&self) {
+        self.door.open();
+        ring(self.bells.as_slice());
+    }
+
+    /// Takes the poll of the one who carries there.
+    fn take_poll(&self, place: u32) -> Option<(&Stall, Poll)> {
+        let stall = self.stalls.get(place as usize)?;
+        let poll = stall.poll.lock(self.rt).take()?;
+        Some((stall, poll))
+    }
+
+    /// All that answered and carried have ended: so do those who look names up, and who waits for connections.
+    fn end(&self) {
+        self.calling.names.close(self.rt);
+        self.ending.finish();
+    }
+
+    /// Ends the threads that wait, since another couldn't be started. Returns why the service doesn't serve.
+    pub(crate) fn give_up(&self) -> ServeFault
+        ensures { result ≡ ServeFault.Address }
+    {
+        self.latch.decide(self.rt, false);
+        ServeFault::Address
+    }
 }
 
 impl<R: Wait + Clock, H> Shift<'_, R, H> {
-    /// Returns what the system tells of the process, where operators come in.
-    fn vitals(&self) -> Vitals {
-        match self.watchpost {
-            Some(post) => post.vitals(),
-            None => Vitals::none(),
-        }
+    /// The office's clock.
+    fn clock(&self) -> SystemClock<'_, R> {
+        SystemClock::new(self.rt, self.moment)
     }
 
     /// Returns what is known of the service at a moment.
@@ -230,27 +297,186 @@ impl<R: Wait + Clock, H: Journalist> Shift<'_, R, H> {
             None => drop(clerk),
         }
     }
+
+    /// Has what the file takes told of, as that of a journal.
+    fn follow(&self, journal: Instance) {
+        let taken = self.end.lock(self.rt).take();
+        if let Some(FileEnd { file, at }) = taken {
+            let tail = Tail::of(self.alloc, file, at, journal, self.herald);
+            *self.tail.lock(self.rt) = tail;
+        }
+    }
+
+    /// Tells of what the file takes, until no one answers any more: with a member's silence what came of its last
+    /// callback.
+    fn report(&self) {
+        let Some(mut tail) = self.tail.lock(self.rt).take() else {
+            return;
+        };
+        for _ in self.rt.forever() {
+            let is_over = self.ending.is_over();
+            tail.report(self.rt, self.herald, Some(&self.outcomes));
+            if self.measure.tallies.has_stopped(tail.journal()) {
+                tail.stop(self.herald);
+            }
+            if is_over {
+                return;
+            }
+            thread::sleep(self.rt, Duration::from_millis(LOOK));
+        }
+    }
+
+    /// Lets those who stand work, once it was said that the service serves.
+    pub(crate) fn begin(&self, journal: Instance) {
+        self.herald.note(&Event::Serving {
+            journals: 1,
+            workers: self.stalls.len() as u64,
+        });
+        self.follow(journal);
+        self.latch.decide(self.rt, true);
+    }
+
+    /// Waits until all stand, and reports what the journal's file takes.
+    pub(crate) fn stand_and_report(&self) {
+        if self.latch.pass(self.rt) {
+            self.report();
+        }
+    }
+}
+
+impl<R: Wait, H: Herald + Journalist> Shift<'_, R, H> {
+    /// Tells why one who carried has ended, unless the disk has failed: then the program ends, and says so. With the
+    /// last one the journal's callbacks stand still.
+    fn tell_end(&self, end: WorkerEnd, journal: Instance) {
+        let is_last = self.carrying.fetch_sub(1, Ordering::SeqCst) <= 1;
+        if !self.journals.has_failed(self.rt) {
+            let last_of = is_last.then_some(journal);
+            lose_callback_worker(self.alloc, self.herald, &self.measure.tallies, end, last_of);
+        }
+    }
+}
+
+impl<R: Wait + Clock + Net, H> Shift<'_, R, H> {
+    /// Tries to make the callbacks of a callback worker: none are under way. Where memory is refused the poll is given
+    /// back.
+    fn try_callbacks<'b>(
+        &'b self,
+        stall: &'b Stall,
+        place: u32,
+        journal: Instance,
+        poll: Poll,
+    ) -> Result<Callbacks<'b, R, Journals<FileDisk>>, Poll>
+        ensures { IfOk result (λ made. made ≡ []) }
+    {
+        Callbacks::new(
+            self.rt,
+            self.alloc,
+            self.journals,
+            journal,
+            &self.calling.names,
+            self.terms.rules,
+            poll,
+            &self.calling.quota,
+            self.calling.share,
+            &stall.under_way,
+            &stall.least_pause,
+            self.clock(),
+            &self.bells,
+            place as usize,
+            &self.outcomes,
+        )
+    }
+
+    /// Looks up the names of members' hosts.
+    fn look_up(&self) {
+        self.calling.names.run(self.rt, self.bells.as_slice());
+    }
+
+    /// Waits until all stand, and looks up the names of members' hosts.
+    pub(crate) fn stand_and_look_up(&self) {
+        if self.latch.pass(self.rt) {
+            self.look_up();
+        }
+    }
+}
+
+impl<R: Wait + Clock + Net, H: Herald + Journalist> Shift<'_, R, H> {
+    /// Makes them, once there is memory, as long as the gate lets turns be made.
+    fn callbacks<'b>(
+        &'b self,
+        stall: &'b Stall,
+        place: u32,
+        journal: Instance,
+        poll: Poll,
+        gate: &mut CarrierGate<'_, R, Journals<FileDisk>, H>,
+    ) -> Option<Callbacks<'b, R, Journals<FileDisk>>>
+        ensures { IfSome result (λ made. made ≡ []) }
+    {
+        let mut poll = poll;
+        for _ in self.rt.forever() {
+            match self.try_callbacks(stall, place, journal, poll) {
+                Ok(made) => return Some(made),
+                Err(back) => poll = back,
+            }
+            gate.pause();
+            if !gate.more() {
+                drop(poll);
+                return None;
+            }
+        }
+        unreachable!()
+    }
+
+    /// Lets limits fire and carries errands, many at once, at a place whose poll was taken.
+    fn carry_at<V: Serving>(
+        &self,
+        stall: &Stall,
+        place: u32,
+        poll: Poll,
+        office: &OfficeOf<V>,
+        clerk: Clerk<V>,
+    )
+        requires { IsAt V.setting V.covers office.now clerk }
+    {
+        let journal = office.instance();
+        let mut gate = self.gate(stall, journal);
+        let Some(callbacks) = self.callbacks(stall, place, journal, poll, &mut gate) else {
+            drop(clerk);
+            return;
+        };
+        let tallies = &self.measure.tallies;
+        let mut counted = CountedCarriage::new(self.alloc, callbacks, self.rt, tallies);
+        let (clerk, end) = run_carrier(
+            self.rt,
+            office,
+            clerk,
+            &mut counted,
+            &mut gate,
+            &mut self.clock(),
+        );
+        counted.into_inner().end();
+        drop(clerk);
+        self.tell_end(end, journal);
+    }
+
+    /// Lets limits fire and carries errands, many at once. Where there is no place for that no one answers any more.
+    fn carry<V: Serving>(&self, place: u32, office: &OfficeOf<V>, clerk: Clerk<V>)
+        requires { IsAt V.setting V.covers office.now clerk }
+    {
+        match self.take_poll(place) {
+            Some((stall, poll)) => self.carry_at(stall, place, poll, office, clerk),
+            None => {
+                drop(clerk);
+                self.door.close();
+            }
+        }
+    }
 }
 
 impl<
     R: KeyFiles + Wait + Clock + Net<Stream = TcpStream, Listener = TcpListener>,
     H: Herald + Journalist,
 > Shift<'_, R, H> {
-    /// Takes down that one who answered connections has ended: with the last one all end.
-    fn leave(&self) {
-        if self.answering.fetch_sub(1, Ordering::SeqCst) <= 1 {
-            self.ending.finish();
-            ring(self.bells.as_slice());
-        }
-    }
-
-    /// Hands on the connections that come, until there are to be no others. Then those who carry look whether they are
-    /// to end.
-    pub(crate) fn admit(&self) {
-        self.door.open();
-        ring(self.bells.as_slice());
-    }
-
     /// Answers the connections that come in, at an office with a lock that the type says.
     fn answer_at<V: Serving, Q: WhichLock>(
         &self,
@@ -298,222 +524,6 @@ impl<
             None => drop(clerk),
         }
         self.leave();
-    }
-
-    /// The office's clock.
-    fn clock(&self) -> SystemClock<'_, R> {
-        SystemClock::new(self.rt, self.moment)
-    }
-
-    /// Tries to make the callbacks of a callback worker: none are under way. Where memory is refused the poll is given
-    /// back.
-    fn try_callbacks<'b>(
-        &'b self,
-        stall: &'b Stall,
-        place: u32,
-        journal: Instance,
-        poll: Poll,
-    ) -> Result<Callbacks<'b, R, Journals<FileDisk>>, Poll>
-        ensures { IfOk result (λ made. made ≡ []) }
-    {
-        Callbacks::new(
-            self.rt,
-            self.alloc,
-            self.journals,
-            journal,
-            &self.calling.names,
-            self.terms.rules,
-            poll,
-            &self.calling.quota,
-            self.calling.share,
-            &stall.under_way,
-            &stall.least_pause,
-            self.clock(),
-            &self.bells,
-            place as usize,
-            &self.outcomes,
-        )
-    }
-
-    /// Makes them, once there is memory, as long as the gate lets turns be made.
-    fn callbacks<'b>(
-        &'b self,
-        stall: &'b Stall,
-        place: u32,
-        journal: Instance,
-        poll: Poll,
-        gate: &mut CarrierGate<'_, R, Journals<FileDisk>, H>,
-    ) -> Option<Callbacks<'b, R, Journals<FileDisk>>>
-        ensures { IfSome result (λ made. made ≡ []) }
-    {
-        let mut poll = poll;
-        for _ in self.rt.forever() {
-            match self.try_callbacks(stall, place, journal, poll) {
-                Ok(made) => return Some(made),
-                Err(back) => poll = back,
-            }
-            gate.pause();
-            if !gate.more() {
-                drop(poll);
-                return None;
-            }
-        }
-        unreachable!()
-    }
-
-    /// Returns the gate of a callback worker, for a journal.
-    fn gate<'b>(
-        &'b self,
-        stall: &'b Stall,
-        journal: Instance,
-    ) -> CarrierGate<'b, R, Journals<FileDisk>, H> {
-        CarrierGate::new(
-            self.rt,
-            self.ending,
-            self.journals,
-            &stall.under_way,
-            &self.measure.tallies,
-            self.herald,
-            journal,
-        )
-    }
-
-    /// Has what the file takes told of, as that of a journal.
-    fn follow(&self, journal: Instance) {
-        let taken = self.end.lock(self.rt).take();
-        if let Some(FileEnd { file, at }) = taken {
-            let tail = Tail::of(self.alloc, file, at, journal, self.herald);
-            *self.tail.lock(self.rt) = tail;
-        }
-    }
-
-    /// Tells of what the file takes, until no one answers any more: with a member's silence what came of its last
-    /// callback.
-    fn report(&self) {
-        let Some(mut tail) = self.tail.lock(self.rt).take() else {
-            return;
-        };
-        for _ in self.rt.forever() {
-            let is_over = self.ending.is_over();
-            tail.report(self.rt, self.herald, Some(&self.outcomes));
-            if self.measure.tallies.has_stopped(tail.journal()) {
-                tail.stop(self.herald);
-            }
-            if is_over {
-                return;
-            }
-            thread::sleep(self.rt, Duration::from_millis(LOOK));
-        }
-    }
-
-    /// Lets limits fire and carries errands, many at once, at a place whose poll was taken.
-    fn carry_at<V: Serving>(
-        &self,
-        stall: &Stall,
-        place: u32,
-        poll: Poll,
-        office: &OfficeOf<V>,
-        clerk: Clerk<V>,
-    )
-        requires { IsAt V.setting V.covers office.now clerk }
-    {
-        let journal = office.instance();
-        let mut gate = self.gate(stall, journal);
-        let Some(callbacks) = self.callbacks(stall, place, journal, poll, &mut gate) else {
-            drop(clerk);
-            return;
-        };
-        let tallies = &self.measure.tallies;
-        let mut counted = CountedCarriage::new(self.alloc, callbacks, self.rt, tallies);
-        let (clerk, end) = run_carrier(
-            self.rt,
-            office,
-            clerk,
-            &mut counted,
-            &mut gate,
-            &mut self.clock(),
-        );
-        counted.into_inner().end();
-        drop(clerk);
-        self.tell_end(end, journal);
-    }
-
-    /// Takes the poll of the one who carries there.
-    fn take_poll(&self, place: u32) -> Option<(&Stall, Poll)> {
-        let stall = self.stalls.get(place as usize)?;
-        let poll = stall.poll.lock(self.rt).take()?;
-        Some((stall, poll))
-    }
-
-    /// Lets limits fire and carries errands, many at once. Where there is no place for that no one answers any more.
-    fn carry<V: Serving>(&self, place: u32, office: &OfficeOf<V>, clerk: Clerk<V>)
-        requires { IsAt V.setting V.covers office.now clerk }
-    {
-        match self.take_poll(place) {
-            Some((stall, poll)) => self.carry_at(stall, place, poll, office, clerk),
-            None => {
-                drop(clerk);
-                self.door.close();
-            }
-        }
-    }
-
-    /// Tells why one who carried has ended, unless the disk has failed: then the program ends, and says so. With the
-    /// last one the journal's callbacks stand still.
-    fn tell_end(&self, end: WorkerEnd, journal: Instance) {
-        let is_last = self.carrying.fetch_sub(1, Ordering::SeqCst) <= 1;
-        if !self.journals.has_failed(self.rt) {
-            let last_of = is_last.then_some(journal);
-            lose_callback_worker(self.alloc, self.herald, &self.measure.tallies, end, last_of);
-        }
-    }
-
-    /// Looks up the names of members' hosts.
-    fn look_up(&self) {
-        self.calling.names.run(self.rt, self.bells.as_slice());
-    }
-
-    /// All that answered and carried have ended: so do those who look names up, and who waits for connections.
-    fn end(&self) {
-        self.calling.names.close(self.rt);
-        self.ending.finish();
-    }
-
-    /// Notes that so many clerks are going to work.
-    pub(crate) fn expect(&self, clerks: usize) {
-        self.working.store(clerks as u64, Ordering::SeqCst);
-    }
-
-    /// Lets those who stand work, once it was said that the service serves.
-    pub(crate) fn begin(&self, journal: Instance) {
-        self.herald.note(&Event::Serving {
-            journals: 1,
-            workers: self.stalls.len() as u64,
-        });
-        self.follow(journal);
-        self.latch.decide(self.rt, true);
-    }
-
-    /// Ends the threads that wait, since another couldn't be started. Returns why the service doesn't serve.
-    pub(crate) fn give_up(&self) -> ServeFault
-        ensures { result ≡ ServeFault.Address }
-    {
-        self.latch.decide(self.rt, false);
-        ServeFault::Address
-    }
-
-    /// Waits until all stand, and reports what the journal's file takes.
-    pub(crate) fn stand_and_report(&self) {
-        if self.latch.pass(self.rt) {
-            self.report();
-        }
-    }
-
-    /// Waits until all stand, and looks up the names of members' hosts.
-    pub(crate) fn stand_and_look_up(&self) {
-        if self.latch.pass(self.rt) {
-            self.look_up();
-        }
     }
 
     /// Waits until all stand, and does a clerk's duty. With the last clerk's end all end.
