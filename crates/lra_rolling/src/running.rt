@@ -386,9 +386,8 @@ impl<
             return Err(RollingFault::Here(fault));
         }
         let journals = storage.journals();
-        if !storage.is_own() {
-            // Whichever thread saw it first, and ended all.
-            journals.fail(self.rt);
+        // Whichever thread saw it first, and ended all.
+        if storage.fail_if_lost(self.rt) {
             self.herald.tell("lra: the fence is another's now: nothing is written any more\n");
         } else if journals.has_failed(self.rt) {
             self.herald.note(&Event::SyncFailed);
