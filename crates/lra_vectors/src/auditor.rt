@@ -19,15 +19,26 @@ const NESTED: &str =
 /// The verdict on the nested journal.
 const NESTED_VERDICT: &str = "18 entries, 2 actions, 0 unended, 0 closed, 2 cancelled, 0 failed";
 
+/// Adds what is told of a legal history, in two halves.
+fn put_told(text: &mut String, summary: &Summary) -> Result<(), Memory> {
+    let (entries, actions, unended) = (summary.entries, summary.actions, summary.unended);
+    write!(
+        text,
+        "{entries} entries, {actions} actions, {unended} unended"
+    )?;
+    let (closed, cancelled) = (summary.closed, summary.cancelled);
+    let failed = summary.failed.as_slice().len();
+    write!(
+        text,
+        ", {closed} closed, {cancelled} cancelled, {failed} failed"
+    )
+}
+
 /// Returns what is told of a legal history.
 fn told_of(alloc: Global, summary: &Summary) -> Result<String, Memory> {
-    let (entries, actions) = (summary.entries, summary.actions);
-    let (unended, closed) = (summary.unended, summary.closed);
-    let cancelled = summary.cancelled;
-    let failed = summary.failed.as_slice().len();
-    format!(in alloc;
-        "{entries} entries, {actions} actions, {unended} unended, {closed} closed, {cancelled} cancelled, {failed} failed"
-    )
+    let mut text = String::new(alloc);
+    put_told(&mut text, summary)?;
+    Ok(text)
 }
 
 /// Returns what a verdict tells.
@@ -47,8 +58,10 @@ fn told(alloc: Global, verdict: Verdict) -> Result<String, Memory> {
 
 /// Returns what an audit of bytes tells.
 fn told_whole(alloc: Global, bytes: &[u8]) -> Result<String, Memory> {
-    let verdict = audit(alloc, bytes)?;
-    told(alloc, verdict)
+    match audit(alloc, bytes) {
+        Ok(verdict) => told(alloc, verdict),
+        Err(fault) => Err(fault),
+    }
 }
 
 /// Feeds bytes in pieces of this size, or of one byte where it is 0. Where memory runs out the auditor is spent from
@@ -151,8 +164,10 @@ fn told_from(
     entries: &[Entry],
     place: usize,
 ) -> Result<String, Memory> {
-    let verdict = check(alloc, version, entries.get(place..).unwrap_or(&[]))?;
-    told(alloc, verdict)
+    match check(alloc, version, entries.get(place..).unwrap_or(&[])) {
+        Ok(verdict) => told(alloc, verdict),
+        Err(fault) => Err(fault),
+    }
 }
 
 /// Returns what a check of a journal's entries from a place on tells.

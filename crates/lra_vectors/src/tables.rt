@@ -197,8 +197,10 @@ fn plan_of(tables: &mut Tables, entry: &Entry) -> Result<Plan, Memory>
     requires { Follows tables.old.sheet entry.now }
     ensures { tables.new.sheet ≡ tables.old.sheet }
 {
-    let entry = entry.copy()?;
-    tables.plan(entry)
+    match entry.copy() {
+        Ok(entry) => tables.plan(entry),
+        Err(fault) => Err(fault),
+    }
 }
 
 /// Entries as text.

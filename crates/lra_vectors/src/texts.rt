@@ -10,13 +10,12 @@ pub fn parted<'a>(row: &'a str, sign: &str) -> (&'a str, &'a str) {
 
 /// Asserts that what is told is what is wanted. Nothing is told where memory is refused.
 pub fn assert_told<R: Abort>(rt: &R, of: &str, told: Option<String>, want: &str) {
-    match told {
-        Some(told) => {
-            assert_eq!(rt; told.as_str(), want, "of {of:?}");
-            drop(told);
-        }
-        None => panic!(rt; "nothing is told of {of:?}"),
-    }
+    let text = told.as_deref().unwrap_or("nothing");
+    assert!(rt;
+        told.as_deref() == Some(want),
+        "{text} is told of {of}, not {want}"
+    );
+    drop(told);
 }
 
 /// Something that is told of texts.
