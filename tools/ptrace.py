@@ -14,6 +14,9 @@ WALL = 0x40000000
 # Where the registers stand of a call's result, its third argument and its number.
 RESULT, THIRD, NUMBER = 10 * 8, 12 * 8, 15 * 8
 
+# How many bytes a path has at most.
+LONGEST_PATH = 4096
+
 REFUSED = "the system lets no program be watched"
 
 libc = ctypes.CDLL(None, use_errno=True)
@@ -89,13 +92,29 @@ def look(thread, enters, leaves):
         leaves(thread, info.words[0])
 
 
-def given(thread):
-    """The bytes that the call is given with which a thread begins, a write or a send."""
+def arguments(thread):
+    """Returns the arguments of the call with which a thread begins."""
     info = Info()
     libc.ptrace(GET_SYSCALL_INFO, thread, ctypes.sizeof(info), ctypes.addressof(info))
+    return info.words[1:7]
+
+
+def bytes_at(thread, address, length):
+    """Returns so many bytes of a thread's memory, or less at its end."""
     with open(f"/proc/{thread}/mem", "rb", buffering=0) as it:
-        it.seek(info.words[2])
-        return it.read(info.words[3])
+        it.seek(address)
+        return it.read(length)
+
+
+def given(thread):
+    """The bytes that the call is given with which a thread begins, a write or a send."""
+    _, address, length, *_ = arguments(thread)
+    return bytes_at(thread, address, length)
+
+
+def text_at(thread, address):
+    """Returns the text at an address up to its zero: a path."""
+    return bytes_at(thread, address, LONGEST_PATH).split(b"\0")[0].decode()
 
 
 def shorten(thread, length):

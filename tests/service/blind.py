@@ -22,9 +22,7 @@ WAITS, IDLE = (232, 281), 250
 
 def waits_for(thread):
     """How many milliseconds the call lasts at most with which a thread begins."""
-    info = ptrace.Info()
-    ptrace.libc.ptrace(ptrace.GET_SYSCALL_INFO, thread, ctypes.sizeof(info), ctypes.addressof(info))
-    return ctypes.c_int(info.words[4]).value
+    return ctypes.c_int(ptrace.arguments(thread)[3]).value
 
 
 def main(path, *words):

@@ -45,8 +45,10 @@ def full_disk(setting, spare):
     with setting.serve() as service, service.client() as client:
         action = client.start()
         path = "/lra-coordinator/" + id_of(action)
+        before = journal.read(setting.journal)
         fill(service, setting, spare)
         stopped(client, "PUT", path, compensate="http://127.0.0.1:1/" + "u" * 100)
+        equal("what is left of the journal", journal.read(setting.journal), before)
         equal("a read", client.status(action), "Active")
         resource.prlimit(service.process.pid, resource.RLIMIT_FSIZE, (resource.RLIM_INFINITY, resource.RLIM_INFINITY))
         stopped(client, "POST", "/lra-coordinator")

@@ -216,6 +216,7 @@ def test_a_sync_that_hangs_is_told(setting):
                     equal("the limit", checks["sync"]["data"]["limit_ms"], 1000)
                     check("the age", checks["sync"]["data"]["age_ms"] > 1000)
                 check("its age", measures(service)["lra_sync_age_seconds"] > 1)
+                check("it is answered before it is synced", closing.is_alive())
             closing.join()
             wait_until("it is ready", service.is_ready)
 

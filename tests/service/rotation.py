@@ -1,8 +1,10 @@
 """Rotations at which a call of the system fails, or an allocation is refused: what was answered is in the journals."""
 import contextlib
+import errno
 import fcntl
 import http.client
 import os
+import re
 import sys
 import threading
 import time
@@ -13,8 +15,8 @@ import folders
 import journal
 import starving
 from participant import Participant, wait_until
-from service import Client, LeftOut, check, equal, id_of, number_of
-from watching import watched
+from service import CLOSED, Client, LeftOut, check, equal, id_of, number_of
+from watching import Deniable, denial, watched
 
 # How many connections there are, so that each worker has some.
 CONNECTIONS = 8
@@ -29,8 +31,15 @@ SOME_MEMORY = (1, 2, 4, 8, 16, 32)
 SOME_ALLOCATIONS = 8
 # What may be answered while a journal can't be written, or a worker can't follow.
 ANSWERS = {200, 201, 202, 503}
-# How a connection shows that it was closed with no reply.
-CLOSED = (http.client.RemoteDisconnected, ConnectionResetError, BrokenPipeError)
+# The steps by which the next journal comes, and those by which one is archived: a call, and its file.
+NEXT_STEPS = (("write", "/newest.next$"), ("rename", "/newest$"), ("openat", "[0-9a-f].next$"), ("rename", ".journal$"))
+ARCHIVE_STEPS = (
+    *(("mkdir", "/ended$"), ("link", "/ended/.*.next$"), ("link", "/ended/.*.journal$")),
+    ("unlink", "/journals/[0-9a-f]*.journal$"),
+)
+# How many seconds a step fails. A second passes from a try to the next, and of archiving two after the second try: this
+# is the least that is seen of either, where a busy machine makes the first of two tries late.
+FAILING, PAUSE, LATER_PAUSE = 4, 0.5, 1.5
 
 
 class Failing(folders.Folder):
@@ -236,18 +245,18 @@ def try_one(setting, workers, number, way=failing):
     return count
 
 
-def try_each(setting, workers, numbers, way=failing):
-    """Has each of these calls or allocations fail, each in a run of its own. Answers the counts of them,
-    and the faults of runs."""
-    counts, faults = {}, {}
+def each_at_once(one, keys):
+    """Does one for each of the keys, each in a thread of its own. Returns what came of them, and the faults of those
+    that failed."""
+    results, faults = {}, {}
 
-    def one(number):
+    def do(key):
         try:
-            counts[number] = try_one(setting, workers, number, way)
+            results[key] = one(key)
         except Exception as fault:  # whatever it is, the run has failed
-            faults[number] = fault
+            faults[key] = fault
 
-    threads = [threading.Thread(target=one, args=(it,)) for it in numbers]
+    threads = [threading.Thread(target=do, args=(it,)) for it in keys]
     for thread in threads:
         thread.start()
     for thread in threads:
@@ -255,7 +264,13 @@ def try_each(setting, workers, numbers, way=failing):
     for fault in faults.values():
         if isinstance(fault, LeftOut):
             raise fault
-    return counts, {number: str(fault) or repr(fault) for number, fault in sorted(faults.items())}
+    return results, {key: str(fault) or repr(fault) for key, fault in sorted(faults.items())}
+
+
+def try_each(setting, workers, numbers, way=failing):
+    """Has each of these calls or allocations fail, each in a run of its own. Answers the counts of them,
+    and the faults of runs."""
+    return each_at_once(lambda number: try_one(setting, workers, number, way), numbers)
 
 
 def test_what_was_answered_is_in_the_journals_whichever_call_of_a_rotation_fails(setting):
@@ -277,3 +292,86 @@ def test_a_service_goes_on_whichever_allocation_of_a_rotation_is_refused(setting
     )
     equal("runs that lost something, or ended, by the allocation that was refused", faults, {})
     return f"{len(counts)} of {most} allocations are refused"
+
+
+class Stubborn(Deniable, folders.Folder):
+    """A service over a folder, one of whose steps is denied for a while."""
+
+    def __init__(self, setting, step):
+        placed = Placed(setting, re.sub("[^a-z]", "", "".join(step)))
+        os.makedirs(placed.folder)
+        super().__init__(placed, *folders.SOON)
+        self.watch(placed)
+        self.step = step
+
+    def begin_failing(self):
+        self.deny(denial(*self.step, errno.ENOSPC))
+
+    def check_fails(self, longest):
+        """Waits while the step fails: it is tried again and again, each time after a pause, and that is told once.
+        Returns how often it was tried."""
+        wait_until("that it fails", self.denied)
+        time.sleep(FAILING)
+        moments = self.denied()
+        pauses = [later - sooner for sooner, later in zip(moments, moments[1:])]
+        check(f"the pauses are {pauses}", pauses and min(pauses) > PAUSE and max(pauses) > longest)
+        equal("how often it is told", self.told().count("\n"), 1)
+        return len(moments)
+
+
+def fail_next(setting, step):
+    """Has a step fail by which the next journal comes: the newest goes on until it can be done."""
+    with Stubborn(setting, step) as service:
+        wait_until("the next journal is ready", lambda: any(it.endswith(".next") for it in os.listdir(service.folder)))
+        service.begin_failing()
+        actions = service.first(7)
+        tries = service.check_fails(PAUSE)
+        newest = max(service.journals())
+        actions += service.first(3)
+        equal("the journals of what is begun meanwhile", set(map(folders.instance_of, actions[-3:])), {newest})
+        service.allow()
+        wait_until("the next journal", lambda: max(service.journals()) > newest)
+        check_all(service, actions)
+        return tries
+
+
+def fail_archiving(setting, step):
+    """Has a step fail by which a journal is archived: nothing is lost, and it is archived once that can be done."""
+    with Stubborn(setting, step) as service, service.client() as client:
+        actions = service.first(3)
+        first = folders.instance_of(actions[0])
+        service.wait_for(2)
+        service.begin_failing()
+        for action in actions:
+            equal("an end", client.end(action, "close"), "Closed")
+        tries = service.check_fails(LATER_PAUSE)
+        check("its file is there", os.path.exists(service.path(first + ".journal")))
+        actions = service.first(2)
+        service.allow()
+        wait_until("it is archived", lambda: first in service.ended() and first not in service.journals())
+        check_all(service, actions)
+        return tries
+
+
+def check_all(service, actions):
+    """All these are served, and the journals are sound."""
+    with service.client() as client:
+        equal("the statuses", {client.status(action) for action in actions}, {"Active"})
+    service.kill()
+    service.words = service.plain
+    folders.check_sound(service)
+
+
+def try_steps(setting, one, steps):
+    """Has each of these steps fail, each in a run of its own."""
+    tries, faults = each_at_once(lambda step: one(setting, step), steps)
+    equal("the faults, by the step that failed", faults, {})
+    return f"{sum(tries.values())} tries of {len(steps)} steps fail"
+
+
+def test_a_step_for_the_next_journal_that_fails_is_repeated(setting):
+    return try_steps(setting, fail_next, NEXT_STEPS)
+
+
+def test_a_step_of_archiving_that_fails_is_repeated(setting):
+    return try_steps(setting, fail_archiving, ARCHIVE_STEPS)

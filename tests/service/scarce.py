@@ -1,6 +1,5 @@
 """What the system has too few of, threads, descriptors and memory: a service that lacks them says so,
 and one that serves answers."""
-import http.client
 import os
 import re
 import resource
@@ -8,6 +7,7 @@ import shutil
 import subprocess
 import sys
 import time
+from collections import Counter
 
 import allocations
 import blind
@@ -17,7 +17,8 @@ import refusing
 from folders import IN_USE, Folder, instance_of, put
 from files import SOUND
 from participant import Participant, wait_until
-from service import HOST, LATE, PATIENCE, LeftOut, Service, Telling, check, equal, free_port, id_of, is_ready, received
+from service import CLOSED, HOST, LATE, PATIENCE, LeftOut, Service, Telling
+from service import check, equal, free_port, id_of, is_ready, received
 from watching import watched
 
 # A user of no other process, and how many threads a service of two workers has at most.
@@ -265,7 +266,8 @@ def test_who_has_been_idle_longest_makes_room_where_descriptors_are_few(setting)
         told = LOWERED.findall(service.told())
         equal("how often it is told", len(told), 1)
         connections, callbacks = map(int, told[0])
-        check(f"{connections} and {callbacks}", 4 <= callbacks <= connections and connections + callbacks <= 64)
+        check(f"{connections} and {callbacks}", 4 <= callbacks and connections + callbacks <= 64)
+        equal("the half that callbacks have", callbacks, (connections + callbacks) // 2)
         check(service.told(), f"descriptors lowered asked=11024 had={connections + callbacks}" in service.told())
         streams = []
         for _ in range(2 * connections):
@@ -319,7 +321,7 @@ def until_done(client, method, path):
     def is_done():
         try:
             return client.call(method, path).code in (200, 202)
-        except (http.client.RemoteDisconnected, ConnectionResetError, BrokenPipeError):
+        except CLOSED:
             client.connection.close()
             return False
 
@@ -350,3 +352,43 @@ def test_a_member_is_asked_whichever_allocation_is_refused(setting):
             wait_until("that it is ready", service.is_ready)
             equal("the status of the program", service.process.poll(), None)
     return f"{turns} turns"
+
+
+def starts_without_memory(service, counter, client):
+    """Refuses the allocations of starts, one in each. Returns the code of each, or 0 where a connection was closed with
+    no reply; after each another start is answered."""
+    codes = []
+    for number in range(1, MOST_REFUSED):
+        counter.refuse(number)
+        try:
+            codes.append(client.call("POST", "/lra-coordinator").code)
+        except CLOSED:
+            client.connection.close()
+            codes.append(0)
+        counted = counter.counted()
+        counter.refuse(0)
+        equal("the next start", client.call("POST", "/lra-coordinator").code, 201)
+        if counted < number:
+            break
+    wait_until("that it is ready", service.is_ready)
+    equal("the status of the program", service.process.poll(), None)
+    return codes
+
+
+def test_no_thread_ends_whichever_allocation_of_a_request_is_refused(setting):
+    """A request that is refused with 503 has left no trace. Another may have lost its connection."""
+    turns = Counter()
+    for kind in (operators.Watched, operators.WatchedFolder):
+        service = kind(setting)
+        counter = allocations.Allocations(f"{setting.folder}/allocations")
+        service.words[:0] = counter.words()
+        with service, service.client() as client:
+            client.start()
+            time.sleep(IN_USE)
+            codes = Counter(starts_without_memory(service, counter, client))
+            check(f"the codes are {codes}", codes[503] and set(codes) <= {0, 201, 503})
+            starts = sum(it.deed == "start" for it in journal.entries(operators.path_of(service)))
+            least = 1 + codes.total() + codes[201]
+            check(f"{starts} starts are in the journal", least <= starts <= least + codes[0])
+            turns.update(codes)
+    return f"{turns[201]} starts were answered, {turns[503]} refused, and {turns[0]} lost their connections"

@@ -22,6 +22,9 @@ LATE = 5
 Reply = namedtuple("Reply", "code phrase fields body")
 Run = namedtuple("Run", "status output told")
 
+# How a connection shows that it was closed with no reply.
+CLOSED = (http.client.RemoteDisconnected, ConnectionResetError, BrokenPipeError)
+
 lock = threading.Lock()
 given_ports = set()
 started = []
