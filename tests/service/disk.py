@@ -1,6 +1,7 @@
 """What is on disk when something leaves, and when the power goes; and a disk that fails."""
 import errno
 import subprocess
+import time
 
 import files
 import folders
@@ -9,6 +10,9 @@ import operators
 from participant import Participant, wait_until
 from service import CLOSED, PATIENCE, LeftOut, Telling, equal, id_of
 from watching import Deniable, denial
+
+# How many seconds after a journal gave way no other does, of a minute.
+SOON = 10
 
 
 class File(Deniable, operators.Port, Telling):
@@ -97,3 +101,23 @@ def test_a_journal_that_cannot_be_written_stops_and_others_go_on(setting):
         service.kill()
     with Folder(setting) as service, service.client() as client:
         equal("a close after a restart", client.end(older, "close"), "Closed")
+
+
+def test_the_newest_journal_gives_way_where_it_cannot_be_written(setting):
+    """The next one takes the starts, and gives way in its turn after a minute at the soonest."""
+    with Folder(setting) as service, service.client() as client:
+        actions = [client.start()]
+        newest = max(service.journals())
+        service.deny(denial("write", newest + ".journal", errno.ENOSPC))
+        files.stopped(client, "POST", "/lra-coordinator")
+        wait_until("the next journal", lambda: max(service.journals()) > newest)
+        wait_until("a start", lambda: client.call("POST", "/lra-coordinator").code == 201)
+        actions.append(client.start())
+        equal("the journals", len(set(map(folders.instance_of, actions))), 2)
+        equal("a read", client.status(actions[0]), "Active")
+        equal("health", service.ask("/health").code, 503)
+        newest = max(service.journals())
+        service.deny(denial("write", ".journal", errno.ENOSPC))
+        files.stopped(client, "POST", "/lra-coordinator")
+        time.sleep(SOON)
+        equal("the newest", max(service.journals()), newest)

@@ -176,6 +176,7 @@ impl<'a, R, V, H> Service<'a, R, V, H> {
             tails: Vec::new(self.alloc),
             idle: Vec::new(self.alloc),
             is_full: false,
+            gives_way: 0,
             next: None,
             retry: 0,
             has_told: false,
