@@ -1,4 +1,5 @@
 """Watches a program at each call of the system that it makes: by ptrace, on Linux and x86-64."""
+import contextlib
 import ctypes
 import os
 import signal
@@ -77,7 +78,9 @@ def follow(process, enters, leaves):
             continue
         stopped = os.WSTOPSIG(status)
         if stopped == AT_CALL:
-            look(thread, enters, leaves)
+            # A thread that was killed meanwhile has no memory to look at.
+            with contextlib.suppress(ProcessLookupError):
+                look(thread, enters, leaves)
         elif stopped not in (signal.SIGTRAP, signal.SIGSTOP):
             signal_number = stopped
 

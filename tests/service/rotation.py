@@ -218,6 +218,8 @@ def is_free(folder):
     handle = os.open(folder, os.O_RDONLY)
     try:
         fcntl.flock(handle, fcntl.LOCK_EX | fcntl.LOCK_NB)
+        # A process that another thread has just begun may have the handle too.
+        fcntl.flock(handle, fcntl.LOCK_UN)
     except BlockingIOError:
         return False
     finally:
