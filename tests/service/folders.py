@@ -13,7 +13,7 @@ import uuid
 
 import journal
 from files import SOUND, UNSOUND
-from participant import Participant, wait_until
+from participant import Participant, wait_for_ends, wait_until
 from service import HOST, PATIENCE, LeftOut, Run, Telling, check, equal, free_port, id_of
 
 NAME = re.compile(r"[0-9a-f]{15}\.journal")
@@ -175,8 +175,7 @@ def test_what_names_an_identifier_goes_to_its_journal(setting):
             nested = client.start(parent=action)
             equal("the nested action's journal", instance_of(nested), instance_of(action))
             client.end(action, "close")
-        for action in actions:
-            wait_until("an end", lambda action=action: client.status(action) == "Closed")
+        wait_for_ends(client, actions, "Closed")
         member.wait("complete", len(actions))
         equal("the identifiers", len(set(actions)), len(actions))
         folder.kill()

@@ -107,3 +107,9 @@ def wait_until(what, holds, seconds=service.PATIENCE):
     while not holds():
         service.check(f"{what} hasn't come in {seconds} s", time.monotonic() < end)
         time.sleep(0.02)
+
+
+def wait_for_ends(client, actions, status):
+    """Waits until each of these actions has ended with a status."""
+    for action in actions:
+        wait_until("an end", lambda action=action: client.status(action) == status)

@@ -5,7 +5,7 @@ import time
 
 import folders
 from options import Stopping
-from participant import Participant, wait_until
+from participant import Participant, wait_for_ends, wait_until
 from service import PATIENCE, check, equal
 
 # How many seconds pass in which more callbacks would go out, if they might.
@@ -65,8 +65,7 @@ def test_threads_share_a_host(setting):
             gauge.check_most(2)
             gauge.let(8)
             member.wait("compensate", 8)
-            for action in actions:
-                wait_until("an end", lambda action=action: client.status(action) == "Cancelled")
+            wait_for_ends(client, actions, "Cancelled")
             equal("the most at once", gauge.most, 2)
 
 
@@ -87,8 +86,7 @@ def test_journals_of_a_folder_share_a_host(setting):
             gauge.check_most(2)
             gauge.let(len(actions))
             member.wait("compensate", len(actions))
-            for action in actions:
-                wait_until("an end", lambda action=action: client.status(action) == "Cancelled")
+            wait_for_ends(client, actions, "Cancelled")
             equal("the most at once", gauge.most, 2)
             folder.kill()
             equal("the journals that are sound", folders.check_sound(folder), 5)
